@@ -1,0 +1,11 @@
+pub mod Optional
+pub mod Font
+pub mod Opened
+pub mod Checksum
+pub mod Layout
+pub mod Container
+pub mod Glyph
+pub mod Parts
+pub mod Reach
+pub mod Unfold
+pub mod Written

@@ -1,0 +1,31 @@
+//! The kind of a font's outlines.
+
+ghost use Rattle.std.specs.Prelude.{◌≡◌};
+ghost use Rattle.subsetter.specs.Font.{table_in};
+ghost use Rattle.subsetter.specs.Opened.{flavored};
+
+use crate::face::Face;
+use subsetter_base::{Error, Tag};
+
+/// The kind of a font's outlines.
+#[derive(Clone, Copy, Debug, PartialEq, Eq)]
+pub enum FontFlavor {
+    TrueType,
+    Cff,
+}
+
+/// The kind of a font's outlines: `glyf` makes it TrueType, else `CFF ` makes it CFF. A lone `CFF2` is `Unimplemented`; no outlines are `UnknownKind`.
+#[tactic(auto, unfolding(crate::specs::Opened::flavored))]
+pub fn flavor(face: &Face<'_>) -> Result<FontFlavor, Error>
+    ensures { result ≡ flavored (table_in face.now.«data».now face.now.records.now) }
+{
+    if face.table(Tag::GLYF).is_some() {
+        Ok(FontFlavor::TrueType)
+    } else if face.table(Tag::CFF).is_some() {
+        Ok(FontFlavor::Cff)
+    } else if face.table(Tag::CFF2).is_some() {
+        Err(Error::Unimplemented)
+    } else {
+        Err(Error::UnknownKind)
+    }
+}

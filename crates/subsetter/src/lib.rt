@@ -1,0 +1,8 @@
+//! A subsetter for OpenType fonts.
+#![tactic(auto)]
+
+mod face;
+mod flavor;
+mod parse;
+
+pub use subsetter_base::{Error, GlyphRemapper, Tag};

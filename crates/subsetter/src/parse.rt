@@ -1,0 +1,80 @@
+//! Finding a font's directory and its tables.
+
+ghost use Rattle.std.specs.Prelude.{◌≡◌, ◌/◌, ◌<◌, ◌^◌, length, IfOk, IfErr};
+ghost use Rattle.std.specs.Option.{option_copied};
+ghost use Rattle.subsetter.specs.Font.{records_at, find_record, directory_records, table_in};
+ghost use Rattle.subsetter.specs.Opened.{opened_header, opened};
+
+use crate::face::{Face, FontKind, TableRecord};
+use subsetter_base::Tag;
+use subsetter_base::Error;
+use subsetter_base::read::Reader;
+
+/// Where the font's header stands.
+#[tactic(auto, unfolding(crate::specs::Opened::opened_header))]
+fn header(file: &[u8], index: u32) -> Result<usize, Error>
+    ensures exact { result ≡ opened_header (record { bytes = file.now; index = index }) }
+    ensures small { IfOk result (λ at. at < 2 ^ 32) }
+{
+    let mut r = Reader::new(file);
+    let kind = r.read::<FontKind>().ok_or(Error::UnknownKind)?;
+    if kind == FontKind::Single {
+        return Ok(0);
+    }
+    let mut r = Reader::new_at(file, 12 + 4 * (index as usize));
+    let offset = r.read::<u32>().ok_or(Error::MalformedFont)?;
+    let mut r = Reader::new_at(file, offset as usize);
+    match r.read::<FontKind>() {
+        Some(FontKind::Single) => Ok(offset as usize),
+        _ => Err(Error::MalformedFont),
+    }
+}
+
+/// The bytes of the directory's records.
+#[tactic(auto, unfolding(crate::specs::Font::records_at))]
+fn records(file: &[u8], at: usize) -> Option<&[u8]>
+    requires { at < 2 ^ 32 }
+    ensures { option_copied result ≡ records_at file.now at }
+{
+    let mut r = Reader::new_at(file, at + 4);
+    let count = r.read::<u16>()?;
+    let mut r = Reader::new_at(file, at + 12);
+    r.read_bytes(16 * (count as usize))
+}
+
+/// Parses the directory of a font.
+#[tactic(auto, unfolding(crate::specs::Opened::opened))]
+pub fn parse(file: &[u8], index: u32) -> Result<Face<'_>, Error>
+    ensures ok { IfOk result (λ face. (face.«data».now ≡ file.now) × (opened (record { bytes = file.now; index = index }) ≡ Ok face.records.now)) }
+    ensures err { IfErr result (λ e. opened (record { bytes = file.now; index = index }) ≡ Err e) }
+{
+    let at = header(file, index)?;
+    let records = records(file, at).ok_or(Error::MalformedFont)?;
+    Ok(Face {
+        data: file,
+        records,
+    })
+}
+
+/// The first record that bears a tag.
+fn find_record(records: &[u8], tag: Tag) -> Option<TableRecord>
+    ensures { result ≡ find_record tag.0 (directory_records (length records.now / 16) records.now) }
+{
+    let mut r = Reader::new(records);
+    while let Some(record) = r.read::<TableRecord>() {
+        if record.tag == tag {
+            return Some(record);
+        }
+    }
+    None
+}
+
+impl<'a> Face<'a> {
+    /// The bytes of a table.
+    pub fn table(&self, tag: Tag) -> Option<&'a [u8]>
+        ensures { option_copied result ≡ table_in self.now.«data».now self.now.records.now tag.0 }
+    {
+        let record = find_record(self.records, tag)?;
+        Reader::new_at(self.data, record.offset as usize).read_bytes(record.length as usize)
+    }
+}
