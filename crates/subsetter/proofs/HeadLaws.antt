@@ -3,7 +3,9 @@ use Rattle.std.proofs.Common.{◌≡◌, ℕ, ◌+◌, ◌-◌, ◌≤◌, ◌^�
 use Rattle.std.specs.Prelude.{codes, slice_range, not}
 use Rattle.std.specs.Int.{w32, to_be_bytes}
 use Rattle.std.proofs.lemmas.List.{take_at, drop_at, length-append, length-take, length-drop}
-use Rattle.subsetter_base.specs.Bytes.{be, number, range}
+use Rattle.subsetter_base.specs.Bytes.{be, number}
+use Rattle.subsetter_base.proofs.ByteLemmas.{number_at}
+use Rattle.subsetter.specs.Glyph.{outlines_in}
 use Rattle.subsetter.specs.Layout.{with_adjustment}
 use Rattle.subsetter.specs.Written.{format_bytes, head_bytes}
 
@@ -66,3 +68,22 @@ module _ (w : ℕ) (long : Bool) (head : List ℕ) (le : 52 ≤ length head) whe
 
   pub head_end : drop 52 (with_adjustment w (head_bytes long head)) ≡ drop 52 head
   head_end = ap (drop 52) (regrouped ∙ sym (append_assoc (front ++ word ++ middle) (format_bytes long) end)) ∙ drop_at ((front ++ word ++ middle) ++ format_bytes long) end 52 (omega (arith, length-append (front ++ word ++ middle) (format_bytes long), length-before, two_bytes long))
+
+  pub head_format : number (with_adjustment w (head_bytes long head)) 50 2 ≡ Some (be (format_bytes long))
+  head_format = number_at (with_adjustment w (head_bytes long head)) (front ++ word ++ middle) (format_bytes long) end 50 2 (be (format_bytes long)) regrouped (sym length-before) (sym (two_bytes long)) refl
+
+outlines_by : (find : List ℕ → Option (List ℕ)) (loca glyf head : List ℕ) (n : ℕ) → find (codes "loca") ≡ Some loca → find (codes "glyf") ≡ Some glyf → find (codes "head") ≡ Some head → number head 50 2 ≡ Some n
+    → outlines_in find ≡ Some (record { loca = loca; glyf = glyf; head = head; long = not (eqb n 0) })
+unfolding outlines_in
+outlines_by find loca glyf head n a b c d = rw (a, b, c, d) refl
+
+format_back : (long : Bool) → not (eqb (be (format_bytes long)) 0) ≡ long
+format_back true = refl
+format_back false = refl
+
+-- the tables of outlines, with the format that head was given
+pub outlines_afresh : (find : List ℕ → Option (List ℕ)) (loca glyf : List ℕ) (w : ℕ) (long : Bool) (head : List ℕ) → 52 ≤ length head → find (codes "loca") ≡ Some loca → find (codes "glyf") ≡ Some glyf → find (codes "head") ≡ Some (with_adjustment w (head_bytes long head))
+    → outlines_in find ≡ Some (record { loca = loca; glyf = glyf; head = with_adjustment w (head_bytes long head); long = long })
+outlines_afresh find loca glyf w long head le a b c =
+    outlines_by find loca glyf (with_adjustment w (head_bytes long head)) (be (format_bytes long)) a b c (head_format w long head le)
+    ∙ ap (λ (l : Bool). Some (record { loca = loca; glyf = glyf; head = with_adjustment w (head_bytes long head); long = l })) (format_back long)
