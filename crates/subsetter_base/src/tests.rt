@@ -1,5 +1,7 @@
 use crate::read::{LazyArray16, LazyArrayIter16, Readable, Reader};
 use crate::write::{Writeable, Writer};
+use crate::{Error, Tag, TagLengthError};
+use std::collections::HashSet;
 use std::test::Fail;
 
 /// Reads the next value, as any type.
@@ -95,5 +97,77 @@ fn values_are_written_in_big_endian(rt: HostRuntime) -> Result<(), Fail> {
     ];
     assert_eq!(rt; w.finish().as_slice(), wanted.as_slice());
     assert_eq!(rt; Writer::with_capacity(rt.alloc(), 9)?.len(), 0);
+    Ok(())
+}
+
+/// A text of any error.
+fn text_of<E: std::error::Error>(rt: &HostRuntime, e: &E) -> Result<String, Fail> {
+    Ok(e.to_string(rt.alloc())?)
+}
+
+#[test]
+fn errors_have_their_texts(rt: HostRuntime) -> Result<(), Fail> {
+    let texts = [
+        (Error::UnknownKind, "unknown font kind"),
+        (Error::MalformedFont, "malformed font"),
+        (Error::Unimplemented, "unsupported feature in font"),
+        (Error::SubsetError, "subsetting of font failed"),
+        (Error::OverflowError, "overflow occurred"),
+        (Error::CFFError, "processing CFF table failed"),
+        (Error::OutOfMemory, "out of memory"),
+    ];
+    for (error, text) in texts {
+        assert_eq!(rt; text_of(&rt, &error)?.as_str(), text);
+    }
+    assert_eq!(rt;
+        text_of(&rt, &TagLengthError)?.as_str(),
+        "tag is not four bytes"
+    );
+    assert_eq!(rt;
+        format!(in rt.alloc(); "{:?} {:?}", Error::CFFError, TagLengthError)?.as_str(),
+        "CFFError TagLengthError"
+    );
+    Ok(())
+}
+
+#[test]
+fn tags_are_four_bytes(rt: HostRuntime) -> Result<(), Fail> {
+    assert_eq!(rt; Tag::new(b"glyf"), Tag::GLYF);
+    assert_eq!(rt; *Tag::CVT.get(), *b"cvt ");
+    assert_eq!(rt; "CFF ".parse::<Tag>(), Ok(Tag::CFF));
+    assert_eq!(rt; "CFF".parse::<Tag>(), Err(TagLengthError));
+    assert_eq!(rt; "glyph".parse::<Tag>(), Err(TagLengthError));
+    assert!(rt; Tag::CFF < Tag::CFF2);
+    assert!(rt; Tag::CFF2 < Tag::CVT);
+    assert!(rt; Tag::GLYF != Tag::LOCA);
+    let mut seen = HashSet::new(rt.alloc());
+    seen.insert(Tag::HEAD)?;
+    assert!(rt; seen.contains(&Tag::new(b"head")));
+    assert!(rt; !seen.contains(&Tag::HHEA));
+    let data = *b"OTTOmaxp";
+    let mut r = Reader::new_at(&data, 4);
+    assert_eq!(rt; next::<Tag>(&mut r), Some(Tag::MAXP));
+    assert_eq!(rt; next::<Tag>(&mut r), None);
+    let mut w = Writer::new(rt.alloc());
+    put(&mut w, &[Tag::NAME, Tag::POST])?;
+    assert_eq!(rt; w.finish().as_slice(), b"namepost".as_slice());
+    Ok(())
+}
+
+#[test]
+fn tags_are_printed_as_text(rt: HostRuntime) -> Result<(), Fail> {
+    let bad = Tag::new(&[0xFF, 1, 2, 3]);
+    assert_eq!(rt;
+        format!(in rt.alloc(); "{}|{}", Tag::FPGM, bad)?.as_str(),
+        "fpgm|..."
+    );
+    assert_eq!(rt;
+        format!(in rt.alloc(); "{:?}|{:?}", Tag::PREP, bad)?.as_str(),
+        "Tag(prep)|Tag(...)"
+    );
+    assert_eq!(rt;
+        format!(in rt.alloc(); "{:>6}|{:<6}|{:^5}", Tag::HMTX, Tag::CFF2, bad)?.as_str(),
+        "  hmtx|CFF2  | ... "
+    );
     Ok(())
 }
