@@ -1,7 +1,8 @@
 use crate::read::{LazyArray16, LazyArrayIter16, Readable, Reader};
 use crate::write::{Writeable, Writer};
-use crate::{Error, Tag, TagLengthError};
+use crate::{Error, GlyphRemapper, Tag, TagLengthError};
 use std::collections::HashSet;
+use std::hash::{DefaultHasher, Hash, Hasher};
 use std::test::Fail;
 
 /// Reads the next value, as any type.
@@ -168,6 +169,111 @@ fn tags_are_printed_as_text(rt: HostRuntime) -> Result<(), Fail> {
     assert_eq!(rt;
         format!(in rt.alloc(); "{:>6}|{:<6}|{:^5}", Tag::HMTX, Tag::CFF2, bad)?.as_str(),
         "  hmtx|CFF2  | ... "
+    );
+    Ok(())
+}
+
+/// The glyphs of a remapper.
+fn glyphs_of(rt: &HostRuntime, remapper: &GlyphRemapper) -> Result<Vec<u16>, Fail> {
+    Ok(remapper.remapped_gids().collect(rt.alloc())?)
+}
+
+/// A hash of any value.
+fn hash_of<T: Hash>(value: &T) -> u64 {
+    let mut state = DefaultHasher::new();
+    value.hash(&mut state);
+    state.finish()
+}
+
+/// The new number of a glyph, where there is room for it.
+fn numbered(remapper: &mut GlyphRemapper, glyph: u16) -> Result<u16, Error> {
+    if remapper.num_gids() == u16::MAX {
+        return Err(Error::OverflowError);
+    }
+    remapper.remap(glyph)
+}
+
+#[test]
+fn glyphs_are_numbered_in_the_order_of_their_first_use(rt: HostRuntime) -> Result<(), Fail> {
+    let mut remapper = GlyphRemapper::new(rt.alloc())?;
+    for (old, new) in [(3, 1), (39, 2), (8, 3), (3, 1), (10, 4), (2, 5)] {
+        assert_eq!(rt; numbered(&mut remapper, old)?, new);
+    }
+    assert_eq!(rt;
+        glyphs_of(&rt, &remapper)?.as_slice(),
+        [0u16, 3, 39, 8, 10, 2].as_slice()
+    );
+    assert_eq!(rt; remapper.num_gids(), 6);
+    assert_eq!(rt; remapper.get(39), Some(2));
+    assert_eq!(rt; remapper.get(0), Some(0));
+    assert_eq!(rt; remapper.get(4), None);
+    let alone = GlyphRemapper::default(rt.alloc())?;
+    let mut gids = alone.remapped_gids();
+    assert_eq!(rt; gids.next(), Some(0));
+    assert_eq!(rt; gids.next(), None);
+    assert_eq!(rt; gids.next(), None);
+    Ok(())
+}
+
+#[test]
+fn remappers_of_given_glyphs_begin_with_glyph_0(rt: HostRuntime) -> Result<(), Fail> {
+    let given = [9, 4, 0, 16, 4];
+    let remapper = GlyphRemapper::new_from_glyphs(rt.alloc(), &given)?;
+    assert_eq!(rt;
+        glyphs_of(&rt, &remapper)?.as_slice(),
+        [0u16, 9, 4, 16].as_slice()
+    );
+    let sorted = GlyphRemapper::new_from_glyphs_sorted(rt.alloc(), &given)?;
+    assert_eq!(rt;
+        glyphs_of(&rt, &sorted)?.as_slice(),
+        [0u16, 4, 9, 16].as_slice()
+    );
+    Ok(())
+}
+
+#[test]
+fn remappers_are_equal_where_their_lists_are(rt: HostRuntime) -> Result<(), Fail> {
+    let first = GlyphRemapper::new_from_glyphs(rt.alloc(), &[7, 5])?;
+    let second = GlyphRemapper::new_from_glyphs(rt.alloc(), &[5, 7])?;
+    let mut copy = first.clone()?;
+    assert!(rt; first == copy);
+    assert_eq!(rt; hash_of(&first), hash_of(&copy));
+    assert!(rt; first != second);
+    assert_eq!(rt; numbered(&mut copy, 1)?, 3);
+    assert!(rt; first != copy);
+    assert_eq!(rt; first.get(1), None);
+    assert!(rt;
+        format!(in rt.alloc(); "{first:?}")?
+            .as_str()
+            .contains("[0, 7, 5]")
+    );
+    Ok(())
+}
+
+/// The numbers from one to another, with the last.
+fn numbers(rt: &HostRuntime, first: u16, last: u16) -> Result<Vec<u16>, Fail> {
+    Ok((first..=last).collect(rt.alloc())?)
+}
+
+#[test]
+fn all_glyphs_above_0_are_one_too_many(rt: HostRuntime) -> Result<(), Fail> {
+    let all = numbers(&rt, 1, 65535)?;
+    let one_less = numbers(&rt, 0, 65534)?;
+    assert_eq!(rt;
+        GlyphRemapper::new_from_glyphs(rt.alloc(), &all).err(),
+        Some(Error::OverflowError)
+    );
+    assert_eq!(rt;
+        GlyphRemapper::new_from_glyphs_sorted(rt.alloc(), &all).err(),
+        Some(Error::OverflowError)
+    );
+    assert_eq!(rt;
+        GlyphRemapper::new_from_glyphs(rt.alloc(), &one_less)?.num_gids(),
+        65535
+    );
+    assert_eq!(rt;
+        GlyphRemapper::new_from_glyphs_sorted(rt.alloc(), &one_less)?.num_gids(),
+        65535
     );
     Ok(())
 }
