@@ -1,5 +1,8 @@
 use crate::read::{LazyArray16, LazyArrayIter16, Readable, Reader};
 use crate::write::{Writeable, Writer};
+use crate::{Error, GlyphRemapper, Tag, TagLengthError};
+use std::collections::HashSet;
+use std::hash::{DefaultHasher, Hash, Hasher};
 use std::test::Fail;
 
 /// Reads the next value, as any type.
@@ -95,5 +98,182 @@ fn values_are_written_in_big_endian(rt: HostRuntime) -> Result<(), Fail> {
     ];
     assert_eq!(rt; w.finish().as_slice(), wanted.as_slice());
     assert_eq!(rt; Writer::with_capacity(rt.alloc(), 9)?.len(), 0);
+    Ok(())
+}
+
+/// A text of any error.
+fn text_of<E: std::error::Error>(rt: &HostRuntime, e: &E) -> Result<String, Fail> {
+    Ok(e.to_string(rt.alloc())?)
+}
+
+#[test]
+fn errors_have_their_texts(rt: HostRuntime) -> Result<(), Fail> {
+    let texts = [
+        (Error::UnknownKind, "unknown font kind"),
+        (Error::MalformedFont, "malformed font"),
+        (Error::Unimplemented, "unsupported feature in font"),
+        (Error::SubsetError, "subsetting of font failed"),
+        (Error::OverflowError, "overflow occurred"),
+        (Error::CFFError, "processing CFF table failed"),
+        (Error::OutOfMemory, "out of memory"),
+    ];
+    for (error, text) in texts {
+        assert_eq!(rt; text_of(&rt, &error)?.as_str(), text);
+    }
+    assert_eq!(rt;
+        text_of(&rt, &TagLengthError)?.as_str(),
+        "tag is not four bytes"
+    );
+    assert_eq!(rt;
+        format!(in rt.alloc(); "{:?} {:?}", Error::CFFError, TagLengthError)?.as_str(),
+        "CFFError TagLengthError"
+    );
+    Ok(())
+}
+
+#[test]
+fn tags_are_four_bytes(rt: HostRuntime) -> Result<(), Fail> {
+    assert_eq!(rt; Tag::new(b"glyf"), Tag::GLYF);
+    assert_eq!(rt; *Tag::CVT.get(), *b"cvt ");
+    assert_eq!(rt; "CFF ".parse::<Tag>(), Ok(Tag::CFF));
+    assert_eq!(rt; "CFF".parse::<Tag>(), Err(TagLengthError));
+    assert_eq!(rt; "glyph".parse::<Tag>(), Err(TagLengthError));
+    assert!(rt; Tag::CFF < Tag::CFF2);
+    assert!(rt; Tag::CFF2 < Tag::CVT);
+    assert!(rt; Tag::GLYF != Tag::LOCA);
+    let mut seen = HashSet::new(rt.alloc());
+    seen.insert(Tag::HEAD)?;
+    assert!(rt; seen.contains(&Tag::new(b"head")));
+    assert!(rt; !seen.contains(&Tag::HHEA));
+    let data = *b"OTTOmaxp";
+    let mut r = Reader::new_at(&data, 4);
+    assert_eq!(rt; next::<Tag>(&mut r), Some(Tag::MAXP));
+    assert_eq!(rt; next::<Tag>(&mut r), None);
+    let mut w = Writer::new(rt.alloc());
+    put(&mut w, &[Tag::NAME, Tag::POST])?;
+    assert_eq!(rt; w.finish().as_slice(), b"namepost".as_slice());
+    Ok(())
+}
+
+#[test]
+fn tags_are_printed_as_text(rt: HostRuntime) -> Result<(), Fail> {
+    let bad = Tag::new(&[0xFF, 1, 2, 3]);
+    assert_eq!(rt;
+        format!(in rt.alloc(); "{}|{}", Tag::FPGM, bad)?.as_str(),
+        "fpgm|..."
+    );
+    assert_eq!(rt;
+        format!(in rt.alloc(); "{:?}|{:?}", Tag::PREP, bad)?.as_str(),
+        "Tag(prep)|Tag(...)"
+    );
+    assert_eq!(rt;
+        format!(in rt.alloc(); "{:>6}|{:<6}|{:^5}", Tag::HMTX, Tag::CFF2, bad)?.as_str(),
+        "  hmtx|CFF2  | ... "
+    );
+    Ok(())
+}
+
+/// The glyphs of a remapper.
+fn glyphs_of(rt: &HostRuntime, remapper: &GlyphRemapper) -> Result<Vec<u16>, Fail> {
+    Ok(remapper.remapped_gids().collect(rt.alloc())?)
+}
+
+/// A hash of any value.
+fn hash_of<T: Hash>(value: &T) -> u64 {
+    let mut state = DefaultHasher::new();
+    value.hash(&mut state);
+    state.finish()
+}
+
+/// The new number of a glyph, where there is room for it.
+fn numbered(remapper: &mut GlyphRemapper, glyph: u16) -> Result<u16, Error> {
+    if remapper.num_gids() == u16::MAX {
+        return Err(Error::OverflowError);
+    }
+    remapper.remap(glyph)
+}
+
+#[test]
+fn glyphs_are_numbered_in_the_order_of_their_first_use(rt: HostRuntime) -> Result<(), Fail> {
+    let mut remapper = GlyphRemapper::new(rt.alloc())?;
+    for (old, new) in [(3, 1), (39, 2), (8, 3), (3, 1), (10, 4), (2, 5)] {
+        assert_eq!(rt; numbered(&mut remapper, old)?, new);
+    }
+    assert_eq!(rt;
+        glyphs_of(&rt, &remapper)?.as_slice(),
+        [0u16, 3, 39, 8, 10, 2].as_slice()
+    );
+    assert_eq!(rt; remapper.num_gids(), 6);
+    assert_eq!(rt; remapper.get(39), Some(2));
+    assert_eq!(rt; remapper.get(0), Some(0));
+    assert_eq!(rt; remapper.get(4), None);
+    let alone = GlyphRemapper::default(rt.alloc())?;
+    let mut gids = alone.remapped_gids();
+    assert_eq!(rt; gids.next(), Some(0));
+    assert_eq!(rt; gids.next(), None);
+    assert_eq!(rt; gids.next(), None);
+    Ok(())
+}
+
+#[test]
+fn remappers_of_given_glyphs_begin_with_glyph_0(rt: HostRuntime) -> Result<(), Fail> {
+    let given = [9, 4, 0, 16, 4];
+    let remapper = GlyphRemapper::new_from_glyphs(rt.alloc(), &given)?;
+    assert_eq!(rt;
+        glyphs_of(&rt, &remapper)?.as_slice(),
+        [0u16, 9, 4, 16].as_slice()
+    );
+    let sorted = GlyphRemapper::new_from_glyphs_sorted(rt.alloc(), &given)?;
+    assert_eq!(rt;
+        glyphs_of(&rt, &sorted)?.as_slice(),
+        [0u16, 4, 9, 16].as_slice()
+    );
+    Ok(())
+}
+
+#[test]
+fn remappers_are_equal_where_their_lists_are(rt: HostRuntime) -> Result<(), Fail> {
+    let first = GlyphRemapper::new_from_glyphs(rt.alloc(), &[7, 5])?;
+    let second = GlyphRemapper::new_from_glyphs(rt.alloc(), &[5, 7])?;
+    let mut copy = first.clone()?;
+    assert!(rt; first == copy);
+    assert_eq!(rt; hash_of(&first), hash_of(&copy));
+    assert!(rt; first != second);
+    assert_eq!(rt; numbered(&mut copy, 1)?, 3);
+    assert!(rt; first != copy);
+    assert_eq!(rt; first.get(1), None);
+    assert!(rt;
+        format!(in rt.alloc(); "{first:?}")?
+            .as_str()
+            .contains("[0, 7, 5]")
+    );
+    Ok(())
+}
+
+/// The numbers from one to another, with the last.
+fn numbers(rt: &HostRuntime, first: u16, last: u16) -> Result<Vec<u16>, Fail> {
+    Ok((first..=last).collect(rt.alloc())?)
+}
+
+#[test]
+fn all_glyphs_above_0_are_one_too_many(rt: HostRuntime) -> Result<(), Fail> {
+    let all = numbers(&rt, 1, 65535)?;
+    let one_less = numbers(&rt, 0, 65534)?;
+    assert_eq!(rt;
+        GlyphRemapper::new_from_glyphs(rt.alloc(), &all).err(),
+        Some(Error::OverflowError)
+    );
+    assert_eq!(rt;
+        GlyphRemapper::new_from_glyphs_sorted(rt.alloc(), &all).err(),
+        Some(Error::OverflowError)
+    );
+    assert_eq!(rt;
+        GlyphRemapper::new_from_glyphs(rt.alloc(), &one_less)?.num_gids(),
+        65535
+    );
+    assert_eq!(rt;
+        GlyphRemapper::new_from_glyphs_sorted(rt.alloc(), &one_less)?.num_gids(),
+        65535
+    );
     Ok(())
 }
