@@ -1,6 +1,8 @@
 //! A subsetter for OpenType fonts.
 #![tactic(auto)]
 
+mod checksum;
+mod context;
 mod face;
 mod flavor;
 mod parse;
