@@ -1,11 +1,12 @@
 -- The checksum by the weights of the bytes.
-use Rattle.std.proofs.Common.{◌≡◌, ℕ, zero, suc, ◌+◌, ◌-◌, ◌*◌, ◌%◌, ◌^◌, ◌<◌, ◌≤◌, List, [], ◌∷◌, ◌++◌, length, get_or, take, drop, refl, sym, ap, ◌∙◌, append_assoc, ◌⊎◌, inl, inr, arith}
+use Rattle.std.proofs.Common.{◌≡◌, ℕ, zero, suc, ◌+◌, ◌-◌, ◌*◌, ◌%◌, ◌^◌, ◌<◌, ◌≤◌, Bool, true, false, List, [], ◌∷◌, ◌++◌, length, get_or, take, drop, refl, sym, ap, ◌∙◌, append_assoc, ◌⊎◌, inl, inr, arith}
 use Rattle.std.specs.Prelude.{sum, replicate}
 use Rattle.std.proofs.lemmas.List.{drop_more, length-take, length-drop, drop_all, take_all, take-append-drop}
 use Rattle.std.proofs.lemmas.List.Sums.{sum_by-cons}
 use Rattle.subsetter_base.specs.Bytes.{be, aligned}
 use Rattle.subsetter.specs.Checksum.{words, checksum}
 use Rattle.subsetter.specs.Weights.{weighed}
+use Rattle.subsetter.specs.Unfold.{padded}
 use Rattle.subsetter.proofs.ChecksumLemmas.{aligned-append}
 
 -- only the place in a word of four bytes counts
@@ -71,3 +72,20 @@ weighed_split at n bs le whole =
   where
     none : n ≡ length bs → drop n bs ≡ []
     none h = drop_all n bs (omega arith)
+
+-- zeros behind an outline count nothing
+pub weighed-padded : (at : ℕ) (long : Bool) (b rest : List ℕ) → weighed at (padded long b ++ rest) ≡ weighed at b + weighed (at + length (padded long b)) rest
+weighed-padded at true b rest = weighed-append at b rest
+weighed-padded at false b rest =
+    let n = (2 - length b % 2) % 2 in
+    omega (arith, weighed-append at (b ++ replicate n 0) rest, weighed-append at b (replicate n 0), weighed-zeros (at + length b) n)
+
+-- one more outline in a sum
+pub outline_added : (sum phase added size next total : ℕ) (long : Bool) (b rest all : List ℕ) → all ≡ padded long b ++ rest → (sum + weighed phase all) % 2 ^ 32 ≡ total → added ≡ (sum + weighed phase b) % 2 ^ 32 → size ≡ length (padded long b) → next ≡ (phase + size) % 4
+    → (added + weighed next rest) % 2 ^ 32 ≡ total
+outline_added sum phase added size next total long b rest all is so_far a s n =
+    let place : weighed next rest ≡ weighed (phase + length (padded long b)) rest = weighed-mod next (phase + length (padded long b)) rest (omega arith) in
+    omega (arith, ap (weighed phase) is, weighed-padded phase long b rest, place)
+
+pub none_added : (sum phase total : ℕ) (all : List ℕ) → all ≡ [] → sum < 2 ^ 32 → (sum + weighed phase all) % 2 ^ 32 ≡ total → sum ≡ total
+none_added sum phase total all is lt h = omega (arith, ap (weighed phase) is)

@@ -5,6 +5,8 @@ mod checksum;
 mod context;
 mod face;
 mod flavor;
+mod outlines;
 mod parse;
+mod room;
 
 pub use subsetter_base::{Error, GlyphRemapper, Tag};
