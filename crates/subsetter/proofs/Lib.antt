@@ -1,3 +1,4 @@
 pub mod FontLemmas
 pub mod ChecksumLemmas
 pub mod WeightLemmas
+pub mod LayoutLemmas

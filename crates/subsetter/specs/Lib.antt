@@ -11,3 +11,4 @@ pub mod Unfold
 pub mod Written
 pub mod Weights
 pub mod Tables
+pub mod PlainFile

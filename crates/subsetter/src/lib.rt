@@ -2,6 +2,7 @@
 #![tactic(auto)]
 
 mod checksum;
+mod construct;
 mod context;
 mod face;
 mod flavor;
