@@ -166,8 +166,8 @@ pub fn construct(out: Vec<u8>, flavor: FontFlavor, tables: &[NewTable<'_>]) -> V
     out
 }
 
-#[tactic(auto, unfolding(crate::specs::PlainFile::file_of))]
 /// Lays out a file. Its size is taken first: `OverflowError` where a place or a length is 2^32 or more. Room is reserved once.
+#[tactic(auto, unfolding(crate::specs::PlainFile::file_of))]
 pub fn finish(alloc: Global, flavor: FontFlavor, tables: &[NewTable<'_>]) -> Result<Vec<u8>, Error>
     requires few { length tables.now < 16 }
     requires tables { AllByRecursion IsTable (views tables.now) }
