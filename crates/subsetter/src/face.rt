@@ -1,7 +1,9 @@
 //! The directory of a font.
 
 use subsetter_base::Tag;
+use subsetter_base::Error;
 use subsetter_base::read::{Readable, Reader, u32_at};
+use subsetter_base::write::{Writeable, Writer};
 
 /// A font collection or a single font.
 #[derive(Clone, Copy, Debug, PartialEq, Eq)]
@@ -60,6 +62,20 @@ impl Readable<'_> for TableRecord {
             offset: u32_at(b, 8),
             length: u32_at(b, 12),
         })
+    }
+}
+
+impl Writeable for TableRecord {
+    ghost use Rattle.std.specs.Prelude.{◌++◌};
+    ghost use Rattle.std.specs.Int.{w32, to_be_bytes};
+
+    ghost bytes_of = { λ r. r.tag.0 ++ to_be_bytes w32 r.checksum ++ to_be_bytes w32 r.offset ++ to_be_bytes w32 r.length };
+
+    fn write(&self, w: &mut Writer) -> Result<(), Error> {
+        w.write(self.tag.get())?;
+        w.write(&self.checksum)?;
+        w.write(&self.offset)?;
+        w.write(&self.length)
     }
 }
 

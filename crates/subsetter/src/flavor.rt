@@ -3,8 +3,10 @@
 ghost use Rattle.std.specs.Prelude.{◌≡◌};
 ghost use Rattle.subsetter.specs.Font.{table_in};
 ghost use Rattle.subsetter.specs.Opened.{flavored};
+ghost use Rattle.subsetter.specs.Tables.{kind_word};
 
 use crate::face::Face;
+use subsetter_base::write::{Writeable, Writer};
 use subsetter_base::{Error, Tag};
 
 /// The kind of a font's outlines.
@@ -12,6 +14,29 @@ use subsetter_base::{Error, Tag};
 pub enum FontFlavor {
     TrueType,
     Cff,
+}
+
+impl FontFlavor {
+    /// The word that begins a file with outlines of this kind.
+    pub fn kind(self) -> u32
+        ensures { result ≡ kind_word self }
+    {
+        match self {
+            FontFlavor::TrueType => 0x00010000,
+            FontFlavor::Cff => 0x4F54544F,
+        }
+    }
+}
+
+impl Writeable for FontFlavor {
+    ghost use Rattle.std.specs.Int.{w32, to_be_bytes};
+    ghost use Rattle.subsetter.specs.Tables.{kind_word};
+
+    ghost bytes_of = { λ flavor. to_be_bytes w32 (kind_word flavor) };
+
+    fn write(&self, w: &mut Writer) -> Result<(), Error> {
+        w.write(&self.kind())
+    }
 }
 
 /// The kind of a font's outlines: `glyf` makes it TrueType, else `CFF ` makes it CFF. A lone `CFF2` is `Unimplemented`; no outlines are `UnknownKind`.

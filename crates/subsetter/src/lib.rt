@@ -1,8 +1,13 @@
 //! A subsetter for OpenType fonts.
 #![tactic(auto)]
 
+mod checksum;
+mod construct;
+mod context;
 mod face;
 mod flavor;
+mod outlines;
 mod parse;
+mod room;
 
 pub use subsetter_base::{Error, GlyphRemapper, Tag};

@@ -1,0 +1,13 @@
+use Rattle.std.proofs.Common.{◌≡◌, ◌+◌, ◌*◌, ◌≤◌, ◌++◌, drop, length, true}
+use Rattle.std.specs.Prelude.{vec_capacity}
+use Rattle.subsetter.specs.Layout.{fits, directory_bytes}
+use Rattle.subsetter.specs.Tables.{views}
+use Rattle.subsetter.proofs.construct.write_directory.Given as goal
+
+abbrev pub invariant-loop-table : goal.invariant-loop-table
+invariant-loop-table l = record {
+  written : l.out.items ++ directory_bytes l.at (views (drop l.table-index l.tables)) ≡ l.fn.out.items ++ directory_bytes l.start (views l.tables);
+  fit : fits l.at (views (drop l.table-index l.tables)) ≡ true;
+  room : length l.out.items + 16 * length (drop l.table-index l.tables) ≤ vec_capacity l.out;
+  capacity : vec_capacity l.fn.out ≤ vec_capacity l.out;
+}
