@@ -1,1 +1,4 @@
 pub mod FontLemmas
+pub mod HeadLemmas
+pub mod ComponentLemmas
+pub mod ChainLemmas

@@ -9,3 +9,7 @@ pub mod Parts
 pub mod Reach
 pub mod Unfold
 pub mod Written
+pub mod PlainGlyph
+pub mod OutlineFault
+pub mod Outlines
+pub mod Closure
