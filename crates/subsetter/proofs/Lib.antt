@@ -4,3 +4,6 @@ pub mod ChecksumLemmas
 pub mod WeightLemmas
 pub mod LayoutLemmas
 pub mod ReadBack
+pub mod HeadLemmas
+pub mod ComponentLemmas
+pub mod ChainLemmas

@@ -12,3 +12,7 @@ pub mod Written
 pub mod Weights
 pub mod Tables
 pub mod PlainFile
+pub mod PlainGlyph
+pub mod OutlineFault
+pub mod Outlines
+pub mod Closure

@@ -7,6 +7,10 @@ mod context;
 mod face;
 mod flavor;
 mod outlines;
+mod component;
+mod glyf;
+mod head;
+mod loca;
 mod parse;
 mod room;
 

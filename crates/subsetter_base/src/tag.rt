@@ -1,6 +1,7 @@
 //! Names of tables.
 
 <<<<<<< HEAD
+<<<<<<< HEAD
 ghost use Rattle.std.specs.Prelude.{◌≡◌, Option, Some};
 
 use crate::read::{Readable, Reader};
@@ -30,6 +31,8 @@ impl Tag {
 
     pub const PREP: Tag = Tag(*b"prep");
 =======
+=======
+>>>>>>> glyf
 ghost use Rattle.std.specs.Prelude.{◌≡◌, ◌++◌, length, Option, Some, MatchResult, codes};
 ghost use Rattle.subsetter_base.specs.Texts.{tag_text};
 
@@ -45,7 +48,10 @@ pub struct Tag([u8; 4]);
 
 impl Tag {
     pub const HEAD: Tag = Tag(*b"head");
+<<<<<<< HEAD
 >>>>>>> base
+=======
+>>>>>>> glyf
 
     pub const HHEA: Tag = Tag(*b"hhea");
 
@@ -62,20 +68,29 @@ impl Tag {
     pub const LOCA: Tag = Tag(*b"loca");
 
 <<<<<<< HEAD
+<<<<<<< HEAD
     pub const HEAD: Tag = Tag(*b"head");
 =======
+=======
+>>>>>>> glyf
     pub const CVT: Tag = Tag(*b"cvt ");
 
     pub const FPGM: Tag = Tag(*b"fpgm");
 
     pub const PREP: Tag = Tag(*b"prep");
+<<<<<<< HEAD
 >>>>>>> base
+=======
+>>>>>>> glyf
 
     pub const CFF: Tag = Tag(*b"CFF ");
 
     pub const CFF2: Tag = Tag(*b"CFF2");
 <<<<<<< HEAD
+<<<<<<< HEAD
 =======
+=======
+>>>>>>> glyf
 
     /// The tag of four bytes.
     pub fn new(tag: &[u8; 4]) -> Self
@@ -101,7 +116,10 @@ impl Tag {
             Err(_) => "...",
         }
     }
+<<<<<<< HEAD
 >>>>>>> base
+=======
+>>>>>>> glyf
 }
 
 impl Readable<'_> for Tag {
@@ -116,7 +134,10 @@ impl Readable<'_> for Tag {
     }
 }
 <<<<<<< HEAD
+<<<<<<< HEAD
 =======
+=======
+>>>>>>> glyf
 
 impl Writeable for Tag {
     ghost bytes_of = { λ tag. tag.0 };
@@ -170,4 +191,7 @@ impl fmt::Display for TagLengthError {
 }
 
 impl std::error::Error for TagLengthError {}
+<<<<<<< HEAD
 >>>>>>> base
+=======
+>>>>>>> glyf

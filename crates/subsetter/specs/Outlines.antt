@@ -1,0 +1,13 @@
+-- What the code's tables of outlines are.
+use Rattle.std.specs.Prelude.{ℕ, List}
+use Rattle.std.specs.Borrow.{Bor}
+use Rattle.subsetter.specs.declared.glyf.Table.{Table}
+use Rattle.subsetter.specs.declared.component.Component.{Component}
+use Rattle.subsetter.specs.Glyph.{Outlines}
+use Rattle.subsetter.specs.Parts as parts
+
+abbrev pub seen : Table → Outlines
+seen t = record { loca = t.loca.now; glyf = t.glyf.now; head = t.head.now; long = t.long }
+
+abbrev pub component_seen : Component → parts.Component
+component_seen c = record { flags = c.flags; glyph = c.glyph; rest = c.rest.now }

@@ -1,0 +1,61 @@
+//! `loca`, the places of the outlines (OpenType, "loca").
+
+ghost use Rattle.std.specs.Prelude.{◌≡◌, ◌<◌, ◌^◌, ◌++◌, length, map, if◌then◌else◌, IfOk, IfErr, OnOk};
+ghost use Rattle.std.specs.Cow.{cow_slice_items};
+ghost use Rattle.subsetter_base.specs.declared.error.Error.TheVariants.{OutOfMemory};
+ghost use Rattle.subsetter.specs.Written.{is_long, glyf_bytes, offset_bytes, loca_bytes};
+
+use std::alloc::Global;
+use std::borrow::CowSlice;
+use subsetter_base::Error;
+use subsetter_base::write::Writer;
+
+/// Whether the offsets need the long format: halves of them don't fit 16 bits.
+pub fn is_long(outlines: &[CowSlice<'_, u8>]) -> bool
+    ensures { result ≡ is_long (map cow_slice_items outlines.now) }
+{
+    let mut size: usize = 0;
+    for outline in outlines {
+        let len = outline.len();
+        if len > 131_070 {
+            return true;
+        }
+        size += len + len % 2;
+        if size > 131_070 {
+            return true;
+        }
+    }
+    false
+}
+
+/// Writes an offset, or half of it.
+fn write_offset(w: &mut Writer, long: bool, offset: usize) -> Result<(), Error>
+    requires { offset < (if long then 2 ^ 32 else 2 ^ 17) }
+    ensures ok { OnOk result (w.new ≡ w.old ++ offset_bytes long offset) }
+    ensures err { IfErr result (λ e. e ≡ OutOfMemory) }
+{
+    if long {
+        w.write(&(offset as u32))
+    } else {
+        w.write(&((offset / 2) as u16))
+    }
+}
+
+/// `loca`: where each outline begins, and where the last one ends.
+pub fn subset(alloc: Global, outlines: &[CowSlice<'_, u8>], long: bool) -> Result<Vec<u8>, Error>
+    requires { length (glyf_bytes long (map cow_slice_items outlines.now)) < (if long then 2 ^ 32 else 2 ^ 17) }
+    ensures ok { IfOk result (λ v. v.items ≡ loca_bytes long 0 (map cow_slice_items outlines.now)) }
+    ensures err { IfErr result (λ e. e ≡ OutOfMemory) }
+{
+    let mut w = Writer::with_capacity(alloc, 4 * (outlines.len() + 1))?;
+    let mut offset: usize = 0;
+    for outline in outlines {
+        write_offset(&mut w, long, offset)?;
+        offset += outline.len();
+        if !long {
+            offset += outline.len() % 2;
+        }
+    }
+    write_offset(&mut w, long, offset)?;
+    Ok(w.finish())
+}
