@@ -1,1 +1,2 @@
 pub mod FontLemmas
+pub mod MetricsLemmas

@@ -9,3 +9,7 @@ pub mod Parts
 pub mod Reach
 pub mod Unfold
 pub mod Written
+pub mod Metrics
+pub mod MetricsWritten
+pub mod MaxProfile
+pub mod MaxProfileWritten

@@ -3,6 +3,8 @@
 
 mod face;
 mod flavor;
+mod hmtx;
+mod maxp;
 mod parse;
 
 pub use subsetter_base::{Error, GlyphRemapper, Tag};
