@@ -1,3 +1,4 @@
 pub mod FontLemmas
 pub mod MetricsLemmas
 pub mod MetricsBack
+pub mod MetricsLaws
