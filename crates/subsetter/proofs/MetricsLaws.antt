@@ -1,8 +1,8 @@
 -- What the plain way to `hhea` and `hmtx` answers keeps the metrics; what it refuses has a fault, and what it answers has none.
-use Rattle.std.proofs.Common.{◌≡◌, ℕ, zero, suc, ◌+◌, ◌-◌, ◌*◌, ◌^◌, ◌<◌, ◌≤◌, Bool, true, false, cond, List, [], ◌∷◌, length, get_or, take, drop, Option, Some, None, Result, Ok, Err, refl, sym, ap, subst, ◌∙◌, ◌⊎◌, inl, inr, arith}
+use Rattle.std.proofs.Common.{◌≡◌, ℕ, zero, suc, ◌+◌, ◌-◌, ◌*◌, ◌^◌, ◌<◌, ◌≤◌, leb, Bool, true, false, cond, List, [], ◌∷◌, length, get_or, take, drop, Option, Some, None, Result, Ok, Err, refl, sym, ap, subst, ◌∙◌, ◌⊎◌, inl, inr, arith}
 use Rattle.std.specs.Prelude.{codes, Contains, IsSome, slice_index, ◌==◌}
 use Rattle.std.specs.Option.{option_and_then, option_map, ok_or}
-use Rattle.std.proofs.lemmas.Bool.{eqb-true, eqb-false, lt-ltb, le-ltb}
+use Rattle.std.proofs.lemmas.Bool.{eqb-true, eqb-false, lt-ltb, le-ltb, leb-false}
 use Rattle.std.proofs.lemmas.List.{get_or_default}
 use Rattle.subsetter_base.specs.Bytes.{be, range, number, IsBytes, ◌>>=◌}
 use Rattle.subsetter_base.specs.declared.error.Error.{Error}
@@ -11,7 +11,7 @@ use Rattle.subsetter_base.proofs.ByteLemmas.{range-fits, range-none}
 use Rattle.subsetter.specs.declared.hmtx.Metric.{Metric}
 use Rattle.subsetter.specs.Metrics.{number_of_metrics, metric_at, metric_in, metric_of, SameMetric, KeepsMetrics, HasMetricsFault, no_hhea, short_hhea, no_pairs, last_advance_outside, metric_outside}
 use Rattle.subsetter.specs.MetricsWritten.{MetricBytes, least_count, hmtx_bytes, hhea_bytes, if_pairs, metrics_all, source_count, tables_of, metrics_in, metrics_of}
-use Rattle.subsetter.proofs.MetricsLemmas.{done_is, failed_is, bind_ok, bind_err, named_ok, named_err, metrics-length, metrics_at, metrics_missing, least_count-le, least_count_pos, advances_agree, least_count_least}
+use Rattle.subsetter.proofs.MetricsLemmas.{done, done_is, failed_is, bind_ok, bind_err, named_ok, named_err, metrics-length, metrics_at, metrics_missing, least_count-le, least_count_pos, advances_agree, least_count_least}
 use Rattle.subsetter.proofs.MetricsBack.{IsSmall, metric_small, metric_back, length-hmtx, count_back, header_length, header_before, header_after}
 
 -- ---- the steps of what was answered
@@ -213,3 +213,104 @@ module _ (find out : List ℕ → Option (List ℕ)) (order : List ℕ) (t : Met
 pub keeps_metrics : (find out : List ℕ → Option (List ℕ)) (order : List ℕ) (t : MetricBytes) → ((hmtx : List ℕ) → find (codes "hmtx") ≡ Some hmtx → IsBytes hmtx) → 0 < length order → length order < 2 ^ 16 → metrics_of find order ≡ Ok (Some t)
     → out (codes "hhea") ≡ Some t.hhea → out (codes "hmtx") ≡ Some t.hmtx → KeepsMetrics find order out
 keeps_metrics find out order t all_bytes some few h a b = keeps find out order t (steps find order t h) all_bytes some few a b
+
+-- ---- what is refused
+
+number_short : (bytes : List ℕ) (at size : ℕ) → number bytes at size ≡ None → length bytes < at + size
+number_short bytes at size h = by (leb (at + size) (length bytes)) refl h
+  where
+    by : (b : Bool) → leb (at + size) (length bytes) ≡ b → option_map be (cond b (Some (take size (drop at bytes))) None) ≡ None → length bytes < at + size
+    by true t k = absurd cc
+    by false t k = leb-false (at + size) (length bytes) t
+
+is_there : {A : Type 0} (o : Option A) (x : A) → o ≡ Some x → IsSome o
+is_there o x h = rw h refl
+
+module _ (find : List ℕ → Option (List ℕ)) (order hmtx : List ℕ) (at : find (codes "hmtx") ≡ Some hmtx) where
+  count_fault : (hhea : List ℕ) (e : Error) → find (codes "hhea") ≡ Some hhea → source_count hhea hmtx ≡ Err e → HasMetricsFault find (Contains order) e
+  unfolding source_count
+  count_fault hhea e is h =
+      elim (bind_err (ok_or (number_of_metrics hhea) MalformedFont) (λ found. if_pairs found >>= λ c. last_pair hmtx c) e h) [
+        | inl k ↦ let n = named_err (number_of_metrics hhea) MalformedFont e k in subst (HasMetricsFault find (Contains order)) n.1 (short_hhea hhea (is_there (find (codes "hmtx")) hmtx at) is (number_short hhea 34 2 n.0))
+        | inr k ↦ second k.0 (named_ok (number_of_metrics hhea) MalformedFont k.0 k.1) (bind_err (if_pairs k.0) (λ c. last_pair hmtx c) e k.2)
+      ]
+    where
+      third : (n c : ℕ) → number_of_metrics hhea ≡ Some n → (n ≡ c) × (0 < n) → (ok_or (number hmtx (4 * (c - 1)) 2) MalformedFont ≡ Err e) ⊎ ((x : ℕ) × (ok_or (number hmtx (4 * (c - 1)) 2) MalformedFont ≡ Ok x) × (done c ≡ Err e)) → HasMetricsFault find (Contains order) e
+      third n c seen p (inl k) =
+          let m = named_err (number hmtx (4 * (c - 1)) 2) MalformedFont e k in
+          subst (HasMetricsFault find (Contains order)) m.1 (last_advance_outside hhea hmtx c at is (seen ∙ ap Some p.0) (omega (arith, p.0, p.1)) m.0)
+      third n c seen p (inr k) = absurd cc
+
+      second : (n : ℕ) → number_of_metrics hhea ≡ Some n → (if_pairs n ≡ Err e) ⊎ ((c : ℕ) × (if_pairs n ≡ Ok c) × (last_pair hmtx c ≡ Err e)) → HasMetricsFault find (Contains order) e
+      second n seen (inl k) = let z = pairs_err n e k in subst (HasMetricsFault find (Contains order)) z.1 (no_pairs hhea (is_there (find (codes "hmtx")) hmtx at) is (seen ∙ ap Some z.0))
+      second n seen (inr k) = third n k.0 seen (pairs_ok n k.0 k.1) (bind_err (ok_or (number hmtx (4 * (k.0 - 1)) 2) MalformedFont) (λ advance. Ok k.0) e k.2)
+
+  tables_fault : (e : Error) → tables_of (find (codes "hhea")) hmtx order ≡ Err e → HasMetricsFault find (Contains order) e
+  unfolding tables_of
+  tables_fault e h =
+      elim (bind_err (ok_or (find (codes "hhea")) MalformedFont) (λ header. source_count header hmtx >>= λ count. metrics_all hmtx count order >>= λ ms. laid header ms) e h) [
+        | inl k ↦ let n = named_err (find (codes "hhea")) MalformedFont e k in subst (HasMetricsFault find (Contains order)) n.1 (no_hhea (is_there (find (codes "hmtx")) hmtx at) n.0)
+        | inr k ↦ second k.0 (named_ok (find (codes "hhea")) MalformedFont k.0 k.1) (bind_err (source_count k.0 hmtx) (λ count. metrics_all hmtx count order >>= λ ms. laid k.0 ms) e k.2)
+      ]
+    where
+      third : (hhea : List ℕ) (count : ℕ) → find (codes "hhea") ≡ Some hhea → HasPairs hhea hmtx count → (metrics_all hmtx count order ≡ Err e) ⊎ ((ms : List Metric) × (metrics_all hmtx count order ≡ Ok ms) × (laid hhea ms ≡ Err e)) → HasMetricsFault find (Contains order) e
+      third hhea count is p (inl k) =
+          let m = metrics_missing hmtx count order e k in
+          subst (HasMetricsFault find (Contains order)) m.0 (metric_outside m.1.0 hhea hmtx count m.1.1 at is p.count_is p.positive m.1.2)
+      third hhea count is p (inr k) = absurd cc
+
+      second : (hhea : List ℕ) → find (codes "hhea") ≡ Some hhea → (source_count hhea hmtx ≡ Err e) ⊎ ((count : ℕ) × (source_count hhea hmtx ≡ Ok count) × ((metrics_all hmtx count order >>= λ ms. laid hhea ms) ≡ Err e)) → HasMetricsFault find (Contains order) e
+      second hhea is (inl k) = count_fault hhea e is k
+      second hhea is (inr k) = third hhea k.0 is (has_pairs hhea hmtx k.0 k.1) (bind_err (metrics_all hmtx k.0 order) (λ ms. laid hhea ms) e k.2)
+
+-- an error is that of a fault
+pub metrics_refused : (find : List ℕ → Option (List ℕ)) (order : List ℕ) (e : Error) → metrics_of find order ≡ Err e → HasMetricsFault find (Contains order) e
+unfolding metrics_in
+metrics_refused find order e h = by (find (codes "hmtx")) refl h
+  where
+    by : (o : Option (List ℕ)) → find (codes "hmtx") ≡ o → metrics_in (find (codes "hhea")) o order ≡ Err e → HasMetricsFault find (Contains order) e
+    by None at k = absurd cc
+    by (Some hmtx) at k = elim (bind_err (tables_of (find (codes "hhea")) hmtx order) (λ tables. Ok (Some tables)) e k) [
+      | inl j ↦ tables_fault find order hmtx at e j
+      | inr j ↦ absurd cc
+    ]
+
+-- ---- what is answered has no fault
+
+no_table : {A : Type 0} (o : Option A) → o ≡ None → IsSome o → ⊥
+no_table None h k = absurd cc
+no_table (Some x) h k = absurd cc
+
+module _ (find : List ℕ → Option (List ℕ)) (order : List ℕ) where
+  none_clean : (e : Error) → find (codes "hmtx") ≡ None → HasMetricsFault find (Contains order) e → ⊥
+  none_clean e at (no_hhea a b) = no_table (find (codes "hmtx")) at a
+  none_clean e at (short_hhea hhea a b c) = no_table (find (codes "hmtx")) at a
+  none_clean e at (no_pairs hhea a b c) = no_table (find (codes "hmtx")) at a
+  none_clean e at (last_advance_outside hhea hmtx count a b c d f) = never (find (codes "hmtx")) hmtx a at
+  none_clean e at (metric_outside g hhea hmtx count r a b c d f) = never (find (codes "hmtx")) hmtx a at
+
+  -- the header and the count of a fault are those that were found
+  same_header : (t : MetricBytes) (s : Steps find order t) (hhea : List ℕ) → find (codes "hhea") ≡ Some hhea → s.hhea ≡ hhea
+  same_header t s hhea h = maybe_is s.hhea hhea (sym s.hhea_is ∙ h)
+
+  same_hmtx : (t : MetricBytes) (s : Steps find order t) (hmtx : List ℕ) → find (codes "hmtx") ≡ Some hmtx → s.hmtx ≡ hmtx
+  same_hmtx t s hmtx h = maybe_is s.hmtx hmtx (sym s.hmtx_is ∙ h)
+
+  same_count : (t : MetricBytes) (s : Steps find order t) (hhea : List ℕ) (count : ℕ) → find (codes "hhea") ≡ Some hhea → number_of_metrics hhea ≡ Some count → s.count ≡ count
+  same_count t s hhea count h k = maybe_is s.count count (sym s.pairs.count_is ∙ ap number_of_metrics (same_header t s hhea h) ∙ k)
+
+  some_clean : (t : MetricBytes) (e : Error) → Steps find order t → HasMetricsFault find (Contains order) e → ⊥
+  some_clean t e s (no_hhea a b) = never (find (codes "hhea")) s.hhea s.hhea_is b
+  some_clean t e s (short_hhea hhea a b c) = omega (arith, ap length (same_header t s hhea b), number_fits s.hhea 34 2 s.count s.pairs.count_is, c)
+  some_clean t e s (no_pairs hhea a b c) = omega (arith, same_count t s hhea 0 b c, s.pairs.positive)
+  some_clean t e s (last_advance_outside hhea hmtx count a b c d f) =
+      never (number s.hmtx (4 * (s.count - 1)) 2) s.pairs.advance s.pairs.last (ap (λ k. number s.hmtx (4 * (k - 1)) 2) (same_count t s hhea count b c) ∙ ap (λ (l : List ℕ). number l (4 * (count - 1)) 2) (same_hmtx t s hmtx a) ∙ f)
+  some_clean t e s (metric_outside g hhea hmtx count r a b c d f) =
+      let is_g : slice_index order r.0 ≡ g = get_or_default order r.0 0 g r.1 ∙ r.2 in
+      let found = metrics_at s.hmtx s.count order s.metrics r.0 zeros s.all r.1 in
+      let lost : metric_in s.hmtx s.count (slice_index order r.0) ≡ None = ap (λ k. metric_in s.hmtx s.count k) is_g ∙ ap (λ k. metric_in s.hmtx k g) (same_count t s hhea count b c) ∙ ap (λ (l : List ℕ). metric_in l count g) (same_hmtx t s hmtx a) ∙ f in
+      never (metric_in s.hmtx s.count (slice_index order r.0)) (get_or s.metrics r.0 zeros) found lost
+
+pub metrics_clean : (find : List ℕ → Option (List ℕ)) (order : List ℕ) (x : Option MetricBytes) (e : Error) → metrics_of find order ≡ Ok x → HasMetricsFault find (Contains order) e → ⊥
+metrics_clean find order None e h fault = none_clean find order e (no_metrics find order h) fault
+metrics_clean find order (Some t) e h fault = some_clean find order t e (steps find order t h) fault
