@@ -7,3 +7,6 @@ pub mod ReadBack
 pub mod HeadLemmas
 pub mod ComponentLemmas
 pub mod ChainLemmas
+pub mod MetricsLemmas
+pub mod MetricsBack
+pub mod MetricsLaws

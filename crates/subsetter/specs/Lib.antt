@@ -16,3 +16,7 @@ pub mod PlainGlyph
 pub mod OutlineFault
 pub mod Outlines
 pub mod Closure
+pub mod Metrics
+pub mod MetricsWritten
+pub mod MaxProfile
+pub mod MaxProfileWritten

@@ -11,6 +11,8 @@ mod component;
 mod glyf;
 mod head;
 mod loca;
+mod hmtx;
+mod maxp;
 mod parse;
 mod room;
 
