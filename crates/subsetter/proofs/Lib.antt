@@ -1,1 +1,3 @@
 pub mod FontLemmas
+pub mod NameLemmas
+pub mod PlacedLemmas

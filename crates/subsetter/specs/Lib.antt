@@ -9,3 +9,6 @@ pub mod Parts
 pub mod Reach
 pub mod Unfold
 pub mod Written
+pub mod Names
+pub mod NamesPlain
+pub mod NamesSeen

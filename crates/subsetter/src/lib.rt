@@ -3,6 +3,7 @@
 
 mod face;
 mod flavor;
+mod name;
 mod parse;
 
 pub use subsetter_base::{Error, GlyphRemapper, Tag};
