@@ -10,3 +10,5 @@ pub mod ChainLemmas
 pub mod MetricsLemmas
 pub mod MetricsBack
 pub mod MetricsLaws
+pub mod NameLemmas
+pub mod PlacedLemmas

@@ -20,3 +20,6 @@ pub mod Metrics
 pub mod MetricsWritten
 pub mod MaxProfile
 pub mod MaxProfileWritten
+pub mod Names
+pub mod NamesPlain
+pub mod NamesSeen

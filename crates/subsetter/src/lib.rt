@@ -13,6 +13,7 @@ mod head;
 mod loca;
 mod hmtx;
 mod maxp;
+mod name;
 mod parse;
 mod room;
 

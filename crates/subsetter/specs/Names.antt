@@ -1,0 +1,135 @@
+-- The names of a font (OpenType, "name").
+use Rattle.std.specs.Prelude.{◌≡◌, ◌≢◌, ℕ, zero, suc, ◌+◌, ◌*◌, Bool, false, ◌&&◌, ◌||◌, not, List, [], ◌∷◌, ◌++◌, length, take, drop, map, filter, flat_map, Option, Some, None, nat_lt, nat_le, ◌==◌, if◌then◌else◌}
+use Rattle.std.specs.Option.{option_and_then, option_map}
+use Rattle.std.specs.Str.{bytes_eq}
+use Rattle.std.specs.Int.{w16, to_be_bytes}
+use Rattle.subsetter_base.specs.Bytes.{be, range, number}
+use Rattle.subsetter.specs.Optional.{◌>>=◌}
+use Rattle.subsetter.specs.declared.name.NameRecord.{NameRecord}
+
+-- ---- read
+
+-- a record: platform, encoding, language, name, and length and offset of a string, two bytes each
+abbrev pub name_record_of : List ℕ → NameRecord
+name_record_of b = record { platform_id = be (take 2 b); encoding_id = be (take 2 (drop 2 b)); language_id = be (take 2 (drop 4 b)); name_id = be (take 2 (drop 6 b)); length = be (take 2 (drop 8 b)); string_offset = be (take 2 (drop 10 b)) }
+
+-- that many records
+abbrev pub name_records_in : ℕ → List ℕ → List NameRecord
+name_records_in zero bytes = []
+name_records_in (suc n) bytes = name_record_of bytes ∷ name_records_in n (drop 12 bytes)
+
+-- the records of a table, and the bytes that hold their strings
+pub record NameTable : Type 0 where
+  pub records : List NameRecord
+  pub storage : List ℕ
+
+-- the bytes from a place on, if the place isn't past the end
+abbrev pub bytes_from : List ℕ → ℕ → Option (List ℕ)
+bytes_from bytes at = if nat_le at (length bytes) then Some (drop at bytes) else None
+
+-- version, count and the storage's offset, two bytes each, and then the records
+abbrev pub name_parts : List ℕ → Option NameTable
+name_parts bytes = do
+  count ← number bytes 2 2
+  offset ← number bytes 4 2
+  records ← range bytes 6 (count * 12)
+  storage ← bytes_from bytes offset
+  Some (record { records = name_records_in count records; storage = storage })
+
+-- a table of version 0
+unfoldable pub name_table : List ℕ → Option NameTable
+name_table bytes = option_and_then (λ version. if version == 0 then name_parts bytes else None) (number bytes 0 2)
+
+-- a name by its platform, encoding, language and number, with its string, none where that isn't inside the storage
+pub record Name : Type 0 where
+  pub platform : ℕ
+  pub encoding : ℕ
+  pub language : ℕ
+  pub id : ℕ
+  pub string : Option (List ℕ)
+
+-- the string of a record
+abbrev pub string_of : List ℕ → NameRecord → Option (List ℕ)
+string_of storage r = range storage r.string_offset r.length
+
+abbrev pub name_of_record : List ℕ → NameRecord → Name
+name_of_record storage r = record { platform = r.platform_id; encoding = r.encoding_id; language = r.language_id; id = r.name_id; string = string_of storage r }
+
+-- the names of a table of version 0
+abbrev pub name_records : List ℕ → Option (List Name)
+name_records bytes = option_map (λ t. map (name_of_record t.storage) t.records) (name_table bytes)
+
+-- the bytes that hold the strings
+abbrev pub name_storage : List ℕ → Option (List ℕ)
+name_storage bytes = option_map (λ t. t.storage) (name_table bytes)
+
+-- ---- what is kept
+
+-- strings of the platform Unicode (0), and of Windows (3) in the encodings symbol, Unicode BMP and full Unicode
+abbrev pub is_unicode : ℕ → ℕ → Bool
+is_unicode platform encoding = (platform == 0) || ((platform == 3) && ((encoding == 0) || ((encoding == 1) || (encoding == 10))))
+
+-- the names of the font, its makers, its licence and its families: all of 0 to 14 but the description, 10
+abbrev pub is_kept_id : ℕ → Bool
+is_kept_id id = nat_lt id 15 && not (id == 10)
+
+abbrev pub is_kept_record : NameRecord → Bool
+is_kept_record r = is_unicode r.platform_id r.encoding_id && is_kept_id r.name_id
+
+abbrev pub is_kept_name : Name → Bool
+is_kept_name n = is_unicode n.platform n.encoding && is_kept_id n.id
+
+-- ---- strings, each once
+
+-- whether a string is one of these
+abbrev pub among : List (List ℕ) → List ℕ → Bool
+among [] s = false
+among (t ∷ ts) s = bytes_eq s t || among ts s
+
+-- the strings with one at their end, unless it is there
+abbrev pub with_string : List (List ℕ) → List ℕ → List (List ℕ)
+with_string ts s = if among ts s then ts else ts ++ s ∷ []
+
+-- the strings with each one that isn't there, in order
+abbrev pub with_strings : List (List ℕ) → List (List ℕ) → List (List ℕ)
+with_strings ts [] = ts
+with_strings ts (s ∷ ss) = with_strings (with_string ts s) ss
+
+-- the distinct strings in the order of first use
+abbrev pub distinct : List (List ℕ) → List (List ℕ)
+distinct ss = with_strings [] ss
+
+-- where a string begins among strings that stand one after another; behind them all where it isn't one of them
+abbrev pub string_place : List (List ℕ) → List ℕ → ℕ
+string_place [] s = 0
+string_place (t ∷ ts) s = if bytes_eq s t then 0 else length t + string_place ts s
+
+-- strings one after another, without gaps
+abbrev pub joined : List (List ℕ) → List ℕ
+joined ts = flat_map (λ (t : List ℕ). t) ts
+
+-- ---- written
+
+abbrev pub name_record_bytes : NameRecord → List ℕ
+name_record_bytes r = to_be_bytes w16 r.platform_id ++ to_be_bytes w16 r.encoding_id ++ to_be_bytes w16 r.language_id ++ to_be_bytes w16 r.name_id ++ to_be_bytes w16 r.length ++ to_be_bytes w16 r.string_offset
+
+-- a table of version 0, its storage right after its records
+unfoldable pub name_bytes : List NameRecord → List ℕ → List ℕ
+name_bytes records storage = to_be_bytes w16 0 ++ to_be_bytes w16 (length records) ++ to_be_bytes w16 (6 + 12 * length records) ++ flat_map name_record_bytes records ++ storage
+
+-- ---- what a subset promises
+
+-- the kept names of a table of version 0, in order, and their distinct strings in the order of first use, right after the records
+pub record HasKeptNames (source new : List ℕ) : Type 0 where
+  pub names : List Name
+  pub strings : List (List ℕ)
+  pub source_is : name_records source ≡ Some names
+  pub readable : map (λ (n : Name). n.string) (filter is_kept_name names) ≡ map Some strings
+  pub new_is : name_records new ≡ Some (filter is_kept_name names)
+  pub stored : name_storage new ≡ Some (joined (distinct strings))
+  pub place : number new 4 2 ≡ Some (6 + 12 * length strings)
+
+-- a table of version 0 has the kept names; one of another version is copied
+pub data KeepsNames (source new : List ℕ) : Type 0 where
+  rewritten : HasKeptNames source new → KeepsNames source new
+  copied : (version : ℕ) → number source 0 2 ≡ Some version → version ≢ 0 → new ≡ source → KeepsNames source new
