@@ -1,38 +1,5 @@
 //! Names of tables.
 
-<<<<<<< HEAD
-<<<<<<< HEAD
-ghost use Rattle.std.specs.Prelude.{◌≡◌, Option, Some};
-
-use crate::read::{Readable, Reader};
-
-/// A four-byte OpenType tag.
-#[derive(Clone, Copy, PartialEq, Eq)]
-pub struct Tag([u8; 4]);
-
-impl Tag {
-    /// The tag of four bytes.
-    pub fn new(tag: &[u8; 4]) -> Self
-        ensures { result.0 ≡ tag.now }
-    {
-        Self(*tag)
-    }
-
-    /// The four bytes.
-    pub fn get(&self) -> &[u8; 4]
-        ensures { result.now ≡ self.now.0 }
-    {
-        &self.0
-    }
-
-    pub const CVT: Tag = Tag(*b"cvt ");
-
-    pub const FPGM: Tag = Tag(*b"fpgm");
-
-    pub const PREP: Tag = Tag(*b"prep");
-=======
-=======
->>>>>>> glyf
 ghost use Rattle.std.specs.Prelude.{◌≡◌, ◌++◌, length, Option, Some, MatchResult, codes};
 ghost use Rattle.subsetter_base.specs.Texts.{tag_text};
 
@@ -48,10 +15,6 @@ pub struct Tag([u8; 4]);
 
 impl Tag {
     pub const HEAD: Tag = Tag(*b"head");
-<<<<<<< HEAD
->>>>>>> base
-=======
->>>>>>> glyf
 
     pub const HHEA: Tag = Tag(*b"hhea");
 
@@ -67,30 +30,15 @@ impl Tag {
 
     pub const LOCA: Tag = Tag(*b"loca");
 
-<<<<<<< HEAD
-<<<<<<< HEAD
-    pub const HEAD: Tag = Tag(*b"head");
-=======
-=======
->>>>>>> glyf
     pub const CVT: Tag = Tag(*b"cvt ");
 
     pub const FPGM: Tag = Tag(*b"fpgm");
 
     pub const PREP: Tag = Tag(*b"prep");
-<<<<<<< HEAD
->>>>>>> base
-=======
->>>>>>> glyf
 
     pub const CFF: Tag = Tag(*b"CFF ");
 
     pub const CFF2: Tag = Tag(*b"CFF2");
-<<<<<<< HEAD
-<<<<<<< HEAD
-=======
-=======
->>>>>>> glyf
 
     /// The tag of four bytes.
     pub fn new(tag: &[u8; 4]) -> Self
@@ -116,10 +64,6 @@ impl Tag {
             Err(_) => "...",
         }
     }
-<<<<<<< HEAD
->>>>>>> base
-=======
->>>>>>> glyf
 }
 
 impl Readable<'_> for Tag {
@@ -133,11 +77,6 @@ impl Readable<'_> for Tag {
         Some(Tag(r.read::<[u8; 4]>()?))
     }
 }
-<<<<<<< HEAD
-<<<<<<< HEAD
-=======
-=======
->>>>>>> glyf
 
 impl Writeable for Tag {
     ghost bytes_of = { λ tag. tag.0 };
@@ -191,7 +130,3 @@ impl fmt::Display for TagLengthError {
 }
 
 impl std::error::Error for TagLengthError {}
-<<<<<<< HEAD
->>>>>>> base
-=======
->>>>>>> glyf
