@@ -72,10 +72,11 @@ impl Writeable for TableRecord {
     ghost bytes_of = { λ r. r.tag.0 ++ to_be_bytes w32 r.checksum ++ to_be_bytes w32 r.offset ++ to_be_bytes w32 r.length };
 
     fn write(&self, w: &mut Writer) -> Result<(), Error> {
-        w.write(self.tag.get())?;
+        w.extend(self.tag.get())?;
         w.write(&self.checksum)?;
         w.write(&self.offset)?;
-        w.write(&self.length)
+        w.write(&self.length)?;
+        Ok(())
     }
 }
 
