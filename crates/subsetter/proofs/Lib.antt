@@ -12,3 +12,4 @@ pub mod MetricsBack
 pub mod MetricsLaws
 pub mod NameLemmas
 pub mod PlacedLemmas
+pub mod OutlinesBack

@@ -23,3 +23,9 @@ pub mod MaxProfileWritten
 pub mod Names
 pub mod NamesPlain
 pub mod NamesSeen
+pub mod GlyphNames
+pub mod GlyphNamesPlain
+pub mod OpeningFault
+pub mod Plain
+pub mod PlainSeen
+pub mod Answered

@@ -15,6 +15,9 @@ mod hmtx;
 mod maxp;
 mod name;
 mod parse;
+mod post;
 mod room;
+mod subsetting;
+mod truetype;
 
 pub use subsetter_base::{Error, GlyphRemapper, Tag};
