@@ -3,3 +3,6 @@ pub mod ChecksumLemmas
 pub mod WeightLemmas
 pub mod LayoutLemmas
 pub mod ReadBack
+pub mod OpeningLaws
+pub mod Lookups
+pub mod ContainerLaws

@@ -12,3 +12,4 @@ pub mod Written
 pub mod Weights
 pub mod Tables
 pub mod PlainFile
+pub mod OpeningFault
