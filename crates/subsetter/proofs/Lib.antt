@@ -13,3 +13,6 @@ pub mod MetricsLaws
 pub mod NameLemmas
 pub mod PlacedLemmas
 pub mod OutlinesBack
+pub mod OpeningLaws
+pub mod Lookups
+pub mod ContainerLaws

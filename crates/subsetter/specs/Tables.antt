@@ -1,5 +1,7 @@
 -- The tables of a new font.
-use Rattle.std.specs.Prelude.{ℕ, List, map}
+use Rattle.std.specs.Prelude.{ℕ, List, [], ◌∷◌, map, find, Option, Some, None}
+use Rattle.std.specs.Option.{option_map}
+use Rattle.std.specs.Str.{bytes_eq}
 use Rattle.std.specs.Cow.{cow_slice_items}
 use Rattle.subsetter.specs.declared.flavor.FontFlavor.{FontFlavor}
 use Rattle.subsetter.specs.declared.flavor.FontFlavor.TheVariants.{TrueType, Cff}
@@ -25,3 +27,15 @@ view t = record { tag = t.tag.0; bytes = table_bytes t.«data» }
 
 abbrev pub views : List NewTable → List Table
 views ts = map view ts
+
+-- a table that may be missing
+abbrev pub opt : List ℕ → Option (List ℕ) → List Table
+opt tag None = []
+opt tag (Some bytes) = record { tag = tag; bytes = bytes } ∷ []
+
+-- the bytes of the first table with a tag
+abbrev pub lookup : List ℕ → List Table → Option (List ℕ)
+lookup tag ts = option_map (λ (t : Table). t.bytes) (find (λ (t : Table). bytes_eq t.tag tag) ts)
+
+abbrev pub tags : List Table → List (List ℕ)
+tags ts = map (λ (t : Table). t.tag) ts
