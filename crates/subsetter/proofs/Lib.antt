@@ -1,3 +1,4 @@
 pub mod FontLemmas
 pub mod NameLemmas
 pub mod PlacedLemmas
+pub mod IndexLemmas

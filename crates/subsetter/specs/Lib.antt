@@ -12,3 +12,5 @@ pub mod Written
 pub mod Names
 pub mod NamesPlain
 pub mod NamesSeen
+pub mod GlyphNames
+pub mod GlyphNamesPlain

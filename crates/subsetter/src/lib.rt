@@ -5,5 +5,6 @@ mod face;
 mod flavor;
 mod name;
 mod parse;
+mod post;
 
 pub use subsetter_base::{Error, GlyphRemapper, Tag};
