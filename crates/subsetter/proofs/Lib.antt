@@ -16,3 +16,4 @@ pub mod OutlinesBack
 pub mod OpeningLaws
 pub mod Lookups
 pub mod ContainerLaws
+pub mod IndexLemmas

@@ -1,0 +1,10 @@
+use Rattle.std.proofs.Common.{List, ℕ, ◌++◌, ap, sym, ◌∙◌, arith}
+use Rattle.subsetter.specs.GlyphNamesPlain.{seen_post}
+use Rattle.subsetter.specs.NamesSeen.{nows}
+use Rattle.subsetter.proofs.IndexLemmas.{written}
+use Rattle.subsetter.proofs.post.write_table.Goals as goal
+
+pub returns : goal.returns
+returns c =
+    written (seen_post c.args.table.now) (nows c.args.names.now) c.args.indexes.now c.args.count c.extend.new.self c.write.new.self c.write_indexes.new.w c.write_names.new.w c.finish.result.items
+    c.requires.names c.requires.count (omega arith) (c.in_ok-extend.ensures.ok ∙ ap (λ (l : List ℕ). l ++ c.args.table.now.header.now) c.in_ok-w.ensures.ok) c.in_ok-write.ensures.ok c.in_ok-write_indexes.ensures.ok c.in_ok-write_names.ensures.ok c.finish.ensures

@@ -1,0 +1,220 @@
+//! The names of glyphs.
+
+ghost use Rattle.std.specs.Prelude.{◌≡◌, ◌≤◌, ◌++◌, [], Some, length, map, flat_map, OnOk, IfOk, IfErr};
+ghost use Rattle.std.specs.Option.{option_copied, option_map};
+ghost use Rattle.std.specs.Cow.{cow_slice_items};
+ghost use Rattle.std.specs.Iterator.{YieldsFirstRef, item_count};
+ghost use Rattle.subsetter_base.specs.Gives.{Gives};
+ghost use Rattle.subsetter_base.specs.declared.error.Error.TheVariants.{OutOfMemory};
+ghost use Rattle.subsetter.specs.GlyphNames.{names_in, post_table, pascal_bytes};
+ghost use Rattle.subsetter.specs.GlyphNamesPlain.{seen_post, indexes_of, custom_count, new_indexes, entry_of, post_of_indexes, subset_glyph_names, new_post};
+ghost use Rattle.subsetter.specs.NamesSeen.{nows};
+
+use std::alloc::Global;
+use std::borrow::CowSlice;
+use std::marker::Model;
+use subsetter_base::read::{LazyArray16, Reader};
+use subsetter_base::write::Writer;
+use subsetter_base::{Error, GlyphRemapper};
+
+/// Names, each behind its length byte. An empty name is a name; a cut one ends them.
+#[derive(Drop)]
+pub struct Names<'a> {
+    rest: &'a [u8],
+}
+
+impl<'a> Model for Names<'a> {
+    ghost use Rattle.std.specs.Prelude.{ℕ, List};
+
+    ghost Value = { List ℕ };
+
+    ghost view = { λ s. s.rest.now };
+}
+
+impl<'a> Iterator for Names<'a> {
+    type Item = &'a [u8];
+
+    ghost next_gives = { YieldsFirstRef names_in };
+
+    ghost remaining = { item_count names_in };
+
+    fn next(&mut self) -> Option<&'a [u8]> {
+        let bytes = self.rest;
+        self.rest = &[];
+        let (len, rest) = bytes.split_first()?;
+        let len = usize::from(*len);
+        if len > rest.len() {
+            return None;
+        }
+        self.rest = &rest[len..];
+        Some(&rest[..len])
+    }
+}
+
+/// A table of version 2.0.
+#[derive(Drop)]
+pub struct Version2Table<'a> {
+    pub header: &'a [u8],
+    pub glyph_indexes: LazyArray16<'a, u16>,
+    pub names_data: &'a [u8],
+}
+
+impl<'a> Version2Table<'a> {
+    /// Parses a table, if it is one of version 2.0 and its header and its indexes are there.
+    #[tactic(auto, unfolding(crate::specs::GlyphNames::post_table))]
+    pub fn parse(data: &'a [u8]) -> Option<Self>
+        ensures { option_map seen_post result ≡ post_table «data».now }
+    {
+        if Reader::new(data).read::<u32>()? != 0x0002_0000 {
+            return None;
+        }
+        let mut r = Reader::new(data);
+        let header = r.read_bytes(32)?;
+        let count = r.read::<u16>()?;
+        let glyph_indexes = r.read_array16::<u16>(count)?;
+        let names_data = r.tail()?;
+        Some(Self {
+            header,
+            glyph_indexes,
+            names_data,
+        })
+    }
+
+    /// The font's own names.
+    pub fn names(&self) -> Names<'a>
+        ensures { result ≡ self.now.names_data.now }
+    {
+        Names {
+            rest: self.names_data,
+        }
+    }
+
+    /// The font's own names by their numbers, so that none is walked to twice.
+    fn name_list(&self, alloc: Global) -> Result<Vec<&'a [u8]>, Error>
+        ensures ok { IfOk result (λ v. nows v.items ≡ names_in self.now.names_data.now) }
+        ensures err { IfErr result (λ e. e ≡ OutOfMemory) }
+    {
+        let mut names = Vec::new(alloc);
+        for name in self.names() {
+            names.push(name)?;
+        }
+        Ok(names)
+    }
+
+    /// The indexes of glyphs; `MalformedFont` where one is missing.
+    fn indexes(&self, alloc: Global, mapper: &GlyphRemapper) -> Result<Vec<u16>, Error>
+        ensures exact { Gives (λ v. v.items) result (indexes_of (seen_post self.now) mapper.now) }
+        ensures each { IfOk result (λ v. length v.items ≡ length mapper.now) }
+    {
+        let mut indexes = Vec::new(alloc);
+        for old in mapper.remapped_gids() {
+            let index = self.glyph_indexes.get(old).ok_or(Error::MalformedFont)?;
+            indexes.push(index)?;
+        }
+        Ok(indexes)
+    }
+}
+
+/// How many of the indexes are of the font's own names.
+fn count_custom(indexes: &[u16]) -> usize
+    ensures { result ≡ custom_count indexes.now }
+{
+    let mut count: usize = 0;
+    for index in indexes {
+        if *index >= 258 {
+            count += 1;
+        }
+    }
+    count
+}
+
+/// Writes the indexes: a standard name keeps its own, and each other glyph gets the next from 258 on.
+fn write_indexes(w: &mut Writer, indexes: &[u16]) -> Result<(), Error>
+    requires { custom_count indexes.now ≤ 65278 }
+    ensures ok { OnOk result (w.new ≡ w.old ++ new_indexes 0 indexes.now) }
+    ensures err { IfErr result (λ e. e ≡ OutOfMemory) }
+{
+    let mut custom: usize = 0;
+    for index in indexes {
+        if *index < 258 {
+            w.write(index)?;
+        } else {
+            w.write(&((258 + custom) as u16))?;
+            custom += 1;
+        }
+    }
+    Ok(())
+}
+
+/// Writes a name behind its length byte. A name has at most 255 bytes, as it came from behind such a byte.
+fn write_name(w: &mut Writer, name: &[u8]) -> Result<(), Error>
+    ensures ok { OnOk result (w.new ≡ w.old ++ pascal_bytes name.now) }
+    ensures err { IfErr result (λ e. e ≡ OutOfMemory) }
+{
+    w.write(&((name.len() % 256) as u8))?;
+    w.extend(name)?;
+    Ok(())
+}
+
+/// Writes the names that the indexes name, an empty one where none is there.
+fn write_names(w: &mut Writer, indexes: &[u16], names: &[&[u8]]) -> Result<(), Error>
+    ensures ok { OnOk result (w.new ≡ w.old ++ flat_map (entry_of (nows names.now)) indexes.now) }
+    ensures err { IfErr result (λ e. e ≡ OutOfMemory) }
+{
+    for index in indexes {
+        if *index >= 258 {
+            let place = usize::from(*index) - 258;
+            write_name(w, names.get(place).copied().unwrap_or(&[]))?;
+        }
+    }
+    Ok(())
+}
+
+/// Writes a table of version 2.0.
+#[tactic(auto, unfolding(crate::specs::GlyphNamesPlain::post_of_indexes))]
+fn write_table(
+    alloc: Global,
+    table: &Version2Table<'_>,
+    count: u16,
+    indexes: &[u16],
+    names: &[&[u8]],
+) -> Result<Vec<u8>, Error>
+    requires count { count ≡ length indexes.now }
+    requires names { nows names.now ≡ names_in table.now.names_data.now }
+    ensures { Gives (λ v. v.items) result (post_of_indexes (seen_post table.now) indexes.now) }
+{
+    if count_custom(indexes) > 65278 {
+        return Err(Error::OverflowError);
+    }
+    let mut w = Writer::with_capacity(alloc, 34 + 2 * indexes.len())?;
+    w.extend(table.header)?;
+    w.write(&count)?;
+    write_indexes(&mut w, indexes)?;
+    write_names(&mut w, indexes, names)?;
+    Ok(w.finish())
+}
+
+/// The glyph names of a subset. A table of another version than 2.0 is copied whole. `MalformedFont` where the version, the header, the count or an index is cut or the index of a glyph is missing; `OverflowError` for more than 65278 glyphs with names of the font's own.
+#[tactic(auto, unfolding(crate::specs::GlyphNamesPlain::new_post, crate::specs::GlyphNamesPlain::post_of_table, crate::specs::GlyphNamesPlain::subset_glyph_names))]
+pub fn subset<'a>(
+    alloc: Global,
+    post: Option<&'a [u8]>,
+    mapper: &GlyphRemapper,
+) -> Result<Option<CowSlice<'a, u8>>, Error>
+    ensures { Gives (option_map cow_slice_items) result (new_post (option_copied post.entry) mapper.now) }
+{
+    let Some(bytes) = post else {
+        return Ok(None);
+    };
+    let version = Reader::new(bytes)
+        .read::<u32>()
+        .ok_or(Error::MalformedFont)?;
+    if version != 0x0002_0000 {
+        return Ok(Some(CowSlice::Borrowed(bytes)));
+    }
+    let table = Version2Table::parse(bytes).ok_or(Error::MalformedFont)?;
+    let indexes = table.indexes(alloc, mapper)?;
+    let names = table.name_list(alloc)?;
+    let new = write_table(alloc, &table, mapper.num_gids(), &indexes, &names)?;
+    Ok(Some(CowSlice::Owned(new)))
+}
