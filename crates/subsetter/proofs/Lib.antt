@@ -2,3 +2,4 @@ pub mod FontLemmas
 pub mod MetricsLemmas
 pub mod MetricsBack
 pub mod MetricsLaws
+pub mod MaxProfileLaws
