@@ -1,5 +1,5 @@
 -- What the plain way to `maxp` answers says how many glyphs there are; what it refuses has a fault, and what it answers has none.
-use Rattle.std.proofs.Common.{◌≡◌, ℕ, ◌+◌, ◌^◌, ◌<◌, ◌≤◌, ltb, Bool, true, false, cond, List, [], ◌∷◌, ◌++◌, length, drop, Option, Some, None, Result, Ok, Err, refl, sym, ap, subst, ◌∙◌, append_assoc, arith}
+use Rattle.std.proofs.Common.{◌≡◌, ℕ, ◌^◌, ◌<◌, ◌≤◌, ltb, Bool, true, false, cond, List, [], ◌++◌, length, drop, Option, Some, None, Ok, Err, refl, sym, ap, subst, ◌∙◌, append_assoc, arith}
 use Rattle.std.specs.Prelude.{codes}
 use Rattle.std.specs.Int.{w16, w32, to_be_bytes}
 use Rattle.std.proofs.lemmas.Bool.{ltb-true, ltb-false}
@@ -69,7 +69,10 @@ pub is_max_profile : (find out : List ℕ → Option (List ℕ)) (flavor : FontF
 is_max_profile find out flavor n maxp small h at =
     let s = steps find flavor n maxp h in
     record {
-      source = s.source; source_is = s.source_is; maxp = maxp; maxp_is = at;
+      source = s.source;
+      source_is = s.source_is;
+      maxp = maxp;
+      maxp_is = at;
       version = ap (λ (l : List ℕ). number l 0 4) s.is ∙ version_back flavor n s.source;
       count = ap number_of_glyphs s.is ∙ count_back flavor n s.source small;
       further = ap (λ (l : List ℕ). drop 6 l) s.is ∙ further_back flavor n s.source;
