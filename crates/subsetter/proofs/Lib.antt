@@ -3,3 +3,4 @@ pub mod MetricsLemmas
 pub mod MetricsBack
 pub mod MetricsLaws
 pub mod MaxProfileLaws
+pub mod TableBytes
