@@ -17,3 +17,5 @@ pub mod OpeningLaws
 pub mod Lookups
 pub mod ContainerLaws
 pub mod IndexLemmas
+pub mod MaxProfileLaws
+pub mod TableBytes

@@ -1,5 +1,5 @@
 -- What the plain way to `hhea` and `hmtx` answers keeps the metrics; what it refuses has a fault, and what it answers has none.
-use Rattle.std.proofs.Common.{◌≡◌, ℕ, zero, suc, ◌+◌, ◌-◌, ◌*◌, ◌^◌, ◌<◌, ◌≤◌, leb, Bool, true, false, cond, List, [], ◌∷◌, length, get_or, take, drop, Option, Some, None, Result, Ok, Err, refl, sym, ap, subst, ◌∙◌, ◌⊎◌, inl, inr, arith}
+use Rattle.std.proofs.Common.{◌≡◌, ℕ, zero, suc, ◌+◌, ◌-◌, ◌*◌, ◌^◌, ◌<◌, ◌≤◌, leb, Bool, true, false, cond, List, length, get_or, take, drop, Option, Some, None, Result, Ok, Err, refl, sym, ap, subst, ◌∙◌, ◌⊎◌, inl, inr, arith}
 use Rattle.std.specs.Prelude.{codes, Contains, IsSome, slice_index, ◌==◌}
 use Rattle.std.specs.Option.{option_and_then, option_map, ok_or}
 use Rattle.std.proofs.lemmas.Bool.{eqb-true, eqb-false, lt-ltb, le-ltb, leb-false}
@@ -7,12 +7,12 @@ use Rattle.std.proofs.lemmas.List.{get_or_default}
 use Rattle.subsetter_base.specs.Bytes.{be, range, number, IsBytes, ◌>>=◌}
 use Rattle.subsetter_base.specs.declared.error.Error.{Error}
 use Rattle.subsetter_base.specs.declared.error.Error.TheVariants.{MalformedFont, OverflowError}
-use Rattle.subsetter_base.proofs.ByteLemmas.{range-fits, range-none}
+use Rattle.subsetter_base.proofs.ByteLemmas.{range-fits}
 use Rattle.subsetter.specs.declared.hmtx.Metric.{Metric}
-use Rattle.subsetter.specs.Metrics.{number_of_metrics, metric_at, metric_in, metric_of, SameMetric, KeepsMetrics, HasMetricsFault, no_hhea, short_hhea, no_pairs, last_advance_outside, metric_outside}
+use Rattle.subsetter.specs.Metrics.{number_of_metrics, metric_at, metric_in, metric_of, KeepsMetrics, HasMetricsFault, no_hhea, short_hhea, no_pairs, last_advance_outside, metric_outside}
 use Rattle.subsetter.specs.MetricsWritten.{MetricBytes, least_count, hmtx_bytes, hhea_bytes, if_pairs, metrics_all, source_count, tables_of, metrics_in, metrics_of}
 use Rattle.subsetter.proofs.MetricsLemmas.{done, done_is, failed_is, bind_ok, bind_err, named_ok, named_err, metrics-length, metrics_at, metrics_missing, least_count-le, least_count_pos, advances_agree, least_count_least}
-use Rattle.subsetter.proofs.MetricsBack.{IsSmall, metric_small, metric_back, length-hmtx, count_back, header_length, header_before, header_after}
+use Rattle.subsetter.proofs.MetricsBack.{metric_small, metric_back, length-hmtx, count_back, header_length, header_before, header_after}
 
 -- ---- the steps of what was answered
 
@@ -88,7 +88,14 @@ steps_in find order hmtx t at h =
     let b = bind_ok (source_count a.0 hmtx) (λ count. metrics_all hmtx count order >>= λ ms. laid a.0 ms) t a.2 in
     let c = bind_ok (metrics_all hmtx b.0 order) (λ ms. laid a.0 ms) t b.2 in
     record {
-      hmtx = hmtx; hmtx_is = at; hhea = a.0; hhea_is = named_ok (find (codes "hhea")) MalformedFont a.0 a.1; count = b.0; pairs = has_pairs a.0 hmtx b.0 b.1; metrics = c.0; all = c.1;
+      hmtx = hmtx;
+      hmtx_is = at;
+      hhea = a.0;
+      hhea_is = named_ok (find (codes "hhea")) MalformedFont a.0 a.1;
+      count = b.0;
+      pairs = has_pairs a.0 hmtx b.0 b.1;
+      metrics = c.0;
+      all = c.1;
       tables = sym (done_is (record { hhea = hhea_bytes (least_count c.0) a.0; hmtx = hmtx_bytes (least_count c.0) c.0 }) t c.2);
     }
 
@@ -198,7 +205,13 @@ module _ (find out : List ℕ → Option (List ℕ)) (order : List ℕ) (t : Met
       let hmtx_at : out (codes "hmtx") ≡ Some (hmtx_bytes n s.metrics) = b ∙ ap (λ (x : MetricBytes). Some x.hmtx) s.tables in
       record {
         metrics = λ i lt. record { metric = get_or s.metrics i zeros; source = source_metric i lt; copy = copy_metric n refl small long (all_bytes s.hmtx s.hmtx_is) hhea_at hmtx_at i lt };
-        header = s.hhea; header_is = s.hhea_is; hhea = hhea_bytes n s.hhea; hhea_is = hhea_at; hmtx = hmtx_bytes n s.metrics; hmtx_is = hmtx_at; count = n;
+        header = s.hhea;
+        header_is = s.hhea_is;
+        hhea = hhea_bytes n s.hhea;
+        hhea_is = hhea_at;
+        hmtx = hmtx_bytes n s.metrics;
+        hmtx_is = hmtx_at;
+        count = n;
         count_is = count_back n s.hhea small long;
         at_least = least_count_pos s.metrics (omega (arith, len));
         at_most = omega (arith, len, least_count-le s.metrics);

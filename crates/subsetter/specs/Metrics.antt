@@ -1,6 +1,6 @@
 -- Horizontal metrics of glyphs (OpenType, "hhea" and "hmtx").
 use Rattle.std.specs.Prelude.{◌≡◌, ℕ, ◌+◌, ◌-◌, ◌*◌, ◌<◌, ◌≤◌, List, length, take, drop, slice_index, codes, Option, Some, None, IsSome, nat_lt, ◌==◌, if◌then◌else◌}
-use Rattle.subsetter_base.specs.Bytes.{number, IsBytes}
+use Rattle.subsetter_base.specs.Bytes.{number}
 use Rattle.subsetter_base.specs.declared.error.Error.{Error}
 use Rattle.subsetter_base.specs.declared.error.Error.TheVariants.{MalformedFont, OverflowError}
 use Rattle.subsetter.specs.Optional.{◌>>=◌}

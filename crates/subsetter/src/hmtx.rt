@@ -199,3 +199,141 @@ pub fn subset(
     let tables = tables(alloc, hhea, hmtx, mapper)?;
     Ok(Some(tables))
 }
+
+#[cfg(test)]
+mod tests {
+    use super::*;
+    use std::test::Fail;
+
+    /// `hhea` up to numberOfHMetrics.
+    const BEFORE: [u8; 34] = [
+        0x00, 0x01, 0x00, 0x00, 0x07, 0x6D, 0xFE, 0x1D, 0x00, 0x00, 0x04, 0xD1, 0xFC, 0xB0, 0xFD,
+        0x9F, 0x04, 0xD1, 0x00, 0x01, 0x00, 0x02, 0x00, 0x03, 0x00, 0x04, 0x00, 0x05, 0x00, 0x06,
+        0x00, 0x07, 0x00, 0x08,
+    ];
+
+    fn header(rt: &HostRuntime, after: &[u8]) -> Result<Vec<u8>, Fail> {
+        let mut hhea = Vec::from_slice(rt.alloc(), &BEFORE)?;
+        hhea.extend_from_slice(after)?;
+        Ok(hhea)
+    }
+
+    /// What is answered for glyph 0 and further glyphs.
+    fn metrics_for(
+        rt: &HostRuntime,
+        after: &[u8],
+        hmtx: &[u8],
+        glyphs: &[u16],
+    ) -> Result<Result<Option<MetricTables>, Error>, Fail> {
+        let hhea = header(rt, after)?;
+        let mapper = GlyphRemapper::new_from_glyphs(rt.alloc(), glyphs)
+            .ok()
+            .ok_or("a mapper")?;
+        Ok(subset(rt.alloc(), Some(&hhea), Some(hmtx), &mapper))
+    }
+
+    /// Whether the metrics of glyphs become these tables.
+    fn becomes(
+        rt: &HostRuntime,
+        source: (&[u8], &[u8]),
+        glyphs: &[u16],
+        wanted: (&[u8], &[u8]),
+    ) -> Result<bool, Fail> {
+        let tables = metrics_for(rt, source.0, source.1, glyphs)?
+            .ok()
+            .flatten()
+            .ok_or("tables")?;
+        let hhea = header(rt, wanted.0)?;
+        Ok(tables.hhea == hhea && tables.hmtx.as_slice() == wanted.1)
+    }
+
+    const TWO_PAIRS: [u8; 10] = [0x01, 0xF4, 0x00, 0x01, 0x02, 0x58, 0x00, 0x02, 0x00, 0x03];
+
+    #[test]
+    fn glyphs_past_the_pairs_take_the_last_advance(rt: HostRuntime) -> Result<(), Fail> {
+        assert!(rt;
+            becomes(
+                &rt,
+                (&[0, 2], &TWO_PAIRS),
+                &[2],
+                (&[0, 2], &[0x01, 0xF4, 0x00, 0x01, 0x02, 0x58, 0x00, 0x03])
+            )?
+        );
+        Ok(())
+    }
+
+    #[test]
+    fn one_glyph_has_one_pair(rt: HostRuntime) -> Result<(), Fail> {
+        assert!(rt;
+            becomes(
+                &rt,
+                (&[0, 2], &TWO_PAIRS),
+                &[],
+                (&[0, 1], &[0x01, 0xF4, 0x00, 0x01])
+            )?
+        );
+        Ok(())
+    }
+
+    #[test]
+    fn equal_advances_at_the_end_need_one_pair(rt: HostRuntime) -> Result<(), Fail> {
+        let two = [
+            0x01, 0xF4, 0x00, 0x01, 0x02, 0x58, 0x00, 0x02, 0x02, 0x58, 0x00, 0x03,
+        ];
+        assert!(rt; becomes(&rt, (&[0, 3], &two), &[1, 2], (&[0, 2], &TWO_PAIRS))?);
+        let one = [
+            0x01, 0xF4, 0x00, 0x01, 0x01, 0xF4, 0x00, 0x02, 0x01, 0xF4, 0x00, 0x03,
+        ];
+        assert!(rt;
+            becomes(
+                &rt,
+                (&[0, 3], &one),
+                &[1, 2],
+                (&[0, 1], &[0x01, 0xF4, 0x00, 0x01, 0x00, 0x02, 0x00, 0x03])
+            )?
+        );
+        Ok(())
+    }
+
+    #[test]
+    fn bytes_after_the_count_are_kept(rt: HostRuntime) -> Result<(), Fail> {
+        assert!(rt;
+            becomes(
+                &rt,
+                (&[0, 2, 0xAB, 0xCD], &TWO_PAIRS),
+                &[],
+                (&[0, 1, 0xAB, 0xCD], &[0x01, 0xF4, 0x00, 0x01])
+            )?
+        );
+        Ok(())
+    }
+
+    #[test]
+    fn no_pairs_overflow(rt: HostRuntime) -> Result<(), Fail> {
+        let answer = metrics_for(&rt, &[0, 0], &TWO_PAIRS, &[])?;
+        assert!(rt; matches!(answer, Err(Error::OverflowError)));
+        Ok(())
+    }
+
+    #[test]
+    fn cut_tables_are_malformed(rt: HostRuntime) -> Result<(), Fail> {
+        let header = metrics_for(&rt, &[0], &TWO_PAIRS, &[])?;
+        assert!(rt; matches!(header, Err(Error::MalformedFont)));
+        let bearing = metrics_for(&rt, &[0, 2], &TWO_PAIRS[..8], &[2])?;
+        assert!(rt; matches!(bearing, Err(Error::MalformedFont)));
+        let last_advance = metrics_for(&rt, &[0, 2], &TWO_PAIRS[..4], &[])?;
+        assert!(rt; matches!(last_advance, Err(Error::MalformedFont)));
+        Ok(())
+    }
+
+    #[test]
+    fn the_tables_are_written_together(rt: HostRuntime) -> Result<(), Fail> {
+        let hhea = header(&rt, &[0, 2])?;
+        let mapper = GlyphRemapper::new(rt.alloc()).ok().ok_or("a mapper")?;
+        let without_hmtx = subset(rt.alloc(), Some(&hhea), None, &mapper);
+        assert!(rt; matches!(without_hmtx, Ok(None)));
+        let without_hhea = subset(rt.alloc(), None, Some(&TWO_PAIRS), &mapper);
+        assert!(rt; matches!(without_hhea, Err(Error::MalformedFont)));
+        Ok(())
+    }
+}

@@ -1,4 +1,4 @@
-use Rattle.std.proofs.Common.{◌≡◌, ◌+◌, ◌≤◌, drop, length, cond}
+use Rattle.std.proofs.Common.{◌≡◌, ◌+◌, ◌≤◌, drop, cond}
 use Rattle.subsetter.specs.MetricsWritten.{all_advance, least_count}
 use Rattle.subsetter.proofs.hmtx.least_count.Given as goal
 
