@@ -19,3 +19,5 @@ pub mod ContainerLaws
 pub mod IndexLemmas
 pub mod MaxProfileLaws
 pub mod TableBytes
+pub mod LaidLaws
+pub mod Steps
