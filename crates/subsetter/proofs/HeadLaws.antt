@@ -87,3 +87,15 @@ pub outlines_afresh : (find : List ℕ → Option (List ℕ)) (loca glyf : List 
 outlines_afresh find loca glyf w long head le a b c =
     outlines_by find loca glyf (with_adjustment w (head_bytes long head)) (be (format_bytes long)) a b c (head_format w long head le)
     ∙ ap (λ (l : Bool). Some (record { loca = loca; glyf = glyf; head = with_adjustment w (head_bytes long head); long = l })) (format_back long)
+
+-- four parts behind one, grouped
+regroup : (A Z M F E : List ℕ) → A ++ Z ++ (M ++ (F ++ E)) ≡ A ++ Z ++ M ++ F ++ E
+regroup A Z M F E = simp append_assoc
+
+-- a new head has zeros for the adjustment
+pub head_zeros : (long : Bool) (head : List ℕ) → 52 ≤ length head → with_adjustment 0 (head_bytes long head) ≡ head_bytes long head
+head_zeros long head le = head_is 0 long head le ∙ regroup (take 8 head) (0 ∷ 0 ∷ 0 ∷ 0 ∷ []) (slice_range head 12 50) (format_bytes long) (drop 52 head)
+
+-- and room for it
+pub head_room : (long : Bool) (head : List ℕ) → 52 ≤ length head → 12 ≤ length (head_bytes long head)
+head_room long head le = omega (arith, ap length (head_zeros long head le), head_length 0 long head le)

@@ -21,3 +21,10 @@ pub mod MaxProfileLaws
 pub mod TableBytes
 pub mod LaidLaws
 pub mod Steps
+pub mod ClosureLemmas
+pub mod KeptLemmas
+pub mod KeptOutlines
+pub mod OutlineFaults
+pub mod PartsBack
+pub mod UnfoldLaw
+pub mod Whole

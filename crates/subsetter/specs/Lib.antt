@@ -29,3 +29,5 @@ pub mod OpeningFault
 pub mod Plain
 pub mod PlainSeen
 pub mod Answered
+pub mod Fault
+pub mod Subset

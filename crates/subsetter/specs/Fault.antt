@@ -1,0 +1,33 @@
+-- What can stand against a subset, under the name of the error that it is answered by.
+use Rattle.std.specs.Prelude.{◌≡◌, ◌≤◌, ◌^◌, ℕ, List, length, codes, false, Some, Ok}
+use Rattle.subsetter_base.specs.declared.error.Error.{Error}
+use Rattle.subsetter_base.specs.declared.error.Error.TheVariants.{OverflowError, Unimplemented}
+use Rattle.subsetter.specs.declared.flavor.FontFlavor.TheVariants.{Cff}
+use Rattle.subsetter.specs.Font.{Font, flavor, table}
+use Rattle.subsetter.specs.Glyph.{Outlines, outlines}
+use Rattle.subsetter.specs.Layout.{Table, fits, start_of}
+use Rattle.subsetter.specs.MaxProfile.{HasMaxProfileFault}
+use Rattle.subsetter.specs.Metrics.{HasMetricsFault}
+use Rattle.subsetter.specs.OpeningFault.{HasOpeningFault}
+use Rattle.subsetter.specs.OutlineFault.{HasOutlineFault}
+use Rattle.subsetter.specs.Plain.{truetype_tables}
+use Rattle.subsetter.specs.PlainGlyph.{kept_all}
+use Rattle.subsetter.specs.Reach.{IsReachable, IsGlyphOrder}
+use Rattle.subsetter.specs.Written.{is_long, glyf_bytes}
+
+-- a fault stands in a font, for a list of glyphs; the size limits are judged for an order of the new font's glyphs
+pub data HasFault (font : Font) (glyphs order : List ℕ) : Error → Type 0 where
+  -- no known kind, a bad collection, a cut directory, or no outlines that are known
+  in_opening : {e : Error} → HasOpeningFault font e → HasFault font glyphs order e
+  -- CFF outlines aren't taken yet
+  cff_not_yet : flavor font ≡ Some Cff → HasFault font glyphs order Unimplemented
+  -- loca, glyf and head, and the outlines that are reached
+  in_outlines : {e : Error} → HasOutlineFault font glyphs e → HasFault font glyphs order e
+  -- hmtx and hhea
+  in_metrics : {e : Error} → HasMetricsFault (table font) (IsReachable font glyphs) e → HasFault font glyphs order e
+  -- maxp
+  in_max_profile : {e : Error} → HasMaxProfileFault (table font) e → HasFault font glyphs order e
+  -- glyf has 2 ^ 32 bytes or more
+  long_glyf : (source : Outlines) (bs : List (List ℕ)) → IsGlyphOrder font glyphs order → outlines font ≡ Some source → kept_all source order order ≡ Ok bs → 2 ^ 32 ≤ length (glyf_bytes (is_long bs) bs) → HasFault font glyphs order OverflowError
+  -- a table's place or length doesn't fit 32 bits
+  large_file : (source : Outlines) (ts : List Table) → IsGlyphOrder font glyphs order → outlines font ≡ Some source → truetype_tables (table font) source order ≡ Ok ts → fits (start_of ts) ts ≡ false → HasFault font glyphs order OverflowError
