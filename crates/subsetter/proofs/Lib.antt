@@ -28,3 +28,4 @@ pub mod OutlineFaults
 pub mod PartsBack
 pub mod UnfoldLaw
 pub mod Whole
+pub mod FaultLaws

@@ -5,6 +5,7 @@ use Rattle.subsetter.specs.Written.{glyf_bytes}
 use Rattle.subsetter.proofs.OutlinesBack.{loca_room}
 use Rattle.subsetter.proofs.LaidLaws.{laid_few}
 use Rattle.subsetter.proofs.Whole.{is_subset}
+use Rattle.subsetter.proofs.FaultLaws.{has_fault}
 use Rattle.subsetter.proofs.Steps.{made_steps}
 use Rattle.subsetter.proofs.truetype.locate.Goals as goal
 
