@@ -29,3 +29,4 @@ pub mod PartsBack
 pub mod UnfoldLaw
 pub mod Whole
 pub mod FaultLaws
+pub mod Gave

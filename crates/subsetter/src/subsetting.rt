@@ -22,6 +22,7 @@ fn truetype(alloc: Global, face: &Face<'_>, mapper: &GlyphRemapper) -> Result<Ve
 {
     let table = Table::new(face)?;
     let order = glyf::closure(alloc, &table, mapper)?;
+    let _count = order.num_gids();
     let made = make(alloc, face, &table, &order)?;
     let context = fill(alloc, face, made)?;
     finish(alloc, FontFlavor::TrueType, context.tables())

@@ -1,38 +1,54 @@
-use Rattle.std.proofs.Common.{rules, ◌≡◌, ◌≢◌, ◌⊎◌, IfOk, IfErr, OnOk, Err, ℕ, ◌+◌, ◌-◌, ◌*◌, ◌<◌, ◌≤◌, length, ◌/◌, ◌%◌, Bool, true, false, nat_eq, nat_lt, List, [], ◌∷◌, ◌++◌, slice_index_or, slice_set, bit_and, bit_or, Fits, w8, w32, w64, Bor, MutBor}
-use Rattle.subsetter_base.specs.declared.error.Error.TheVariants.{OutOfMemory}
-use Rattle.subsetter_base.specs.declared.error.Error.{Error as SpecError}
+use Rattle.std.proofs.Common.{◌≡◌, ℕ, List, Option, length, ap, sym, ◌∙◌, arith}
+use Rattle.std.proofs.lemmas.Result.{err_from_is_err_and}
+use Rattle.subsetter.specs.Answered.{IsAnswered, IsRefused, no_memory, unread, unclosed}
 use Rattle.subsetter.specs.Font.{table_in}
-use Rattle.subsetter.specs.Answered.{IsAnswered, IsRefused}
+use Rattle.subsetter.specs.Layout.{Table}
+use Rattle.subsetter.specs.Outlines.{seen}
+use Rattle.subsetter.specs.PlainFile.{file_of}
+use Rattle.subsetter.specs.PlainSeen.{made_seen}
+use Rattle.subsetter.specs.Tables.{views}
+use Rattle.subsetter.proofs.Gave.{gave_ok, gave_err, refused_made, few_tables, all_tables, answered, refused_file}
 use Rattle.subsetter.proofs.subsetting.truetype.Goals as goal
 
--- src/subsetting.rt:23:17
 pub returns-in_err-table-clause-err : goal.returns-in_err-table-clause-err
-returns-in_err-table-clause-err c = ?
+returns-in_err-table-clause-err c =
+    let p = err_from_is_err_and c.from_residual.result c.from_residual.ensures.1 in
+    rw (p.1, p.2) (unread c.in_err-table.ensures.err)
 
--- src/subsetting.rt:24:17
 pub returns-in_err-order-clause-err : goal.returns-in_err-order-clause-err
-returns-in_err-order-clause-err c = ?
+returns-in_err-order-clause-err c =
+    let p = err_from_is_err_and c.from_residual-in_err-order.result c.from_residual-in_err-order.ensures.1 in
+    rw (p.1, p.2) (unclosed (seen c.in_ok-table.table) c.in_ok-table.ensures.ok c.in_err-order.ensures.err)
 
--- src/subsetting.rt:25:16
 pub returns-in_err-made-clause-err : goal.returns-in_err-made-clause-err
-returns-in_err-made-clause-err c = ?
+returns-in_err-made-clause-err c =
+    let p = err_from_is_err_and c.from_residual-in_err-made.result c.from_residual-in_err-made.ensures.1 in
+    let find : List ℕ → Option (List ℕ) = table_in c.args.face.now.«data».now c.args.face.now.records.now in
+    rw (p.1, p.2) (refused_made find c.args.mapper.now c.in_ok-order.order (seen c.in_ok-table.table) c.in_ok-table.ensures.ok c.in_ok-order.ensures.ok c.in_err-made.field-0.0 c.in_err-made.ensures.exact)
 
--- src/subsetting.rt:26:19
 pub returns-in_err-context-clause-err : goal.returns-in_err-context-clause-err
-returns-in_err-context-clause-err c = ?
+returns-in_err-context-clause-err c =
+    let p = err_from_is_err_and c.from_residual-in_err-context.result c.from_residual-in_err-context.ensures.1 in
+    rw (p.1, p.2, c.in_err-context.ensures.err) no_memory
 
--- src/subsetting.rt:27:5
 pub finish-requires-clause-few : goal.finish-requires-clause-few
-finish-requires-clause-few c = ?
+finish-requires-clause-few c =
+    let find : List ℕ → Option (List ℕ) = table_in c.args.face.now.«data».now c.args.face.now.records.now in
+    few_tables find c.args.mapper.now c.in_ok-order.order (seen c.in_ok-table.table) c.in_ok-table.ensures.ok c.in_ok-order.ensures.ok (made_seen c.in_ok-made.made) c.in_ok-made.ensures.exact c.tables.result.now (ap views c.tables.ensures ∙ c.in_ok-context.ensures.ok)
 
--- src/subsetting.rt:27:5
 pub finish-requires-clause-tables : goal.finish-requires-clause-tables
-finish-requires-clause-tables c = ?
+finish-requires-clause-tables c =
+    let find : List ℕ → Option (List ℕ) = table_in c.args.face.now.«data».now c.args.face.now.records.now in
+    all_tables find c.args.mapper.now c.in_ok-order.order (seen c.in_ok-table.table) c.in_ok-table.ensures.ok c.in_ok-order.ensures.ok (made_seen c.in_ok-made.made) c.in_ok-made.ensures.exact c.tables.result.now (ap views c.tables.ensures ∙ c.in_ok-context.ensures.ok)
 
--- src/subsetting.rt:19:1
 pub returns-clause-ok : goal.returns-clause-ok
-returns-clause-ok c = ?
+returns-clause-ok c =
+    let find : List ℕ → Option (List ℕ) = table_in c.args.face.now.«data».now c.args.face.now.records.now in
+    gave_ok (λ v. v.items) c.finish.result (file_of 0x00010000 (views c.tables.result.now)) (IsAnswered find c.args.mapper.now) c.finish.ensures
+      (λ out h. answered find c.args.mapper.now c.in_ok-order.order (seen c.in_ok-table.table) c.in_ok-table.ensures.ok c.in_ok-order.ensures.ok (made_seen c.in_ok-made.made) c.in_ok-made.ensures.exact c.tables.result.now (ap views c.tables.ensures ∙ c.in_ok-context.ensures.ok) out (omega (arith, c.num_gids-count.ensures.few)) h)
 
--- src/subsetting.rt:19:1
 pub returns-clause-err : goal.returns-clause-err
-returns-clause-err c = ?
+returns-clause-err c =
+    let find : List ℕ → Option (List ℕ) = table_in c.args.face.now.«data».now c.args.face.now.records.now in
+    gave_err (λ v. v.items) c.finish.result (file_of 0x00010000 (views c.tables.result.now)) (IsRefused find c.args.mapper.now) c.finish.ensures no_memory
+      (refused_file find c.args.mapper.now c.in_ok-order.order (seen c.in_ok-table.table) c.in_ok-table.ensures.ok c.in_ok-order.ensures.ok (made_seen c.in_ok-made.made) c.in_ok-made.ensures.exact c.tables.result.now (ap views c.tables.ensures ∙ c.in_ok-context.ensures.ok))
