@@ -30,3 +30,4 @@ pub mod UnfoldLaw
 pub mod Whole
 pub mod FaultLaws
 pub mod Gave
+pub mod Headline

@@ -5,10 +5,12 @@ use Rattle.std.specs.Option.{option_and_then, option_map}
 use Rattle.std.specs.List.{AllByRecursion}
 use Rattle.std.specs.Str.{bytes_eq}
 use Rattle.subsetter_base.specs.Bytes.{IsBytes}
+use Rattle.subsetter_base.specs.declared.error.Error.{Error}
 use Rattle.subsetter_base.specs.declared.error.Error.TheVariants.{MalformedFont}
 use Rattle.subsetter.specs.declared.flavor.FontFlavor.TheVariants.{TrueType}
 use Rattle.subsetter.specs.Answered.{IsAnswered}
 use Rattle.subsetter.specs.Container.{AscendFrom, IsSoundContainer}
+use Rattle.subsetter.specs.Fault.{HasFault}
 use Rattle.subsetter.specs.Font.{Font, as_font, table}
 use Rattle.subsetter.specs.Glyph.{Outlines, outlines}
 use Rattle.subsetter.specs.Layout.{Table, IsTable, with_adjustment, fits, file, start_of}
@@ -151,9 +153,13 @@ module _ (font : Font) (t : Outlines) (order : List ℕ) (m : Made) (read : outl
   drawing glyphs bytes closed few =
       unfolds_alike font out glyphs order t afresh m.outlines read outlines_back closed few (table_bytes font (codes "glyf") t.glyf bytes (has_tables (table font) t read).glyf_is) s.kept written
 
+-- a subset, and no fault of its order
+abbrev pub IsClean : Font → List ℕ → List ℕ → Type 0
+IsClean font glyphs out = (s : IsSubset font glyphs out) × ((e : Error) → HasFault font glyphs s.order e → ⊥)
+
 -- what is answered is a subset
-pub is_subset : (font : Font) (glyphs out : List ℕ) → IsBytes font.bytes → 0 < length glyphs → IsAnswered (table font) glyphs out → IsSubset font glyphs out
-is_subset font glyphs out bytes some a =
+pub is_subset : (font : Font) (glyphs out : List ℕ) → IsBytes font.bytes → 0 < length glyphs → (a : IsAnswered (table font) glyphs out) → ((e : Error) → HasFault font glyphs a.order e → ⊥) → IsClean font glyphs out
+is_subset font glyphs out bytes some a clean =
     let read : outlines font ≡ Some a.source = named (outlines font) MalformedFont a.source a.read in
     let closed : IsGlyphOrder font glyphs a.order = order_in font glyphs a.order a.source read a.is_order in
     let more = some_glyph glyphs closed.others a.order closed.begins some in
@@ -162,7 +168,7 @@ is_subset font glyphs out bytes some a =
     let laid_out = file_steps 0x00010000 a.tables out a.laid_out in
     let fit : fits (start_of (laid (table font) made.0)) (laid (table font) made.0) ≡ true = subst (λ (l : List Table). fits (start_of l) l ≡ true) (sym made.2) laid_out.0 in
     let same : file 0x00010000 (laid (table font) made.0) ≡ out = ap (file 0x00010000) made.2 ∙ laid_out.1 in
-    subst (IsSubset font glyphs) same (record {
+    subst (IsClean font glyphs) same (record {
       order = a.order;
       is_order = closed;
       container = container font a.source a.order made.0 read s fit;
@@ -173,4 +179,4 @@ is_subset font glyphs out bytes some a =
       max_profile = max_profile font a.source a.order made.0 read s fit a.few;
       programs = programs font a.source a.order made.0 read s fit;
       layout = record { source = a.source; read = read; tables = a.tables; tables_are = a.tables_are; bytes = ap (file 0x00010000) made.2 };
-    })
+    }, clean)

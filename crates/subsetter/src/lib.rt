@@ -21,3 +21,4 @@ mod subsetting;
 mod truetype;
 
 pub use subsetter_base::{Error, GlyphRemapper, Tag};
+pub use subsetting::subset;

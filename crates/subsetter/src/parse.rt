@@ -3,6 +3,7 @@
 ghost use Rattle.std.specs.Prelude.{◌≡◌, ◌/◌, ◌<◌, ◌^◌, length, IfOk, IfErr};
 ghost use Rattle.std.specs.Option.{option_copied};
 ghost use Rattle.subsetter.specs.Font.{records_at, find_record, directory_records, table_in};
+ghost use Rattle.subsetter_base.specs.Bytes.{IsBytes};
 ghost use Rattle.subsetter.specs.Opened.{opened_header, opened};
 
 use crate::face::{Face, FontKind, TableRecord};
@@ -46,6 +47,7 @@ fn records(file: &[u8], at: usize) -> Option<&[u8]>
 #[tactic(auto, unfolding(crate::specs::Opened::opened))]
 pub fn parse(file: &[u8], index: u32) -> Result<Face<'_>, Error>
     ensures ok { IfOk result (λ face. (face.«data».now ≡ file.now) × (opened (record { bytes = file.now; index = index }) ≡ Ok face.records.now)) }
+    ensures bytes { IsBytes file.now }
     ensures err { IfErr result (λ e. opened (record { bytes = file.now; index = index }) ≡ Err e) }
 {
     let at = header(file, index)?;

@@ -1,10 +1,13 @@
 //! Subsetting a font.
 
-ghost use Rattle.std.specs.Prelude.{◌≡◌, ◌≢◌, ◌⊎◌, IfOk, IfErr, OnOk, Err};
+ghost use Rattle.std.specs.Prelude.{◌≡◌, ◌≢◌, ◌⊎◌, ℕ, List, IfOk, IfErr, Err};
 ghost use Rattle.subsetter_base.specs.declared.error.Error.TheVariants.{OutOfMemory};
 ghost use Rattle.subsetter_base.specs.declared.error.Error.{Error as SpecError};
 ghost use Rattle.subsetter.specs.Font.{table_in};
 ghost use Rattle.subsetter.specs.Answered.{IsAnswered, IsRefused};
+ghost use Rattle.subsetter.specs.Fault.{HasFault};
+ghost use Rattle.subsetter.specs.OpeningFault.{HasOpeningFault};
+ghost use Rattle.subsetter.specs.Subset.{IsSubset};
 
 use crate::construct::finish;
 use crate::face::Face;
@@ -26,4 +29,30 @@ fn truetype(alloc: Global, face: &Face<'_>, mapper: &GlyphRemapper) -> Result<Ve
     let made = make(alloc, face, &table, &order)?;
     let context = fill(alloc, face, made)?;
     finish(alloc, FontFlavor::TrueType, context.tables())
+}
+
+/// A font that holds the glyphs of the mapper under their new numbers, then each further glyph that these reach through components, once.
+///
+/// `data` is a font file or a collection, of which `index` names a face (it is ignored for a single font).
+/// The new font has no `cmap`: use it as a CID font, with the new number of a glyph as its CID.
+/// For the errors see `HasFault`: each names what stands in the source, and a font in which nothing stands is refused only for want of memory.
+pub fn subset(
+    alloc: Global,
+    data: &[u8],
+    index: u32,
+    mapper: &GlyphRemapper,
+) -> Result<Vec<u8>, Error>
+    // What is answered is a subset of the font, and no fault stands in the source, the size limits being judged for the answer's order of glyphs.
+    ensures ok { IfOk result (λ out. (s : IsSubset (record { bytes = «data».now; index = index }) mapper.now out.items) × ((e : SpecError) → ¬ (HasFault (record { bytes = «data».now; index = index }) mapper.now s.order e))) }
+    // What is refused has a fault of that name.
+    ensures err { IfErr result (λ e. (e ≡ OutOfMemory) ⊎ ((order : List ℕ) × HasFault (record { bytes = «data».now; index = index }) mapper.now order e)) }
+    // Where a fault stands that is found before memory is taken, the answer isn't want of memory.
+    ensures before_memory { (e : SpecError) → HasOpeningFault (record { bytes = «data».now; index = index }) e → result ≢ Err OutOfMemory }
+{
+    let _count = mapper.num_gids();
+    let face = parse(data, index)?;
+    match flavor(&face)? {
+        FontFlavor::TrueType => truetype(alloc, &face, mapper),
+        FontFlavor::Cff => Err(Error::Unimplemented),
+    }
 }

@@ -1,0 +1,82 @@
+-- The promises of `subset`: what is answered is a subset, what is refused has a fault, and a fault that is found before memory is taken is never answered by want of memory.
+use Rattle.std.proofs.Common.{◌≡◌, ℕ, ◌<◌, Bool, true, false, cond, List, [], ◌∷◌, length, Option, Some, None, Result, Ok, Err, refl, sym, ap, subst, ◌∙◌, ◌⊎◌, inl, inr, arith}
+use Rattle.std.specs.Prelude.{codes, is_some, IsSome, slice_get}
+use Rattle.std.specs.Option.{option_and_then}
+use Rattle.subsetter_base.specs.Bytes.{IsBytes}
+use Rattle.subsetter_base.specs.declared.error.Error.{Error}
+use Rattle.subsetter_base.specs.declared.error.Error.TheVariants.{UnknownKind, MalformedFont, Unimplemented, OutOfMemory}
+use Rattle.subsetter.specs.declared.flavor.FontFlavor.{FontFlavor}
+use Rattle.subsetter.specs.declared.flavor.FontFlavor.TheVariants.{TrueType, Cff}
+use Rattle.subsetter.specs.Answered.{IsAnswered, IsRefused}
+use Rattle.subsetter.specs.Fault as faults
+use Rattle.subsetter.specs.Fault.{HasFault}
+use Rattle.subsetter.specs.Font.{Font, table, table_in, flavor, records}
+use Rattle.subsetter.specs.Opened.{opened, flavored}
+use Rattle.subsetter.specs.OpeningFault.{HasOpeningFault, no_kind, no_entry, entry_outside, no_face, nested, cut_directory, no_outlines, lone_cff2}
+use Rattle.subsetter.proofs.FaultLaws.{Stands, has_fault, no_fault}
+use Rattle.subsetter.proofs.OpeningLaws.{opened_refused, opened_records, flavored_refused, opened_clean}
+use Rattle.subsetter.proofs.Whole.{IsClean, is_subset}
+
+-- the tables of a font that was opened
+find_is : (font : Font) (d : List ℕ) → opened font ≡ Ok d → table_in font.bytes d ≡ table font
+find_is font d h =
+    let by : Option (List ℕ) → List ℕ → Option (List ℕ) = λ o tag. option_and_then (λ directory. table_in font.bytes directory tag) o in
+    ap by (sym (opened_records font d h))
+
+by_flavor : (o p q : Option (List ℕ)) (f : FontFlavor) → cond (is_some o) (Ok TrueType) (cond (is_some p) (Ok Cff) (cond (is_some q) (Err Unimplemented) (Err UnknownKind))) ≡ Ok f → cond (is_some o) (Some TrueType) (cond (is_some p) (Some Cff) None) ≡ Some f
+by_flavor (Some a) p q f h = let e = h in cc
+by_flavor None (Some b) q f h = let e = h in cc
+by_flavor None None (Some c) f h = absurd cc
+by_flavor None None None f h = absurd cc
+
+-- the kind of the outlines
+pub has_flavor : (font : Font) (d : List ℕ) (f : FontFlavor) → opened font ≡ Ok d → flavored (table_in font.bytes d) ≡ Ok f → flavor font ≡ Some f
+unfolding flavored
+has_flavor font d f o h =
+    by_flavor (table font (codes "glyf")) (table font (codes "CFF ")) (table font (codes "CFF2")) f
+      (ap (λ (find : List ℕ → Option (List ℕ)). cond (is_some (find (codes "glyf"))) (Ok TrueType) (cond (is_some (find (codes "CFF "))) (Ok Cff) (cond (is_some (find (codes "CFF2"))) (Err Unimplemented) (Err UnknownKind)))) (sym (find_is font d o)) ∙ h)
+
+has_glyf : (o p : Option (List ℕ)) → cond (is_some o) (Some TrueType) (cond (is_some p) (Some Cff) None) ≡ Some TrueType → IsSome o
+has_glyf (Some a) p h = refl
+has_glyf None (Some b) h = absurd cc
+has_glyf None None h = absurd cc
+
+some_given : (glyphs : List ℕ) → slice_get glyphs 0 ≡ Some 0 → 0 < length glyphs
+some_given [] h = absurd cc
+some_given (g ∷ gs) h = omega arith
+
+-- a fault of the opening is never want of memory
+pub not_memory : (font : Font) (e : Error) → HasOpeningFault font e → e ≡ OutOfMemory → ⊥
+not_memory font e (no_kind a) h = cc
+not_memory font e (no_entry a b) h = cc
+not_memory font e (entry_outside at a b c) h = cc
+not_memory font e (no_face at a b c) h = cc
+not_memory font e (nested at a b c) h = cc
+not_memory font e (cut_directory at a b) h = cc
+not_memory font e (no_outlines a b c d) h = cc
+not_memory font e (lone_cff2 a b c) h = cc
+
+module _ (font : Font) (glyphs : List ℕ) where
+  pub unopened : (e : Error) → opened font ≡ Err e → (e ≡ OutOfMemory) ⊎ Stands font glyphs e
+  unopened e h = inr ([], faults.in_opening (opened_refused font e h))
+
+  pub unflavored : (d : List ℕ) (e : Error) → opened font ≡ Ok d → flavored (table_in font.bytes d) ≡ Err e → (e ≡ OutOfMemory) ⊎ Stands font glyphs e
+  unflavored d e o h = inr ([], faults.in_opening (flavored_refused font d e o h))
+
+  pub cff_refused : (d : List ℕ) → opened font ≡ Ok d → flavored (table_in font.bytes d) ≡ Ok Cff → (Unimplemented ≡ OutOfMemory) ⊎ Stands font glyphs Unimplemented
+  cff_refused d o h = inr ([], faults.cff_not_yet (has_flavor font d Cff o h))
+
+  module _ (d : List ℕ) (o : opened font ≡ Ok d) (h : flavored (table_in font.bytes d) ≡ Ok TrueType) where
+    glyf_there : IsSome (table font (codes "glyf"))
+    glyf_there = has_glyf (table font (codes "glyf")) (table font (codes "CFF ")) (has_flavor font d TrueType o h)
+
+    pub truetype_subset : (out : List ℕ) → IsBytes font.bytes → slice_get glyphs 0 ≡ Some 0 → IsAnswered (table_in font.bytes d) glyphs out → IsClean font glyphs out
+    truetype_subset out bytes first a =
+        let b : IsAnswered (table font) glyphs out = subst (λ (find : List ℕ → Option (List ℕ)). IsAnswered find glyphs out) (find_is font d o) a in
+        is_subset font glyphs out bytes (some_given glyphs first) b (no_fault font glyphs out glyf_there (λ e. opened_clean font d TrueType e o h) b)
+
+    pub truetype_refused : (e : Error) → IsRefused (table_in font.bytes d) glyphs e → (e ≡ OutOfMemory) ⊎ Stands font glyphs e
+    truetype_refused e r = has_fault font glyphs e glyf_there (subst (λ (find : List ℕ → Option (List ℕ)). IsRefused find glyphs e) (find_is font d o) r)
+
+    pub opening_clean : (e : Error) → HasOpeningFault font e → ⊥
+    opening_clean e f = opened_clean font d TrueType e o h f
