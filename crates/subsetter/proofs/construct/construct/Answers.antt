@@ -13,8 +13,17 @@ write_header-requires-clause-room c =
 pub write_directory-requires-clause-room : goal.write_directory-requires-clause-room
 write_directory-requires-clause-room c =
     let ts = c.args.tables.now in
-    omega (arith, ap length c.requires.empty, ap length c.write_header.ensures.items, length-append c.args.out.items (header_bytes c.kind.result (length ts)), length-header c.kind.result (length ts), length-map ts view,
-      length-file (kind_word c.args.flavor) (views ts) c.requires.tables, c.requires.room, c.write_header.ensures.capacity)
+    omega (
+      arith,
+      ap length c.requires.empty,
+      ap length c.write_header.ensures.items,
+      length-append c.args.out.items (header_bytes c.kind.result (length ts)),
+      length-header c.kind.result (length ts),
+      length-map ts view,
+      length-file (kind_word c.args.flavor) (views ts) c.requires.tables,
+      c.requires.room,
+      c.write_header.ensures.capacity,
+    )
 
 pub write_body-requires-clause-multiple : goal.write_body-requires-clause-multiple
 write_body-requires-clause-multiple c =
