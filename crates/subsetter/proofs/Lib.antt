@@ -6,3 +6,4 @@ pub mod ReadBack
 pub mod OpeningLaws
 pub mod Lookups
 pub mod ContainerLaws
+pub mod FileLaws
