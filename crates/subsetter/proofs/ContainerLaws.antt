@@ -1,18 +1,18 @@
 -- A file that is laid out is a sound font file, read afresh.
-use Rattle.std.proofs.Common.{◌≡◌, ℕ, zero, suc, ◌+◌, ◌-◌, ◌*◌, ◌%◌, ◌^◌, ◌<◌, ◌≤◌, Bool, true, false, cond, ltb, List, [], ◌∷◌, ◌++◌, length, take, drop, Option, Some, None, refl, sym, ap, subst, ◌∙◌, append_assoc, ◌⊎◌, inl, inr, arith}
+use Rattle.std.proofs.Common.{◌≡◌, ℕ, ◌+◌, ◌-◌, ◌*◌, ◌%◌, ◌^◌, ◌<◌, ◌≤◌, Bool, true, false, cond, ltb, List, [], ◌∷◌, ◌++◌, length, take, drop, Option, Some, None, refl, sym, ap, subst, ◌∙◌, append_assoc, ◌⊎◌, inl, inr, arith}
 use Rattle.std.specs.Prelude.{map, find, codes, replicate, IsSome, is_some}
 use Rattle.std.specs.Option.{option_map}
 use Rattle.std.specs.List.{AllByRecursion}
 use Rattle.std.specs.Str.{bytes_eq}
 use Rattle.std.specs.Int.{w16, w32, to_be_bytes}
 use Rattle.std.proofs.lemmas.Bool.{ltb-true, ltb-false, false≢true}
-use Rattle.std.proofs.lemmas.List.{append-nil, take_at, drop_at, length-append, length-replicate, length-take, length-drop}
-use Rattle.subsetter_base.specs.Bytes.{be, range, number, aligned}
+use Rattle.std.proofs.lemmas.List.{append-nil, take_at, drop_at, length-append, length-replicate, length-take}
+use Rattle.subsetter_base.specs.Bytes.{be, number, aligned}
 use Rattle.subsetter.specs.declared.face.TableRecord.{TableRecord}
-use Rattle.subsetter.specs.Font.{as_font, directory, table}
+use Rattle.subsetter.specs.Font.{as_font, table}
 use Rattle.subsetter.specs.Checksum.{checksum}
-use Rattle.subsetter.specs.Container.{summed, NamesTable, padded_size, NameTablesFrom, AscendFrom, IsSoundContainer}
-use Rattle.subsetter.specs.Layout.{Table, selector, directory_bytes, body, front, with_adjustment, adjusted, adjustment, file, fits, start_of, IsTable}
+use Rattle.subsetter.specs.Container.{summed, padded_size, NameTablesFrom, AscendFrom, IsSoundContainer}
+use Rattle.subsetter.specs.Layout.{Table, selector, body, front, with_adjustment, adjusted, file, fits, start_of, IsTable}
 use Rattle.subsetter.specs.Tables.{lookup, tags}
 use Rattle.subsetter.proofs.ChecksumLemmas.{checksum-append, checksum-body, checksum_fits}
 use Rattle.subsetter.proofs.LayoutLemmas.{length-front, length-adjusted, aligned_len, adjusted_head, adjusted_other}

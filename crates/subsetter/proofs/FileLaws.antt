@@ -1,17 +1,12 @@
 -- What an answer of the plain way to lay out a file says.
-use Rattle.std.proofs.Common.{◌≡◌, ℕ, ◌+◌, ◌<◌, ◌≤◌, Bool, true, false, cond, List, [], ◌∷◌, ◌++◌, length, take, drop, Result, Ok, Err, refl, sym, ap, ◌∙◌, append_assoc, ◌⊎◌, inl, inr, arith}
-use Rattle.std.specs.Prelude.{codes, slice_range}
-use Rattle.std.specs.Str.{bytes_eq}
-use Rattle.std.specs.Int.{w32, to_be_bytes}
-use Rattle.std.proofs.lemmas.List.{take_at, drop_at, length-append, length-take}
+use Rattle.std.proofs.Common.{◌≡◌, ℕ, Bool, true, false, cond, List, Result, Ok, Err, refl, sym, inl, inr}
 use Rattle.subsetter_base.specs.declared.error.Error.{Error}
 use Rattle.subsetter_base.specs.declared.error.Error.TheVariants.{OverflowError}
 use Rattle.subsetter.specs.declared.flavor.FontFlavor.{FontFlavor}
 use Rattle.subsetter.specs.declared.flavor.FontFlavor.TheVariants.{TrueType, Cff}
-use Rattle.subsetter.specs.Layout.{Table, with_adjustment, file, fits, start_of, IsTable}
+use Rattle.subsetter.specs.Layout.{Table, file, fits, start_of}
 use Rattle.subsetter.specs.PlainFile.{file_of}
 use Rattle.subsetter.specs.Tables.{kind_word}
-use Rattle.subsetter.specs.Written.{format_bytes, head_bytes}
 use Rattle.subsetter.proofs.ReadBack.{IsKind}
 
 -- a kind of outlines has one of the two words

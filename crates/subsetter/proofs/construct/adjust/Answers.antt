@@ -5,7 +5,7 @@ use Rattle.subsetter_base.specs.Bytes.{aligned}
 use Rattle.subsetter.specs.declared.context.NewTable.{NewTable}
 use Rattle.subsetter.specs.Layout.{body, adjusted, fits, IsTable}
 use Rattle.subsetter.specs.Tables.{view, views}
-use Rattle.subsetter.proofs.LayoutLemmas.{at_index, fitting, rounded, stands, past, length-adjusted}
+use Rattle.subsetter.proofs.LayoutLemmas.{fitting, rounded, stands, past, length-adjusted}
 use Rattle.subsetter.proofs.construct.adjust.Goals as goal
 
 pub adjust_table-requires-clause-within : goal.adjust_table-requires-clause-within

@@ -1,7 +1,7 @@
 use Rattle.std.proofs.Common.{◌≡◌, ◌+◌, ◌*◌, ◌++◌, ℕ, List, length, refl, ap, sym, ◌∙◌, arith}
 use Rattle.std.proofs.lemmas.List.{length-map, length-append}
 use Rattle.subsetter.specs.Checksum.{checksum}
-use Rattle.subsetter.specs.Layout.{header_bytes, directory_bytes, body, front, adjustment}
+use Rattle.subsetter.specs.Layout.{header_bytes, body, front, adjustment}
 use Rattle.subsetter.specs.Tables.{view, views, kind_word}
 use Rattle.subsetter.proofs.LayoutLemmas.{length-header, length-front, length-file, front_is, body_left, made}
 use Rattle.subsetter.proofs.construct.construct.Goals as goal
