@@ -1,18 +1,18 @@
 -- A file that is laid out is a sound font file, read afresh.
-use Rattle.std.proofs.Common.{◌≡◌, ℕ, zero, suc, ◌+◌, ◌-◌, ◌*◌, ◌%◌, ◌^◌, ◌<◌, ◌≤◌, Bool, true, false, cond, ltb, List, [], ◌∷◌, ◌++◌, length, take, drop, Option, Some, None, refl, sym, ap, subst, ◌∙◌, append_assoc, ◌⊎◌, inl, inr, arith}
+use Rattle.std.proofs.Common.{◌≡◌, ℕ, ◌+◌, ◌-◌, ◌*◌, ◌%◌, ◌^◌, ◌<◌, ◌≤◌, Bool, true, false, cond, ltb, List, [], ◌∷◌, ◌++◌, length, take, drop, Option, Some, None, refl, sym, ap, subst, ◌∙◌, append_assoc, ◌⊎◌, inl, inr, arith}
 use Rattle.std.specs.Prelude.{map, find, codes, replicate, IsSome, is_some}
 use Rattle.std.specs.Option.{option_map}
 use Rattle.std.specs.List.{AllByRecursion}
 use Rattle.std.specs.Str.{bytes_eq}
 use Rattle.std.specs.Int.{w16, w32, to_be_bytes}
 use Rattle.std.proofs.lemmas.Bool.{ltb-true, ltb-false, false≢true}
-use Rattle.std.proofs.lemmas.List.{append-nil, take_at, drop_at, length-append, length-replicate, length-take, length-drop}
-use Rattle.subsetter_base.specs.Bytes.{be, range, number, aligned}
+use Rattle.std.proofs.lemmas.List.{append-nil, take_at, drop_at, length-append, length-replicate, length-take}
+use Rattle.subsetter_base.specs.Bytes.{be, number, aligned}
 use Rattle.subsetter.specs.declared.face.TableRecord.{TableRecord}
-use Rattle.subsetter.specs.Font.{as_font, directory, table}
+use Rattle.subsetter.specs.Font.{as_font, table}
 use Rattle.subsetter.specs.Checksum.{checksum}
-use Rattle.subsetter.specs.Container.{summed, NamesTable, padded_size, NameTablesFrom, AscendFrom, IsSoundContainer}
-use Rattle.subsetter.specs.Layout.{Table, selector, directory_bytes, body, front, with_adjustment, adjusted, adjustment, file, fits, start_of, IsTable}
+use Rattle.subsetter.specs.Container.{summed, padded_size, NameTablesFrom, AscendFrom, IsSoundContainer}
+use Rattle.subsetter.specs.Layout.{Table, selector, body, front, with_adjustment, adjusted, file, fits, start_of, IsTable}
 use Rattle.subsetter.specs.Tables.{lookup, tags}
 use Rattle.subsetter.proofs.ChecksumLemmas.{checksum-append, checksum-body, checksum_fits}
 use Rattle.subsetter.proofs.LayoutLemmas.{length-front, length-adjusted, aligned_len, adjusted_head, adjusted_other}
@@ -56,7 +56,6 @@ adjusted_again v w b room =
     ap (λ (l : List ℕ). l ++ to_be_bytes w32 v ++ drop 12 (A ++ W ++ R)) front_is ∙ ap (λ (l : List ℕ). A ++ to_be_bytes w32 v ++ l) back_is
 
 -- ---- the sum of the whole file
-
 
 -- past the place of `head` nothing is adjusted
 no_head : (w low : ℕ) (ts : List Table) → be (codes "head") < low → AscendFrom low (tags ts) → map (adjusted w) ts ≡ ts
@@ -134,15 +133,16 @@ names_from pre w (t ∷ ts) bytes at all is place =
     let beyond : bytes ≡ (pre ++ aligned 4 A.bytes) ++ rest = is ∙ sym (append_assoc pre (aligned 4 A.bytes) rest) in
     let size : padded_size (length t.bytes) ≡ length (aligned 4 t.bytes) = padded_size_is t.bytes in
     let next : at + length (aligned 4 t.bytes) ≡ length (pre ++ aligned 4 A.bytes) = omega (arith, place, length-append pre (aligned 4 A.bytes), aligned_len A.bytes t.bytes same) in
-    let others = names_from (pre ++ aligned 4 A.bytes) w ts bytes (at + length (aligned 4 t.bytes)) all.1 beyond next in
-    ( record {
+    let others = names_from (pre ++ aligned 4 A.bytes) w ts bytes (at + length (aligned 4 t.bytes)) all.1 beyond next in (
+      record {
         place = refl;
         bytes = A.bytes;
         there = range_at bytes pre A.bytes (zeros ++ rest) at (length t.bytes) split place (sym same);
         zeros_after = range_at bytes pre (aligned 4 A.bytes) rest at (length (aligned 4 A.bytes)) is place refl;
         sum = summed_back w at t all.0;
-      }
-    , subst (λ k. NameTablesFrom bytes (at + k) (records_from (at + length (aligned 4 t.bytes)) ts)) (sym size) others )
+      },
+      subst (λ k. NameTablesFrom bytes (at + k) (records_from (at + length (aligned 4 t.bytes)) ts)) (sym size) others,
+    )
 
 tags_from : (at : ℕ) (ts : List Table) → map (λ (r : TableRecord). r.tag.0) (records_from at ts) ≡ tags ts
 tags_from at [] = refl
@@ -169,7 +169,6 @@ selects : (n : ℕ) → 0 < n → n < 16 → Selects n (selector n)
 selects n some few = selects_by (ltb n 2) (ltb n 4) (ltb n 8) n refl refl refl some few
 
 module _ (kind : ℕ) (ts : List Table) (rest : List ℕ) (some : 0 < length ts) (few : length ts < 16) where
-
   pub search_range_back : number (front kind ts ++ rest) 6 2 ≡ Some (16 * 2 ^ selector (length ts))
   search_range_back =
       let n = length ts in

@@ -31,3 +31,4 @@ pub mod Whole
 pub mod FaultLaws
 pub mod Gave
 pub mod Headline
+pub mod FileLaws

@@ -2,7 +2,7 @@
 use Rattle.std.proofs.Common.{◌≡◌, ℕ, ◌+◌, ◌<◌, Bool, true, false, cond, leb, List, length, Option, Some, None, Result, Ok, Err, refl, sym, ap, subst, ◌∙◌, ◌⊎◌, inl, inr, arith}
 use Rattle.std.specs.Prelude.{codes, is_some, IsSome}
 use Rattle.std.specs.Option.{option_and_then, ok_or}
-use Rattle.std.proofs.lemmas.Bool.{leb-true, false≢true}
+use Rattle.std.proofs.lemmas.Bool.{leb-true}
 use Rattle.subsetter_base.specs.Bytes.{◌>>=◌}
 use Rattle.subsetter_base.specs.declared.error.Error.{Error}
 use Rattle.subsetter_base.specs.declared.error.Error.TheVariants.{UnknownKind, MalformedFont, Unimplemented}
@@ -10,7 +10,7 @@ use Rattle.subsetter.specs.declared.face.FontKind.{FontKind}
 use Rattle.subsetter.specs.declared.face.FontKind.TheVariants.{Collection, Single}
 use Rattle.subsetter.specs.declared.flavor.FontFlavor.{FontFlavor}
 use Rattle.subsetter.specs.declared.flavor.FontFlavor.TheVariants.{TrueType, Cff}
-use Rattle.subsetter.specs.Font.{Font, kind_at, collection_entry, if_single, header_by_kind, header_place, records_at, records, table, table_in}
+use Rattle.subsetter.specs.Font.{Font, kind_at, collection_entry, if_single, header_place, records_at, records, table, table_in}
 use Rattle.subsetter.specs.Opened.{opened_by_kind, opened_header, opened, flavored}
 use Rattle.subsetter.specs.OpeningFault.{HasOpeningFault, no_kind, no_entry, entry_outside, no_face, nested, cut_directory, no_outlines, lone_cff2}
 

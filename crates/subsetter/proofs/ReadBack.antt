@@ -1,5 +1,5 @@
 -- What was laid out is read back.
-use Rattle.std.proofs.Common.{◌≡◌, ℕ, ◌+◌, ◌-◌, ◌*◌, ◌/◌, ◌%◌, ◌^◌, ◌<◌, ◌≤◌, Bool, true, false, cond, leb, List, [], ◌∷◌, ◌++◌, length, take, drop, Option, Some, None, refl, sym, ap, ◌∙◌, append_assoc, ◌⊎◌, inl, inr, arith}
+use Rattle.std.proofs.Common.{◌≡◌, ℕ, ◌+◌, ◌-◌, ◌*◌, ◌/◌, ◌%◌, ◌^◌, ◌<◌, Bool, true, false, cond, leb, List, [], ◌∷◌, ◌++◌, length, take, drop, Option, Some, None, refl, sym, ap, ◌∙◌, append_assoc, ◌⊎◌, inl, inr, arith}
 use Rattle.std.specs.Prelude.{map, find, replicate, codes}
 use Rattle.std.specs.Option.{option_and_then, option_map}
 use Rattle.std.specs.List.{AllByRecursion}
@@ -7,13 +7,11 @@ use Rattle.std.specs.Str.{bytes_eq}
 use Rattle.std.specs.Int.{w16, w32, to_be_bytes}
 use Rattle.std.proofs.lemmas.Bool.{le-leb}
 use Rattle.std.proofs.lemmas.Nat.{from_be_bytes-to_be_bytes_2, from_be_bytes-to_be_bytes_4}
-use Rattle.std.proofs.lemmas.List.{append-nil, take_at, drop_at, length-append, length-replicate}
+use Rattle.std.proofs.lemmas.List.{append-nil, take_at, drop_at, length-append}
 use Rattle.subsetter_base.specs.Bytes.{be, range, number, aligned}
 use Rattle.subsetter.specs.declared.face.TableRecord.{TableRecord}
-use Rattle.subsetter.specs.declared.face.FontKind.{FontKind}
 use Rattle.subsetter.specs.declared.face.FontKind.TheVariants.{Single}
-use Rattle.subsetter.specs.Optional.{◌>>=◌}
-use Rattle.subsetter.specs.Font.{Font, as_font, kind_of, kind_at, header_by_kind, header_place, records_at, records, directory, table, table_in, record_of, directory_records, find_record}
+use Rattle.subsetter.specs.Font.{as_font, kind_of, kind_at, header_by_kind, header_place, records_at, records, directory, table, table_in, record_of, directory_records, find_record}
 use Rattle.subsetter.specs.Checksum.{checksum}
 use Rattle.subsetter.specs.Layout.{Table, selector, header_bytes, record_bytes, directory_bytes, body, front, adjusted, adjustment, with_adjustment, file, fits, start_of, IsTable}
 use Rattle.subsetter.proofs.ChecksumLemmas.{checksum_fits}

@@ -211,16 +211,30 @@ mod tests {
                 data: TableData::Whole(CowSlice::Borrowed(&[0, 0, 0, 0, 0, 6])),
             },
         ];
-        let file = finish(rt.alloc(), FontFlavor::TrueType, &tables).ok().ok_or("a file")?;
+        let file = finish(rt.alloc(), FontFlavor::TrueType, &tables)
+            .ok()
+            .ok_or("a file")?;
         assert_eq!(rt; file.len(), 136);
         let header = file.get(0..12).ok_or("a header")?;
-        assert_eq!(rt; header, [0, 1, 0, 0, 0, 3, 0, 0x20, 0, 1, 0, 0x10].as_slice());
+        assert_eq!(rt;
+            header,
+            [0, 1, 0, 0, 0, 3, 0, 0x20, 0, 1, 0, 0x10].as_slice()
+        );
         let glyf = file.get(12..28).ok_or("a record")?;
-        assert_eq!(rt; glyf, [0x67, 0x6c, 0x79, 0x66, 0, 0, 0, 0, 0, 0, 0, 60, 0, 0, 0, 12].as_slice());
+        assert_eq!(rt;
+            glyf,
+            [0x67, 0x6c, 0x79, 0x66, 0, 0, 0, 0, 0, 0, 0, 60, 0, 0, 0, 12].as_slice()
+        );
         let head = file.get(28..44).ok_or("a record")?;
-        assert_eq!(rt; head, [0x68, 0x65, 0x61, 0x64, 0, 0, 0, 0, 0, 0, 0, 72, 0, 0, 0, 54].as_slice());
+        assert_eq!(rt;
+            head,
+            [0x68, 0x65, 0x61, 0x64, 0, 0, 0, 0, 0, 0, 0, 72, 0, 0, 0, 54].as_slice()
+        );
         let loca = file.get(44..60).ok_or("a record")?;
-        assert_eq!(rt; loca, [0x6c, 0x6f, 0x63, 0x61, 0, 6, 0, 0, 0, 0, 0, 128, 0, 0, 0, 6].as_slice());
+        assert_eq!(rt;
+            loca,
+            [0x6c, 0x6f, 0x63, 0x61, 0, 6, 0, 0, 0, 0, 0, 128, 0, 0, 0, 6].as_slice()
+        );
         let word = file.get(80..84).ok_or("a word")?;
         assert_eq!(rt; word, [0x75, 0x5e, 0x70, 0x13].as_slice());
         Ok(())

@@ -1,9 +1,8 @@
 //! The directory of a font.
 
-use subsetter_base::Tag;
-use subsetter_base::Error;
 use subsetter_base::read::{Readable, Reader, u32_at};
 use subsetter_base::write::{Writeable, Writer};
+use subsetter_base::{Error, Tag};
 
 /// A font collection or a single font.
 #[derive(Clone, Copy, Debug, PartialEq, Eq)]

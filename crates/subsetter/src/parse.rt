@@ -7,9 +7,8 @@ ghost use Rattle.subsetter_base.specs.Bytes.{IsBytes};
 ghost use Rattle.subsetter.specs.Opened.{opened_header, opened};
 
 use crate::face::{Face, FontKind, TableRecord};
-use subsetter_base::Tag;
-use subsetter_base::Error;
 use subsetter_base::read::Reader;
+use subsetter_base::{Error, Tag};
 
 /// Where the font's header stands.
 #[tactic(auto, unfolding(crate::specs::Opened::opened_header))]
@@ -134,7 +133,12 @@ mod tests {
             1, 0, 0, 0, 0, 0, 0, 0x63, 0x76, 0x74, 0x20, 0, 0, 0, 0, 0, 0, 0, 0, 0, 0, 0, 2,
         ];
         let face = parse(&sound, 0).ok();
-        assert!(rt; matches!(face.and_then(|face| face.table(Tag::CVT)), Some([0x74, 0x74])));
+        assert!(rt;
+            matches!(
+                face.and_then(|face| face.table(Tag::CVT)),
+                Some([0x74, 0x74])
+            )
+        );
     }
 
     #[test]

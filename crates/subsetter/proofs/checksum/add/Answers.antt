@@ -1,5 +1,4 @@
-use Rattle.std.proofs.Common.{◌≡◌, ◌+◌, ◌%◌, ◌⊎◌, length, inl, inr, arith}
-use Rattle.std.proofs.lemmas.Bool.{cases_lt}
+use Rattle.std.proofs.Common.{◌≡◌, ◌+◌, ◌%◌, ◌⊎◌, length, arith}
 use Rattle.subsetter.proofs.WeightLemmas.{weighed_split}
 use Rattle.subsetter.proofs.checksum.add.Goals as goal
 

@@ -1,4 +1,4 @@
-use Rattle.std.proofs.Common.{◌∙◌, sym, arith}
+use Rattle.std.proofs.Common.{arith}
 use Rattle.subsetter.proofs.WeightLemmas.{checksum-weighed}
 use Rattle.subsetter.proofs.checksum.checksum.Goals as goal
 

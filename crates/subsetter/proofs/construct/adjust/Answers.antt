@@ -5,7 +5,7 @@ use Rattle.subsetter_base.specs.Bytes.{aligned}
 use Rattle.subsetter.specs.declared.context.NewTable.{NewTable}
 use Rattle.subsetter.specs.Layout.{body, adjusted, fits, IsTable}
 use Rattle.subsetter.specs.Tables.{view, views}
-use Rattle.subsetter.proofs.LayoutLemmas.{at_index, fitting, rounded, stands, past, length-adjusted}
+use Rattle.subsetter.proofs.LayoutLemmas.{fitting, rounded, stands, past, length-adjusted}
 use Rattle.subsetter.proofs.construct.adjust.Goals as goal
 
 pub adjust_table-requires-clause-within : goal.adjust_table-requires-clause-within
@@ -31,8 +31,8 @@ loop-table-preserved c =
     let next : at + (c.len.result + 3) / 4 * 4 ≡ at + length (aligned 4 (view t).bytes) = omega (arith, len, rounded (view t).bytes) in
     let all = subst (AllByRecursion IsTable) more c.loop-table.invariant.tables in
     let p = past c.loop-table.out.items c.adjust_table.new.out.items (view t).bytes (adjusted word (view t)).bytes (body (views others)) (body (map (adjusted word) (views others))) _ at (at + (c.len.result + 3) / 4 * 4) c.loop-table.invariant.within
-        (c.loop-table.invariant.rest ∙ ap body more) c.adjust_table.ensures (length-adjusted word (view t) all.0) next
-        (ap (λ v. take at c.loop-table.out.items ++ body (map (adjusted word) v)) (sym more) ∙ c.loop-table.invariant.done) in
+    (c.loop-table.invariant.rest ∙ ap body more) c.adjust_table.ensures (length-adjusted word (view t) all.0) next
+    (ap (λ v. take at c.loop-table.out.items ++ body (map (adjusted word) v)) (sym more) ∙ c.loop-table.invariant.done) in
     record {
       done = p.done;
       rest = p.rest_is;

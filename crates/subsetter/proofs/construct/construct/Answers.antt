@@ -1,7 +1,7 @@
 use Rattle.std.proofs.Common.{◌≡◌, ◌+◌, ◌*◌, ◌++◌, ℕ, List, length, refl, ap, sym, ◌∙◌, arith}
 use Rattle.std.proofs.lemmas.List.{length-map, length-append}
 use Rattle.subsetter.specs.Checksum.{checksum}
-use Rattle.subsetter.specs.Layout.{header_bytes, directory_bytes, body, front, adjustment}
+use Rattle.subsetter.specs.Layout.{header_bytes, body, front, adjustment}
 use Rattle.subsetter.specs.Tables.{view, views, kind_word}
 use Rattle.subsetter.proofs.LayoutLemmas.{length-header, length-front, length-file, front_is, body_left, made}
 use Rattle.subsetter.proofs.construct.construct.Goals as goal
@@ -13,8 +13,17 @@ write_header-requires-clause-room c =
 pub write_directory-requires-clause-room : goal.write_directory-requires-clause-room
 write_directory-requires-clause-room c =
     let ts = c.args.tables.now in
-    omega (arith, ap length c.requires.empty, ap length c.write_header.ensures.items, length-append c.args.out.items (header_bytes c.kind.result (length ts)), length-header c.kind.result (length ts), length-map ts view,
-      length-file (kind_word c.args.flavor) (views ts) c.requires.tables, c.requires.room, c.write_header.ensures.capacity)
+    omega (
+      arith,
+      ap length c.requires.empty,
+      ap length c.write_header.ensures.items,
+      length-append c.args.out.items (header_bytes c.kind.result (length ts)),
+      length-header c.kind.result (length ts),
+      length-map ts view,
+      length-file (kind_word c.args.flavor) (views ts) c.requires.tables,
+      c.requires.room,
+      c.write_header.ensures.capacity,
+    )
 
 pub write_body-requires-clause-multiple : goal.write_body-requires-clause-multiple
 write_body-requires-clause-multiple c =

@@ -1,4 +1,4 @@
-use Rattle.std.proofs.Common.{◌≡◌, ◌+◌, ◌∷◌, ◌++◌, ◌%◌, ◌<◌, drop, length, map, ap, sym, refl, ◌∙◌, arith}
+use Rattle.std.proofs.Common.{◌+◌, ◌∷◌, ◌%◌, drop, length, map, ap, sym, refl, ◌∙◌, arith}
 use Rattle.std.proofs.lemmas.List.{drop_more, drop_all}
 use Rattle.std.specs.Cow.{cow_slice_items}
 use Rattle.subsetter.specs.Unfold.{padded}
@@ -18,8 +18,8 @@ loop-outline-preserved c =
       phase = omega arith;
       small = c.add-sum.type_inv;
       rest = outline_added c.loop-outline.sum c.loop-outline.phase c.add-sum.result c.padded_len.result _ _ long (cow_slice_items o) (glyf_bytes long (map cow_slice_items (drop (i + 1) all))) _ more c.loop-outline.invariant.rest
-        (c.add-sum.ensures ∙ ap (λ l. (c.loop-outline.sum + weighed c.loop-outline.phase l) % 4294967296) c.deref.ensures.value)
-        (c.padded_len.ensures ∙ ap (λ l. length (padded long l)) c.deref-in-loop-outline.ensures.value) refl;
+          (c.add-sum.ensures ∙ ap (λ l. (c.loop-outline.sum + weighed c.loop-outline.phase l) % 4294967296) c.deref.ensures.value)
+          (c.padded_len.ensures ∙ ap (λ l. length (padded long l)) c.deref-in-loop-outline.ensures.value) refl;
     }
 
 pub returns : goal.returns
