@@ -327,3 +327,11 @@ module _ (find : List ℕ → Option (List ℕ)) (order : List ℕ) where
 pub metrics_clean : (find : List ℕ → Option (List ℕ)) (order : List ℕ) (x : Option MetricBytes) (e : Error) → metrics_of find order ≡ Ok x → HasMetricsFault find (Contains order) e → ⊥
 metrics_clean find order None e h fault = none_clean find order e (no_metrics find order h) fault
 metrics_clean find order (Some t) e h fault = some_clean find order t e (steps find order t h) fault
+
+-- a fault at one kind of reached glyphs is one at each wider kind
+pub metrics_fault_among : (find : List ℕ → Option (List ℕ)) (near far : ℕ → Type 0) (e : Error) → ((g : ℕ) → near g → far g) → HasMetricsFault find near e → HasMetricsFault find far e
+metrics_fault_among find near far e h (no_hhea a b) = no_hhea a b
+metrics_fault_among find near far e h (short_hhea hhea a b c) = short_hhea hhea a b c
+metrics_fault_among find near far e h (no_pairs hhea a b c) = no_pairs hhea a b c
+metrics_fault_among find near far e h (last_advance_outside hhea hmtx count a b c d f) = last_advance_outside hhea hmtx count a b c d f
+metrics_fault_among find near far e h (metric_outside g hhea hmtx count r a b c d f) = metric_outside g hhea hmtx count (h g r) a b c d f
