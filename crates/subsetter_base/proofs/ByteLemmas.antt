@@ -5,14 +5,15 @@
 --                                parts of `a ++ b`, a part between two others, no part past the end
 --   number_at                    a number between two other parts
 --   range-fits, range-take_drop  where there is a part, and what it is
+--   range-drop                   a part of what is left behind a place
 --   flat_map-bytes               an array of bytes, as it is written
-use Rattle.std.proofs.Common.{◌≡◌, ℕ, zero, suc, ◌+◌, ◌-◌, ◌*◌, ◌^◌, ◌<◌, ◌≤◌, Bool, true, false, cond, leb, List, [], ◌∷◌, ◌++◌, length, take, drop, Option, Some, None, refl, sym, ap, ◌∙◌, inl, inr, lit<, append_assoc, add_assoc, arith}
-use Rattle.std.specs.Prelude.{flat_map, slice_index}
+use Rattle.std.proofs.Common.{◌≡◌, ℕ, suc, ◌+◌, ◌*◌, ◌^◌, ◌<◌, ◌≤◌, Bool, true, false, cond, leb, List, [], ◌∷◌, ◌++◌, length, take, drop, Option, Some, None, refl, sym, ap, ◌∙◌, inl, inr, lit<, add_assoc, arith}
+use Rattle.std.specs.Prelude.{flat_map}
 use Rattle.std.specs.Option.{option_map}
 use Rattle.std.specs.Int.{w16, w32, to_be_bytes}
 use Rattle.std.proofs.lemmas.Bool.{le-leb, lt-leb, leb-true, cases_lt}
 use Rattle.std.proofs.lemmas.Nat.{from_be_bytes-to_be_bytes_2, from_be_bytes-to_be_bytes_4, pow-add}
-use Rattle.std.proofs.lemmas.List.{append-nil, take_at, drop_at, length-append, length-take-le, length-drop, drop-append-le, take-append-le}
+use Rattle.std.proofs.lemmas.List.{append-nil, take_at, drop_at, length-append, length-take-le, length-drop, drop-append-le, take-append-le, take-append-drop}
 use Rattle.std.proofs.Math.Seq.{drop-append-add}
 use Rattle.std.proofs.Math.Nat.{mul_assoc, add-mul, mul-le-mul_right}
 use Rattle.subsetter_base.specs.Bytes.{be, range, number, IsBytes}
@@ -120,3 +121,10 @@ be-fits (b ∷ bytes) all =
     let power : 256 ^ length (b ∷ bytes) ≡ 256 * 256 ^ length bytes = grind arith in
     let whole : (b + 1) * 256 ^ length bytes ≤ 256 * 256 ^ length bytes = mul-le-mul_right (256 ^ length bytes) (omega arith) in
     omega (arith, power, whole, rest, add-mul b 1 (256 ^ length bytes))
+
+-- a part of what is left behind a place
+pub range-drop : (bytes : List ℕ) (k at size : ℕ) → k ≤ length bytes → range (drop k bytes) at size ≡ range bytes (k + at) size
+range-drop bytes k at size h =
+    let len : length (take k bytes) ≡ k = length-take-le k bytes h in
+    let whole : take k bytes ++ drop k bytes ≡ bytes = take-append-drop k bytes in
+    sym (range-right (take k bytes) (drop k bytes) at size) ∙ ap (λ (l : List ℕ). range l (length (take k bytes) + at) size) whole ∙ ap (λ (n : ℕ). range bytes (n + at) size) len

@@ -1,4 +1,5 @@
-use crate::read::{LazyArray16, LazyArrayIter16, Readable, Reader};
+use crate::read::{LazyArray16, LazyArrayIter16, Readable, Reader, u16_at, u32_at};
+use crate::remapper::{CheckedAdd, Remapper};
 use crate::write::{Writeable, Writer};
 use crate::{Error, GlyphRemapper, Tag, TagLengthError};
 use std::collections::HashSet;
@@ -33,6 +34,8 @@ fn numbers_are_read_in_big_endian(rt: HostRuntime) {
     assert_eq!(rt; next::<u16>(&mut r), None);
     r.jump(1);
     assert_eq!(rt; next::<u16>(&mut r), Some(0xFEDC));
+    assert_eq!(rt; u16_at(&data, 1), 0xFEDC);
+    assert_eq!(rt; u32_at(&data, 3), 0x80000001);
 }
 
 #[test]
@@ -133,8 +136,25 @@ fn errors_have_their_texts(rt: HostRuntime) -> Result<(), Fail> {
 
 #[test]
 fn tags_are_four_bytes(rt: HostRuntime) -> Result<(), Fail> {
+    let named = [
+        (Tag::HEAD, "head"),
+        (Tag::HHEA, "hhea"),
+        (Tag::HMTX, "hmtx"),
+        (Tag::MAXP, "maxp"),
+        (Tag::NAME, "name"),
+        (Tag::POST, "post"),
+        (Tag::GLYF, "glyf"),
+        (Tag::LOCA, "loca"),
+        (Tag::CVT, "cvt "),
+        (Tag::FPGM, "fpgm"),
+        (Tag::PREP, "prep"),
+        (Tag::CFF, "CFF "),
+        (Tag::CFF2, "CFF2"),
+    ];
+    for (tag, text) in named {
+        assert_eq!(rt; tag.get().as_slice(), text.as_bytes());
+    }
     assert_eq!(rt; Tag::new(b"glyf"), Tag::GLYF);
-    assert_eq!(rt; *Tag::CVT.get(), *b"cvt ");
     assert_eq!(rt; "CFF ".parse::<Tag>(), Ok(Tag::CFF));
     assert_eq!(rt; "CFF".parse::<Tag>(), Err(TagLengthError));
     assert_eq!(rt; "glyph".parse::<Tag>(), Err(TagLengthError));
@@ -275,5 +295,56 @@ fn all_glyphs_above_0_are_one_too_many(rt: HostRuntime) -> Result<(), Fail> {
         GlyphRemapper::new_from_glyphs_sorted(rt.alloc(), &one_less)?.num_gids(),
         65535
     );
+    Ok(())
+}
+
+/// The sum of two counters of any type, where it fits.
+fn sum<C: CheckedAdd>(a: C, b: C) -> Option<C> {
+    a.checked_add(&b)
+}
+
+#[test]
+fn sums_that_do_not_fit_are_none(rt: HostRuntime) {
+    assert_eq!(rt; sum(200u8, 55), Some(255));
+    assert_eq!(rt; sum(200u8, 56), None);
+    assert_eq!(rt; sum(65535u16, 0), Some(65535));
+    assert_eq!(rt; sum(65535u16, 1), None);
+    assert_eq!(rt; sum(4294967294u32, 1), Some(4294967295));
+    assert_eq!(rt; sum(4294967295u32, 1), None);
+}
+
+/// Two remappers of font dict numbers.
+fn dicts(rt: &HostRuntime, given: &[u8]) -> Result<Remapper<u8, u8>, Error> {
+    let mut remapper = Remapper::new(rt.alloc());
+    for dict in given {
+        if remapper.len() == 255 {
+            return Err(Error::OverflowError);
+        }
+        remapper.remap(*dict)?;
+    }
+    Ok(remapper)
+}
+
+#[test]
+fn values_are_numbered_from_0_in_order(rt: HostRuntime) -> Result<(), Fail> {
+    let remapper = dicts(&rt, &[3, 7, 3, 0])?;
+    assert_eq!(rt; remapper.len(), 3);
+    assert_eq!(rt; remapper.get(7), Some(1));
+    assert_eq!(rt; remapper.get(0), Some(2));
+    assert_eq!(rt; remapper.get(1), None);
+    let mut values = remapper.sorted_iter();
+    assert_eq!(rt; values.next(), Some(3));
+    assert_eq!(rt; values.next(), Some(7));
+    assert_eq!(rt; values.next(), Some(0));
+    assert_eq!(rt; values.next(), None);
+    assert_eq!(rt; values.next(), None);
+    let same = dicts(&rt, &[3, 7, 0])?;
+    let other = dicts(&rt, &[7, 3, 0])?;
+    assert!(rt; remapper == same);
+    assert!(rt; remapper != other);
+    assert_eq!(rt; hash_of(&remapper), hash_of(&same));
+    let mut wide = Remapper::<u16, u16>::new(rt.alloc());
+    assert_eq!(rt; wide.len(), 0);
+    assert_eq!(rt; wide.remap(9)?, 0);
     Ok(())
 }
