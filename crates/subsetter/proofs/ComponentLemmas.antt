@@ -95,3 +95,28 @@ components_composite (a ∷ bytes) le high =
     let rest = drop 10 (a ∷ bytes) in
     let len : length rest ≡ length (a ∷ bytes) - 10 = length-drop 10 (a ∷ bytes) in
     ap (λ q. cond q [] (numbers_at (length bytes) rest)) (le-ltb a 128 high) ∙ numbers_enough (length bytes) (length rest) rest (omega arith) (omega arith)
+
+-- ---- how many components there can be
+
+numbers_zero : (bytes : List ℕ) → numbers_at zero bytes ≡ []
+unfolding numbers_at
+numbers_zero bytes = refl
+
+numbers_few : (n : ℕ) (bytes : List ℕ) → length (numbers_at n bytes) ≤ n
+numbers_few zero bytes = omega (arith, ap length (numbers_zero bytes))
+numbers_few (suc n) bytes =
+    elim (cases_lt (length bytes) 4) [
+      | inl lt ↦ omega (arith, ap length (numbers_none (suc n) bytes lt))
+      | inr le ↦
+          let flags = be (take 2 (drop 0 bytes)) in
+          let glyph = be (take 2 (drop 2 bytes)) in
+          let after = drop (4 + rest_size flags) bytes in
+          let below = numbers_few n after in
+          let step = numbers_more n bytes flags glyph (number_some bytes 0 2 (omega arith)) (number_some bytes 2 2 le) in
+          elim (has_more flags) as (λ b. numbers_at (suc n) bytes ≡ glyph ∷ cond b (numbers_at n after) [] → length (numbers_at (suc n) bytes) ≤ suc n) [ true ↦ λ e. omega (arith, ap length e, below) | false ↦ λ e. omega (arith, ap length e) ] step
+    ]
+
+pub components_few : (bytes : List ℕ) → length (component_numbers bytes) ≤ length bytes
+unfolding component_numbers
+components_few [] = omega arith
+components_few (a ∷ bytes) = elim (ltb a 128) as (λ q. length (cond q [] (numbers_at (length bytes) (drop 10 (a ∷ bytes)))) ≤ length (a ∷ bytes)) [ true ↦ omega arith | false ↦ omega (arith, numbers_few (length bytes) (drop 10 (a ∷ bytes))) ]

@@ -2,3 +2,11 @@ pub mod FontLemmas
 pub mod HeadLemmas
 pub mod ComponentLemmas
 pub mod ChainLemmas
+pub mod KeptLemmas
+pub mod ClosureLemmas
+pub mod PartsBack
+pub mod OutlinesBack
+pub mod KeptOutlines
+pub mod UnfoldLaw
+pub mod OutlineFaults
+pub mod FontBytes

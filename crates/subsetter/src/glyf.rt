@@ -1,16 +1,22 @@
 //! The outlines of a TrueType font (OpenType, "glyf" and "loca").
 
-ghost use Rattle.std.specs.Prelude.{◌≡◌, ◌+◌, ◌<◌, ◌≤◌, ◌^◌, [], ◌∷◌, ◌++◌, codes, length, if◌then◌else◌, IfOk, IfErr, IfSome, OnOk, Ok, Err};
+ghost use Rattle.std.specs.Prelude.{◌≡◌, ◌+◌, ◌<◌, ◌≤◌, ◌^◌, ◌++◌, ◌⊎◌, length, map, IfOk, IfErr, IfSome, OnOk, Ok, Err};
+ghost use Rattle.std.specs.Cow.{cow_slice_items};
 ghost use Rattle.std.specs.Option.{option_copied};
 ghost use Rattle.subsetter_base.specs.Gives.{Gives};
+ghost use Rattle.subsetter_base.specs.Places.{IsWithoutRepeats};
+ghost use Rattle.subsetter.specs.Closure.{components_in, others_in, lacks_head, IsFaulty, IsFull, IsVisited, StopsClosure};
 ghost use Rattle.subsetter.specs.Font.{table_in};
 ghost use Rattle.subsetter.specs.Glyph.{offset, outline_in};
 ghost use Rattle.subsetter.specs.Outlines.{seen};
-ghost use Rattle.subsetter.specs.PlainGlyph.{outlines_read};
-ghost use Rattle.subsetter_base.specs.declared.error.Error.TheVariants.{OutOfMemory};
+ghost use Rattle.subsetter.specs.PlainGlyph.{outlines_read, kept, kept_all};
+ghost use Rattle.subsetter.specs.Reach.{IsGlyphOrderBy};
+ghost use Rattle.subsetter_base.specs.declared.error.Error.TheVariants.{OutOfMemory, MalformedFont, OverflowError};
 
+use crate::component::{Components, rewrite};
 use crate::face::Face;
 use std::alloc::Global;
+use std::borrow::CowSlice;
 use subsetter_base::read::Reader;
 use subsetter_base::{Error, GlyphRemapper, Tag};
 
@@ -73,4 +79,120 @@ impl<'a> Table<'a> {
         }
         Reader::new_at(self.glyf, from).read_bytes(to - from)
     }
+
+    /// The outline of a kept glyph, with its components under their new numbers.
+    /// `MalformedFont` where it can't be read, has one byte or is a composite that is cut.
+    #[tactic(auto, unfolding(crate::specs::PlainGlyph::kept))]
+    fn kept(&self, alloc: Global, id: u16, order: &GlyphRemapper) -> Result<CowSlice<'a, u8>, Error>
+        ensures { Gives cow_slice_items result (kept (seen self.now) order.now id) }
+    {
+        let outline = self.glyph_data(id).ok_or(Error::MalformedFont)?;
+        rewrite(alloc, outline, order)
+    }
+}
+
+/// The outlines of the glyphs of an order, each as it stands in the new `glyf` but for its padding.
+pub fn subset<'a>(alloc: Global, table: &Table<'a>, order: &GlyphRemapper) -> Result<Vec<CowSlice<'a, u8>>, Error>
+    ensures { Gives (λ v. map cow_slice_items v.items) result (kept_all (seen table.now) order.now order.now) }
+{
+    let mut outlines = Vec::with_capacity(alloc, order.num_gids() as usize)?;
+    for old in order.remapped_gids() {
+        outlines.push(table.kept(alloc, old, order)?)?;
+    }
+    Ok(outlines)
+}
+
+/// Whether an outline has one byte, or is a composite that is shorter than its head.
+#[tactic(auto, unfolding(crate::specs::Closure::lacks_head))]
+fn lacks_head(outline: &[u8]) -> bool
+    ensures { result ≡ lacks_head outline.now }
+{
+    match outline {
+        [] => false,
+        [_] => true,
+        [high, _, ..] => *high >= 128 && outline.len() < 10,
+    }
+}
+
+/// Puts the components of a glyph that are not in the order behind those that wait.
+/// `MalformedFont` where the glyph has one byte or is a composite that is shorter than its head.
+fn push_components(
+    table: &Table<'_>,
+    order: &GlyphRemapper,
+    waiting: &mut Vec<u16>,
+    glyph: u16,
+) -> Result<(), Error>
+    ensures ok { OnOk result (waiting.new.items ≡ waiting.old.items ++ others_in order.now (components_in (outline_in (seen table.now) glyph))) }
+    ensures few { OnOk result (length waiting.new.items < length waiting.old.items + 2 ^ 32) }
+    ensures err { IfErr result (λ e. (e ≡ OutOfMemory) ⊎ ((e ≡ MalformedFont) × IsFaulty (seen table.now) glyph)) }
+{
+    let Some(outline) = table.glyph_data(glyph) else {
+        return Ok(());
+    };
+    if lacks_head(outline) {
+        return Err(Error::MalformedFont);
+    }
+    for component in Components::new(outline) {
+        if order.get(component).is_none() {
+            waiting.push(component)?;
+        }
+    }
+    Ok(())
+}
+
+/// Takes a glyph that waited: a new one goes last in the order, and its components wait.
+/// `OverflowError` where there is no room for it; otherwise the errors of its components.
+fn visit(
+    table: &Table<'_>,
+    order: &mut GlyphRemapper,
+    waiting: &mut Vec<u16>,
+    glyph: u16,
+) -> Result<(), Error>
+    ensures ok { OnOk result (IsVisited (seen table.now) order.old waiting.old.items glyph order.new waiting.new.items) }
+    ensures err { IfErr result (λ e. (e ≡ OutOfMemory) ⊎ (((e ≡ MalformedFont) × IsFaulty (seen table.now) glyph) ⊎ ((e ≡ OverflowError) × IsFull order.old glyph))) }
+{
+    let count = order.num_gids();
+    if order.get(glyph).is_some() {
+        return Ok(());
+    }
+    if count == u16::MAX {
+        return Err(Error::OverflowError);
+    }
+    order.remap(glyph)?;
+    push_components(table, order, waiting, glyph)
+}
+
+/// The glyphs of a remapper, as a stack whose last member is taken first.
+fn stacked(alloc: Global, mapper: &GlyphRemapper) -> Result<Vec<u16>, Error>
+    ensures ok { IfOk result (λ v. v.items ≡ mapper.now) }
+    ensures err { IfErr result (λ e. e ≡ OutOfMemory) }
+    ensures once { IsWithoutRepeats mapper.now }
+    ensures few { length mapper.now < 65536 }
+{
+    let mut glyphs = Vec::with_capacity(alloc, mapper.num_gids() as usize)?;
+    for glyph in mapper.remapped_gids() {
+        glyphs.push(glyph)?;
+    }
+    Ok(glyphs)
+}
+
+/// The mapper's glyphs, and then each further one that they reach through components.
+///
+/// The last of the waiting glyphs is taken first, and the mapper's glyphs wait before all others.
+/// `OverflowError` where all 65536 numbers are reached; `MalformedFont` where a reached glyph has
+/// one byte or is a composite that is shorter than its head.
+pub fn closure(alloc: Global, table: &Table<'_>, mapper: &GlyphRemapper) -> Result<GlyphRemapper, Error>
+    ensures ok { IfOk result (λ order. IsGlyphOrderBy (outline_in (seen table.now)) mapper.now order) }
+    ensures err { IfErr result (λ e. StopsClosure (seen table.now) mapper.now e) }
+{
+    let mut order = mapper.clone()?;
+    let mut given = stacked(alloc, mapper)?;
+    let mut waiting = Vec::new(alloc);
+    while let Some(glyph) = given.pop() {
+        push_components(table, &order, &mut waiting, glyph)?;
+        while let Some(component) = waiting.pop() {
+            visit(table, &mut order, &mut waiting, component)?;
+        }
+    }
+    Ok(order)
 }

@@ -10,3 +10,6 @@ mod loca;
 mod parse;
 
 pub use subsetter_base::{Error, GlyphRemapper, Tag};
+
+#[cfg(test)]
+mod glyf_tests;

@@ -1,0 +1,8 @@
+use Rattle.std.proofs.Common.{◌≡◌, ◌++◌}
+use Rattle.subsetter.specs.Closure.{components_in, others_in}
+use Rattle.subsetter.specs.Glyph.{outline_in}
+use Rattle.subsetter.specs.Outlines.{seen}
+use Rattle.subsetter.proofs.glyf.push_components.Given as goal
+
+abbrev pub invariant-loop-component : goal.invariant-loop-component
+invariant-loop-component l = l.waiting.items ++ others_in l.order l.component-iterator ≡ l.fn.waiting.items ++ others_in l.order (components_in (outline_in (seen l.fn.table) l.fn.glyph))
