@@ -32,3 +32,4 @@ pub mod FaultLaws
 pub mod Gave
 pub mod Headline
 pub mod FileLaws
+pub mod FontBytes

@@ -22,3 +22,5 @@ mod truetype;
 
 pub use subsetter_base::{Error, GlyphRemapper, Tag};
 pub use subsetting::subset;
+#[cfg(test)]
+mod glyf_tests;
