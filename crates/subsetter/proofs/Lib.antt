@@ -2,3 +2,4 @@ pub mod FontLemmas
 pub mod NameLemmas
 pub mod PlacedLemmas
 pub mod IndexLemmas
+pub mod NamesBack
