@@ -3,3 +3,4 @@ pub mod NameLemmas
 pub mod PlacedLemmas
 pub mod IndexLemmas
 pub mod NamesBack
+pub mod NamesKept
