@@ -33,3 +33,5 @@ pub mod Gave
 pub mod Headline
 pub mod FileLaws
 pub mod FontBytes
+pub mod NamesBack
+pub mod NamesKept

@@ -283,3 +283,176 @@ pub fn subset<'a>(
     w.write(&table)?;
     Ok(Some(CowSlice::Owned(w.finish())))
 }
+
+#[cfg(test)]
+mod tests {
+    use super::*;
+    use std::test::*;
+
+    /// What is written for a table.
+    fn new_bytes(rt: &HostRuntime, table: &[u8]) -> Result<Vec<u8>, Fail> {
+        match subset(rt.alloc(), Some(table)) {
+            Ok(Some(CowSlice::Owned(bytes))) => Ok(bytes),
+            _ => Err(Fail::from("a written table")),
+        }
+    }
+
+    fn fails(rt: &HostRuntime, table: &[u8], error: Error) -> bool {
+        matches!(subset(rt.alloc(), Some(table)), Err(e) if e == error)
+    }
+
+    /// A table of version 0 with so many records, its storage at a place.
+    fn table_of(
+        rt: &HostRuntime,
+        count: u8,
+        place: u8,
+        records: &[[u8; 12]],
+        storage: &[u8],
+    ) -> Result<Vec<u8>, Fail> {
+        let mut table = Vec::new(rt.alloc());
+        table.extend_from_slice(&[0, 0, 0, count, 0, place])?;
+        for record in records {
+            table.extend_from_slice(record)?;
+        }
+        table.extend_from_slice(storage)?;
+        Ok(table)
+    }
+
+    #[test]
+    fn storage_offset_is_respected(rt: HostRuntime) -> Result<(), Fail> {
+        let table = [
+            0, 0, 0, 1, 0, 0x16, 0, 3, 0, 1, 4, 9, 0, 0, 0, 4, 0, 0, b'B', b'A', b'D', b'!', 0,
+            0x4F, 0, 0x4B,
+        ];
+        let new = new_bytes(&rt, &table)?;
+        let expected = [
+            0, 0, 0, 1, 0, 0x12, 0, 3, 0, 1, 4, 9, 0, 0, 0, 4, 0, 0, 0, 0x4F, 0, 0x4B,
+        ];
+        assert_eq!(rt; new.as_slice(), expected.as_slice());
+        Ok(())
+    }
+
+    #[test]
+    fn equal_strings_are_stored_once(rt: HostRuntime) -> Result<(), Fail> {
+        let records = [
+            [0, 1, 0, 0, 0, 0, 0, 0, 0, 1, 0, 0],
+            [0, 3, 0, 1, 4, 9, 0, 1, 0, 2, 0, 0],
+            [0, 3, 0, 1, 4, 9, 0, 4, 0, 2, 0, 0],
+        ];
+        let table = table_of(&rt, 3, 42, &records, &[0, 0x41])?;
+        let new = new_bytes(&rt, &table)?;
+        let expected = [
+            0, 0, 0, 2, 0, 0x1E, 0, 3, 0, 1, 4, 9, 0, 1, 0, 2, 0, 0, 0, 3, 0, 1, 4, 9, 0, 4, 0, 2, 0,
+            0, 0, 0x41,
+        ];
+        assert_eq!(rt; new.as_slice(), expected.as_slice());
+        Ok(())
+    }
+
+    #[test]
+    fn dropped_records_need_no_string(rt: HostRuntime) -> Result<(), Fail> {
+        let records = [
+            [0, 1, 0, 0, 0, 0, 0, 1, 0, 9, 0, 9],
+            [0, 3, 0, 1, 4, 9, 0, 0, 0, 1, 0, 0],
+        ];
+        let table = table_of(&rt, 2, 30, &records, &[0x41])?;
+        let new = new_bytes(&rt, &table)?;
+        let expected = [
+            0, 0, 0, 1, 0, 0x12, 0, 3, 0, 1, 4, 9, 0, 0, 0, 1, 0, 0, 0x41,
+        ];
+        assert_eq!(rt; new.as_slice(), expected.as_slice());
+        Ok(())
+    }
+
+    #[test]
+    fn kept_platforms_and_names(rt: HostRuntime) -> Result<(), Fail> {
+        let records = [
+            [0, 0, 0, 7, 0, 0, 0, 9, 0, 0, 0, 0],
+            [0, 0, 0, 0, 0, 0, 0, 10, 0, 0, 0, 0],
+            [0, 0, 0, 0, 0, 0, 0, 11, 0, 0, 0, 0],
+            [0, 0, 0, 0, 0, 0, 0, 14, 0, 0, 0, 0],
+            [0, 0, 0, 0, 0, 0, 0, 15, 0, 0, 0, 0],
+            [0, 3, 0, 0, 0, 0, 0, 1, 0, 0, 0, 0],
+            [0, 3, 0, 2, 0, 0, 0, 1, 0, 0, 0, 0],
+            [0, 3, 0, 10, 0, 0, 0, 1, 0, 0, 0, 0],
+        ];
+        let table = table_of(&rt, 8, 102, &records, &[])?;
+        let new = new_bytes(&rt, &table)?;
+        assert_eq!(rt; new.len(), 66);
+        assert_eq!(rt; new.get(2..6).ok_or("a header")?, [0, 5, 0, 66].as_slice());
+        assert_eq!(rt; new.get(6..18).ok_or("a record")?, records[0].as_slice());
+        assert_eq!(rt; new.get(18..30).ok_or("a record")?, records[2].as_slice());
+        assert_eq!(rt; new.get(30..42).ok_or("a record")?, records[3].as_slice());
+        assert_eq!(rt; new.get(42..54).ok_or("a record")?, records[5].as_slice());
+        assert_eq!(rt; new.get(54..66).ok_or("a record")?, records[7].as_slice());
+        Ok(())
+    }
+
+    #[test]
+    fn far_strings(rt: HostRuntime) -> Result<(), Fail> {
+        let mut storage = vec![in rt.alloc(); 0; 79999]?;
+        storage.push(1)?;
+        let records = [
+            [0, 3, 0, 1, 4, 9, 0, 0, 0x9C, 0x40, 0, 0],
+            [0, 3, 0, 1, 4, 9, 0, 1, 0x9C, 0x40, 0x9C, 0x40],
+            [0, 3, 0, 1, 4, 9, 0, 2, 0x9C, 0x3F, 0, 0],
+        ];
+        let table = table_of(&rt, 3, 42, &records, &storage)?;
+        assert!(rt; fails(&rt, &table, Error::SubsetError));
+        let table = table_of(&rt, 2, 30, &records[..2], &storage)?;
+        let new = new_bytes(&rt, &table)?;
+        assert_eq!(rt; new.as_slice(), table.as_slice());
+        Ok(())
+    }
+
+    /// A table of so many records of one byte at the start of the table.
+    fn repeated(rt: &HostRuntime, count: u16) -> Result<Vec<u8>, Fail> {
+        let mut table = Vec::new(rt.alloc());
+        table.extend_from_slice(&[0, 0])?;
+        table.extend_from_slice(&count.to_be_bytes())?;
+        table.extend_from_slice(&[0, 0])?;
+        for _ in 0..count {
+            table.extend_from_slice(&[0, 3, 0, 1, 4, 9, 0, 0, 0, 1, 0, 0])?;
+        }
+        Ok(table)
+    }
+
+    #[test]
+    fn many_records(rt: HostRuntime) -> Result<(), Fail> {
+        let new = new_bytes(&rt, &repeated(&rt, 5460)?)?;
+        assert_eq!(rt; new.len(), 65527);
+        assert_eq!(rt; new.get(2..6).ok_or("a header")?, [0x15, 0x54, 0xFF, 0xF6].as_slice());
+        assert_eq!(rt; new.get(65526..).ok_or("a storage")?, [0].as_slice());
+        assert!(rt; fails(&rt, &repeated(&rt, 5461)?, Error::SubsetError));
+        Ok(())
+    }
+
+    #[test]
+    fn strings_outside_the_storage(rt: HostRuntime) -> Result<(), Fail> {
+        let at_end = [[0, 3, 0, 1, 4, 9, 0, 0, 0, 0, 0, 1]];
+        let table = table_of(&rt, 1, 18, &at_end, &[0x41])?;
+        assert_eq!(rt; new_bytes(&rt, &table)?.len(), 18);
+        let past_end = [[0, 3, 0, 1, 4, 9, 0, 0, 0, 0, 0, 2]];
+        let table = table_of(&rt, 1, 18, &past_end, &[0x41])?;
+        assert!(rt; fails(&rt, &table, Error::SubsetError));
+        Ok(())
+    }
+
+    #[test]
+    fn cut_tables(rt: HostRuntime) -> Result<(), Fail> {
+        assert!(rt; matches!(subset(rt.alloc(), None), Ok(None)));
+        assert!(rt; fails(&rt, &[0], Error::MalformedFont));
+        assert!(rt; fails(&rt, &[0, 0, 0, 0, 0], Error::MalformedFont));
+        assert!(rt; fails(&rt, &[0, 0, 0, 0, 0, 7], Error::MalformedFont));
+        let empty = new_bytes(&rt, &[0, 0, 0, 0, 0, 6])?;
+        assert_eq!(rt; empty.as_slice(), [0, 0, 0, 0, 0, 6].as_slice());
+        assert!(rt; fails(&rt, &[0, 0, 0, 1, 0, 0, 0, 3, 0, 1, 4, 9, 0, 0, 0, 0, 0], Error::MalformedFont));
+        assert!(rt;
+            matches!(
+                subset(rt.alloc(), Some(&[0, 1])),
+                Ok(Some(CowSlice::Borrowed([0, 1])))
+            )
+        );
+        Ok(())
+    }
+}
