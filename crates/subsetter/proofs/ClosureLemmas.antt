@@ -195,6 +195,7 @@ finish t glyphs order f = record {
       | inl k ↦ absurd (no_member g k)
       | inr k ↦ elim k [ inl d ↦ d | inr d ↦ absurd (no_member h d) ]
     ]
+
     holds : (g : ℕ) → Reached t glyphs g → Contains order g
     holds g (given q c) = subst (λ (l : List ℕ). Contains l g) (sym f.begins) (Contains-append_left glyphs f.others g c)
     holds h (step g q bytes r e c) = next g h (holds g r) (subst (λ (o : Option (List ℕ)). Contains (components_in o) h) (sym e) c)
@@ -262,6 +263,7 @@ headless (a ∷ b ∷ bytes) h = by (ltb a 128) (ltb (length (a ∷ b ∷ bytes)
   where
     short : ltb (length (a ∷ b ∷ bytes)) 10 ≡ true → composite_parts (a ∷ b ∷ bytes) ≡ None
     short lt = ap (λ (o : Option (List ℕ)). option_and_then (λ head. option_and_then (λ chain. Some (Composite head chain)) (chain_at (length (a ∷ b ∷ bytes)) (drop 10 (a ∷ b ∷ bytes)))) o) (range-none (a ∷ b ∷ bytes) 0 10 (ltb-true (length (a ∷ b ∷ bytes)) 10 lt))
+
     by : (q r : Bool) → ltb (length (a ∷ b ∷ bytes)) 10 ≡ r → (not q && r) ≡ true → cond q (Some (Simple (a ∷ b ∷ bytes))) (composite_parts (a ∷ b ∷ bytes)) ≡ None
     by true r e k = absurd cc
     by false true e k = short e

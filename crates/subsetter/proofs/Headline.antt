@@ -34,7 +34,7 @@ pub has_flavor : (font : Font) (d : List ℕ) (f : FontFlavor) → opened font �
 unfolding flavored
 has_flavor font d f o h =
     by_flavor (table font (codes "glyf")) (table font (codes "CFF ")) (table font (codes "CFF2")) f
-      (ap (λ (find : List ℕ → Option (List ℕ)). cond (is_some (find (codes "glyf"))) (Ok TrueType) (cond (is_some (find (codes "CFF "))) (Ok Cff) (cond (is_some (find (codes "CFF2"))) (Err Unimplemented) (Err UnknownKind)))) (sym (find_is font d o)) ∙ h)
+    (ap (λ (find : List ℕ → Option (List ℕ)). cond (is_some (find (codes "glyf"))) (Ok TrueType) (cond (is_some (find (codes "CFF "))) (Ok Cff) (cond (is_some (find (codes "CFF2"))) (Err Unimplemented) (Err UnknownKind)))) (sym (find_is font d o)) ∙ h)
 
 has_glyf : (o p : Option (List ℕ)) → cond (is_some o) (Some TrueType) (cond (is_some p) (Some Cff) None) ≡ Some TrueType → IsSome o
 has_glyf (Some a) p h = refl

@@ -90,9 +90,10 @@ pub record FitsRecord (r : NameRecord) : Type 0 where
 
 pub fit_records : (n : ℕ) (bytes : List ℕ) → AllBytes bytes → AllByRecursion FitsRecord (name_records_in n bytes)
 fit_records zero bytes h = tt
-fit_records (suc n) bytes h =
-    (record { platform = be_two bytes h; encoding = be_two (drop 2 bytes) (all_drop 2 bytes h); language = be_two (drop 4 bytes) (all_drop 4 bytes h); name = be_two (drop 6 bytes) (all_drop 6 bytes h); size = be_two (drop 8 bytes) (all_drop 8 bytes h); offset = be_two (drop 10 bytes) (all_drop 10 bytes h) },
-     fit_records n (drop 12 bytes) (all_drop 12 bytes h))
+fit_records (suc n) bytes h = (
+  record { platform = be_two bytes h; encoding = be_two (drop 2 bytes) (all_drop 2 bytes h); language = be_two (drop 4 bytes) (all_drop 4 bytes h); name = be_two (drop 6 bytes) (all_drop 6 bytes h); size = be_two (drop 8 bytes) (all_drop 8 bytes h); offset = be_two (drop 10 bytes) (all_drop 10 bytes h) },
+  fit_records n (drop 12 bytes) (all_drop 12 bytes h),
+)
 
 fit_kept : (rs : List NameRecord) → AllByRecursion FitsRecord rs → AllByRecursion FitsRecord (filter is_kept_record rs)
 fit_kept [] h = tt

@@ -53,9 +53,10 @@ there_now ts s = by (among ts s) refl
     by : (b : Bool) → among ts s ≡ b → (among (cond b ts (ts ++ s ∷ [])) s ≡ true) × (string_place (cond b ts (ts ++ s ∷ [])) s ≡ string_place ts s)
     by true t = (t, refl)
     by false t =
-        let self = eq_self s in
-        (among-append ts (s ∷ []) s ∙ ap (λ b. b || (bytes_eq s s || false)) t ∙ ap (λ b. b || false) self,
-         place_behind ts (s ∷ []) s t ∙ ap (λ b. length (joined ts) + cond b 0 (length s + 0)) self ∙ omega (arith, place_new ts s t))
+        let self = eq_self s in (
+          among-append ts (s ∷ []) s ∙ ap (λ b. b || (bytes_eq s s || false)) t ∙ ap (λ b. b || false) self,
+          place_behind ts (s ∷ []) s t ∙ ap (λ b. length (joined ts) + cond b 0 (length s + 0)) self ∙ omega (arith, place_new ts s t),
+        )
 
 stored_after : (ts more : List (List ℕ)) (s pre bytes : List ℕ) (at : ℕ) → among ts s ≡ true → bytes ≡ pre ++ joined (ts ++ more) → at ≡ length pre + string_place ts s → range bytes at (length s) ≡ Some s
 stored_after [] more s pre bytes at h is a = absurd (false≢true h)
@@ -128,7 +129,7 @@ placed_as storage seen (r ∷ rs) p fit h =
     let b = bind_ok (placed_string seen a.0) (λ at. placed storage (with_string seen a.0) rs >>= λ q. Ok (with_name r at q)) p a.2 in
     let c = bind_ok (placed storage (with_string seen a.0) rs) (λ q. Ok (with_name r b.0 q)) p b.2 in
     subst (λ (q : Placed). PlacedAs storage seen (r ∷ rs) q) (ok_is (with_name r b.0 c.0) p c.2)
-        (one_placed storage seen r rs a.0 b.0 c.0 fit.0 (named (string_of storage r) SubsetError a.0 a.1) b.1 (placed_as storage (with_string seen a.0) rs c.0 fit.1 c.1))
+    (one_placed storage seen r rs a.0 b.0 c.0 fit.0 (named (string_of storage r) SubsetError a.0 a.1) b.1 (placed_as storage (with_string seen a.0) rs c.0 fit.1 c.1))
 
 -- ---- the whole table
 

@@ -100,7 +100,6 @@ outline_back t bs i is glyf_is lt fit =
     ap (λ o. option_and_then (λ m. option_and_then (λ n. between t.glyf m n) (offset t (i + 1))) o) starts ∙ ap (λ o. option_and_then (λ n. between t.glyf from n) o) ends
     ∙ ap (λ c. cond c (range t.glyf from (to - from)) None) order ∙ part
 
-
 -- ---- tables that were written from a list of outlines
 
 pub record AreWritten (bs : List (List ℕ)) (t : Outlines) : Type 0 where

@@ -104,6 +104,7 @@ chain_is (suc n) bytes chain fit h = by (λ rest whole r e. chain_is n rest whol
     into again c is false m e =
         let same : last_component c (drop (4 + rest_size c.flags) bytes) ≡ chain = same_chain (last_component c (drop (4 + rest_size c.flags) bytes)) chain e in
         subst ChainOf same (last c is.size (fits_word bytes 0 c.flags fit is.flags_is) m (λ none. no_tail (has_instructions c.flags) (drop (4 + rest_size c.flags) bytes) none))
+
     by : ((rest : List ℕ) (whole : Chain) → IsBytes rest → chain_at n rest ≡ Some whole → IsChain whole.tail whole.components) → (o : Option Component) → component_at bytes ≡ o → IsChain chain.tail chain.components
     by again None k = let e = sym (chain_none (suc n) bytes k) ∙ h in absurd cc
     by again (Some c) k = into again c (is_component bytes c k) (has_more c.flags) refl (sym (chain_more n bytes c k) ∙ h)
@@ -153,7 +154,7 @@ module _ (order : List ℕ) (small : (g : ℕ) → new_number order g < 2 ^ 16) 
       let read = component_back (again c) T fit (small c.glyph) len in
       let rest : drop (4 + rest_size c.flags) X ≡ T = behind (again c) T len in
       let kept : last_component (again c) (drop (4 + rest_size c.flags) X) ≡ record { components = again c ∷ []; tail = T } =
-          ap (λ (l : List ℕ). last_component (again c) l) rest ∙ ap (λ (l : List ℕ). record { components = again c ∷ []; tail = l }) (kept_tail (has_instructions c.flags) long tail none) in
+      ap (λ (l : List ℕ). last_component (again c) l) rest ∙ ap (λ (l : List ℕ). record { components = again c ∷ []; tail = l }) (kept_tail (has_instructions c.flags) long tail none) in
       ap (chain_at (suc n)) whole ∙ chain_more n X (again c) read
       ∙ ap (λ b. cond b (option_and_then (λ chain. chain_there (with_component (again c) chain)) (chain_at n (drop (4 + rest_size c.flags) X))) (Some (last_component (again c) (drop (4 + rest_size c.flags) X)))) stop
       ∙ ap chain_there kept

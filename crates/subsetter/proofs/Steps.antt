@@ -69,7 +69,7 @@ made_steps find t order m h =
     let k = head_steps (is_long a.0) t.head c.0 c.1 in
     let made : Made = record { outlines = a.0; loca = b.0; head = c.0; metrics = d.0; maxp = e.0; name = f.0; post = g.0 } in
     subst (MadeSteps find t order) {x = made} (done_is made m g.2)
-      (record { kept = a.1; small = l.0; loca_is = l.1; head_len = k.0; head_is = k.1; metrics_are = d.1; maxp_is = e.1; name_is = f.1; post_is = g.1 })
+    (record { kept = a.1; small = l.0; loca_is = l.1; head_len = k.0; head_is = k.1; metrics_are = d.1; maxp_is = e.1; name_is = f.1; post_is = g.1 })
 
 -- the tables, and the file
 pub tables_steps : (find : List ℕ → Option (List ℕ)) (t : Outlines) (order : List ℕ) (ts : List Table) → truetype_tables find t order ≡ Ok ts → (m : Made) × (made_of find t order ≡ Ok m) × (laid find m ≡ ts)

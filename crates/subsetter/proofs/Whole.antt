@@ -76,7 +76,7 @@ laid_tags font t order m s =
 pub laid_all : (find : List ℕ → Option (List ℕ)) (t : Outlines) (order : List ℕ) (m : Made) → MadeSteps find t order m → AllByRecursion IsTable (laid find m)
 laid_all find t order m s =
     LaidLaws.laid_tables find m (subst (λ (h : List ℕ). 12 ≤ length h) (sym s.head_is) (head_room (is_long m.outlines) t.head s.head_len))
-      (subst (λ (h : List ℕ). with_adjustment 0 h ≡ h) (sym s.head_is) (head_zeros (is_long m.outlines) t.head s.head_len))
+    (subst (λ (h : List ℕ). with_adjustment 0 h ≡ h) (sym s.head_is) (head_zeros (is_long m.outlines) t.head s.head_len))
 
 -- the order of the glyphs has one at least
 some_glyph : (glyphs others order : List ℕ) → order ≡ glyphs ++ others → 0 < length glyphs → 0 < length order
@@ -147,7 +147,7 @@ module _ (font : Font) (t : Outlines) (order : List ℕ) (m : Made) (read : outl
   metrics bytes some few h =
       let x = there m.metrics (metrics_there (table font) order m.metrics s.metrics_are ∙ h) in
       keeps_metrics (table font) (table out) order x.0 (λ hmtx is. table_bytes font (codes "hmtx") hmtx bytes is) some few (s.metrics_are ∙ ap (λ (o : Option MetricBytes). Ok o) x.1)
-        (back (codes "hhea") refl ∙ LaidLaws.lookup_hhea (table font) m ∙ ap (option_map (λ (y : MetricBytes). y.hhea)) x.1) (back (codes "hmtx") refl ∙ LaidLaws.lookup_hmtx (table font) m ∙ ap (option_map (λ (y : MetricBytes). y.hmtx)) x.1)
+      (back (codes "hhea") refl ∙ LaidLaws.lookup_hhea (table font) m ∙ ap (option_map (λ (y : MetricBytes). y.hhea)) x.1) (back (codes "hmtx") refl ∙ LaidLaws.lookup_hmtx (table font) m ∙ ap (option_map (λ (y : MetricBytes). y.hmtx)) x.1)
 
   pub drawing : (glyphs : List ℕ) → IsBytes font.bytes → IsGlyphOrder font glyphs order → length order < 2 ^ 16 → (n i : ℕ) → i < length order → UnfoldAlike font out n (get_or order i 0) i
   drawing glyphs bytes closed few =
@@ -168,15 +168,18 @@ is_subset font glyphs out bytes some a clean =
     let laid_out = file_steps 0x00010000 a.tables out a.laid_out in
     let fit : fits (start_of (laid (table font) made.0)) (laid (table font) made.0) ≡ true = subst (λ (l : List Table). fits (start_of l) l ≡ true) (sym made.2) laid_out.0 in
     let same : file 0x00010000 (laid (table font) made.0) ≡ out = ap (file 0x00010000) made.2 ∙ laid_out.1 in
-    subst (IsClean font glyphs) same (record {
-      order = a.order;
-      is_order = closed;
-      container = container font a.source a.order made.0 read s fit;
-      count = count font a.source a.order made.0 read s fit;
-      drawing = drawing font a.source a.order made.0 read s fit glyphs bytes closed a.few;
-      head = head font a.source a.order made.0 read s fit;
-      metrics = metrics font a.source a.order made.0 read s fit bytes more a.few;
-      max_profile = max_profile font a.source a.order made.0 read s fit a.few;
-      programs = programs font a.source a.order made.0 read s fit;
-      layout = record { source = a.source; read = read; tables = a.tables; tables_are = a.tables_are; bytes = ap (file 0x00010000) made.2 };
-    }, clean)
+    subst (IsClean font glyphs) same (
+      record {
+        order = a.order;
+        is_order = closed;
+        container = container font a.source a.order made.0 read s fit;
+        count = count font a.source a.order made.0 read s fit;
+        drawing = drawing font a.source a.order made.0 read s fit glyphs bytes closed a.few;
+        head = head font a.source a.order made.0 read s fit;
+        metrics = metrics font a.source a.order made.0 read s fit bytes more a.few;
+        max_profile = max_profile font a.source a.order made.0 read s fit a.few;
+        programs = programs font a.source a.order made.0 read s fit;
+        layout = record { source = a.source; read = read; tables = a.tables; tables_are = a.tables_are; bytes = ap (file 0x00010000) made.2 };
+      },
+      clean,
+    )

@@ -2,18 +2,18 @@
 #![tactic(auto)]
 
 mod checksum;
+mod component;
 mod construct;
 mod context;
 mod face;
 mod flavor;
-mod outlines;
-mod component;
 mod glyf;
 mod head;
-mod loca;
 mod hmtx;
+mod loca;
 mod maxp;
 mod name;
+mod outlines;
 mod parse;
 mod post;
 mod room;
@@ -22,5 +22,8 @@ mod truetype;
 
 pub use subsetter_base::{Error, GlyphRemapper, Tag};
 pub use subsetting::subset;
+
 #[cfg(test)]
 mod glyf_tests;
+#[cfg(test)]
+mod tests;

@@ -263,10 +263,7 @@ pub fn subset_table<'a>(alloc: Global, table: &Table<'a>) -> Result<Table<'a>, E
 
 /// The names of a subset. A table of another version than 0 is copied whole; `MalformedFont` where the version, the header, a record or the begin of the storage is cut, and the errors of `subset_table`.
 #[tactic(auto, unfolding(crate::specs::NamesPlain::new_name, crate::specs::NamesPlain::name_of_table))]
-pub fn subset<'a>(
-    alloc: Global,
-    name: Option<&'a [u8]>,
-) -> Result<Option<CowSlice<'a, u8>>, Error>
+pub fn subset<'a>(alloc: Global, name: Option<&'a [u8]>) -> Result<Option<CowSlice<'a, u8>>, Error>
     ensures { Gives (option_map cow_slice_items) result (new_name (option_copied name.entry)) }
 {
     let Some(bytes) = name else {
@@ -342,8 +339,8 @@ mod tests {
         let table = table_of(&rt, 3, 42, &records, &[0, 0x41])?;
         let new = new_bytes(&rt, &table)?;
         let expected = [
-            0, 0, 0, 2, 0, 0x1E, 0, 3, 0, 1, 4, 9, 0, 1, 0, 2, 0, 0, 0, 3, 0, 1, 4, 9, 0, 4, 0, 2, 0,
-            0, 0, 0x41,
+            0, 0, 0, 2, 0, 0x1E, 0, 3, 0, 1, 4, 9, 0, 1, 0, 2, 0, 0, 0, 3, 0, 1, 4, 9, 0, 4, 0, 2,
+            0, 0, 0, 0x41,
         ];
         assert_eq!(rt; new.as_slice(), expected.as_slice());
         Ok(())
@@ -421,7 +418,10 @@ mod tests {
     fn many_records(rt: HostRuntime) -> Result<(), Fail> {
         let new = new_bytes(&rt, &repeated(&rt, 5460)?)?;
         assert_eq!(rt; new.len(), 65527);
-        assert_eq!(rt; new.get(2..6).ok_or("a header")?, [0x15, 0x54, 0xFF, 0xF6].as_slice());
+        assert_eq!(rt;
+            new.get(2..6).ok_or("a header")?,
+            [0x15, 0x54, 0xFF, 0xF6].as_slice()
+        );
         assert_eq!(rt; new.get(65526..).ok_or("a storage")?, [0].as_slice());
         assert!(rt; fails(&rt, &repeated(&rt, 5461)?, Error::SubsetError));
         Ok(())
@@ -446,7 +446,13 @@ mod tests {
         assert!(rt; fails(&rt, &[0, 0, 0, 0, 0, 7], Error::MalformedFont));
         let empty = new_bytes(&rt, &[0, 0, 0, 0, 0, 6])?;
         assert_eq!(rt; empty.as_slice(), [0, 0, 0, 0, 0, 6].as_slice());
-        assert!(rt; fails(&rt, &[0, 0, 0, 1, 0, 0, 0, 3, 0, 1, 4, 9, 0, 0, 0, 0, 0], Error::MalformedFont));
+        assert!(rt;
+            fails(
+                &rt,
+                &[0, 0, 0, 1, 0, 0, 0, 3, 0, 1, 4, 9, 0, 0, 0, 0, 0],
+                Error::MalformedFont
+            )
+        );
         assert!(rt;
             matches!(
                 subset(rt.alloc(), Some(&[0, 1])),

@@ -234,9 +234,11 @@ mod tests {
     }
 
     fn glyphs(rt: &HostRuntime, glyphs: &[u16]) -> Result<GlyphRemapper, Fail> {
-        Ok(GlyphRemapper::new_from_glyphs(rt.alloc(), glyphs)
-            .ok()
-            .ok_or("a mapper")?)
+        Ok(
+            GlyphRemapper::new_from_glyphs(rt.alloc(), glyphs)
+                .ok()
+                .ok_or("a mapper")?,
+        )
     }
 
     /// What is written for a table.
@@ -255,9 +257,7 @@ mod tests {
     fn own_names_get_entries_of_their_own(rt: HostRuntime) -> Result<(), Fail> {
         let mapper = glyphs(&rt, &[1, 2])?;
         let table = table_of(&rt, &[0, 3, 1, 2, 1, 4, 1, 3, 1, 0x41, 1, 0x42])?;
-        let expected = [
-            0, 3, 1, 2, 1, 3, 1, 4, 1, 0x41, 0, 1, 0x42,
-        ];
+        let expected = [0, 3, 1, 2, 1, 3, 1, 4, 1, 0x41, 0, 1, 0x42];
         let new = new_bytes(&rt, &table, &mapper)?;
         assert_eq!(rt; new.get(..4).ok_or("a version")?, [0, 2, 0, 0].as_slice());
         assert_eq!(rt; new.get(32..).ok_or("a rest")?, expected.as_slice());
@@ -271,7 +271,10 @@ mod tests {
         let mapper = glyphs(&rt, &[1])?;
         let table = table_of(&rt, &[0, 2, 0, 36, 1, 2, 2, 0x41])?;
         let new = new_bytes(&rt, &table, &mapper)?;
-        assert_eq!(rt; new.get(32..).ok_or("a rest")?, [0, 2, 0, 36, 1, 2, 0].as_slice());
+        assert_eq!(rt;
+            new.get(32..).ok_or("a rest")?,
+            [0, 2, 0, 36, 1, 2, 0].as_slice()
+        );
         Ok(())
     }
 
@@ -280,7 +283,10 @@ mod tests {
         let mapper = glyphs(&rt, &[])?;
         let table = table_of(&rt, &[0, 1, 1, 3, 0, 1, 0x42])?;
         let new = new_bytes(&rt, &table, &mapper)?;
-        assert_eq!(rt; new.get(32..).ok_or("a rest")?, [0, 1, 1, 2, 1, 0x42].as_slice());
+        assert_eq!(rt;
+            new.get(32..).ok_or("a rest")?,
+            [0, 1, 1, 2, 1, 0x42].as_slice()
+        );
         Ok(())
     }
 
@@ -312,7 +318,14 @@ mod tests {
         assert!(rt; fails(&rt, &[0, 3, 0], &mapper, Error::MalformedFont));
         assert!(rt; fails(&rt, &table_of(&rt, &[0])?, &mapper, Error::MalformedFont));
         assert!(rt; fails(&rt, &table_of(&rt, &[0, 0])?, &mapper, Error::MalformedFont));
-        assert!(rt; fails(&rt, &table_of(&rt, &[0, 1, 0])?, &mapper, Error::MalformedFont));
+        assert!(rt;
+            fails(
+                &rt,
+                &table_of(&rt, &[0, 1, 0])?,
+                &mapper,
+                Error::MalformedFont
+            )
+        );
         let one = table_of(&rt, &[0, 1, 0, 36])?;
         assert_eq!(rt; new_bytes(&rt, &one, &mapper)?.as_slice(), one.as_slice());
         let header = one.get(..31).ok_or("a part")?;

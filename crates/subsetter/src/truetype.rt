@@ -98,11 +98,7 @@ fn push<'a>(
 }
 
 /// Puts a table of the source last, if there is one.
-fn push_kept<'a>(
-    context: &mut Context<'a>,
-    tag: Tag,
-    bytes: Option<&'a [u8]>,
-) -> Result<(), Error>
+fn push_kept<'a>(context: &mut Context<'a>, tag: Tag, bytes: Option<&'a [u8]>) -> Result<(), Error>
     ensures ok { OnOk result (views context.new ≡ views context.old ++ opt tag.0 (option_copied bytes.entry)) }
     ensures err { IfErr result (λ e. e ≡ OutOfMemory) }
 {

@@ -61,16 +61,16 @@ returns-in-TrueType-clause-ok c =
     let font : Font = record { bytes = c.args.«data».now; index = c.args.index } in
     let f = same_flavor c.in_ok-face.face.«data».now c.args.«data».now c.in_ok-face.face.records.now (Ok c.in_ok-flavor.field-0) c.in_ok-face.ensures.ok.0 c.in_ok-flavor.ensures ∙ ap (λ (x : FontFlavor). Ok x) c.in-TrueType.is in
     for_ok c.truetype.result (λ v. IsAnswered (table_in c.in_ok-face.face.«data».now c.in_ok-face.face.records.now) c.args.mapper.now v.items) (λ v. IsClean font c.args.mapper.now v.items)
-      (λ v a. truetype_subset font c.args.mapper.now c.in_ok-face.face.records.now c.in_ok-face.ensures.ok.1 f v.items c.parse.ensures.bytes c.num_gids-count.ensures.first
-        (subst (λ (b : List ℕ). IsAnswered (table_in b c.in_ok-face.face.records.now) c.args.mapper.now v.items) c.in_ok-face.ensures.ok.0 a)) c.truetype.ensures.ok
+    (λ v a. truetype_subset font c.args.mapper.now c.in_ok-face.face.records.now c.in_ok-face.ensures.ok.1 f v.items c.parse.ensures.bytes c.num_gids-count.ensures.first
+    (subst (λ (b : List ℕ). IsAnswered (table_in b c.in_ok-face.face.records.now) c.args.mapper.now v.items) c.in_ok-face.ensures.ok.0 a)) c.truetype.ensures.ok
 
 pub returns-in-TrueType-clause-err : goal.returns-in-TrueType-clause-err
 returns-in-TrueType-clause-err c =
     let font : Font = record { bytes = c.args.«data».now; index = c.args.index } in
     let f = same_flavor c.in_ok-face.face.«data».now c.args.«data».now c.in_ok-face.face.records.now (Ok c.in_ok-flavor.field-0) c.in_ok-face.ensures.ok.0 c.in_ok-flavor.ensures ∙ ap (λ (x : FontFlavor). Ok x) c.in-TrueType.is in
     for_err c.truetype.result (λ e. IsRefused (table_in c.in_ok-face.face.«data».now c.in_ok-face.face.records.now) c.args.mapper.now e) (λ e. (e ≡ OutOfMemory) ⊎ Stands font c.args.mapper.now e)
-      (λ e r. truetype_refused font c.args.mapper.now c.in_ok-face.face.records.now c.in_ok-face.ensures.ok.1 f e
-        (subst (λ (b : List ℕ). IsRefused (table_in b c.in_ok-face.face.records.now) c.args.mapper.now e) c.in_ok-face.ensures.ok.0 r)) c.truetype.ensures.err
+    (λ e r. truetype_refused font c.args.mapper.now c.in_ok-face.face.records.now c.in_ok-face.ensures.ok.1 f e
+    (subst (λ (b : List ℕ). IsRefused (table_in b c.in_ok-face.face.records.now) c.args.mapper.now e) c.in_ok-face.ensures.ok.0 r)) c.truetype.ensures.err
 
 pub returns-in-TrueType-clause-before_memory : goal.returns-in-TrueType-clause-before_memory
 returns-in-TrueType-clause-before_memory c = λ e g k.

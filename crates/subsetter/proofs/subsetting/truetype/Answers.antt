@@ -45,10 +45,10 @@ pub returns-clause-ok : goal.returns-clause-ok
 returns-clause-ok c =
     let find : List ℕ → Option (List ℕ) = table_in c.args.face.now.«data».now c.args.face.now.records.now in
     gave_ok (λ v. v.items) c.finish.result (file_of 0x00010000 (views c.tables.result.now)) (IsAnswered find c.args.mapper.now) c.finish.ensures
-      (λ out h. answered find c.args.mapper.now c.in_ok-order.order (seen c.in_ok-table.table) c.in_ok-table.ensures.ok c.in_ok-order.ensures.ok (made_seen c.in_ok-made.made) c.in_ok-made.ensures.exact c.tables.result.now (ap views c.tables.ensures ∙ c.in_ok-context.ensures.ok) out (omega (arith, c.num_gids-count.ensures.few)) h)
+    (λ out h. answered find c.args.mapper.now c.in_ok-order.order (seen c.in_ok-table.table) c.in_ok-table.ensures.ok c.in_ok-order.ensures.ok (made_seen c.in_ok-made.made) c.in_ok-made.ensures.exact c.tables.result.now (ap views c.tables.ensures ∙ c.in_ok-context.ensures.ok) out (omega (arith, c.num_gids-count.ensures.few)) h)
 
 pub returns-clause-err : goal.returns-clause-err
 returns-clause-err c =
     let find : List ℕ → Option (List ℕ) = table_in c.args.face.now.«data».now c.args.face.now.records.now in
     gave_err (λ v. v.items) c.finish.result (file_of 0x00010000 (views c.tables.result.now)) (IsRefused find c.args.mapper.now) c.finish.ensures no_memory
-      (refused_file find c.args.mapper.now c.in_ok-order.order (seen c.in_ok-table.table) c.in_ok-table.ensures.ok c.in_ok-order.ensures.ok (made_seen c.in_ok-made.made) c.in_ok-made.ensures.exact c.tables.result.now (ap views c.tables.ensures ∙ c.in_ok-context.ensures.ok))
+    (refused_file find c.args.mapper.now c.in_ok-order.order (seen c.in_ok-table.table) c.in_ok-table.ensures.ok c.in_ok-order.ensures.ok (made_seen c.in_ok-made.made) c.in_ok-made.ensures.exact c.tables.result.now (ap views c.tables.ensures ∙ c.in_ok-context.ensures.ok))

@@ -13,9 +13,9 @@ pub subset-requires : goal.subset-requires
 subset-requires c =
     let bs = map cow_slice_items c.args.outlines.now in
     let small : length (glyf_bytes c.args.long bs) < 2 ^ 32 =
-        elim (cases_lt (length (glyf_bytes c.args.long bs)) (2 ^ 32)) [
-          | inl lt ↦ lt
-          | inr ge ↦ absurd (omega (arith, c.outlines_len.ensures.past ge))
-        ]
+    elim (cases_lt (length (glyf_bytes c.args.long bs)) (2 ^ 32)) [
+      | inl lt ↦ lt
+      | inr ge ↦ absurd (omega (arith, c.outlines_len.ensures.past ge))
+    ]
     in
     loca_room bs c.args.long c.requires small

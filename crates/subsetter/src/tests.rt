@@ -1,0 +1,7 @@
+//! Whole fonts, subset by the public call. The expected bytes are worked out by hand from the formats.
+
+mod composites;
+mod containers;
+mod fonts;
+mod hostile;
+mod simple;

@@ -1,0 +1,109 @@
+//! Building fonts and looking into them.
+
+use crate::parse::parse;
+use crate::{Error, GlyphRemapper, Tag, subset};
+use std::alloc::Global;
+use std::test::*;
+
+/// A table of a font that a test builds.
+#[derive(Clone, Copy)]
+pub struct SourceTable<'a> {
+    pub tag: Tag,
+    pub bytes: &'a [u8],
+}
+
+/// A part by its tag.
+pub fn part<'a>(tag: Tag, bytes: &'a [u8]) -> SourceTable<'a> {
+    SourceTable { tag, bytes }
+}
+
+/// How many zeros follow a table of a length.
+fn padding(length: usize) -> &'static [u8] {
+    match length % 4 {
+        1 => &[0, 0, 0],
+        2 => &[0, 0],
+        3 => &[0],
+        _ => &[],
+    }
+}
+
+/// A font file of parts in the given order, each padded to a multiple of four, with zeros for the checksums.
+pub fn font(alloc: Global, kind: &[u8; 4], parts: &[SourceTable<'_>]) -> Result<Vec<u8>, Fail> {
+    let mut file = Vec::new(alloc);
+    let count = u16::try_from(parts.len()).ok().ok_or("few parts")?;
+    file.extend_from_slice(kind)?;
+    file.extend_from_slice(&count.to_be_bytes())?;
+    file.extend_from_slice(&[0, 0, 0, 0, 0, 0])?;
+    let mut at = u32::from(count).wrapping_mul(16).wrapping_add(12);
+    for part in parts {
+        let length = u32::try_from(part.bytes.len()).ok().ok_or("a short part")?;
+        file.extend_from_slice(part.tag.get())?;
+        file.extend_from_slice(&[0, 0, 0, 0])?;
+        file.extend_from_slice(&at.to_be_bytes())?;
+        file.extend_from_slice(&length.to_be_bytes())?;
+        at = at
+            .wrapping_add(length)
+            .wrapping_add(padding(part.bytes.len()).len() as u32);
+    }
+    for part in parts {
+        file.extend_from_slice(part.bytes)?;
+        file.extend_from_slice(padding(part.bytes.len()))?;
+    }
+    Ok(file)
+}
+
+/// A TrueType font of `glyf`, `loca` in the long format, and `head`.
+pub fn long_font(alloc: Global, glyf: &[u8], loca: &[u8]) -> Result<Vec<u8>, Fail> {
+    let mut head = [0; 54];
+    head[51] = 1;
+    font(
+        alloc,
+        &[0, 1, 0, 0],
+        &[
+            part(Tag::GLYF, glyf),
+            part(Tag::HEAD, &head),
+            part(Tag::LOCA, loca),
+        ],
+    )
+}
+
+/// The same, of the offsets that `loca` holds.
+pub fn outlines(alloc: Global, glyf: &[u8], offsets: &[u32]) -> Result<Vec<u8>, Fail> {
+    let mut loca = Vec::new(alloc);
+    for offset in offsets {
+        loca.extend_from_slice(&offset.to_be_bytes())?;
+    }
+    long_font(alloc, glyf, &loca)
+}
+
+/// A mapper of glyph 0 and these glyphs.
+pub fn mapper(alloc: Global, glyphs: &[u16]) -> Result<GlyphRemapper, Fail> {
+    Ok(GlyphRemapper::new_from_glyphs(alloc, glyphs)?)
+}
+
+/// The subset of a font for a mapper of these glyphs.
+pub fn subset_of(alloc: Global, file: &[u8], glyphs: &[u16]) -> Result<Vec<u8>, Fail> {
+    let mapper = mapper(alloc, glyphs)?;
+    Ok(subset(alloc, file, 0, &mapper)?)
+}
+
+/// The error of a subset for a mapper of these glyphs.
+pub fn refusal(alloc: Global, file: &[u8], index: u32, glyphs: &[u16]) -> Result<Error, Fail> {
+    let mapper = mapper(alloc, glyphs)?;
+    Ok(
+        subset(alloc, file, index, &mapper)
+            .err()
+            .ok_or("a refusal")?,
+    )
+}
+
+/// The table of a file that has it.
+pub fn table<'a>(file: &'a [u8], tag: Tag) -> Result<&'a [u8], Fail> {
+    let face = parse(file, 0).ok().ok_or("a directory")?;
+    Ok(face.table(tag).ok_or("a table")?)
+}
+
+/// `glyf` of 23 zero bytes with the offsets 0, 0, 12 and 23: glyph 0 is empty, 1 and 2 are simple.
+pub fn two_glyphs(alloc: Global) -> Result<Vec<u8>, Fail> {
+    outlines(alloc, &[0; 23], &[0, 0, 12, 23])
+}
