@@ -5,11 +5,10 @@ use crate::failure::Failure;
 use crate::task::{Task, read_task};
 use crate::times::{Times, times_of};
 use std::alloc::Global;
-use std::fs;
 use std::io::Read;
 use std::rt::{Clock, Env, Files};
 use std::time::Instant;
-use std::{env, io};
+use std::{env, fs, io};
 use subsetter::{GlyphRemapper, subset};
 
 /// Reads a file whole, into room for its length.

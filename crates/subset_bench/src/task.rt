@@ -1,5 +1,7 @@
 //! What is to be measured.
 
+ghost use Rattle.std.specs.Prelude.{◌≡◌, ◌<◌, ℕ, List, IfOk, Some, map, slice_get, string_bytes};
+
 use crate::failure::Failure;
 use std::alloc::Global;
 
@@ -39,7 +41,10 @@ fn glyphs_of(alloc: Global, list: &str) -> Result<Vec<u16>, Failure> {
 }
 
 /// Reads a task from its words: `FONT INDEX GLYPHS COUNT [OUT]`, with COUNT at least 1.
-pub fn read_task(alloc: Global, words: &[&str]) -> Result<Task, Failure> {
+pub fn read_task(alloc: Global, words: &[&str]) -> Result<Task, Failure>
+    ensures font { IfOk result (λ task. slice_get (map (λ word. word.now) words.now) 0 ≡ Some (string_bytes task.font)) }
+    ensures count { IfOk result (λ task. 0 < task.count) }
+{
     let (font, index, glyphs, count, output) = match words {
         [font, index, glyphs, count] => (*font, *index, *glyphs, *count, None),
         [font, index, glyphs, count, output] => {
