@@ -5,16 +5,10 @@ use crate::failure::Failure;
 use crate::task::{Task, read_task};
 use crate::times::{Times, times_of};
 use std::alloc::Global;
-use std::io::Read;
 use std::rt::{Clock, Env, Files};
 use std::time::Instant;
 use std::{env, fs, io};
 use subsetter::{GlyphRemapper, subset};
-
-/// Reads a file whole, into room for its length.
-fn read_file<R: Files + AllocGlobal>(rt: &R, name: &str) -> Result<Vec<u8>, Failure> {
-    fs::read(rt, name).map_err(|_| Failure::Read)
-}
 
 /// Subsets a font so many times, and answers the times and the last output.
 fn measure<R: Clock>(
@@ -37,27 +31,40 @@ fn measure<R: Clock>(
     Ok((times, last))
 }
 
-/// Does one task, and prints its times, its output's length and its output's hash.
-fn perform<R: Files + Clock + Print + AllocGlobal>(rt: &R, task: &Task) -> Result<(), Failure> {
-    let font = read_file(rt, task.font.as_str())?;
+/// Does one task, and answers its times and its output, which it writes where the task says.
+fn measure_file<R: Files + Clock + AllocGlobal>(
+    rt: &R,
+    task: &Task,
+) -> Result<(Times, Vec<u8>), Failure> {
+    let font = fs::read(rt, task.font.as_str()).map_err(|_| Failure::Read)?;
     let (times, output) = measure(rt, rt.alloc(), &font, task)?;
     if let Some(name) = &task.output {
         fs::write(rt, name.as_str(), output.as_slice()).map_err(|_| Failure::Write)?;
     }
+    Ok((times, output))
+}
+
+/// Does one task, and prints its times, its output's length and its output's hash, or `error` and the text where the
+/// font is refused.
+fn perform<R: Files + Clock + Print + AllocGlobal>(rt: &R, task: &Task) -> Result<(), Failure> {
+    let (times, output) = match measure_file(rt, task) {
+        Ok(measured) => measured,
+        Err(Failure::Error(error)) => {
+            return println!(rt; "error {error}").map_err(|_| Failure::Write);
+        }
+        Err(failure) => return Err(failure),
+    };
     let Times { median, least } = times;
     let length = output.len();
     let hash = digest(&output);
     println!(rt; "ok {median} {least} {length} {hash:016x}").map_err(|_| Failure::Write)
 }
 
-/// Does the task of a line, and prints `error` and the text where it is refused.
+/// Does the task of a line.
 fn perform_line<R: Files + Clock + Print + AllocGlobal>(rt: &R, line: &str) -> Result<(), Failure> {
     let words: Vec<&str> = line.split(' ').collect(rt.alloc())?;
     let task = read_task(rt.alloc(), &words)?;
-    match perform(rt, &task) {
-        Err(Failure::Error(error)) => println!(rt; "error {error}").map_err(|_| Failure::Write),
-        ended => ended,
-    }
+    perform(rt, &task)
 }
 
 /// Does the tasks of a file, a line each.
@@ -83,7 +90,7 @@ fn perform_words<R: Env + Files + Clock + Print + AllocGlobal>(rt: &R) -> Result
     }
 }
 
-/// Runs the program, and answers its status: 0 where all is done, 1 where a font is refused or something failed, 2
+/// Runs the program, and answers its status: 0 where all is done or refused as a font, 1 where something failed, 2
 /// where the words are wrong; the usage goes to the standard output.
 pub fn run<R: Env + Files + Clock + Print + Eprint + AllocGlobal>(rt: &R) -> u8 {
     match perform_words(rt) {
