@@ -1,0 +1,28 @@
+//! Measures how long a subset takes: `subset_bench FONT INDEX GLYPHS COUNT [OUT]`.
+//!
+//! GLYPHS is a list of numbers and ranges, as `3,10-12`. The font is read once, the mapper is made once, and the
+//! subset is made COUNT times. The line `ok MEDIAN LEAST LENGTH HASH` tells the median and the least nanoseconds of a
+//! call, the output's length and its FNV-1a hash of 64 bits in hexadecimal; where the font is refused the line is
+//! `error TEXT`. With OUT the output is written there. `subset_bench --list FILE` does the same for each line of FILE,
+//! which holds the words of one task.
+#![tactic(auto)]
+
+mod digest;
+mod failure;
+mod running;
+mod task;
+mod times;
+
+pub use digest::digest;
+pub use failure::Failure;
+pub use task::{Task, read_task};
+pub use times::{Times, times_of};
+
+#[cfg(test)]
+mod tests;
+
+use std::process::ExitCode;
+
+fn main(rt: HostRuntime) -> ExitCode {
+    ExitCode::from(running::run(&rt))
+}

@@ -1,0 +1,26 @@
+-- What a writer holds while lines are written to it.
+use Rattle.std.proofs.Common.{◌≡◌, ℕ, List, [], ◌++◌, refl, sym, ap, ◌∙◌, append_assoc, append-nil}
+use Rattle.std.specs.Prelude.{⊤, Option, Some, None}
+use Rattle.std.specs.Io.KnownBytes.{Appends, Keeps}
+
+-- with the rest, the writer will have gained all
+abbrev pub Reaches : Option (List ℕ) → Option (List ℕ) → List ℕ → List ℕ → Type 0
+Reaches None new rest all = ⊤
+Reaches (Some xs) None rest all = ⊥
+Reaches (Some xs) (Some ys) rest all = ys ++ rest ≡ xs ++ all
+
+pub at_first : (old : Option (List ℕ)) (all : List ℕ) → Reaches old old all all
+at_first None all = tt
+at_first (Some xs) all = refl
+
+pub after_line : (old now new : Option (List ℕ)) (line rest all : List ℕ) → Reaches old now (line ++ rest) all → Appends now new line → Reaches old new rest all
+after_line None now new line rest all h a = tt
+after_line (Some xs) None new line rest all h a = elim h [ ]
+after_line (Some xs) (Some ys) None line rest all h a = elim a [ ]
+after_line (Some xs) (Some ys) (Some zs) line rest all h a = ap (λ l. l ++ rest) a ∙ append_assoc ys line rest ∙ h
+
+pub at_last : (old now new : Option (List ℕ)) (all : List ℕ) → Reaches old now [] all → Keeps now new → Appends old new all
+at_last None now new all h k = tt
+at_last (Some xs) None new all h k = elim h [ ]
+at_last (Some xs) (Some ys) None all h k = elim k [ ]
+at_last (Some xs) (Some ys) (Some zs) all h k = k ∙ sym (append-nil ys) ∙ h
