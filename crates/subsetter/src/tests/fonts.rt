@@ -41,9 +41,8 @@ pub fn font(alloc: Global, kind: &[u8; 4], parts: &[SourceTable<'_>]) -> Result<
         file.extend_from_slice(&[0, 0, 0, 0])?;
         file.extend_from_slice(&at.to_be_bytes())?;
         file.extend_from_slice(&length.to_be_bytes())?;
-        at = at
-            .wrapping_add(length)
-            .wrapping_add(padding(part.bytes.len()).len() as u32);
+        let zeros = u32::try_from(padding(part.bytes.len()).len()).unwrap_or(0);
+        at = at.wrapping_add(length).wrapping_add(zeros);
     }
     for part in parts {
         file.extend_from_slice(part.bytes)?;
