@@ -36,3 +36,4 @@ pub mod FontBytes
 pub mod NamesBack
 pub mod NamesKept
 pub mod GlyphNamesBack
+pub mod GlyphNameLaws
