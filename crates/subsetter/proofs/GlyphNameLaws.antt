@@ -15,6 +15,8 @@ use Rattle.subsetter_base.specs.Places.{IsWithoutRepeats}
 use Rattle.subsetter_base.specs.declared.error.Error.{Error}
 use Rattle.subsetter_base.specs.declared.error.Error.TheVariants.{MalformedFont, OverflowError}
 use Rattle.subsetter_base.proofs.GlyphLemmas.{IsDistinct-places}
+use Rattle.subsetter_base.proofs.ByteLemmas.{range-fits, range-length, range-take_drop}
+use Rattle.subsetter.specs.Names.{bytes_from}
 use Rattle.subsetter.specs.GlyphNames.{GlyphName, Standard, Custom, PostTable, names_in, post_parts, post_table, glyph_index, name_of_index, glyph_name, post_bytes, HasGlyphNames, KeepsGlyphNames, rewritten, copied}
 use Rattle.subsetter.specs.GlyphNamesPlain.{indexes_of, custom_count, post_of_indexes, subset_glyph_names, post_of_table, new_post, post_of}
 use Rattle.subsetter.specs.GlyphNameFault as faults
@@ -172,3 +174,333 @@ module _ (bytes : List ℕ) (t : PostTable) (read : post_table bytes ≡ Some t)
       by : (o : Option ℕ) → glyph_index t g ≡ o → option_and_then (λ j. Some (name_of_index (names_in t.names_data) j)) o ≡ Some (Custom own.name) → IsOwn t g
       by None e k = absurd cc
       by (Some i) e k = (i, e, own_by (ltb i 258) (names_in t.names_data) i own.name refl (cc))
+
+-- ---- the steps of an answer
+
+within : (b : Bool) (x : List ℕ) (y : List ℕ) → cond b (Ok x) (Err OverflowError) ≡ Ok y → (b ≡ true) × (x ≡ y)
+within true x y h = (refl, done_is x y h)
+within false x y h = absurd cc
+
+beyond : (b : Bool) (x : List ℕ) (e : Error) → cond b (Ok x) (Err OverflowError) ≡ Err e → (b ≡ false) × (OverflowError ≡ e)
+beyond true x e h = absurd cc
+beyond false x e h = (refl, failed_is {A = List ℕ} OverflowError e h)
+
+pub record PostSteps (bytes order new : List ℕ) : Type 0 where
+  pub table : PostTable
+  pub read : post_table bytes ≡ Some table
+  pub indexes : List ℕ
+  pub are : indexes_of table order ≡ Ok indexes
+  pub few : custom_count indexes ≤ 65278
+  pub new_is : new ≡ post_bytes table.header (map (name_of_index (names_in table.names_data)) indexes)
+
+post_steps : (bytes order new : List ℕ) → (ok_or (post_table bytes) MalformedFont >>= λ t. subset_glyph_names t order) ≡ Ok new → PostSteps bytes order new
+unfolding subset_glyph_names post_of_indexes
+post_steps bytes order new h =
+    let a = bind_ok (ok_or (post_table bytes) MalformedFont) (λ t. indexes_of t order >>= λ is. post_of_indexes t is) new h in
+    let b = bind_ok (indexes_of a.0 order) (λ is. post_of_indexes a.0 is) new a.2 in
+    let c = within (leb (custom_count b.0) 65278) (post_bytes a.0.header (map (name_of_index (names_in a.0.names_data)) b.0)) new b.2 in
+    record { table = a.0; read = named_ok (post_table bytes) MalformedFont a.0 a.1; indexes = b.0; are = b.1; few = leb-true _ _ c.0; new_is = sym c.1 }
+
+-- the version, and what it leads to
+pub data PostAnswer (bytes order new : List ℕ) : Type 0 where
+  second : number bytes 0 4 ≡ Some 0x00020000 → PostSteps bytes order new → PostAnswer bytes order new
+  another : (version : ℕ) → number bytes 0 4 ≡ Some version → version ≢ 0x00020000 → new ≡ bytes → PostAnswer bytes order new
+
+not_second : (v : ℕ) → eqb v 0x00020000 ≡ false → v ≡ 0x00020000 → ⊥
+not_second v h e = let k = sym h ∙ ap (λ n. eqb n 0x00020000) e in cc
+
+post_answer : (bytes order new : List ℕ) → post_of_table bytes order ≡ Ok new → PostAnswer bytes order new
+unfolding post_of_table
+post_answer bytes order new h =
+    let a = bind_ok (ok_or (number bytes 0 4) MalformedFont) (λ v. cond (eqb v 0x00020000) (ok_or (post_table bytes) MalformedFont >>= λ t. subset_glyph_names t order) (Ok bytes)) new h in
+    by a.0 (named_ok (number bytes 0 4) MalformedFont a.0 a.1) (eqb a.0 0x00020000) refl a.2
+  where
+    by : (v : ℕ) → number bytes 0 4 ≡ Some v → (b : Bool) → eqb v 0x00020000 ≡ b → cond b (ok_or (post_table bytes) MalformedFont >>= λ t. subset_glyph_names t order) (Ok bytes) ≡ Ok new → PostAnswer bytes order new
+    by v is true e k = second (is ∙ ap (λ (n : ℕ). Some n) (eqb-true v 0x00020000 e)) (post_steps bytes order new k)
+    by v is false e k = another v is (not_second v e) (sym (done_is bytes new k))
+
+some_bytes : (a b : List ℕ) → Some a ≡ Some b → a ≡ b
+some_bytes a b h = cc
+
+-- the table of the source, and the new one
+pub record PostTables (find : List ℕ → Option (List ℕ)) (order new : List ℕ) : Type 0 where
+  pub source : List ℕ
+  pub source_is : find (codes "post") ≡ Some source
+  pub answer : PostAnswer source order new
+
+pub post_tables : (find : List ℕ → Option (List ℕ)) (order new : List ℕ) → post_of find order ≡ Ok (Some new) → PostTables find order new
+unfolding new_post
+post_tables find order new h = by (find (codes "post")) refl h
+  where
+    maybe_is : (x : List ℕ) → (post_of_table x order >>= λ n. Ok (Some n)) ≡ Ok (Some new) → post_of_table x order ≡ Ok new
+    maybe_is x k =
+        let a = bind_ok (post_of_table x order) (λ n. Ok (Some n)) (Some new) k in
+        a.1 ∙ ap (λ (l : List ℕ). Ok l) (some_bytes a.0 new (done_is (Some a.0) (Some new) a.2))
+
+    by : (o : Option (List ℕ)) → find (codes "post") ≡ o → new_post o order ≡ Ok (Some new) → PostTables find order new
+    by None is k = absurd cc
+    by (Some x) is k = record { source = x; source_is = is; answer = post_answer x order new (maybe_is x k) }
+
+-- ---- what is refused has a fault
+
+number_short : (bytes : List ℕ) (at size : ℕ) → number bytes at size ≡ None → length bytes < at + size
+number_short bytes at size h = by (leb (at + size) (length bytes)) refl h
+  where
+    by : (b : Bool) → leb (at + size) (length bytes) ≡ b → option_map be (cond b (Some (take size (drop at bytes))) None) ≡ None → length bytes < at + size
+    by true t k = absurd cc
+    by false t k = leb-false (at + size) (length bytes) t
+
+range_short : (bytes : List ℕ) (at size : ℕ) → range bytes at size ≡ None → length bytes < at + size
+range_short bytes at size h = by (leb (at + size) (length bytes)) refl h
+  where
+    by : (b : Bool) → leb (at + size) (length bytes) ≡ b → cond b (Some (take size (drop at bytes))) None ≡ None → length bytes < at + size
+    by true t k = absurd cc
+    by false t k = leb-false (at + size) (length bytes) t
+
+tail_short : (bytes : List ℕ) (at : ℕ) → bytes_from bytes at ≡ None → length bytes < at
+tail_short bytes at h = by (leb at (length bytes)) refl h
+  where
+    by : (b : Bool) → leb at (length bytes) ≡ b → cond b (Some (drop at bytes)) None ≡ None → length bytes < at
+    by true t k = absurd cc
+    by false t k = leb-false at (length bytes) t
+
+-- where the parts end too early
+pub data CutPost (bytes : List ℕ) : Type 0 where
+  cut_header : length bytes < 32 → CutPost bytes
+  cut_count : length bytes < 34 → CutPost bytes
+  cut_indexes : (count : ℕ) → number bytes 32 2 ≡ Some count → length bytes < 34 + count * 2 → CutPost bytes
+
+abbrev whole : List ℕ → ℕ → List ℕ → List ℕ → Option PostTable
+whole header count indexes names = Some (record { header = header; indexes = record { bytes = indexes; count = count }; names_data = names })
+
+cut_parts : (bytes : List ℕ) → post_parts bytes ≡ None → CutPost bytes
+cut_parts bytes h = header (range bytes 0 32) refl h
+  where
+    rest : (header : List ℕ) (count : ℕ) (indexes : List ℕ) → number bytes 32 2 ≡ Some count → (o : Option (List ℕ)) → bytes_from bytes (34 + count * 2) ≡ o → option_and_then (λ (names : List ℕ). whole header count indexes names) o ≡ None → CutPost bytes
+    rest header count indexes n None e k = cut_indexes count n (omega (arith, tail_short bytes (34 + count * 2) e))
+    rest header count indexes n (Some x) e k = absurd cc
+
+    indexes : (header : List ℕ) (count : ℕ) → number bytes 32 2 ≡ Some count → (o : Option (List ℕ)) → range bytes 34 (count * 2) ≡ o → option_and_then (λ (indexes : List ℕ). option_and_then (λ (names : List ℕ). whole header count indexes names) (bytes_from bytes (34 + count * 2))) o ≡ None → CutPost bytes
+    indexes header count n None e k = cut_indexes count n (range_short bytes 34 (count * 2) e)
+    indexes header count n (Some x) e k = rest header count x n (bytes_from bytes (34 + count * 2)) refl k
+
+    counted : (header : List ℕ) (o : Option ℕ) → number bytes 32 2 ≡ o → option_and_then (λ count. option_and_then (λ (indexes : List ℕ). option_and_then (λ (names : List ℕ). whole header count indexes names) (bytes_from bytes (34 + count * 2))) (range bytes 34 (count * 2))) o ≡ None → CutPost bytes
+    counted header None e k = cut_count (number_short bytes 32 2 e)
+    counted header (Some count) e k = indexes header count e (range bytes 34 (count * 2)) refl k
+
+    header : (o : Option (List ℕ)) → range bytes 0 32 ≡ o → option_and_then (λ (header : List ℕ). option_and_then (λ count. option_and_then (λ (indexes : List ℕ). option_and_then (λ (names : List ℕ). whole header count indexes names) (bytes_from bytes (34 + count * 2))) (range bytes 34 (count * 2))) (number bytes 32 2)) o ≡ None → CutPost bytes
+    header None e k = cut_header (range_short bytes 0 32 e)
+    header (Some x) e k = counted x (number bytes 32 2) refl k
+
+-- a table of version 2.0 that can't be read
+unread : (find : List ℕ → Option (List ℕ)) (reached : ℕ → Type 0) (bytes : List ℕ) → find (codes "post") ≡ Some bytes → number bytes 0 4 ≡ Some 0x00020000 → post_table bytes ≡ None → HasGlyphNameFault find reached MalformedFont
+unfolding post_table
+unread find reached bytes is v h = by (cut_parts bytes (sym (ap (option_and_then (λ version. cond (eqb version 0x00020000) (post_parts bytes) None)) v) ∙ h))
+  where
+    by : CutPost bytes → HasGlyphNameFault find reached MalformedFont
+    by (cut_header lt) = faults.short_header bytes is v lt
+    by (cut_count lt) = faults.count_cut bytes is v lt
+    by (cut_indexes count n lt) = faults.indexes_cut bytes count is v n lt
+
+-- what a table that can be read says
+pub record PostRead (bytes : List ℕ) (t : PostTable) : Type 0 where
+  pub count : number bytes 32 2 ≡ Some t.indexes.count
+  pub long : 34 + t.indexes.count * 2 ≤ length bytes
+  pub indexes : range bytes 34 (t.indexes.count * 2) ≡ Some t.indexes.bytes
+
+some_table : (a b : PostTable) → Some a ≡ Some b → a ≡ b
+some_table a b h = cc
+
+read_parts : (bytes : List ℕ) (t : PostTable) → post_parts bytes ≡ Some t → PostRead bytes t
+read_parts bytes t h = header (range bytes 0 32) refl h
+  where
+    rest : (header : List ℕ) (count : ℕ) (indexes : List ℕ) → number bytes 32 2 ≡ Some count → range bytes 34 (count * 2) ≡ Some indexes → (o : Option (List ℕ)) → option_and_then (λ (names : List ℕ). whole header count indexes names) o ≡ Some t → PostRead bytes t
+    rest header count indexes n r None k = absurd cc
+    rest header count indexes n r (Some x) k =
+        subst (PostRead bytes) (some_table (record { header = header; indexes = record { bytes = indexes; count = count }; names_data = x }) t k)
+          (record { count = n; long = omega (arith, range-fits bytes indexes 34 (count * 2) r); indexes = r })
+
+    indexes : (header : List ℕ) (count : ℕ) → number bytes 32 2 ≡ Some count → (o : Option (List ℕ)) → range bytes 34 (count * 2) ≡ o → option_and_then (λ (indexes : List ℕ). option_and_then (λ (names : List ℕ). whole header count indexes names) (bytes_from bytes (34 + count * 2))) o ≡ Some t → PostRead bytes t
+    indexes header count n None e k = absurd cc
+    indexes header count n (Some x) e k = rest header count x n e (bytes_from bytes (34 + count * 2)) k
+
+    counted : (header : List ℕ) (o : Option ℕ) → number bytes 32 2 ≡ o → option_and_then (λ count. option_and_then (λ (indexes : List ℕ). option_and_then (λ (names : List ℕ). whole header count indexes names) (bytes_from bytes (34 + count * 2))) (range bytes 34 (count * 2))) o ≡ Some t → PostRead bytes t
+    counted header None e k = absurd cc
+    counted header (Some count) e k = indexes header count e (range bytes 34 (count * 2)) refl k
+
+    header : (o : Option (List ℕ)) → range bytes 0 32 ≡ o → option_and_then (λ (header : List ℕ). option_and_then (λ count. option_and_then (λ (indexes : List ℕ). option_and_then (λ (names : List ℕ). whole header count indexes names) (bytes_from bytes (34 + count * 2))) (range bytes 34 (count * 2))) (number bytes 32 2)) o ≡ Some t → PostRead bytes t
+    header None e k = absurd cc
+    header (Some x) e k = counted x (number bytes 32 2) refl k
+
+pub read_table : (bytes : List ℕ) (t : PostTable) → number bytes 0 4 ≡ Some 0x00020000 → post_table bytes ≡ Some t → PostRead bytes t
+unfolding post_table
+read_table bytes t v h = read_parts bytes t (sym (ap (option_and_then (λ version. cond (eqb version 0x00020000) (post_parts bytes) None)) v) ∙ h)
+
+-- a glyph without an index is past their count
+past_count : (bytes : List ℕ) (t : PostTable) (g : ℕ) → PostRead bytes t → glyph_index t g ≡ None → t.indexes.count ≤ g
+past_count bytes t g r h = by (ltb g t.indexes.count) refl h
+  where
+    len : length t.indexes.bytes ≡ t.indexes.count * 2
+    len = range-length bytes t.indexes.bytes 34 (t.indexes.count * 2) r.indexes
+
+    by : (b : Bool) → ltb g t.indexes.count ≡ b → option_and_then (λ x. Some (be x)) (cond b (range t.indexes.bytes (g * 2) 2) None) ≡ None → t.indexes.count ≤ g
+    by true e k = absurd (let lt = ltb-true g t.indexes.count e in let there = range-take_drop t.indexes.bytes (g * 2) 2 (omega (arith, len, lt)) in let both = sym k ∙ ap (option_and_then (λ x. Some (be x))) there in cc)
+    by false e k = ltb-false g t.indexes.count e
+
+-- what holds of the members holds of each
+all_members : (xs : List ℕ) (P : ℕ → Type 0) → ((g : ℕ) → Contains xs g → P g) → AllByRecursion P xs
+all_members [] P f = tt
+all_members (x ∷ xs) P f = (f x (0, omega arith, refl), all_members xs P (λ g c. f g (suc c.0, omega (arith, c.1), c.2)))
+
+each_member : (xs : List ℕ) (P : ℕ → Type 0) → AllByRecursion P xs → (g : ℕ) → Contains xs g → P g
+each_member [] P h g c = absurd (omega (arith, c.1))
+each_member (x ∷ xs) P h g (zero, lt, e) = subst P e h.0
+each_member (x ∷ xs) P h g (suc k, lt, e) = each_member xs P h.1 g (k, omega arith, e)
+
+-- too many names
+too_many : (find : List ℕ → Option (List ℕ)) (bytes order is : List ℕ) (t : PostTable) → find (codes "post") ≡ Some bytes → number bytes 0 4 ≡ Some 0x00020000 → IsWithoutRepeats order → post_table bytes ≡ Some t → indexes_of t order ≡ Ok is → 65278 < custom_count is → HasGlyphNameFault find (Contains order) OverflowError
+too_many find bytes order is t there v once read are lt =
+    faults.many_own_names bytes (owned order is) there v (owned_distinct order is (IsDistinct-places order once))
+      (both_all (owned order is) (all_owned (Contains order) order is (all_members order (Contains order) (λ g c. c))) (all_named (owned order is) (each_own t order is are)))
+      (omega (arith, lt, owned_counted t order is are))
+  where
+    all_named : (gs : List ℕ) → AllByRecursion (IsOwn t) gs → AllByRecursion (HasOwnName bytes) gs
+    all_named [] h = tt
+    all_named (g ∷ gs) h = (own_name bytes t read g h.0, all_named gs h.1)
+
+    both_all : (gs : List ℕ) → AllByRecursion (Contains order) gs → AllByRecursion (HasOwnName bytes) gs → AllByRecursion (λ g. Contains order g × HasOwnName bytes g) gs
+    both_all [] a b = tt
+    both_all (g ∷ gs) a b = ((a.0, b.0), both_all gs a.1 b.1)
+
+refused_table : (find : List ℕ → Option (List ℕ)) (bytes order : List ℕ) (e : Error) → find (codes "post") ≡ Some bytes → number bytes 0 4 ≡ Some 0x00020000 → IsWithoutRepeats order → (ok_or (post_table bytes) MalformedFont >>= λ t. subset_glyph_names t order) ≡ Err e → HasGlyphNameFault find (Contains order) e
+unfolding subset_glyph_names post_of_indexes
+refused_table find bytes order e there v once h =
+    elim (bind_err (ok_or (post_table bytes) MalformedFont) (λ t. indexes_of t order >>= λ is. post_of_indexes t is) e h) [
+      | inl k ↦ let n = named_err (post_table bytes) MalformedFont e k in subst (HasGlyphNameFault find (Contains order)) n.1 (unread find (Contains order) bytes there v n.0)
+      | inr a ↦
+          let read = named_ok (post_table bytes) MalformedFont a.0 a.1 in
+          elim (bind_err (indexes_of a.0 order) (λ is. post_of_indexes a.0 is) e a.2) [
+            | inl k ↦ let m = first_missing a.0 order e k in let r = read_table bytes a.0 v read in subst (HasGlyphNameFault find (Contains order)) m.0 (faults.no_index bytes a.0.indexes.count m.1.0 there v r.count m.1.1 (past_count bytes a.0 m.1.0 r m.1.2))
+            | inr b ↦ let c = beyond (leb (custom_count b.0) 65278) (post_bytes a.0.header (map (name_of_index (names_in a.0.names_data)) b.0)) e b.2 in
+                subst (HasGlyphNameFault find (Contains order)) c.1 (too_many find bytes order b.0 a.0 there v once read b.1 (leb-false (custom_count b.0) 65278 c.0))
+          ]
+    ]
+
+refused_bytes : (find : List ℕ → Option (List ℕ)) (bytes order : List ℕ) (e : Error) → find (codes "post") ≡ Some bytes → IsWithoutRepeats order → post_of_table bytes order ≡ Err e → HasGlyphNameFault find (Contains order) e
+unfolding post_of_table
+refused_bytes find bytes order e there once h =
+    elim (bind_err (ok_or (number bytes 0 4) MalformedFont) (λ v. cond (eqb v 0x00020000) (ok_or (post_table bytes) MalformedFont >>= λ t. subset_glyph_names t order) (Ok bytes)) e h) [
+      | inl k ↦ let n = named_err (number bytes 0 4) MalformedFont e k in subst (HasGlyphNameFault find (Contains order)) n.1 (faults.short_post bytes there (number_short bytes 0 4 n.0))
+      | inr a ↦ by a.0 (named_ok (number bytes 0 4) MalformedFont a.0 a.1) (eqb a.0 0x00020000) refl a.2
+    ]
+  where
+    by : (v : ℕ) → number bytes 0 4 ≡ Some v → (b : Bool) → eqb v 0x00020000 ≡ b → cond b (ok_or (post_table bytes) MalformedFont >>= λ t. subset_glyph_names t order) (Ok bytes) ≡ Err e → HasGlyphNameFault find (Contains order) e
+    by v is true t k = refused_table find bytes order e there (is ∙ ap (λ (n : ℕ). Some n) (eqb-true v 0x00020000 t)) once k
+    by v is false t k = absurd cc
+
+pub post_refused : (find : List ℕ → Option (List ℕ)) (order : List ℕ) (e : Error) → IsWithoutRepeats order → post_of find order ≡ Err e → HasGlyphNameFault find (Contains order) e
+unfolding new_post
+post_refused find order e once h = by (find (codes "post")) refl h
+  where
+    by : (o : Option (List ℕ)) → find (codes "post") ≡ o → new_post o order ≡ Err e → HasGlyphNameFault find (Contains order) e
+    by None is k = absurd cc
+    by (Some x) is k = elim (bind_err (post_of_table x order) (λ n. Ok (Some n)) e k) [
+      | inl r ↦ refused_bytes find x order e is once r
+      | inr a ↦ absurd (let z = a.2 in cc)
+    ]
+
+-- ---- what is answered has none
+
+apart_numbers : (a b : ℕ) (o : Option ℕ) → o ≡ Some a → o ≡ Some b → a ≡ b
+apart_numbers a b o h k = some_number a b (sym h ∙ k)
+
+never : {A : Type 0} (o : Option A) (x : A) → o ≡ Some x → o ≡ None → ⊥
+never o x h k = let both = sym h ∙ k in cc
+
+version_there : (bytes : List ℕ) (v : ℕ) → number bytes 0 4 ≡ Some v → 4 ≤ length bytes
+version_there bytes v h = by (range bytes 0 4) refl h
+  where
+    by : (o : Option (List ℕ)) → range bytes 0 4 ≡ o → option_map be o ≡ Some v → 4 ≤ length bytes
+    by None e k = absurd cc
+    by (Some x) e k = omega (arith, range-fits bytes x 0 4 e)
+
+has_index : (t : PostTable) (g i : ℕ) → glyph_index t g ≡ Some i → g < t.indexes.count
+has_index t g i h = by (ltb g t.indexes.count) refl h
+  where
+    by : (b : Bool) → ltb g t.indexes.count ≡ b → option_and_then (λ x. Some (be x)) (cond b (range t.indexes.bytes (g * 2) 2) None) ≡ Some i → g < t.indexes.count
+    by true e k = ltb-true g t.indexes.count e
+    by false e k = absurd cc
+
+-- distinct members of a list with names of their own are no more than the list's
+module _ (find : List ℕ → Option (List ℕ)) (bytes order new : List ℕ) (there : find (codes "post") ≡ Some bytes) (v : number bytes 0 4 ≡ Some 0x00020000) (s : PostSteps bytes order new) where
+  same : (other : List ℕ) → find (codes "post") ≡ Some other → bytes ≡ other
+  same other h = some_bytes bytes other (sym there ∙ h)
+
+  r : PostRead bytes s.table
+  r = read_table bytes s.table v s.read
+
+  at_most_own : (gs : List ℕ) → IsDistinct nat_eq gs → AllByRecursion (λ g. Contains order g × HasOwnName bytes g) gs → length gs ≤ 65278
+  at_most_own gs distinct all =
+      let own = owned order s.indexes in
+      let among : (q : ℕ) → Contains gs q → Contains own q = λ q c. let f = each_member gs (λ g. Contains order g × HasOwnName bytes g) all q c in has_own s.table order s.indexes q s.are f.0 (named_own bytes s.table s.read q f.1) in
+      let shorter : length gs ≤ length own = length-le_from_is_member nat_eq_equiv gs own distinct (λ q m. (is_member-Decides Decides-eqb own q).1 (among q ((is_member-Decides Decides-eqb gs q).0 m))) in
+      omega (arith, shorter, owned_counted s.table order s.indexes s.are, s.few)
+
+  clean_second : (e : Error) → HasGlyphNameFault find (Contains order) e → ⊥
+  clean_second e (faults.short_post x h lt) = omega (arith, r.long, ap length (same x h), lt)
+  clean_second e (faults.short_header x h k lt) = omega (arith, r.long, ap length (same x h), lt)
+  clean_second e (faults.count_cut x h k lt) = omega (arith, r.long, ap length (same x h), lt)
+  clean_second e (faults.indexes_cut x count h k n lt) =
+      let e2 = apart_numbers s.table.indexes.count count (number bytes 32 2) r.count (ap (λ (l : List ℕ). number l 32 2) (same x h) ∙ n) in
+      omega (arith, r.long, ap length (same x h), lt, e2)
+  clean_second e (faults.no_index x count g h k n c le) =
+      let e2 = apart_numbers s.table.indexes.count count (number bytes 32 2) r.count (ap (λ (l : List ℕ). number l 32 2) (same x h) ∙ n) in
+      let i = index_of s.table order s.indexes c.0 s.are c.1 in
+      let is_g : get_or order c.0 0 ≡ g = get_or_default order c.0 0 g c.1 ∙ c.2 in
+      omega (arith, has_index s.table g (get_or s.indexes c.0 0) (ap (glyph_index s.table) (sym is_g) ∙ i), le, e2)
+  clean_second e (faults.many_own_names x gs h k d all lt) =
+      omega (arith, lt, at_most_own gs d (subst (λ (l : List ℕ). AllByRecursion (λ g. Contains order g × HasOwnName l g) gs) (sym (same x h)) all))
+
+clean_other : (find : List ℕ → Option (List ℕ)) (bytes order : List ℕ) (v : ℕ) → find (codes "post") ≡ Some bytes → number bytes 0 4 ≡ Some v → v ≢ 0x00020000 → (e : Error) → HasGlyphNameFault find (Contains order) e → ⊥
+clean_other find bytes order v there is other e f = by e f
+  where
+    same : (x : List ℕ) → find (codes "post") ≡ Some x → bytes ≡ x
+    same x h = some_bytes bytes x (sym there ∙ h)
+
+    second_not : (x : List ℕ) → find (codes "post") ≡ Some x → number x 0 4 ≡ Some 0x00020000 → ⊥
+    second_not x h k = other (apart_numbers v 0x00020000 (number bytes 0 4) is (ap (λ (l : List ℕ). number l 0 4) (same x h) ∙ k))
+
+    by : (d : Error) → HasGlyphNameFault find (Contains order) d → ⊥
+    by d (faults.short_post x h lt) = omega (arith, version_there bytes v is, ap length (same x h), lt)
+    by d (faults.short_header x h k lt) = second_not x h k
+    by d (faults.count_cut x h k lt) = second_not x h k
+    by d (faults.indexes_cut x count h k n lt) = second_not x h k
+    by d (faults.no_index x count g h k n c le) = second_not x h k
+    by d (faults.many_own_names x gs h k a b lt) = second_not x h k
+
+none_there : (find : List ℕ → Option (List ℕ)) (reached : ℕ → Type 0) (e : Error) → find (codes "post") ≡ None → HasGlyphNameFault find reached e → ⊥
+none_there find reached e gone (faults.short_post x h lt) = never (find (codes "post")) x h gone
+none_there find reached e gone (faults.short_header x h k lt) = never (find (codes "post")) x h gone
+none_there find reached e gone (faults.count_cut x h k lt) = never (find (codes "post")) x h gone
+none_there find reached e gone (faults.indexes_cut x count h k n lt) = never (find (codes "post")) x h gone
+none_there find reached e gone (faults.no_index x count g h k n c le) = never (find (codes "post")) x h gone
+none_there find reached e gone (faults.many_own_names x gs h k a b lt) = never (find (codes "post")) x h gone
+
+pub no_post : (find : List ℕ → Option (List ℕ)) (order : List ℕ) → post_of find order ≡ Ok None → find (codes "post") ≡ None
+unfolding new_post
+no_post find order h = by (find (codes "post")) refl h
+  where
+    by : (o : Option (List ℕ)) → find (codes "post") ≡ o → new_post o order ≡ Ok None → find (codes "post") ≡ None
+    by None is k = is
+    by (Some x) is k = absurd (let a = bind_ok (post_of_table x order) (λ n. Ok (Some n)) None k in let z = done_is (Some a.0) None a.2 in cc)
+
+pub post_clean : (find : List ℕ → Option (List ℕ)) (order : List ℕ) (x : Option (List ℕ)) (e : Error) → post_of find order ≡ Ok x → HasGlyphNameFault find (Contains order) e → ⊥
+post_clean find order None e h f = none_there find (Contains order) e (no_post find order h) f
+post_clean find order (Some new) e h f = by (post_tables find order new h)
+  where
+    by : PostTables find order new → ⊥
+    by t = answered t.answer
+      where
+        answered : PostAnswer t.source order new → ⊥
+        answered (second v s) = clean_second find t.source order new t.source_is v s e f
+        answered (another v is apart same) = clean_other find t.source order v t.source_is is apart e f
