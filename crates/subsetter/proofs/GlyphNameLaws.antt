@@ -6,6 +6,7 @@ use Rattle.std.specs.List.{AllByRecursion, IsDistinct}
 use Rattle.std.specs.Set.{is_member}
 use Rattle.std.proofs.lemmas.Bool.{ltb-true, ltb-false, leb-true, leb-false, le-leb, lt-ltb, eqb-true}
 use Rattle.std.proofs.lemmas.Bool.Decides.{Decides-eqb}
+use Rattle.std.proofs.lemmas.List.Recursion.{is_count_by}
 use Rattle.std.proofs.lemmas.Cmp.{nat_eq_equiv}
 use Rattle.std.proofs.lemmas.Map.Made.{length-le_from_is_member, is_member-Decides}
 use Rattle.std.proofs.lemmas.List.{length-map, get_or_default}
@@ -21,8 +22,32 @@ use Rattle.subsetter.specs.GlyphNames.{GlyphName, Standard, Custom, PostTable, n
 use Rattle.subsetter.specs.GlyphNamesPlain.{indexes_of, custom_count, post_of_indexes, subset_glyph_names, post_of_table, new_post, post_of}
 use Rattle.subsetter.specs.GlyphNameFault as faults
 use Rattle.subsetter.specs.GlyphNameFault.{HasOwnName, HasGlyphNameFault}
-use Rattle.subsetter.proofs.GlyphNamesBack.{customs, customs_counted}
 use Rattle.subsetter.proofs.MetricsLemmas.{bind_ok, bind_err, done_is, failed_is, named_ok, named_err}
+
+-- the own names, in order
+abbrev pub customs : List GlyphName → List (List ℕ)
+customs [] = []
+customs (Standard i ∷ ns) = customs ns
+customs (Custom s ∷ ns) = s ∷ customs ns
+
+-- as many own names as indexes of them
+customs_by : (names : List (List ℕ)) (i : ℕ) (is : List ℕ) → length (customs (name_of_index names i ∷ map (name_of_index names) is)) ≡ cond (leb 258 i) (1 + length (customs (map (name_of_index names) is))) (length (customs (map (name_of_index names) is)))
+customs_by names i is = by (ltb i 258) (leb 258 i) refl refl
+  where
+    rest : List (List ℕ)
+    rest = customs (map (name_of_index names) is)
+
+    by : (b d : Bool) → ltb i 258 ≡ b → leb 258 i ≡ d → length (customs (cond b (Standard i) (Custom (get_or names (i - 258) [])) ∷ map (name_of_index names) is)) ≡ cond d (1 + length (customs (map (name_of_index names) is))) (length (customs (map (name_of_index names) is)))
+    by true true h k = absurd (omega (arith, ltb-true i 258 h, leb-true 258 i k))
+    by true false h k = refl
+    by false true h k = omega arith
+    by false false h k = absurd (impossible (ltb-false i 258 h) k)
+      where
+        impossible : 258 ≤ i → leb 258 i ≡ false → ⊥
+        impossible le f = let t = le-leb 258 i le in cc
+
+pub customs_counted : (names : List (List ℕ)) (is : List ℕ) → length (customs (map (name_of_index names) is)) ≡ custom_count is
+customs_counted names is = is_count_by (λ (l : List ℕ). length (customs (map (name_of_index names) l))) (λ (i : ℕ). leb 258 i) refl (customs_by names) is
 
 -- the indexes of the glyphs of a list
 pub indexes_length : (t : PostTable) (gs is : List ℕ) → indexes_of t gs ≡ Ok is → length is ≡ length gs
