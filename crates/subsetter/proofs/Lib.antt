@@ -35,3 +35,4 @@ pub mod FileLaws
 pub mod FontBytes
 pub mod NamesBack
 pub mod NamesKept
+pub mod GlyphNameLaws

@@ -31,3 +31,4 @@ pub mod PlainSeen
 pub mod Answered
 pub mod Fault
 pub mod Subset
+pub mod GlyphNameFault

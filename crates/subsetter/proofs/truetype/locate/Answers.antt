@@ -3,10 +3,7 @@ use Rattle.std.specs.Cow.{cow_slice_items}
 use Rattle.std.proofs.lemmas.Bool.{cases_lt}
 use Rattle.subsetter.specs.Written.{glyf_bytes}
 use Rattle.subsetter.proofs.OutlinesBack.{loca_room}
-use Rattle.subsetter.proofs.LaidLaws.{laid_few}
-use Rattle.subsetter.proofs.Whole.{is_subset}
-use Rattle.subsetter.proofs.FaultLaws.{has_fault}
-use Rattle.subsetter.proofs.Steps.{made_steps}
+use Rattle.subsetter.proofs.GlyphNameLaws.{post_clean}
 use Rattle.subsetter.proofs.truetype.locate.Goals as goal
 
 pub subset-requires : goal.subset-requires
