@@ -4,3 +4,4 @@ pub mod PlacedLemmas
 pub mod IndexLemmas
 pub mod NamesBack
 pub mod NamesKept
+pub mod NameRefusals

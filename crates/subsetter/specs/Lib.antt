@@ -10,6 +10,7 @@ pub mod Reach
 pub mod Unfold
 pub mod Written
 pub mod Names
+pub mod NameFaults
 pub mod NamesPlain
 pub mod NamesSeen
 pub mod GlyphNames
