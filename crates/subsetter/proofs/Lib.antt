@@ -5,3 +5,4 @@ pub mod IndexLemmas
 pub mod NamesBack
 pub mod NamesKept
 pub mod NameRefusals
+pub mod NameClean

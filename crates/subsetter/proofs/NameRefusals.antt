@@ -61,7 +61,7 @@ cut_parts find bytes is version h = first (number bytes 2 2) (number bytes 4 2) 
 
 -- ---- strings that aren't there, or too far
 
-abbrev readable : List ℕ → List NameRecord → List (List ℕ)
+abbrev pub readable : List ℕ → List NameRecord → List (List ℕ)
 readable storage rs = filter_map (string_of storage) rs
 
 pub data Misplaced (storage : List ℕ) (seen : List (List ℕ)) (rs : List NameRecord) : Type 0 where
@@ -108,7 +108,7 @@ misplaced storage seen (r ∷ rs) e h = by (string_of storage r) refl h (λ s k.
     by None o k later = (err_is {X = Placed} SubsetError e k, outside r (0, omega arith, refl) o)
     by (Some s) o k later = second s o (later s) (bind_err (placed_string seen s) (λ at. placed storage (with_string seen s) rs >>= λ p. Ok (with_name r at p)) e k)
 
-placed_length : (storage : List ℕ) (seen : List (List ℕ)) (rs : List NameRecord) (p : Placed) → placed storage seen rs ≡ Ok p → length p.names ≡ length rs
+pub placed_length : (storage : List ℕ) (seen : List (List ℕ)) (rs : List NameRecord) (p : Placed) → placed storage seen rs ≡ Ok p → length p.names ≡ length rs
 placed_length storage seen [] p h = ap (λ (q : Placed). length q.names) (sym (ok_is (record { names = []; strings = seen }) p h))
 placed_length storage seen (r ∷ rs) p h =
     let a = bind_ok (ok_or (string_of storage r) SubsetError) (λ s. placed_string seen s >>= λ at. placed storage (with_string seen s) rs >>= λ q. Ok (with_name r at q)) p h in
