@@ -6,3 +6,4 @@ pub mod NamesBack
 pub mod NamesKept
 pub mod NameRefusals
 pub mod NameClean
+pub mod GlyphNamesKept
