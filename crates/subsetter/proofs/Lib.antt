@@ -36,3 +36,6 @@ pub mod FontBytes
 pub mod NamesBack
 pub mod NamesKept
 pub mod GlyphNameLaws
+pub mod NameRefusals
+pub mod NameClean
+pub mod GlyphNamesKept

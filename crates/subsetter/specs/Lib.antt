@@ -21,6 +21,7 @@ pub mod MetricsWritten
 pub mod MaxProfile
 pub mod MaxProfileWritten
 pub mod Names
+pub mod NameFaults
 pub mod NamesPlain
 pub mod NamesSeen
 pub mod GlyphNames
