@@ -1,8 +1,9 @@
 -- What subsetting refuses has a fault of that name, and where it answers no fault stands.
 use Rattle.std.proofs.Common.{◌≡◌, ℕ, ◌+◌, ◌^◌, ◌<◌, ◌≤◌, ltb, Bool, true, false, cond, List, [], ◌∷◌, length, Option, Some, None, Result, Ok, Err, refl, sym, ap, subst, ◌∙◌, ◌⊎◌, arith, inl, inr}
 use Rattle.std.specs.Prelude.{codes, is_some, IsSome, Contains}
+use Rattle.std.specs.List.{AllByRecursion}
 use Rattle.std.proofs.lemmas.Bool.{ltb-true, ltb-false}
-use Rattle.subsetter_base.specs.Bytes.{◌>>=◌}
+use Rattle.subsetter_base.specs.Bytes.{◌>>=◌, IsBytes}
 use Rattle.subsetter_base.specs.declared.error.Error.{Error}
 use Rattle.subsetter_base.specs.declared.error.Error.TheVariants.{MalformedFont, OverflowError, OutOfMemory, Unimplemented}
 use Rattle.subsetter.specs.declared.flavor.FontFlavor.{FontFlavor}
@@ -12,6 +13,8 @@ use Rattle.subsetter.specs.Fault as faults
 use Rattle.subsetter.specs.Fault.{HasFault}
 use Rattle.subsetter.specs.Font.{Font, table, flavor}
 use Rattle.subsetter.specs.Glyph.{Outlines, outlines}
+use Rattle.subsetter.specs.GlyphNameFault as name_faults
+use Rattle.subsetter.specs.GlyphNameFault.{HasOwnName, HasGlyphNameFault}
 use Rattle.subsetter.specs.GlyphNamesPlain.{post_of}
 use Rattle.subsetter.specs.Layout.{Table, fits, file, start_of}
 use Rattle.subsetter.specs.MaxProfileWritten.{maxp_of}
@@ -26,12 +29,16 @@ use Rattle.subsetter.specs.PlainFile.{file_of}
 use Rattle.subsetter.specs.PlainGlyph.{kept_all, head_kept}
 use Rattle.subsetter.specs.Reach.{IsReachable, IsGlyphOrder}
 use Rattle.subsetter.specs.Written.{is_long, glyf_bytes, loca_bytes, head_bytes}
+use Rattle.subsetter.proofs.GlyphNameLaws.{post_refused, post_clean}
 use Rattle.subsetter.proofs.KeptOutlines.{named}
 use Rattle.subsetter.proofs.MaxProfileLaws.{maxp_refused, maxp_clean}
 use Rattle.subsetter.proofs.MetricsLaws.{metrics_refused, metrics_clean}
 use Rattle.subsetter.proofs.MetricsLemmas.{bind_err, done_is, failed_is}
+use Rattle.subsetter.proofs.NameClean.{name_clean}
+use Rattle.subsetter.proofs.NameRefusals.{name_refused}
 use Rattle.subsetter.proofs.OutlineFaults.{has_tables, tables_refused, closure_refused, outlines_refused, order_in, no_outline_fault}
 use Rattle.subsetter.proofs.Steps.{MadeSteps, made_steps, tables_steps, file_steps}
+use Rattle.subsetter.proofs.TableBytes.{table_bytes}
 
 -- a fault of some order stands
 abbrev pub Stands : Font → List ℕ → Error → Type 0
@@ -54,6 +61,19 @@ metrics_among find P Q e f (metric_faults.no_pairs hhea a b c) = metric_faults.n
 metrics_among find P Q e f (metric_faults.last_advance_outside hhea hmtx count a b c d i) = metric_faults.last_advance_outside hhea hmtx count a b c d i
 metrics_among find P Q e f (metric_faults.metric_outside g hhea hmtx count r a b c d i) = metric_faults.metric_outside g hhea hmtx count (f g r) a b c d i
 
+-- the same of the names of glyphs
+own_among : (bytes gs : List ℕ) (P Q : ℕ → Type 0) → ((g : ℕ) → P g → Q g) → AllByRecursion (λ g. P g × HasOwnName bytes g) gs → AllByRecursion (λ g. Q g × HasOwnName bytes g) gs
+own_among bytes [] P Q f h = tt
+own_among bytes (g ∷ gs) P Q f h = ((f g h.0.0, h.0.1), own_among bytes gs P Q f h.1)
+
+glyph_names_among : (find : List ℕ → Option (List ℕ)) (P Q : ℕ → Type 0) (e : Error) → ((g : ℕ) → P g → Q g) → HasGlyphNameFault find P e → HasGlyphNameFault find Q e
+glyph_names_among find P Q e f (name_faults.short_post x h lt) = name_faults.short_post x h lt
+glyph_names_among find P Q e f (name_faults.short_header x h k lt) = name_faults.short_header x h k lt
+glyph_names_among find P Q e f (name_faults.count_cut x h k lt) = name_faults.count_cut x h k lt
+glyph_names_among find P Q e f (name_faults.indexes_cut x count h k n lt) = name_faults.indexes_cut x count h k n lt
+glyph_names_among find P Q e f (name_faults.no_index x count g h k n c le) = name_faults.no_index x count g h k n (f g c) le
+glyph_names_among find P Q e f (name_faults.many_own_names x gs h k a b lt) = name_faults.many_own_names x gs h k a (own_among x gs P Q f b) lt
+
 module _ (font : Font) (glyphs order : List ℕ) (t : Outlines) (read : outlines font ≡ Some t) (closed : IsGlyphOrder font glyphs order) where
   long : (bs : List (List ℕ)) (e : Error) → kept_all t order order ≡ Ok bs → located bs ≡ Err e → HasFault font glyphs order e
   unfolding located
@@ -68,6 +88,9 @@ module _ (font : Font) (glyphs order : List ℕ) (t : Outlines) (read : outlines
 
   in_metrics : (e : Error) → metrics_of (table font) order ≡ Err e → HasFault font glyphs order e
   in_metrics e h = faults.in_metrics (metrics_among (table font) (Contains order) (IsReachable font glyphs) e (λ g c. (closed.members g).0 c) (metrics_refused (table font) order e h))
+
+  in_glyph_names : (e : Error) → post_of (table font) order ≡ Err e → HasFault font glyphs order e
+  in_glyph_names e h = faults.in_glyph_names (glyph_names_among (table font) (Contains order) (IsReachable font glyphs) e (λ g c. (closed.members g).0 c) (post_refused (table font) order e closed.once h))
 
   -- a part that could not be made
   not_made : (e : Error) → made_of (table font) t order ≡ Err e → HasFault font glyphs order e
@@ -91,9 +114,9 @@ module _ (font : Font) (glyphs order : List ℕ) (t : Outlines) (read : outlines
               | inr d ↦ elim (bind_err (maxp_of (table font) TrueType (length order)) (after_maxp a.0 b.0 c.0 d.0) e d.2) [
                 | inl k ↦ faults.in_max_profile (maxp_refused (table font) TrueType (length order) e k)
                 | inr f ↦ elim (bind_err (name_of (table font)) (after_name a.0 b.0 c.0 d.0 f.0) e f.2) [
-                  | inl k ↦ ?
+                  | inl k ↦ faults.in_names (name_refused (table font) e k)
                   | inr g ↦ elim (bind_err (post_of (table font) order) (after_post a.0 b.0 c.0 d.0 f.0 g.0) e g.2) [
-                    | inl k ↦ ?
+                    | inl k ↦ in_glyph_names e k
                     | inr i ↦ absurd (let z = i.2 in cc)
                   ]
                 ]
@@ -148,7 +171,7 @@ outlines_there t = Some t
 same_outlines : (t u : Outlines) → outlines_there t ≡ outlines_there u → t ≡ u
 same_outlines t u h = cc
 
-module _ (font : Font) (glyphs out : List ℕ) (there : IsSome (table font (codes "glyf"))) (opening : (e : Error) → HasOpeningFault font e → ⊥) (a : IsAnswered (table font) glyphs out) where
+module _ (font : Font) (glyphs out : List ℕ) (bytes : IsBytes font.bytes) (there : IsSome (table font (codes "glyf"))) (opening : (e : Error) → HasOpeningFault font e → ⊥) (a : IsAnswered (table font) glyphs out) where
   read : outlines font ≡ Some a.source
   read = named (outlines font) MalformedFont a.source a.read
 
@@ -182,5 +205,7 @@ module _ (font : Font) (glyphs out : List ℕ) (there : IsSome (table font (code
   no_fault e (faults.in_outlines f) = no_outline_fault font glyphs a.order a.source made.0.outlines read closed (omega (arith, a.few)) steps.kept e f
   no_fault e (faults.in_metrics f) = metrics_clean (table font) a.order made.0.metrics e steps.metrics_are (metrics_among (table font) (IsReachable font glyphs) (Contains a.order) e among f)
   no_fault e (faults.in_max_profile f) = maxp_clean (table font) TrueType (length a.order) made.0.maxp e steps.maxp_is f
+  no_fault e (faults.in_names f) = name_clean (table font) made.0.name e (λ name is. table_bytes font (codes "name") name bytes is) steps.name_is f
+  no_fault e (faults.in_glyph_names f) = post_clean (table font) a.order made.0.post e steps.post_is (glyph_names_among (table font) (IsReachable font glyphs) (Contains a.order) e among f)
   no_fault e (faults.long_glyf source bs o r k large) = short_glyf source bs r k large
   no_fault e (faults.large_file source ts o r k large) = small_file source ts r k large

@@ -73,7 +73,7 @@ module _ (font : Font) (glyphs : List ℕ) where
     pub truetype_subset : (out : List ℕ) → IsBytes font.bytes → slice_get glyphs 0 ≡ Some 0 → IsAnswered (table_in font.bytes d) glyphs out → IsClean font glyphs out
     truetype_subset out bytes first a =
         let b : IsAnswered (table font) glyphs out = subst (λ (find : List ℕ → Option (List ℕ)). IsAnswered find glyphs out) (find_is font d o) a in
-        is_subset font glyphs out bytes (some_given glyphs first) b (no_fault font glyphs out glyf_there (λ e. opened_clean font d TrueType e o h) b)
+        is_subset font glyphs out bytes (some_given glyphs first) b (no_fault font glyphs out bytes glyf_there (λ e. opened_clean font d TrueType e o h) b)
 
     pub truetype_refused : (e : Error) → IsRefused (table_in font.bytes d) glyphs e → (e ≡ OutOfMemory) ⊎ Stands font glyphs e
     truetype_refused e r = has_fault font glyphs e glyf_there (subst (λ (find : List ℕ → Option (List ℕ)). IsRefused find glyphs e) (find_is font d o) r)

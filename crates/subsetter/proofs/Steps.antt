@@ -112,3 +112,31 @@ post_there find order x h = by (find (codes "post")) h
     by : (o : Option (List ℕ)) → new_post o order ≡ Ok x → is_some x ≡ is_some o
     by None k = ap is_some (sym (done_is None x k))
     by (Some bytes) k = let a = bind_ok (post_of_table bytes order) (λ new. Ok (Some new)) x k in ap is_some (sym (done_is (Some a.0) x a.2))
+
+-- ---- the table that a new one was made from
+
+abbrev bytes_there : List ℕ → Option (List ℕ)
+bytes_there b = Some b
+
+same_bytes : (a b : List ℕ) → bytes_there a ≡ bytes_there b → a ≡ b
+same_bytes a b h = cc
+
+pub name_tables : (find : List ℕ → Option (List ℕ)) (new : List ℕ) → name_of find ≡ Ok (Some new) → (source : List ℕ) × (find (codes "name") ≡ Some source) × (name_of_table source ≡ Ok new)
+unfolding new_name
+name_tables find new h = by (find (codes "name")) refl h
+  where
+    by : (o : Option (List ℕ)) → find (codes "name") ≡ o → new_name o ≡ Ok (Some new) → (source : List ℕ) × (find (codes "name") ≡ Some source) × (name_of_table source ≡ Ok new)
+    by None is k = absurd cc
+    by (Some bytes) is k =
+        let a = bind_ok (name_of_table bytes) (λ x. Ok (Some x)) (Some new) k in
+        (bytes, is, a.1 ∙ ap (λ (l : List ℕ). Ok l) (same_bytes a.0 new (done_is (Some a.0) (Some new) a.2)))
+
+pub glyph_name_tables : (find : List ℕ → Option (List ℕ)) (order new : List ℕ) → post_of find order ≡ Ok (Some new) → (source : List ℕ) × (find (codes "post") ≡ Some source) × (post_of_table source order ≡ Ok new)
+unfolding new_post
+glyph_name_tables find order new h = by (find (codes "post")) refl h
+  where
+    by : (o : Option (List ℕ)) → find (codes "post") ≡ o → new_post o order ≡ Ok (Some new) → (source : List ℕ) × (find (codes "post") ≡ Some source) × (post_of_table source order ≡ Ok new)
+    by None is k = absurd cc
+    by (Some bytes) is k =
+        let a = bind_ok (post_of_table bytes order) (λ x. Ok (Some x)) (Some new) k in
+        (bytes, is, a.1 ∙ ap (λ (l : List ℕ). Ok l) (same_bytes a.0 new (done_is (Some a.0) (Some new) a.2)))

@@ -13,28 +13,32 @@ use Rattle.subsetter.specs.Container.{AscendFrom, IsSoundContainer}
 use Rattle.subsetter.specs.Fault.{HasFault}
 use Rattle.subsetter.specs.Font.{Font, as_font, table}
 use Rattle.subsetter.specs.Glyph.{Outlines, outlines}
+use Rattle.subsetter.specs.GlyphNames.{KeepsGlyphNames}
 use Rattle.subsetter.specs.Layout.{Table, IsTable, with_adjustment, fits, file, start_of}
 use Rattle.subsetter.specs.MaxProfile.{IsMaxProfile}
 use Rattle.subsetter.specs.Metrics.{KeepsMetrics}
 use Rattle.subsetter.specs.MetricsWritten.{MetricBytes, metrics_of}
+use Rattle.subsetter.specs.Names.{KeepsNames}
 use Rattle.subsetter.specs.Plain.{Made, made_of, laid, truetype_tables}
 use Rattle.subsetter.specs.PlainGlyph.{kept_all}
 use Rattle.subsetter.specs.Reach.{IsGlyphOrder}
-use Rattle.subsetter.specs.Subset.{HasGlyphCount, KeepsHead, KeepsPrograms, IsLaidOut, if_there, tags_of, IsSubset}
+use Rattle.subsetter.specs.Subset.{HasGlyphCount, KeepsHead, KeepsPrograms, KeepsTable, IsLaidOut, if_there, tags_of, IsSubset}
 use Rattle.subsetter.specs.Tables.{opt, lookup, tags}
 use Rattle.subsetter.specs.Unfold.{UnfoldAlike}
 use Rattle.subsetter.specs.Written.{is_long, glyf_bytes, loca_bytes, head_bytes}
 use Rattle.subsetter.proofs.ContainerLaws.{sound, table_of, head_of}
+use Rattle.subsetter.proofs.GlyphNamesKept.{keeps_post}
 use Rattle.subsetter.proofs.HeadLaws.{head_length, head_front, head_middle, head_end, outlines_afresh, head_room, head_zeros}
 use Rattle.subsetter.proofs.KeptOutlines.{length-kept_all, named}
 use Rattle.std.proofs.lemmas.List.{length-append}
 use Rattle.subsetter.proofs.LaidLaws
 use Rattle.subsetter.proofs.MaxProfileLaws.{is_max_profile}
 use Rattle.subsetter.proofs.MetricsLaws.{keeps_metrics}
+use Rattle.subsetter.proofs.NamesKept.{keeps_table}
 use Rattle.subsetter.proofs.OutlineFaults.{HasTables, has_tables, order_in}
 use Rattle.subsetter.proofs.OutlinesBack.{AreWritten, entry_count}
 use Rattle.subsetter.proofs.ReadBack.{IsKind, word_of}
-use Rattle.subsetter.proofs.Steps.{MadeSteps, made_steps, tables_steps, file_steps, maxp_there, metrics_there, name_there, post_there}
+use Rattle.subsetter.proofs.Steps.{MadeSteps, made_steps, tables_steps, file_steps, maxp_there, metrics_there, name_there, post_there, name_tables, glyph_name_tables}
 use Rattle.subsetter.proofs.TableBytes.{table_bytes}
 use Rattle.subsetter.proofs.UnfoldLaw.{unfolds_alike}
 
@@ -149,6 +153,18 @@ module _ (font : Font) (t : Outlines) (order : List ℕ) (m : Made) (read : outl
       keeps_metrics (table font) (table out) order x.0 (λ hmtx is. table_bytes font (codes "hmtx") hmtx bytes is) some few (s.metrics_are ∙ ap (λ (o : Option MetricBytes). Ok o) x.1)
       (back (codes "hhea") refl ∙ LaidLaws.lookup_hhea (table font) m ∙ ap (option_map (λ (y : MetricBytes). y.hhea)) x.1) (back (codes "hmtx") refl ∙ LaidLaws.lookup_hmtx (table font) m ∙ ap (option_map (λ (y : MetricBytes). y.hmtx)) x.1)
 
+  pub names : IsBytes font.bytes → IsSome (table font (codes "name")) → KeepsTable font out (codes "name") KeepsNames
+  names bytes h =
+      let x = there m.name (name_there (table font) m.name s.name_is ∙ h) in
+      let n = name_tables (table font) x.0 (s.name_is ∙ ap (λ (o : Option (List ℕ)). Ok o) x.1) in
+      record { source = n.0; source_is = n.1; copy = x.0; copy_is = back (codes "name") refl ∙ LaidLaws.lookup_name (table font) m ∙ x.1; kept = keeps_table n.0 x.0 (table_bytes font (codes "name") n.0 bytes n.1) n.2 }
+
+  pub glyph_names : IsBytes font.bytes → length order < 2 ^ 16 → IsSome (table font (codes "post")) → KeepsTable font out (codes "post") (λ source copy. KeepsGlyphNames source copy order)
+  glyph_names bytes few h =
+      let x = there m.post (post_there (table font) order m.post s.post_is ∙ h) in
+      let n = glyph_name_tables (table font) order x.0 (s.post_is ∙ ap (λ (o : Option (List ℕ)). Ok o) x.1) in
+      record { source = n.0; source_is = n.1; copy = x.0; copy_is = back (codes "post") refl ∙ LaidLaws.lookup_post (table font) m ∙ x.1; kept = keeps_post n.0 x.0 order (table_bytes font (codes "post") n.0 bytes n.1) few n.2 }
+
   pub drawing : (glyphs : List ℕ) → IsBytes font.bytes → IsGlyphOrder font glyphs order → length order < 2 ^ 16 → (n i : ℕ) → i < length order → UnfoldAlike font out n (get_or order i 0) i
   drawing glyphs bytes closed few =
       unfolds_alike font out glyphs order t afresh m.outlines read outlines_back closed few (table_bytes font (codes "glyf") t.glyf bytes (has_tables (table font) t read).glyf_is) s.kept written
@@ -178,7 +194,9 @@ is_subset font glyphs out bytes some a clean =
         head = head font a.source a.order made.0 read s fit;
         metrics = metrics font a.source a.order made.0 read s fit bytes more a.few;
         max_profile = max_profile font a.source a.order made.0 read s fit a.few;
-        programs = programs font a.source a.order made.0 read s fit;
+        names = names font a.source a.order made.0 read s fit bytes;
+      glyph_names = glyph_names font a.source a.order made.0 read s fit bytes a.few;
+      programs = programs font a.source a.order made.0 read s fit;
         layout = record { source = a.source; read = read; tables = a.tables; tables_are = a.tables_are; bytes = ap (file 0x00010000) made.2 };
       },
       clean,

@@ -5,9 +5,11 @@ use Rattle.subsetter_base.specs.declared.error.Error.TheVariants.{OverflowError,
 use Rattle.subsetter.specs.declared.flavor.FontFlavor.TheVariants.{Cff}
 use Rattle.subsetter.specs.Font.{Font, flavor, table}
 use Rattle.subsetter.specs.Glyph.{Outlines, outlines}
+use Rattle.subsetter.specs.GlyphNameFault.{HasGlyphNameFault}
 use Rattle.subsetter.specs.Layout.{Table, fits, start_of}
 use Rattle.subsetter.specs.MaxProfile.{HasMaxProfileFault}
 use Rattle.subsetter.specs.Metrics.{HasMetricsFault}
+use Rattle.subsetter.specs.NameFaults.{HasNameFault}
 use Rattle.subsetter.specs.OpeningFault.{HasOpeningFault}
 use Rattle.subsetter.specs.OutlineFault.{HasOutlineFault}
 use Rattle.subsetter.specs.Plain.{truetype_tables}
@@ -27,6 +29,10 @@ pub data HasFault (font : Font) (glyphs order : List ℕ) : Error → Type 0 whe
   in_metrics : {e : Error} → HasMetricsFault (table font) (IsReachable font glyphs) e → HasFault font glyphs order e
   -- maxp
   in_max_profile : {e : Error} → HasMaxProfileFault (table font) e → HasFault font glyphs order e
+  -- name
+  in_names : {e : Error} → HasNameFault (table font) e → HasFault font glyphs order e
+  -- post
+  in_glyph_names : {e : Error} → HasGlyphNameFault (table font) (IsReachable font glyphs) e → HasFault font glyphs order e
   -- glyf has 2 ^ 32 bytes or more
   long_glyf : (source : Outlines) (bs : List (List ℕ)) → IsGlyphOrder font glyphs order → outlines font ≡ Some source → kept_all source order order ≡ Ok bs → 2 ^ 32 ≤ length (glyf_bytes (is_long bs) bs) → HasFault font glyphs order OverflowError
   -- a table's place or length doesn't fit 32 bits

@@ -4,9 +4,11 @@ use Rattle.subsetter.specs.declared.flavor.FontFlavor.TheVariants.{TrueType}
 use Rattle.subsetter.specs.Container.{IsSoundContainer}
 use Rattle.subsetter.specs.Font.{Font, as_font, table}
 use Rattle.subsetter.specs.Glyph.{Outlines, outlines, entry_size}
+use Rattle.subsetter.specs.GlyphNames.{KeepsGlyphNames}
 use Rattle.subsetter.specs.Layout.{Table, file}
 use Rattle.subsetter.specs.MaxProfile.{IsMaxProfile}
 use Rattle.subsetter.specs.Metrics.{KeepsMetrics}
+use Rattle.subsetter.specs.Names.{KeepsNames}
 use Rattle.subsetter.specs.Plain.{truetype_tables}
 use Rattle.subsetter.specs.Reach.{IsGlyphOrder}
 use Rattle.subsetter.specs.Unfold.{UnfoldAlike}
@@ -76,6 +78,10 @@ pub record IsSubset (font : Font) (glyphs out : List ℕ) : Type 0 where
   pub metrics : IsSome (table font (codes "hmtx")) → KeepsMetrics (table font) order (table (as_font out))
   -- maxp says how many glyphs there are
   pub max_profile : IsSome (table font (codes "maxp")) → IsMaxProfile (table font) TrueType (length order) (table (as_font out))
+  -- the names of the font that are kept, each string once
+  pub names : IsSome (table font (codes "name")) → KeepsTable font (as_font out) (codes "name") KeepsNames
+  -- each glyph has its source's name
+  pub glyph_names : IsSome (table font (codes "post")) → KeepsTable font (as_font out) (codes "post") (λ source copy. KeepsGlyphNames source copy order)
   pub programs : KeepsPrograms font (as_font out)
   -- no stray byte
   pub layout : IsLaidOut font order out

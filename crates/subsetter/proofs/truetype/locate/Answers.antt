@@ -3,7 +3,6 @@ use Rattle.std.specs.Cow.{cow_slice_items}
 use Rattle.std.proofs.lemmas.Bool.{cases_lt}
 use Rattle.subsetter.specs.Written.{glyf_bytes}
 use Rattle.subsetter.proofs.OutlinesBack.{loca_room}
-use Rattle.subsetter.proofs.GlyphNameLaws.{post_clean}
 use Rattle.subsetter.proofs.truetype.locate.Goals as goal
 
 pub subset-requires : goal.subset-requires
