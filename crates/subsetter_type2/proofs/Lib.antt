@@ -1,0 +1,4 @@
+pub mod OutputLemmas
+pub mod ProgramLemmas
+pub mod Runs
+pub mod RecursionLemmas

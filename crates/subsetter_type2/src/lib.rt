@@ -1,0 +1,23 @@
+//! Type 2 charstrings (Technical Note 5177): flattening, which inlines the subroutines that a charstring calls,
+//! and the machine that it agrees with.
+#![tactic(auto)]
+
+pub mod argstack;
+pub mod charstring;
+pub mod charstring_number;
+mod fixed_stack;
+mod flattening;
+// pub mod laws;
+pub mod limits;
+mod machine;
+pub mod operator;
+pub mod operators;
+mod output;
+mod program;
+mod recursion;
+mod sink;
+pub mod subroutines;
+mod token;
+
+// #[cfg(test)]
+// mod tests;

@@ -1,0 +1,85 @@
+//! The bytes of the flat form, with the operands that no operator has taken yet at their end.
+
+ghost use Rattle.std.specs.Prelude.{◌≡◌, ◌++◌, []};
+ghost use Rattle.subsetter_type2.specs.Flat.{flat_operands};
+
+use crate::charstring_number::CharStringNumber;
+use crate::fixed_stack::FixedStack;
+use crate::operator::Operator;
+use crate::sink::Sink;
+use std::alloc::Global;
+use std::marker::Model;
+use subsetter_base::error::Error;
+
+/// An operand, and the place in the output where it begins.
+#[derive(Clone, Copy, Default)]
+pub struct Operand {
+    value: CharStringNumber,
+    place: usize,
+}
+
+/// The output, whose end is the operands on the stack.
+#[derive(Drop)]
+pub struct Output {
+    bytes: Vec<u8>,
+    operands: FixedStack<Operand, 48>,
+}
+
+impl Model for Output {
+    ghost use Rattle.subsetter_type2.specs.Output.{Written};
+
+    ghost Value = { Written };
+
+    ghost use Rattle.subsetter_type2.specs.OutputView.{written_of, EndsWith, settled_of};
+
+    ghost view = { λ o. written_of o.bytes.items o.operands };
+
+    ghost invariant = { λ o. EndsWith o.bytes.items (settled_of o.bytes.items o.operands) o.operands };
+}
+
+impl<'a> Sink<'a> for Output {
+    ghost written = { λ o. o };
+
+    fn count(&self) -> usize {
+        self.operands.len()
+    }
+
+    fn push(&mut self, value: CharStringNumber) -> Result<(), Error> {
+        let place = self.bytes.len();
+        let number = value.bytes();
+        self.bytes.extend_from_slice(number.as_slice())?;
+        self.operands.push(Operand { value, place });
+        Ok(())
+    }
+
+    fn pop(&mut self) -> Option<CharStringNumber> {
+        let operand = self.operands.pop()?;
+        self.bytes.truncate(operand.place);
+        Some(operand.value)
+    }
+
+    fn draw(&mut self, operator: Operator, mask: &'a [u8]) -> Result<(), Error> {
+        self.operands.clear();
+        operator.append_to(&mut self.bytes)?;
+        self.bytes.extend_from_slice(mask)?;
+        Ok(())
+    }
+}
+
+impl Output {
+    pub fn new(alloc: Global) -> Self
+        ensures { result ≡ record { settled = []; operands = [] } }
+    {
+        Output {
+            bytes: Vec::new(alloc),
+            operands: FixedStack::new(Operand::default()),
+        }
+    }
+
+    /// All that is written.
+    pub fn finish(self) -> Vec<u8>
+        ensures { result.items ≡ self.settled ++ flat_operands self.operands }
+    {
+        self.bytes
+    }
+}
