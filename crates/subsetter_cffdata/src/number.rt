@@ -1,0 +1,109 @@
+//! Numbers of a DICT and of a charstring (Technical Note 5176, section 4 "DICT Data").
+
+ghost use Rattle.std.specs.Prelude.{◌≡◌, ◌∷◌, ◌++◌, OnOk, IfErr};
+ghost use Rattle.std.specs.Int.{w32, cast_unsigned, to_be_bytes};
+ghost use Rattle.subsetter_base.specs.declared.error.Error.TheVariants.{OutOfMemory};
+ghost use Rattle.subsetter_cffdata.specs.Numbers.{integer, integer_at, integer_from, short_integer, dict_number_from};
+ghost use Rattle.subsetter_cffdata.specs.Reading.{Takes};
+ghost use Rattle.subsetter_cffdata.specs.Views.{number_of};
+
+pub use crate::real_number::RealNumber;
+use crate::reading;
+use subsetter_base::error::Error;
+use subsetter_base::read::Reader;
+use subsetter_base::write::{Writeable, Writer};
+
+/// A whole number.
+#[derive(Clone, Copy, Debug, PartialEq, Eq)]
+pub struct IntegerNumber(pub i32);
+
+impl IntegerNumber {
+    /// Reads an integer; None where no integer stands there or it is cut short.
+    pub fn parse(r: &mut Reader<'_>) -> Option<IntegerNumber>
+        ensures value { Takes (λ x. x.0) result r.old r.new integer_at }
+        ensures same { r.new.bytes ≡ r.old.bytes }
+    {
+        let b0 = reading::next_byte(r)?;
+        Self::parse_from(b0, r)
+    }
+
+    // The integer whose first byte was read.
+    #[tactic(auto, unfolding(crate::specs::Numbers::integer_from))]
+    fn parse_from(b0: u8, r: &mut Reader<'_>) -> Option<IntegerNumber>
+        ensures value { Takes (λ x. x.0) result r.old r.new (integer_from b0) }
+        ensures same { r.new.bytes ≡ r.old.bytes }
+    {
+        match b0 {
+            28 => Some(IntegerNumber(i32::from(reading::next_i16(r)?))),
+            29 => Some(IntegerNumber(reading::next_i32(r)?)),
+            _ => Self::parse_short(b0, r),
+        }
+    }
+
+    // 32 to 246 stand for themselves less 139; 247 to 254 have one more byte.
+    #[tactic(auto, unfolding(crate::specs::Numbers::short_integer))]
+    fn parse_short(b0: u8, r: &mut Reader<'_>) -> Option<IntegerNumber>
+        ensures value { Takes (λ x. x.0) result r.old r.new (short_integer b0) }
+        ensures same { r.new.bytes ≡ r.old.bytes }
+    {
+        match b0 {
+            32..=246 => Some(IntegerNumber(i32::from(b0) - 139)),
+            247..=250 => {
+                let low = u32::from(reading::next_byte(r)?);
+                let size = (u32::from(b0) - 247) * 256 + low + 108;
+                Some(IntegerNumber(size as i32))
+            }
+            251..=254 => {
+                let low = u32::from(reading::next_byte(r)?);
+                let size = (u32::from(b0) - 251) * 256 + low + 108;
+                Some(IntegerNumber(-(size as i32)))
+            }
+            _ => None,
+        }
+    }
+
+    /// Writes an offset or a length, always in five bytes, so that its value doesn't move what follows.
+    pub fn write_as_5_bytes(&self, w: &mut Writer) -> Result<(), Error>
+        ensures ok { OnOk result (w.new ≡ w.old ++ (29 ∷ to_be_bytes w32 (cast_unsigned w32 self.now.0))) }
+        ensures err { IfErr result (λ e. e ≡ OutOfMemory) }
+    {
+        let bytes = self.0.to_be_bytes();
+        w.extend(&[29, bytes[0], bytes[1], bytes[2], bytes[3]])
+    }
+}
+
+impl Writeable for IntegerNumber {
+    ghost bytes_of = { λ z. integer z.0 };
+
+    // In the first form that holds it.
+    #[tactic(auto, unfolding(crate::specs::Numbers::integer))]
+    fn write(&self, w: &mut Writer) -> Result<(), Error> {
+        let n = self.0;
+        if -107 <= n && n <= 107 {
+            w.extend(&[(n + 139) as u8])
+        } else if 108 <= n && n <= 1131 {
+            let above = n as u32 - 108;
+            w.extend(&[(above / 256 + 247) as u8, (above % 256) as u8])
+        } else if -1131 <= n && n <= -108 {
+            let above = n.unsigned_abs() - 108;
+            w.extend(&[(above / 256 + 251) as u8, (above % 256) as u8])
+        } else if -32768 <= n && n <= 32767 {
+            let bytes = (n as i16).to_be_bytes();
+            w.extend(&[28, bytes[0], bytes[1]])
+        } else {
+            self.write_as_5_bytes(w)
+        }
+    }
+}
+
+/// A number of 65536ths.
+#[derive(Clone, Copy, Debug, PartialEq, Eq)]
+pub struct FixedNumber(pub i32);
+
+/// A number, and which kind it is.
+#[derive(Clone, Copy, Debug)]
+pub enum Number {
+    Real(RealNumber),
+    Integer(IntegerNumber),
+    Fixed(FixedNumber),
+}
