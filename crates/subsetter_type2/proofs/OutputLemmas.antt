@@ -8,9 +8,9 @@ use Rattle.std.proofs.Common.{◌≡◌, ℕ, ◌+◌, ◌-◌, ◌<◌, ◌≤�
 use Rattle.std.proofs.lemmas.List.{take_at, map-append}
 use Rattle.std.proofs.lemmas.Grind.{flat_map-append}
 use Rattle.std.specs.List.{flat_map}
-use Rattle.subsetter_type2.specs.declared.charstring_number.CharStringNumber.{CharStringNumber}
+use Rattle.subsetter_cffdata.specs.declared.charstring_number.CharStringNumber.{CharStringNumber}
 use Rattle.subsetter_type2.specs.declared.output.Operand.{Operand}
-use Rattle.subsetter_type2.specs.CharStringNumber.{written}
+use Rattle.subsetter_cffdata.specs.CharStringNumber.{written}
 use Rattle.subsetter_type2.specs.Flat.{flat_operands}
 use Rattle.subsetter_type2.specs.OutputView.{values, settled_of, written_of, StandFrom, EndsWith}
 use Rattle.subsetter_type2.specs.Output.{Written}

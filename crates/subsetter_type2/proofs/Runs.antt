@@ -1,10 +1,11 @@
 -- A run, one step at a time, and what the flattener has written by then.
-use Rattle.std.proofs.Common.{◌≡◌, ℕ, zero, suc, ◌+◌, ◌<◌, ◌≤◌, List, [], ◌∷◌, ◌++◌, length, Option, Some, None, Result, Ok, Err, refl, sym, ap, ◌∙◌, subst, append-nil, arith}
+use Rattle.std.proofs.Common.{◌≡◌, ◌≢◌, ℕ, zero, suc, ◌+◌, ◌<◌, ◌≤◌, List, [], ◌∷◌, ◌++◌, length, Option, Some, None, Result, Ok, Err, refl, sym, ap, ◌∙◌, subst, append-nil, arith}
 use Rattle.std.proofs.lemmas.Grind.{flat_map-append}
 use Rattle.std.proofs.lemmas.Bool.{le-leb}
 use Rattle.std.proofs.lemmas.Bool.Decides.{nat_tests}
 use Rattle.subsetter_base.specs.declared.error.Error.{Error}
-use Rattle.subsetter_base.specs.declared.error.Error.TheVariants.{CFFError}
+use Rattle.subsetter_base.specs.declared.error.Error.TheVariants.{UnknownKind, MalformedFont, Unimplemented, SubsetError, OverflowError, CFFError, OutOfMemory}
+use Rattle.subsetter_base.specs.Gives.{Fails as FailsWith}
 use Rattle.subsetter_type2.specs.Machine.{Library, Registers, State, Event, Act, Does, Fails, Step, Goes, Faults, Outcome, Finishes, Stops, unended, follow, said_also, act_at, move, rests_after, run, outcome, start}
 use Rattle.subsetter_type2.specs.Flat.{flat_event, flat_events, flat_operands, bytes_of}
 use Rattle.std.specs.Prelude.{nat_le, if◌then◌else◌}
@@ -93,3 +94,13 @@ module _ (o : Outcome) (library : Library) (depth tokens : ℕ) (s : State) (set
           settled_is = g.2 ∙ ap (λ b. b ++ said_bytes g.0) h.settled_is ∙ said_bytes_more h.said g.0;
           same = moves _ g.1 ∙ ap (λ rs. run library depth left (said_also h.said g.0) (record { rests = rs; registers = d.registers })) (sym r);
         }
+
+-- what is answered where the run stops, or memory ran out
+pub gives_fault : (e : Error) (o : Outcome) → (e ≢ OutOfMemory → o ≡ Stops e) → FailsWith e (bytes_of o)
+gives_fault UnknownKind o h = ap bytes_of (h (λ p. cc))
+gives_fault MalformedFont o h = ap bytes_of (h (λ p. cc))
+gives_fault Unimplemented o h = ap bytes_of (h (λ p. cc))
+gives_fault SubsetError o h = ap bytes_of (h (λ p. cc))
+gives_fault OverflowError o h = ap bytes_of (h (λ p. cc))
+gives_fault CFFError o h = ap bytes_of (h (λ p. cc))
+gives_fault OutOfMemory o h = tt

@@ -2,8 +2,8 @@
 use Rattle.std.specs.Prelude.{ℕ, List, ◌++◌, Result, Ok, Err}
 use Rattle.std.specs.List.{flat_map}
 use Rattle.subsetter_base.specs.declared.error.Error.{Error}
-use Rattle.subsetter_type2.specs.declared.charstring_number.CharStringNumber.{CharStringNumber}
-use Rattle.subsetter_type2.specs.CharStringNumber.{written}
+use Rattle.subsetter_cffdata.specs.declared.charstring_number.CharStringNumber.{CharStringNumber}
+use Rattle.subsetter_cffdata.specs.CharStringNumber.{written}
 use Rattle.subsetter_type2.specs.Token.{operator_bytes}
 use Rattle.subsetter_type2.specs.Machine.{Library, Event, Trace, Outcome, Finishes, Stops, outcome}
 

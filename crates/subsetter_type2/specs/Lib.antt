@@ -1,4 +1,3 @@
-pub mod CharStringNumber
 pub mod Subroutines
 pub mod Token
 pub mod Machine

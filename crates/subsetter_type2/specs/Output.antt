@@ -1,6 +1,6 @@
 -- What is written so far: the bytes of the events, and the operands after them.
 use Rattle.std.specs.Prelude.{ℕ, List}
-use Rattle.subsetter_type2.specs.declared.charstring_number.CharStringNumber.{CharStringNumber}
+use Rattle.subsetter_cffdata.specs.declared.charstring_number.CharStringNumber.{CharStringNumber}
 
 pub record Written : Type 0 where
   pub settled : List ℕ

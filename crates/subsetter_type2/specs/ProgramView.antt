@@ -1,10 +1,10 @@
 -- How a program holds what is written.
 use Rattle.std.specs.Prelude.{◌≡◌, ℕ, ◌-◌, List, ◌++◌, map, length, take}
 use Rattle.std.specs.List.{flat_map}
-use Rattle.subsetter_type2.specs.declared.charstring_number.CharStringNumber.{CharStringNumber}
+use Rattle.subsetter_cffdata.specs.declared.charstring_number.CharStringNumber.{CharStringNumber}
 use Rattle.subsetter_type2.specs.declared.program.Instruction.{Instruction}
 use Rattle.subsetter_type2.specs.declared.program.Instruction.TheVariants as instruction
-use Rattle.subsetter_type2.specs.CharStringNumber.{written}
+use Rattle.subsetter_cffdata.specs.CharStringNumber.{written}
 use Rattle.subsetter_type2.specs.Token.{operator_bytes}
 use Rattle.subsetter_type2.specs.Output.{Written}
 

@@ -1,13 +1,13 @@
 -- The tokens of a charstring (Technical Note 5177, section 3.1 and appendix A).
 use Rattle.std.specs.Prelude.{ℕ, List, [], ◌∷◌, Option, Some, None, nat_lt, nat_le, ◌==◌, ◌||◌, ◌&&◌, if◌then◌else◌, option_and_then, option_map}
-use Rattle.subsetter_type2.specs.declared.charstring_number.CharStringNumber.{CharStringNumber}
+use Rattle.subsetter_cffdata.specs.declared.charstring_number.CharStringNumber.{CharStringNumber}
 use Rattle.subsetter_type2.specs.declared.operator.Operator.{Operator}
 use Rattle.subsetter_type2.specs.declared.operator.Operator.TheVariants.{OneByte, TwoByte}
 use Rattle.subsetter_type2.specs.declared.token.Token.{Token}
 use Rattle.subsetter_type2.specs.declared.token.Token.TheVariants.{Operand, Operation}
 use Rattle.subsetter_type2.specs.declared.token.Effect.{Effect}
 use Rattle.subsetter_type2.specs.declared.token.Effect.TheVariants.{CountsStems, Draws, CallsLocal, CallsGlobal, Returns, Ends, Masks}
-use Rattle.subsetter_type2.specs.CharStringNumber.{number_at}
+use Rattle.subsetter_cffdata.specs.CharStringNumber.{number_at}
 
 -- an operator that 12 begins
 abbrev pub two_byte_token : List ℕ → Option (Token × List ℕ)

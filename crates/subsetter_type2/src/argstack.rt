@@ -2,7 +2,7 @@
 
 ghost use Rattle.std.specs.Prelude.{◌≡◌, ◌≤◌, ◌∷◌, ◌++◌, [], length, OnOk, OnErr, IfErr, MatchOption};
 
-use crate::charstring_number::CharStringNumber;
+use subsetter_cffdata::charstring_number::CharStringNumber;
 use crate::fixed_stack::FixedStack;
 use std::marker::Model;
 use subsetter_base::error::Error;
@@ -18,7 +18,7 @@ pub struct ArgumentsStack {
 
 impl Model for ArgumentsStack {
     ghost use Rattle.std.specs.Prelude.{◌≤◌, List, length};
-    ghost use Rattle.subsetter_type2.specs.declared.charstring_number.CharStringNumber.{CharStringNumber};
+    ghost use Rattle.subsetter_cffdata.specs.declared.charstring_number.CharStringNumber.{CharStringNumber};
 
     ghost Value = { List CharStringNumber };
 

@@ -10,9 +10,8 @@ pub use crate::program::{Instruction, Program};
 
 use crate::flattening;
 use crate::limits::Limits;
-use crate::machine::{Machine, Subroutines};
-use crate::program::Draft;
-use crate::recursion::Recursion;
+use crate::machine::Subroutines;
+use crate::recursion;
 use crate::subroutines::SubroutineHandler;
 use std::alloc::Global;
 use std::marker::Model;
@@ -65,12 +64,7 @@ impl<'a> Decompiler<'a> {
     pub fn decompile(self, alloc: Global, charstring: CharString<'a>) -> Result<Program<'a>, Error>
         ensures { Gives program_bytes result (flat_form self.entry.library self.entry.tokens self.entry.depth charstring.now) }
     {
-        let mut recursion = Recursion {
-            machine: Machine::new(Draft::new(alloc)),
-            tokens: self.limits.tokens(),
-        };
-        recursion.run(&self.subroutines, self.limits.depth(), 1, charstring)?;
-        Ok(recursion.machine.output.finish())
+        recursion::decompile(alloc, &self.subroutines, &self.limits, charstring)
     }
 
     /// The charstring without its subroutines: the flat form of the trace. Nothing but these bytes takes memory.

@@ -57,14 +57,14 @@ pub fn flatten<'a>(alloc: Global, subroutines: &Subroutines<'a>, limits: &Limits
     let mut machine = Machine::new(Output::new(alloc));
     let mut rests = FixedStack::new(charstring);
     rests.push(charstring);
-    let mut tokens = limits.tokens();
+    let mut tokens = limits.tokens;
     while let Some(bytes) = next_rest(&mut rests) {
         if tokens == 0 {
             return Err(Error::CFFError);
         }
         tokens -= 1;
         let flow = machine.act_at(subroutines, bytes)?;
-        follow(&mut rests, flow, limits.depth())?;
+        follow(&mut rests, flow, limits.depth)?;
     }
     Ok(machine.output.finish())
 }

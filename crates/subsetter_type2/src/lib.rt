@@ -4,7 +4,6 @@
 
 pub mod argstack;
 pub mod charstring;
-pub mod charstring_number;
 mod fixed_stack;
 mod flattening;
 // pub mod laws;

@@ -5,8 +5,8 @@ ghost use Rattle.std.specs.Prelude.{◌≡◌, ◌≤◌, MatchOption};
 /// How many tokens a run may take, and how deep it may go.
 #[derive(Clone, Copy, PartialEq, Eq, Debug)]
 pub struct Limits {
-    tokens: u32,
-    depth: u8,
+    pub(crate) tokens: u32,
+    pub(crate) depth: u8,
     ghost holds_a_charstring: { 1 ≤ depth },
 }
 

@@ -6,7 +6,7 @@ ghost use Rattle.subsetter_type2.specs.Machine.{subroutine, push, draw, On, stem
 ghost use Rattle.subsetter_type2.specs.MachineView.{registers_of, library_of, Performs};
 
 use crate::argstack::MAX_OPERANDS;
-use crate::charstring_number::CharStringNumber;
+use subsetter_cffdata::charstring_number::CharStringNumber;
 use crate::operator::Operator;
 use crate::sink::Sink;
 use crate::subroutines::SubroutineHandler;

@@ -3,7 +3,7 @@
 ghost use Rattle.std.specs.Prelude.{◌≡◌, ◌++◌, []};
 ghost use Rattle.subsetter_type2.specs.Flat.{flat_operands};
 
-use crate::charstring_number::CharStringNumber;
+use subsetter_cffdata::charstring_number::CharStringNumber;
 use crate::fixed_stack::FixedStack;
 use crate::operator::Operator;
 use crate::sink::Sink;

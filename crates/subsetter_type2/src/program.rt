@@ -6,7 +6,7 @@ ghost use Rattle.subsetter_type2.specs.ProgramView.{instruction_bytes, program_b
 ghost use Rattle.subsetter_base.specs.declared.error.Error.TheVariants.{OutOfMemory};
 
 use crate::argstack::ArgumentsStack;
-use crate::charstring_number::CharStringNumber;
+use subsetter_cffdata::charstring_number::CharStringNumber;
 use crate::operator::Operator;
 use crate::sink::Sink;
 use std::alloc::Global;

@@ -3,28 +3,33 @@
 ghost use Rattle.std.specs.Prelude.{◌≤◌};
 ghost use Rattle.subsetter_type2.specs.MachineView.{library_of};
 ghost use Rattle.subsetter_type2.specs.Recursion.{RunsThrough};
+ghost use Rattle.subsetter_base.specs.Gives.{Gives};
+ghost use Rattle.subsetter_type2.specs.Flat.{flat_form};
+ghost use Rattle.subsetter_type2.specs.ProgramView.{program_bytes};
 
+use crate::limits::Limits;
 use crate::machine::{Flow, Machine, Subroutines};
-use crate::program::Draft;
+use crate::program::{Draft, Program};
+use std::alloc::Global;
 use subsetter_base::error::Error;
 
 /// How a charstring ends.
 #[derive(Clone, Copy)]
-pub enum CharStringEnd {
+enum CharStringEnd {
     Return,
     EndChar,
 }
 
 /// The machine, and the tokens that are left.
 #[derive(Drop)]
-pub struct Recursion<'a> {
-    pub machine: Machine<Draft<'a>>,
-    pub tokens: u32,
+struct Recursion<'a> {
+    machine: Machine<Draft<'a>>,
+    tokens: u32,
 }
 
 impl<'a> Recursion<'a> {
     /// Runs a charstring to its end, `depth` deep.
-    pub fn run(&mut self, subroutines: &Subroutines<'a>, limit: u8, depth: u8, charstring: &'a [u8]) -> Result<CharStringEnd, Error>
+    fn run(&mut self, subroutines: &Subroutines<'a>, limit: u8, depth: u8, charstring: &'a [u8]) -> Result<CharStringEnd, Error>
         requires { depth ≤ limit }
         ensures run { RunsThrough (library_of subroutines.now) limit depth charstring.now self.old self.new result }
         ensures tokens { self.new.tokens ≤ self.old.tokens }
@@ -52,4 +57,16 @@ impl<'a> Recursion<'a> {
         }
         Ok(CharStringEnd::Return)
     }
+}
+
+/// The program of a charstring without its subroutines.
+pub fn decompile<'a>(alloc: Global, subroutines: &Subroutines<'a>, limits: &Limits, charstring: &'a [u8]) -> Result<Program<'a>, Error>
+    ensures { Gives program_bytes result (flat_form (library_of subroutines.now) limits.now.tokens limits.now.depth charstring.now) }
+{
+    let mut recursion = Recursion {
+        machine: Machine::new(Draft::new(alloc)),
+        tokens: limits.tokens,
+    };
+    recursion.run(subroutines, limits.depth, 1, charstring)?;
+    Ok(recursion.machine.output.finish())
 }

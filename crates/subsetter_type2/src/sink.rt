@@ -5,7 +5,7 @@ ghost use Rattle.subsetter_type2.specs.Machine.{last_operand, but_last};
 ghost use Rattle.subsetter_type2.specs.Flat.{flat_event};
 ghost use Rattle.subsetter_base.specs.declared.error.Error.TheVariants.{OutOfMemory};
 
-use crate::charstring_number::CharStringNumber;
+use subsetter_cffdata::charstring_number::CharStringNumber;
 use crate::operator::Operator;
 use subsetter_base::error::Error;
 

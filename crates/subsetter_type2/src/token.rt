@@ -3,7 +3,7 @@
 ghost use Rattle.std.specs.Prelude.{◌≡◌, MatchOption};
 ghost use Rattle.subsetter_type2.specs.Token.{token_of, effect_of};
 
-use crate::charstring_number::{self, CharStringNumber};
+use subsetter_cffdata::charstring_number::{self, CharStringNumber};
 use crate::operator::Operator;
 use crate::operators::*;
 

@@ -1,4 +1,5 @@
 use Rattle.std.proofs.Common.{◌≡◌, List, ◌++◌, ◌∷◌, [], ap, ◌∙◌, sym, append_assoc, append-nil, rules}
+use Rattle.std.proofs.lemmas.List.{nil_from_length}
 use Rattle.subsetter_type2.specs.declared.program.Instruction.{Instruction}
 use Rattle.subsetter_type2.specs.declared.program.Instruction.TheVariants as instruction
 use Rattle.subsetter_type2.proofs.ProgramLemmas.{drawn_masked, drawn_plain}
@@ -13,6 +14,6 @@ returns-in_ok-push-2-clause-ok c =
 
 pub returns-else-not-is_empty-clause-ok : goal.returns-else-not-is_empty-clause-ok
 returns-else-not-is_empty-clause-ok c =
-    let none : c.args.mask.now ≡ [] = search rules in
+    let none : c.args.mask.now ≡ [] = nil_from_length c.args.mask.now (search rules) in
     rw (← c.self.view_is)
     (drawn_plain c.self.inside.program _ _ c.self.inside.operands _ c.args.operator c.args.mask.now c.self.invariant c.pop_all-operands.ensures.left c.in_ok-push.ensures.ok none)
