@@ -5,9 +5,9 @@ use Rattle.std.proofs.lemmas.Grind.{flat_map-append}
 use Rattle.subsetter_cffdata.specs.declared.charstring_number.CharStringNumber.{CharStringNumber}
 use Rattle.subsetter_type2.specs.declared.program.Instruction.{Instruction}
 use Rattle.std.specs.Borrow.{Bor}
-use Rattle.subsetter_type2.specs.declared.operator.Operator.{Operator}
+use Rattle.subsetter_cffdata.specs.declared.operator.Operator.{Operator}
 use Rattle.subsetter_type2.specs.declared.program.Instruction.TheVariants as instruction
-use Rattle.subsetter_type2.specs.Token.{operator_bytes}
+use Rattle.subsetter_cffdata.specs.Views.{operator_of}
 use Rattle.subsetter_cffdata.specs.CharStringNumber.{written}
 use Rattle.subsetter_type2.specs.Flat.{flat_operands}
 use Rattle.subsetter_type2.specs.Output.{Written}
@@ -30,17 +30,17 @@ drawn program settled program' added numbers numbers' h e d =
     rw e (ap (λ p. record { settled = p; operands = [] }) (ap program_bytes whole ∙ bytes))
 
 -- an operator and its mask
-pub drawn_masked : (program settled program' : List Instruction) (numbers numbers' : List CharStringNumber) (operator : Operator) (mask : Bor (List ℕ)) → IsDraft program settled numbers → numbers' ≡ [] → program' ≡ (program ++ instruction.Operator operator ∷ []) ++ instruction.HintMask mask ∷ [] → draft_of program' numbers' ≡ record { settled = program_bytes settled ++ (flat_operands numbers ++ (operator_bytes operator ++ mask.now)); operands = [] }
+pub drawn_masked : (program settled program' : List Instruction) (numbers numbers' : List CharStringNumber) (operator : Operator) (mask : Bor (List ℕ)) → IsDraft program settled numbers → numbers' ≡ [] → program' ≡ (program ++ instruction.Operator operator ∷ []) ++ instruction.HintMask mask ∷ [] → draft_of program' numbers' ≡ record { settled = program_bytes settled ++ (flat_operands numbers ++ (operator_of operator ++ mask.now)); operands = [] }
 drawn_masked program settled program' numbers numbers' operator mask h e d =
     drawn program settled program' (instruction.Operator operator ∷ instruction.HintMask mask ∷ []) numbers numbers' h e
       (d ∙ append_assoc program (instruction.Operator operator ∷ []) (instruction.HintMask mask ∷ []))
-    ∙ ap (λ b. record { settled = program_bytes settled ++ (flat_operands numbers ++ (operator_bytes operator ++ b)); operands = [] }) (append-nil mask.now)
+    ∙ ap (λ b. record { settled = program_bytes settled ++ (flat_operands numbers ++ (operator_of operator ++ b)); operands = [] }) (append-nil mask.now)
 
 -- an operator without a mask
-pub drawn_plain : (program settled program' : List Instruction) (numbers numbers' : List CharStringNumber) (operator : Operator) (mask : List ℕ) → IsDraft program settled numbers → numbers' ≡ [] → program' ≡ program ++ instruction.Operator operator ∷ [] → mask ≡ [] → draft_of program' numbers' ≡ record { settled = program_bytes settled ++ (flat_operands numbers ++ (operator_bytes operator ++ mask)); operands = [] }
+pub drawn_plain : (program settled program' : List Instruction) (numbers numbers' : List CharStringNumber) (operator : Operator) (mask : List ℕ) → IsDraft program settled numbers → numbers' ≡ [] → program' ≡ program ++ instruction.Operator operator ∷ [] → mask ≡ [] → draft_of program' numbers' ≡ record { settled = program_bytes settled ++ (flat_operands numbers ++ (operator_of operator ++ mask)); operands = [] }
 drawn_plain program settled program' numbers numbers' operator mask h e d n =
     drawn program settled program' (instruction.Operator operator ∷ []) numbers numbers' h e d
-    ∙ ap (λ b. record { settled = program_bytes settled ++ (flat_operands numbers ++ (operator_bytes operator ++ b)); operands = [] }) (sym n)
+    ∙ ap (λ b. record { settled = program_bytes settled ++ (flat_operands numbers ++ (operator_of operator ++ b)); operands = [] }) (sym n)
 
 pub all_bytes : (program settled : List Instruction) (numbers : List CharStringNumber) → IsDraft program settled numbers → program_bytes program ≡ program_bytes settled ++ flat_operands numbers
 all_bytes program settled numbers h =

@@ -4,14 +4,14 @@ use Rattle.std.specs.List.{flat_map}
 use Rattle.subsetter_base.specs.declared.error.Error.{Error}
 use Rattle.subsetter_cffdata.specs.declared.charstring_number.CharStringNumber.{CharStringNumber}
 use Rattle.subsetter_cffdata.specs.CharStringNumber.{written}
-use Rattle.subsetter_type2.specs.Token.{operator_bytes}
+use Rattle.subsetter_cffdata.specs.Views.{operator_of}
 use Rattle.subsetter_type2.specs.Machine.{Library, Event, Trace, Outcome, Finishes, Stops, outcome}
 
 abbrev pub flat_operands : List CharStringNumber → List ℕ
 flat_operands numbers = flat_map written numbers
 
 abbrev pub flat_event : Event → List ℕ
-flat_event e = flat_operands e.operands ++ (operator_bytes e.operator ++ e.mask)
+flat_event e = flat_operands e.operands ++ (operator_of e.operator ++ e.mask)
 
 abbrev pub flat_events : List Event → List ℕ
 flat_events events = flat_map flat_event events

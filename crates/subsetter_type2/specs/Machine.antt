@@ -5,7 +5,7 @@ use Rattle.std.specs.Option.{option_and_then}
 use Rattle.subsetter_base.specs.declared.error.Error.{Error}
 use Rattle.subsetter_base.specs.declared.error.Error.TheVariants.{CFFError, Unimplemented}
 use Rattle.subsetter_cffdata.specs.declared.charstring_number.CharStringNumber.{CharStringNumber}
-use Rattle.subsetter_type2.specs.declared.operator.Operator.{Operator}
+use Rattle.subsetter_cffdata.specs.declared.operator.Operator.{Operator}
 use Rattle.subsetter_type2.specs.declared.token.Token.{Token}
 use Rattle.subsetter_type2.specs.declared.token.Token.TheVariants.{Operand, Operation}
 use Rattle.subsetter_type2.specs.declared.token.Effect.{Effect}

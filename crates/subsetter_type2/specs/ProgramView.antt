@@ -5,12 +5,12 @@ use Rattle.subsetter_cffdata.specs.declared.charstring_number.CharStringNumber.{
 use Rattle.subsetter_type2.specs.declared.program.Instruction.{Instruction}
 use Rattle.subsetter_type2.specs.declared.program.Instruction.TheVariants as instruction
 use Rattle.subsetter_cffdata.specs.CharStringNumber.{written}
-use Rattle.subsetter_type2.specs.Token.{operator_bytes}
+use Rattle.subsetter_cffdata.specs.Views.{operator_of}
 use Rattle.subsetter_type2.specs.Output.{Written}
 
 abbrev pub instruction_bytes : Instruction → List ℕ
 instruction_bytes (instruction.Operand number) = written number
-instruction_bytes (instruction.Operator operator) = operator_bytes operator
+instruction_bytes (instruction.Operator operator) = operator_of operator
 instruction_bytes (instruction.HintMask mask) = mask.now
 
 abbrev pub program_bytes : List Instruction → List ℕ

@@ -9,7 +9,6 @@ mod flattening;
 // pub mod laws;
 pub mod limits;
 mod machine;
-pub mod operator;
 pub mod operators;
 mod output;
 mod program;

@@ -7,7 +7,7 @@ ghost use Rattle.subsetter_type2.specs.MachineView.{registers_of, library_of, Pe
 
 use crate::argstack::MAX_OPERANDS;
 use subsetter_cffdata::charstring_number::CharStringNumber;
-use crate::operator::Operator;
+use subsetter_cffdata::operator::Operator;
 use crate::sink::Sink;
 use crate::subroutines::SubroutineHandler;
 use crate::token::{self, Effect, Token};

@@ -1,11 +1,13 @@
 //! The bytes of the flat form, with the operands that no operator has taken yet at their end.
 
-ghost use Rattle.std.specs.Prelude.{◌≡◌, ◌++◌, []};
+ghost use Rattle.std.specs.Prelude.{◌≡◌, ◌++◌, [], OnOk, IfErr};
+ghost use Rattle.subsetter_base.specs.declared.error.Error.TheVariants.{OutOfMemory};
+ghost use Rattle.subsetter_cffdata.specs.Views.{operator_of};
 ghost use Rattle.subsetter_type2.specs.Flat.{flat_operands};
 
 use subsetter_cffdata::charstring_number::CharStringNumber;
 use crate::fixed_stack::FixedStack;
-use crate::operator::Operator;
+use subsetter_cffdata::operator::{Operator, OperatorType};
 use crate::sink::Sink;
 use std::alloc::Global;
 use std::marker::Model;
@@ -60,7 +62,7 @@ impl<'a> Sink<'a> for Output {
 
     fn draw(&mut self, operator: Operator, mask: &'a [u8]) -> Result<(), Error> {
         self.operands.clear();
-        operator.append_to(&mut self.bytes)?;
+        append_operator(&mut self.bytes, operator)?;
         self.bytes.extend_from_slice(mask)?;
         Ok(())
     }
@@ -82,4 +84,16 @@ impl Output {
     {
         self.bytes
     }
+}
+
+/// Writes the bytes of an operator behind these.
+pub fn append_operator(bytes: &mut Vec<u8>, operator: Operator) -> Result<(), Error>
+    ensures ok { OnOk result (bytes.new.items ≡ bytes.old.items ++ operator_of operator) }
+    ensures err { IfErr result (λ e. e ≡ OutOfMemory) }
+{
+    match &operator.0 {
+        OperatorType::OneByteOperator(code) => bytes.extend_from_slice(code)?,
+        OperatorType::TwoByteOperator(code) => bytes.extend_from_slice(code)?,
+    }
+    Ok(())
 }

@@ -7,7 +7,8 @@ ghost use Rattle.subsetter_base.specs.declared.error.Error.TheVariants.{OutOfMem
 
 use crate::argstack::ArgumentsStack;
 use subsetter_cffdata::charstring_number::CharStringNumber;
-use crate::operator::Operator;
+use subsetter_cffdata::operator::Operator;
+use crate::output::append_operator;
 use crate::sink::Sink;
 use std::alloc::Global;
 use std::marker::Model;
@@ -85,7 +86,7 @@ fn append(bytes: &mut Vec<u8>, instruction: &Instruction) -> Result<(), Error>
 {
     match instruction {
         Instruction::Operand(number) => bytes.extend_from_slice(number.bytes().as_slice())?,
-        Instruction::Operator(operator) => operator.append_to(bytes)?,
+        Instruction::Operator(operator) => append_operator(bytes, *operator)?,
         Instruction::HintMask(mask) => bytes.extend_from_slice(mask)?,
     }
     Ok(())

@@ -6,7 +6,7 @@ ghost use Rattle.subsetter_type2.specs.Flat.{flat_event};
 ghost use Rattle.subsetter_base.specs.declared.error.Error.TheVariants.{OutOfMemory};
 
 use subsetter_cffdata::charstring_number::CharStringNumber;
-use crate::operator::Operator;
+use subsetter_cffdata::operator::Operator;
 use subsetter_base::error::Error;
 
 /// The flat form so far, whose end is the operands on the stack.

@@ -1,11 +1,10 @@
 //! One token of a charstring: a number, or an operator without its mask bytes (Technical Note 5177, section 3.1).
 
 ghost use Rattle.std.specs.Prelude.{◌≡◌, MatchOption};
-ghost use Rattle.subsetter_type2.specs.Token.{token_of, effect_of};
+ghost use Rattle.subsetter_type2.specs.Token.{token_of, effect_of, one_byte_effect, two_byte_effect};
 
 use subsetter_cffdata::charstring_number::{self, CharStringNumber};
-use crate::operator::Operator;
-use crate::operators::*;
+use subsetter_cffdata::operator::{Operator, OperatorType};
 
 /// A number or an operator.
 #[derive(Clone, Copy, PartialEq, Eq, Debug)]
@@ -36,9 +35,9 @@ pub fn read_token(bytes: &[u8]) -> Option<(Token, &[u8])>
             let (value, rest) = charstring_number::read_number(bytes)?;
             Some((Token::Operand(value), rest))
         }
-        [12, second, rest @ ..] => Some((Token::Operation(Operator::TwoByte(*second)), rest)),
+        [12, second, rest @ ..] => Some((Token::Operation(Operator::from_two_byte(*second)), rest)),
         [12] | [] => None,
-        [first, rest @ ..] => Some((Token::Operation(Operator::OneByte(*first)), rest)),
+        [first, rest @ ..] => Some((Token::Operation(Operator::from_one_byte(*first)), rest)),
     }
 }
 
@@ -47,17 +46,45 @@ pub fn read_token(bytes: &[u8]) -> Option<(Token, &[u8])>
 pub fn find_effect(operator: Operator) -> Option<Effect>
     ensures { result ≡ effect_of operator }
 {
-    match operator {
-        HORIZONTAL_STEM | VERTICAL_STEM | HORIZONTAL_STEM_HINT_MASK | VERTICAL_STEM_HINT_MASK => Some(Effect::CountsStems),
-        VERTICAL_MOVE_TO | LINE_TO | HORIZONTAL_LINE_TO | VERTICAL_LINE_TO | CURVE_TO => Some(Effect::Draws),
-        MOVE_TO | HORIZONTAL_MOVE_TO | CURVE_LINE | LINE_CURVE => Some(Effect::Draws),
-        VV_CURVE_TO | HH_CURVE_TO | VH_CURVE_TO | HV_CURVE_TO => Some(Effect::Draws),
-        HFLEX | FLEX | HFLEX1 | FLEX1 => Some(Effect::Draws),
-        CALL_LOCAL_SUBROUTINE => Some(Effect::CallsLocal),
-        CALL_GLOBAL_SUBROUTINE => Some(Effect::CallsGlobal),
-        RETURN => Some(Effect::Returns),
-        ENDCHAR => Some(Effect::Ends),
-        HINT_MASK | COUNTER_MASK => Some(Effect::Masks),
+    match operator.0 {
+        OperatorType::OneByteOperator(code) => match code {
+            [first] => one_byte_effect(first),
+        },
+        OperatorType::TwoByteOperator(code) => match code {
+            [mark, second] => two_byte_effect(mark, second),
+        },
+    }
+}
+
+/// What the operator of this byte does.
+fn one_byte_effect(first: u8) -> Option<Effect>
+    ensures { result ≡ one_byte_effect first }
+{
+    match first {
+        // hstem, vstem, hstemhm, vstemhm
+        1 | 3 | 18 | 23 => Some(Effect::CountsStems),
+        // vmoveto, rlineto, hlineto, vlineto, rrcurveto, rmoveto, hmoveto
+        4..=8 | 21 | 22 => Some(Effect::Draws),
+        // rcurveline, rlinecurve, vvcurveto, hhcurveto, vhcurveto, hvcurveto
+        24..=27 | 30 | 31 => Some(Effect::Draws),
+        // callsubr, callgsubr, return, endchar
+        10 => Some(Effect::CallsLocal),
+        29 => Some(Effect::CallsGlobal),
+        11 => Some(Effect::Returns),
+        14 => Some(Effect::Ends),
+        // hintmask, cntrmask
+        19 | 20 => Some(Effect::Masks),
+        _ => None,
+    }
+}
+
+/// What the operator of these two bytes does.
+fn two_byte_effect(mark: u8, second: u8) -> Option<Effect>
+    ensures { result ≡ two_byte_effect mark second }
+{
+    match (mark, second) {
+        // hflex, flex, hflex1, flex1
+        (12, 34..=37) => Some(Effect::Draws),
         _ => None,
     }
 }
