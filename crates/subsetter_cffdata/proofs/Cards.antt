@@ -4,7 +4,8 @@ use Rattle.std.proofs.lemmas.Bool.{le-ltb}
 use Rattle.std.proofs.lemmas.Option.{some_pair_parts, none-some}
 use Rattle.std.proofs.lemmas.List.{take_at, drop_at}
 use Rattle.std.specs.Int.{bytes_high_first, from_be_bytes, w16, w32}
-use Rattle.subsetter_cffdata.specs.Bytes.{byte, be, card, part, ReadAgain}
+use Rattle.subsetter_cffdata.specs.Bytes.{byte, card, part, ReadAgain}
+use Rattle.subsetter_base.specs.Bytes.{be}
 
 some_with : (rest : List ℕ) (m n : ℕ) → m ≡ n → ◌≡◌ {A = Option (ℕ × List ℕ)} (Some (m, rest)) (Some (n, rest))
 some_with rest m n e = ap (λ (k : ℕ). Some (k, rest)) e

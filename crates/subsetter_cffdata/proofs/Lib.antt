@@ -1,6 +1,9 @@
 pub mod Cards
 pub mod CharStringNumbers
+pub mod Dicts
 pub mod Integers
+pub mod Operands
 pub mod Reals
+pub mod Shorter
 pub mod Texts
 pub mod Trims

@@ -1,7 +1,10 @@
 pub mod Bytes
 pub mod CharStringNumber
 pub mod Decimals
+pub mod Dict
 pub mod Numbers
 pub mod Reading
 pub mod TextSteps
+pub mod TokenView
+pub mod Tokens
 pub mod Views

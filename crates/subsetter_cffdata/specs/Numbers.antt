@@ -49,8 +49,25 @@ at_front from bytes = byte bytes >>= λ b. from b.0 b.1
 abbrev pub integer_at : List ℕ → Option (ℤ × List ℕ)
 integer_at bytes = at_front integer_from bytes
 
+-- a real begins with byte 30
+unfoldable pub real_from : ℕ → List ℕ → Option (Decimal × List ℕ)
+real_from b bytes = if b == 30 then real_at bytes else None
+
+abbrev pub real_number_at : List ℕ → Option (Decimal × List ℕ)
+real_number_at bytes = at_front real_from bytes
+
+-- a Fixed begins with byte 255, and has four bytes more
+unfoldable pub fixed_from : ℕ → List ℕ → Option (ℤ × List ℕ)
+fixed_from b bytes = if b == 255 then signed32 bytes else None
+
+abbrev pub fixed_number_at : List ℕ → Option (ℤ × List ℕ)
+fixed_number_at bytes = at_front fixed_from bytes
+
 abbrev pub dict_number_at : List ℕ → Option (Number × List ℕ)
 dict_number_at bytes = at_front dict_number_from bytes
+
+abbrev pub charstring_number_at : List ℕ → Option (Number × List ℕ)
+charstring_number_at bytes = at_front charstring_number_from bytes
 
 -- ---- writing
 -- an integer in the first form that holds it: of one byte, of two, of three, of five
@@ -69,10 +86,14 @@ integer (negsuc m) =
 abbrev pub offset : ℕ → List ℕ
 offset n = 29 ∷ to_be_bytes w32 n
 
+-- a Fixed: 255 and four bytes
+abbrev pub fixed : ℤ → List ℕ
+fixed k = 255 ∷ to_be_bytes w32 (cast_unsigned w32 k)
+
 abbrev pub number : Number → List ℕ
 number (Integer z) = integer z
 number (Real d) = 30 ∷ packed (real_text d)
-number (Fixed k) = 255 ∷ to_be_bytes w32 (cast_unsigned w32 k)
+number (Fixed k) = fixed k
 
 -- what can be written into a DICT
 abbrev pub FitsDict : Number → Type 0

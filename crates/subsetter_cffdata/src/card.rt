@@ -1,7 +1,7 @@
 //! Unsigned numbers of a few bytes.
 
 ghost use Rattle.std.specs.Prelude.{◌≡◌, ◌≤◌, length};
-ghost use Rattle.subsetter_cffdata.specs.Bytes.{be};
+ghost use Rattle.subsetter_base.specs.Bytes.{be};
 
 // The number that at most four bytes are, the high byte first.
 #[tactic(auto, using(crate::proofs::Cards::be_cases))]

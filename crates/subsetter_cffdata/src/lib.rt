@@ -3,6 +3,7 @@
 
 mod card;
 pub mod charstring_number;
+pub mod dict;
 pub mod number;
 pub mod operator;
 pub mod reading;
@@ -10,6 +11,7 @@ mod reading_text;
 mod real_number;
 mod real_text;
 mod text;
+mod tokens;
 
 #[cfg(test)]
 mod tests;

@@ -1,9 +1,9 @@
 //! Numbers of a DICT and of a charstring (Technical Note 5176, section 4 "DICT Data").
 
-ghost use Rattle.std.specs.Prelude.{◌≡◌, ◌∷◌, ◌++◌, OnOk, IfErr};
+ghost use Rattle.std.specs.Prelude.{◌≡◌, ◌∷◌, ◌++◌, pos, OnOk, IfErr};
 ghost use Rattle.std.specs.Int.{w32, cast_unsigned, to_be_bytes};
 ghost use Rattle.subsetter_base.specs.declared.error.Error.TheVariants.{OutOfMemory};
-ghost use Rattle.subsetter_cffdata.specs.Numbers.{integer, integer_at, integer_from, short_integer, dict_number_from};
+ghost use Rattle.subsetter_cffdata.specs.Numbers.{Integer as StoredInteger, integer, fixed, integer_at, integer_from, short_integer, fixed_number_at, dict_number_from, dict_number_at, charstring_number_from, charstring_number_at};
 ghost use Rattle.subsetter_cffdata.specs.Reading.{Takes};
 ghost use Rattle.subsetter_cffdata.specs.Views.{number_of};
 
@@ -100,10 +100,108 @@ impl Writeable for IntegerNumber {
 #[derive(Clone, Copy, Debug, PartialEq, Eq)]
 pub struct FixedNumber(pub i32);
 
+impl FixedNumber {
+    /// Reads a number of 65536ths; None where no byte 255 stands there or it is cut short.
+    #[tactic(auto, unfolding(crate::specs::Numbers::fixed_from))]
+    pub fn parse(r: &mut Reader<'_>) -> Option<FixedNumber>
+        ensures value { Takes (λ x. x.0) result r.old r.new fixed_number_at }
+        ensures same { r.new.bytes ≡ r.old.bytes }
+    {
+        match reading::next_byte(r)? {
+            255 => Some(FixedNumber(reading::next_i32(r)?)),
+            _ => None,
+        }
+    }
+}
+
+impl Writeable for FixedNumber {
+    ghost bytes_of = { λ k. fixed k.0 };
+
+    fn write(&self, w: &mut Writer) -> Result<(), Error> {
+        let bytes = self.0.to_be_bytes();
+        w.extend(&[255, bytes[0], bytes[1], bytes[2], bytes[3]])
+    }
+}
+
 /// A number, and which kind it is.
 #[derive(Clone, Copy, Debug)]
 pub enum Number {
     Real(RealNumber),
     Integer(IntegerNumber),
     Fixed(FixedNumber),
+}
+
+/// The integer 0.
+impl Default for Number {
+    ghost is_default = { λ x. number_of x ≡ StoredInteger (pos 0) };
+
+    fn default() -> Self {
+        Number::zero()
+    }
+}
+
+impl Number {
+    /// Reads a number of a DICT; None where no number stands there or it can't be read.
+    pub fn parse_cff_number(r: &mut Reader<'_>) -> Option<Number>
+        ensures value { Takes number_of result r.old r.new dict_number_at }
+        ensures same { r.new.bytes ≡ r.old.bytes }
+    {
+        let b0 = reading::next_byte(r)?;
+        Self::parse_dict_number(b0, r)
+    }
+
+    /// Reads a number of a charstring; None where no number stands there or it is cut short. Bytes 29 and 30 begin no number there.
+    pub fn parse_char_string_number(r: &mut Reader<'_>) -> Option<Number>
+        ensures value { Takes number_of result r.old r.new charstring_number_at }
+        ensures same { r.new.bytes ≡ r.old.bytes }
+    {
+        let b0 = reading::next_byte(r)?;
+        Self::parse_charstring_number(b0, r)
+    }
+
+    /// The number of a DICT whose first byte was read.
+    #[tactic(auto, unfolding(crate::specs::Numbers::dict_number_from))]
+    pub fn parse_dict_number(b0: u8, r: &mut Reader<'_>) -> Option<Number>
+        ensures value { Takes number_of result r.old r.new (dict_number_from b0) }
+        ensures same { r.new.bytes ≡ r.old.bytes }
+    {
+        match b0 {
+            30 => Some(Number::Real(RealNumber::parse_text(r)?)),
+            _ => Some(Number::Integer(IntegerNumber::parse_from(b0, r)?)),
+        }
+    }
+
+    // The number of a charstring whose first byte was read.
+    #[tactic(auto, unfolding(crate::specs::Numbers::charstring_number_from))]
+    fn parse_charstring_number(b0: u8, r: &mut Reader<'_>) -> Option<Number>
+        ensures value { Takes number_of result r.old r.new (charstring_number_from b0) }
+        ensures same { r.new.bytes ≡ r.old.bytes }
+    {
+        match b0 {
+            255 => Some(Number::Fixed(FixedNumber(reading::next_i32(r)?))),
+            28 => Some(Number::Integer(IntegerNumber(i32::from(reading::next_i16(r)?)))),
+            _ => Some(Number::Integer(IntegerNumber::parse_short(b0, r)?)),
+        }
+    }
+
+    /// An integer.
+    pub fn from_i32(num: i32) -> Self
+        ensures { number_of result ≡ StoredInteger num }
+    {
+        Number::Integer(IntegerNumber(num))
+    }
+
+    /// The integer 0.
+    pub fn zero() -> Self
+        ensures { number_of result ≡ StoredInteger (pos 0) }
+    {
+        Number::Integer(IntegerNumber(0))
+    }
+
+    /// The integer 1.
+    pub fn one() -> Self
+        ensures { number_of result ≡ StoredInteger (pos 1) }
+    {
+        Number::Integer(IntegerNumber(1))
+    }
 }

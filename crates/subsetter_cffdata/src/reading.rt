@@ -1,6 +1,6 @@
 //! What a reader has next: bytes, and whole numbers, the high byte first.
 
-ghost use Rattle.std.specs.Prelude.{◌≡◌, length, IfSome};
+ghost use Rattle.std.specs.Prelude.{◌≡◌, ◌≤◌, length, drop, IfSome};
 ghost use Rattle.subsetter_cffdata.specs.Bytes.{byte, card, part};
 ghost use Rattle.subsetter_cffdata.specs.Numbers.{signed16, signed32};
 ghost use Rattle.subsetter_cffdata.specs.Reading.{rest, Takes};
@@ -68,4 +68,25 @@ pub fn next_i32(r: &mut Reader<'_>) -> Option<i32>
 {
     let bytes = next_bytes(r, 4)?;
     Some(i32::from_be_bytes([bytes[0], bytes[1], bytes[2], bytes[3]]))
+}
+
+/// What is left.
+pub fn tail<'a>(r: &Reader<'a>) -> &'a [u8]
+    ensures { result.now ≡ rest r.now }
+{
+    match r.tail() {
+        Some(bytes) => bytes,
+        None => &[],
+    }
+}
+
+/// Passes bytes of what is left.
+pub fn pass(r: &mut Reader<'_>, len: usize)
+    requires { len ≤ length (rest r.old) }
+    ensures value { rest r.new ≡ drop len (rest r.old) }
+    ensures same { r.new.bytes ≡ r.old.bytes }
+{
+    if len > 0 {
+        r.skip_bytes(len);
+    }
 }

@@ -4,6 +4,12 @@ ghost use Rattle.std.specs.Prelude.{◌≡◌};
 ghost use Rattle.subsetter_cffdata.specs.Decimals.{real_at};
 ghost use Rattle.subsetter_cffdata.specs.Reading.{rest, Takes};
 ghost use Rattle.subsetter_cffdata.specs.Views.{decimal_of};
+ghost use Rattle.subsetter_cffdata.specs.Numbers.{real_number_at};
+
+use crate::reading;
+use crate::reading_text::text_of;
+use crate::real_text::real_of_text;
+use subsetter_base::read::Reader;
 
 /// An exact decimal: a sign, at most 64 digits without zeros at the end, and the power of ten of the last digit.
 #[derive(Clone, Copy, Debug)]
@@ -12,4 +18,29 @@ pub struct RealNumber {
     pub digits: [u8; 64],
     pub len: u8,
     pub power: i32,
+}
+
+impl RealNumber {
+    /// Reads a real; None where no byte 30 stands there, or the text behind it can't be read.
+    #[tactic(auto, unfolding(crate::specs::Numbers::real_from))]
+    pub fn parse(r: &mut Reader<'_>) -> Option<RealNumber>
+        ensures value { Takes decimal_of result r.old r.new real_number_at }
+        ensures same { r.new.bytes ≡ r.old.bytes }
+    {
+        match reading::next_byte(r)? {
+            30 => Self::parse_text(r),
+            _ => None,
+        }
+    }
+
+    /// Reads the text behind a byte 30.
+    #[tactic(auto, using(crate::proofs::Texts::real_by_text))]
+    pub fn parse_text(r: &mut Reader<'_>) -> Option<RealNumber>
+        ensures value { Takes decimal_of result r.old r.new real_at }
+        ensures same { r.new.bytes ≡ r.old.bytes }
+    {
+        let (text, len) = text_of(reading::tail(r))?;
+        reading::pass(r, len);
+        real_of_text(&text.characters[..text.len])
+    }
 }
