@@ -2,6 +2,7 @@ pub mod Subroutines
 pub mod Token
 pub mod Machine
 pub mod Flat
+pub mod Laws
 pub mod Setting
 pub mod Output
 pub mod OutputView

@@ -6,7 +6,7 @@ pub mod argstack;
 pub mod charstring;
 mod fixed_stack;
 mod flattening;
-// pub mod laws;
+pub mod laws;
 pub mod limits;
 mod machine;
 pub mod operators;

@@ -1,0 +1,19 @@
+-- Laws of the run of a charstring.
+use Rattle.std.specs.Prelude.{◌≡◌, ◌≤◌, ℕ, List, Ok}
+use Rattle.subsetter_type2.specs.Machine.{Library, Trace, Finishes, outcome}
+use Rattle.subsetter_type2.specs.Flat.{flat, flat_form}
+
+-- the flat form of a trace has that trace, whatever the subroutines, and takes no more tokens
+abbrev pub PlaysBack : Type 0
+PlaysBack = (library other : Library) (tokens depth other_depth : ℕ) (charstring : List ℕ) (trace : Trace)
+  → 1 ≤ other_depth → outcome library tokens depth charstring ≡ Finishes trace → outcome other tokens other_depth (flat trace) ≡ Finishes trace
+
+-- a flat form is its own flat form
+abbrev pub IsFlatAlready : Type 0
+IsFlatAlready = (library other : Library) (tokens depth other_depth : ℕ) (charstring bytes : List ℕ)
+  → 1 ≤ other_depth → flat_form library tokens depth charstring ≡ Ok bytes → flat_form other tokens other_depth bytes ≡ Ok bytes
+
+-- a trace that is there at two limits is the same at both
+abbrev pub HasOneTrace : Type 0
+HasOneTrace = (library : Library) (tokens more depth deeper : ℕ) (charstring : List ℕ) (trace another : Trace)
+  → outcome library tokens depth charstring ≡ Finishes trace → outcome library more deeper charstring ≡ Finishes another → trace ≡ another
