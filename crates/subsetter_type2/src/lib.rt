@@ -17,5 +17,5 @@ mod sink;
 pub mod subroutines;
 mod token;
 
-// #[cfg(test)]
-// mod tests;
+#[cfg(test)]
+mod tests;
