@@ -387,18 +387,19 @@ fn both_ways_agree_on_drawn_charstrings(rt: HostRuntime) -> Result<(), Fail> {
     Ok(())
 }
 
-#[test]
-fn subroutines_by_number(rt: HostRuntime) -> Result<(), Fail> {
-    let alloc = rt.alloc();
-    let bodies = vec![in alloc; vec![in alloc; 14u8]?, vec![in alloc; 22u8, 14]?]?;
-    let mut first = entries(alloc, &bodies).ok().ok_or("memory")?;
+/// Two font dicts, the first of which has these two subroutines and an unreadable one.
+fn two_font_dicts<'a>(alloc: Global, ends: &'a [u8], moves: &'a [u8]) -> Result<SubroutineCollection<'a>, Error> {
+    let mut first = Vec::new(alloc);
+    first.push(Some(ends))?;
+    first.push(Some(moves))?;
     first.push(None)?;
-    let second = Vec::new(alloc);
     let mut containers = Vec::new(alloc);
-    containers.push(SubroutineContainer::new(first)).ok().ok_or("memory")?;
-    containers.push(SubroutineContainer::new(second)).ok().ok_or("memory")?;
-    let collection = SubroutineCollection::new(containers);
-    let handler = collection.get_handler(0).ok_or("a font dict")?;
+    containers.push(SubroutineContainer::new(first))?;
+    containers.push(SubroutineContainer::new(Vec::new(alloc)))?;
+    Ok(SubroutineCollection::new(containers))
+}
+
+fn finds_subroutines(rt: &impl Abort, handler: &SubroutineHandler) {
     assert!(rt; handler.get_with_biased(-107) == Some([14].as_slice()));
     assert!(rt; handler.get_with_unbiased(0) == Some([14].as_slice()));
     assert!(rt; handler.get_with_biased(-106) == Some([22, 14].as_slice()));
@@ -406,9 +407,24 @@ fn subroutines_by_number(rt: HostRuntime) -> Result<(), Fail> {
     assert!(rt; handler.get_with_biased(-104).is_none());
     assert!(rt; handler.get_with_biased(-108).is_none());
     assert!(rt; handler.get_with_biased(i32::MAX).is_none());
-    let other = collection.get_handler(1).ok_or("a font dict")?;
-    assert!(rt; other.get_with_unbiased(0).is_none());
+}
+
+fn finds_font_dicts(rt: &impl Abort, collection: &SubroutineCollection) {
+    match collection.get_handler(0) {
+        Some(handler) => finds_subroutines(rt, &handler),
+        None => assert!(rt; false),
+    }
+    match collection.get_handler(1) {
+        Some(handler) => assert!(rt; handler.get_with_unbiased(0).is_none()),
+        None => assert!(rt; false),
+    }
     assert!(rt; collection.get_handler(2).is_none());
+}
+
+#[test]
+fn subroutines_by_number(rt: HostRuntime) -> Result<(), Fail> {
+    let collection = two_font_dicts(rt.alloc(), &[14], &[22, 14]).ok().ok_or("memory")?;
+    finds_font_dicts(&rt, &collection);
     assert!(rt; unapply_bias(-107, 107) == Some(0));
     assert!(rt; unapply_bias(-108, 107).is_none());
     Ok(())
