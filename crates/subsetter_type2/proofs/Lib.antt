@@ -6,3 +6,4 @@ pub mod Replay
 pub mod Acts
 pub mod Playback
 pub mod TraceLimits
+pub mod TraceLaws

@@ -199,3 +199,12 @@ start charstring = record { rests = charstring ∷ []; registers = record { oper
 -- how the run of a glyph's own charstring ends, with so many tokens and callers at most
 unfoldable pub outcome : Library → ℕ → ℕ → List ℕ → Outcome
 outcome library tokens depth charstring = run library depth tokens [] (start charstring)
+
+-- the trace of a run that finishes
+abbrev pub trace_of : Outcome → Option Trace
+trace_of (Finishes trace) = Some trace
+trace_of (Stops error) = None
+
+-- the trace of a glyph's own charstring; none where its run faults
+abbrev pub trace : Library → ℕ → ℕ → List ℕ → Option Trace
+trace library tokens depth charstring = trace_of (outcome library tokens depth charstring)

@@ -54,7 +54,8 @@ fn follow<'a>(rests: &mut FixedStack<&'a [u8], 255>, flow: Flow<'a>, depth: u8) 
 pub fn flatten<'a>(alloc: Global, subroutines: &Subroutines<'a>, limits: &Limits, charstring: &'a [u8]) -> Result<Vec<u8>, Error>
     ensures { Gives (λ bytes. bytes.items) result (flat_form (library_of subroutines.now) limits.now.tokens limits.now.depth charstring.now) }
 {
-    let mut machine = Machine::new(Output::new(alloc));
+    let output = Output::with_capacity(alloc, charstring.len())?;
+    let mut machine = Machine::new(output);
     let mut rests = FixedStack::new(charstring);
     rests.push(charstring);
     let mut tokens = limits.tokens;

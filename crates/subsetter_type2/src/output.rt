@@ -1,6 +1,6 @@
 //! The bytes of the flat form, with the operands that no operator has taken yet at their end.
 
-ghost use Rattle.std.specs.Prelude.{◌≡◌, ◌++◌, [], OnOk, IfErr};
+ghost use Rattle.std.specs.Prelude.{◌≡◌, ◌++◌, [], OnOk, IfOk, IfErr};
 ghost use Rattle.subsetter_base.specs.declared.error.Error.TheVariants.{OutOfMemory};
 ghost use Rattle.subsetter_cffdata.specs.Views.{operator_of};
 ghost use Rattle.subsetter_type2.specs.Flat.{flat_operands};
@@ -69,13 +69,15 @@ impl<'a> Sink<'a> for Output {
 }
 
 impl Output {
-    pub fn new(alloc: Global) -> Self
-        ensures { result ≡ record { settled = []; operands = [] } }
+    /// Nothing is written yet, and there is room for so many bytes.
+    pub fn with_capacity(alloc: Global, capacity: usize) -> Result<Self, Error>
+        ensures ok { IfOk result (λ output. output ≡ record { settled = []; operands = [] }) }
+        ensures err { IfErr result (λ e. e ≡ OutOfMemory) }
     {
-        Output {
-            bytes: Vec::new(alloc),
+        Ok(Output {
+            bytes: Vec::with_capacity(alloc, capacity)?,
             operands: FixedStack::new(Operand::default()),
-        }
+        })
     }
 
     /// All that is written.

@@ -12,8 +12,8 @@ loop-bytes-init c =
     let one : c.push.new.self ≡ c.args.charstring ∷ [] = rw (c.push.ensures, c.new-rests.ensures) in
     record {
       reached = reached_start _ _ _ _ _ _ _ (ap rests_of one)
-        (ap (registers_of (λ w. w)) c.new-machine.ensures ∙ ap (λ w. record { operands = w.operands; stems = 0; mask_len = 0 }) c.new.ensures)
-        (ap (λ m. m.output.settled) c.new-machine.ensures ∙ ap (λ w. w.settled) c.new.ensures);
+        (ap (registers_of (λ w. w)) c.new-machine.ensures ∙ ap (λ w. record { operands = w.operands; stems = 0; mask_len = 0 }) c.in_ok-output.ensures.ok)
+        (ap (λ m. m.output.settled) c.new-machine.ensures ∙ ap (λ w. w.settled) c.in_ok-output.ensures.ok);
       room = omega (arith, ap length one);
     }
 
@@ -23,7 +23,7 @@ returns-then-tokens-eq0 c =
 
 pub returns-in_err-flow : goal.returns-in_err-flow
 returns-in_err-flow c =
-    let p = err_from_is_err_and c.from_residual.result c.from_residual.ensures.1 in
+    let p = err_from_is_err_and c.from_residual-in_err-flow.result c.from_residual-in_err-flow.ensures.1 in
     let n : c.loop-bytes.tokens ≡ suc (c.loop-bytes.tokens - 1) = omega arith in
     rw (p.1, p.2)
     (gives_fault _ _ (λ ne. reached_fault _ _ _ _ _ _ c.loop-bytes.invariant.reached _ _ _ n c.in-Some.ensures.rest _ (c.in_err-flow.ensures ne)))
