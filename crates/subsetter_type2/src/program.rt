@@ -15,7 +15,7 @@ use std::marker::Model;
 use subsetter_base::error::Error;
 
 /// One instruction of a program. The bytes of a mask are a part of the charstring that holds them.
-#[derive(Clone, Copy)]
+#[derive(Clone, Copy, Debug)]
 pub enum Instruction<'a> {
     Operand(CharStringNumber),
     Operator(Operator),

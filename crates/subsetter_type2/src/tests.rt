@@ -66,6 +66,31 @@ fn fails(rt: &impl Abort, alloc: Global, lists: &Lists, limits: Limits, charstri
     }
 }
 
+/// The charstring has this flat form both ways, where memory suffices.
+fn gives_or_wants_memory(rt: &impl Abort, alloc: Global, lists: &Lists, charstring: &[u8], want: &[u8]) {
+    match lists.decompiler(Limits::default()).flatten(alloc, charstring) {
+        Ok(bytes) => assert!(rt; bytes.as_slice() == want),
+        Err(error) => assert!(rt; error == Error::OutOfMemory),
+    }
+    match compiled(alloc, lists, Limits::default(), charstring) {
+        Ok(bytes) => assert!(rt; bytes.as_slice() == want),
+        Err(error) => assert!(rt; error == Error::OutOfMemory),
+    }
+}
+
+/// Run with each allocation refused in turn.
+#[test]
+fn want_of_memory_is_reported(rt: HostRuntime) {
+    let alloc = rt.alloc();
+    let global = Lists { global: &[Some(&[149, 22, 11])], local: &[] };
+    gives_or_wants_memory(&rt, alloc, &global, &[32, 29, 14], &[149, 22, 14]);
+    let moves = Lists::local(&[Some(&[21, 14])]);
+    gives_or_wants_memory(&rt, alloc, &moves, &[139, 140, 32, 10], &[139, 140, 21, 14]);
+    let none = Lists::local(&[]);
+    let masked = [140, 141, 1, 142, 143, 19, 192, 14];
+    gives_or_wants_memory(&rt, alloc, &none, &masked, &masked);
+}
+
 /// These bodies as the entries of an INDEX.
 fn entries(alloc: Global, bodies: &Vec<Vec<u8>>) -> Result<Vec<Option<CharString<'_>>>, Error> {
     let mut list = Vec::new(alloc);
