@@ -7,3 +7,4 @@ pub mod Reals
 pub mod Shorter
 pub mod Texts
 pub mod Trims
+pub mod PlainDigits

@@ -1,26 +1,31 @@
 //! The reals of a DICT (Technical Note 5176, section 4 "DICT Data", table 5).
 
-ghost use Rattle.std.specs.Prelude.{◌≡◌};
-ghost use Rattle.subsetter_cffdata.specs.Decimals.{real_at};
-ghost use Rattle.subsetter_cffdata.specs.Reading.{rest, Takes};
-ghost use Rattle.subsetter_cffdata.specs.Views.{decimal_of};
-ghost use Rattle.subsetter_cffdata.specs.Numbers.{real_number_at};
+ghost use Rattle.std.specs.Prelude.{◌≤◌, take};
+ghost use Rattle.subsetter_cffdata.specs.Decimals.{IsPlain};
 
 use crate::reading;
 use crate::reading_text::text_of;
 use crate::real_text::real_of_text;
 use subsetter_base::read::Reader;
 
-/// An exact decimal: a sign, at most 64 digits without zeros at the end, and the power of ten of the last digit.
+/// An exact decimal: a sign, at most 64 digits without zeros in front and at the end, and the power of ten of the last digit.
 #[derive(Clone, Copy, Debug)]
 pub struct RealNumber {
-    pub negative: bool,
-    pub digits: [u8; 64],
-    pub len: u8,
-    pub power: i32,
+    pub(crate) negative: bool,
+    pub(crate) digits: [u8; 64],
+    pub(crate) len: u8,
+    pub(crate) power: i32,
+    ghost within: { len ≤ 64 },
+    ghost plain: { IsPlain negative (take len digits) power },
 }
 
 impl RealNumber {
+    ghost use Rattle.std.specs.Prelude.{◌≡◌};
+    ghost use Rattle.subsetter_cffdata.specs.Decimals.{real_at};
+    ghost use Rattle.subsetter_cffdata.specs.Reading.{rest, Takes};
+    ghost use Rattle.subsetter_cffdata.specs.Views.{decimal_of};
+    ghost use Rattle.subsetter_cffdata.specs.Numbers.{real_number_at};
+
     /// Reads a real; None where no byte 30 stands there, or the text behind it can't be read.
     #[tactic(auto, unfolding(crate::specs::Numbers::real_from))]
     pub fn parse(r: &mut Reader<'_>) -> Option<RealNumber>
