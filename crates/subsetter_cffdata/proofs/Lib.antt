@@ -1,6 +1,9 @@
 pub mod Cards
 pub mod CharStringNumbers
 pub mod Dicts
+pub mod Indexes
+pub mod IndexItems
+pub mod IndexRests
 pub mod Integers
 pub mod Operands
 pub mod Reals
@@ -8,3 +11,4 @@ pub mod Shorter
 pub mod Texts
 pub mod Trims
 pub mod PlainDigits
+pub mod Writing

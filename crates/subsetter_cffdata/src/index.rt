@@ -1,0 +1,6 @@
+//! INDEX structures (Technical Note 5176, section 5 "INDEX Data").
+
+pub use crate::index_iter::IndexIter;
+pub use crate::index_view::{Index, VarOffsets};
+pub use crate::offset_size::OffsetSize;
+pub use crate::writing_index::{OwnedIndex, create_index};
