@@ -6,6 +6,7 @@ pub mod charstring_number;
 pub mod dict;
 pub mod index;
 mod index_iter;
+mod index_size;
 mod index_view;
 pub mod number;
 mod offset_size;
