@@ -12,3 +12,4 @@ pub mod Texts
 pub mod Trims
 pub mod PlainDigits
 pub mod Writing
+pub mod Wholes

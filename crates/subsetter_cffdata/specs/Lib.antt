@@ -5,6 +5,7 @@ pub mod Dict
 pub mod Index
 pub mod IndexRest
 pub mod IndexView
+pub mod Limited
 pub mod Numbers
 pub mod OffsetSizes
 pub mod Owned

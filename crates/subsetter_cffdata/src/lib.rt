@@ -18,6 +18,7 @@ mod real_number;
 mod real_text;
 mod text;
 mod tokens;
+mod whole;
 mod writing_index;
 
 #[cfg(test)]
