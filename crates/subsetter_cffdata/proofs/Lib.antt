@@ -1,9 +1,15 @@
 pub mod Cards
 pub mod CharStringNumbers
 pub mod Dicts
+pub mod Indexes
+pub mod IndexItems
+pub mod IndexRests
 pub mod Integers
 pub mod Operands
 pub mod Reals
 pub mod Shorter
 pub mod Texts
 pub mod Trims
+pub mod PlainDigits
+pub mod Writing
+pub mod Wholes

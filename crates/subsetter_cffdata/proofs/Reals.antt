@@ -32,19 +32,19 @@ text_again (c ∷ d ∷ text) all rest =
     rw (high, low, ne_eqb c 15 (λ e. omega (arith, all.0.0)), characters_is c all.0, ne_eqb d 15 (λ e. omega arith), characters_is d all.1.0, text_again text all.1.1 rest) refl
 
 -- ---- lists of digits
-abbrev AreDigits : List ℕ → Type 0
+abbrev pub AreDigits : List ℕ → Type 0
 AreDigits ds = AllByRecursion (λ d. d < 10) ds
 
-all_append : {X : Type 0} (P : X → Type 0) (xs ys : List X) → AllByRecursion P xs → AllByRecursion P ys → AllByRecursion P (xs ++ ys)
+pub all_append : {X : Type 0} (P : X → Type 0) (xs ys : List X) → AllByRecursion P xs → AllByRecursion P ys → AllByRecursion P (xs ++ ys)
 all_append P [] ys a b = b
 all_append P (x ∷ xs) ys a b = (a.0, all_append P xs ys a.1 b)
 
-all_take : {X : Type 0} (P : X → Type 0) (n : ℕ) (xs : List X) → AllByRecursion P xs → AllByRecursion P (take n xs)
+pub all_take : {X : Type 0} (P : X → Type 0) (n : ℕ) (xs : List X) → AllByRecursion P xs → AllByRecursion P (take n xs)
 all_take P zero xs a = tt
 all_take P (suc n) [] a = tt
 all_take P (suc n) (x ∷ xs) a = (a.0, all_take P n xs a.1)
 
-all_drop : {X : Type 0} (P : X → Type 0) (n : ℕ) (xs : List X) → AllByRecursion P xs → AllByRecursion P (drop n xs)
+pub all_drop : {X : Type 0} (P : X → Type 0) (n : ℕ) (xs : List X) → AllByRecursion P xs → AllByRecursion P (drop n xs)
 all_drop P zero xs a = a
 all_drop P (suc n) [] a = tt
 all_drop P (suc n) (x ∷ xs) a = all_drop P n xs a.1
@@ -57,7 +57,7 @@ digits_character : (ds : List ℕ) → AreDigits ds → AllByRecursion IsCharact
 digits_character [] all = tt
 digits_character (d ∷ ds) all = let small : d < 10 = all.0 in ((omega arith, λ e. omega arith, λ e. omega arith), digits_character ds all.1)
 
-digits_front : (ds t : List ℕ) → AreDigits ds → digits (ds ++ t) ≡ ds ++ digits t
+pub digits_front : (ds t : List ℕ) → AreDigits ds → digits (ds ++ t) ≡ ds ++ digits t
 digits_front [] t all = refl
 digits_front (d ∷ ds) t all = rw (lt-ltb d 10 all.0, digits_front ds t all.1) refl
 
@@ -171,6 +171,7 @@ unsigned_is (d ∷ ds) n (negsuc k) all m some t =
     ]
 
 digits_text : (n : ℕ) (power : ℤ) → 0 < n % 10 → n < 10 ^ 64 → IsText (unsigned_text (decimal_digits n) power) n power
+unfolding decimal_digits
 digits_text n power last small =
     let some : 0 < n = omega arith in
     let is : decimal_digits n ≡ digits_of 10 n = digits_are 65 n (omega arith) in
@@ -189,7 +190,7 @@ made : ℤ → ℤ → Decimal
 made m power = record { mantissa = m; power = power }
 
 zero_text : (power : ℤ) → IsTrue (is_zero power) → IsTextOf (record { mantissa = pos 0; power = power })
-unfolding real_text real_of unsigned_real
+unfolding real_text real_of unsigned_real decimal_digits
 zero_text (pos k) e = let z : k ≡ 0 = eqb-true k 0 e in record { means = rw z refl; characters = ((omega arith, λ e. omega arith, λ e. omega arith), tt) }
 zero_text (negsuc k) e = let z : suc k ≡ 0 = eqb-true (suc k) 0 e in absurd (omega arith)
 

@@ -1,5 +1,5 @@
 -- Real numbers of a DICT: exact decimals, and their text.
-use Rattle.std.specs.Prelude.{ℕ, suc, ◌+◌, ◌-◌, ◌*◌, ◌/◌, ◌%◌, ◌^◌, ◌<◌, ◌≤◌, IsTrue, ℤ, pos, negsuc, neg_ℤ, ◌+ℤ◌, ◌-ℤ◌, ◌*ℤ◌, Bool, true, false, ◌&&◌, ◌==◌, nat_lt, nat_le, if◌then◌else◌, List, [], ◌∷◌, ◌++◌, take, drop, length, replicate, Option, Some, None, unsigned_abs}
+use Rattle.std.specs.Prelude.{◌≡◌, ℕ, suc, ◌+◌, ◌-◌, ◌*◌, ◌/◌, ◌%◌, ◌^◌, ◌<◌, ◌≤◌, IsTrue, ℤ, pos, negsuc, neg_ℤ, ◌+ℤ◌, ◌-ℤ◌, ◌*ℤ◌, Bool, true, false, ◌&&◌, ◌==◌, nat_lt, nat_le, if◌then◌else◌, List, [], ◌∷◌, ◌++◌, take, drop, length, replicate, Option, Some, None, unsigned_abs}
 use Rattle.std.specs.Option.{option_map}
 use Rattle.std.specs.Int.{is_negative}
 use Rattle.std.specs.Int.Digits.{number_from_digits, digits_with_fuel}
@@ -75,6 +75,19 @@ abbrev pub trimmed : List ℕ → List ℕ
 trimmed [] = []
 trimmed (d ∷ ds) = let rest = trimmed ds in if (d == 0) && (length rest == 0) then [] else d ∷ rest
 
+-- without the zeros in front
+abbrev pub stripped : List ℕ → List ℕ
+stripped [] = []
+stripped (d ∷ ds) = if d == 0 then stripped ds else d ∷ ds
+
+-- digits in the form in which a decimal has just one: no zero in front or at the end, and 0 has neither sign nor power
+pub record IsPlain (negative : Bool) (ds : List ℕ) (power : ℤ) : Type 0 where
+  pub digits_only : digits ds ≡ ds
+  pub front : stripped ds ≡ ds
+  pub back : trimmed ds ≡ ds
+  pub no_sign : length ds ≡ 0 → negative ≡ false
+  pub no_power : length ds ≡ 0 → power ≡ pos 0
+
 -- the digits times a power of ten
 abbrev pub decimal : Bool → List ℕ → ℤ → Decimal
 decimal negative ds power =
@@ -126,7 +139,7 @@ unsigned_text (d ∷ ds) (pos k) = (d ∷ ds) ++ replicate k 0
 unsigned_text (d ∷ ds) (negsuc k) = pointed (d ∷ ds) (suc k)
 
 -- The digits of n, the highest first, none for 0. A text has at most 64 characters, so 65 digits are as many as are asked for.
-abbrev pub decimal_digits : ℕ → List ℕ
+unfoldable pub decimal_digits : ℕ → List ℕ
 decimal_digits n = digits_with_fuel 10 65 n
 
 unfoldable pub real_text : Decimal → List ℕ

@@ -2,7 +2,13 @@ pub mod Bytes
 pub mod CharStringNumber
 pub mod Decimals
 pub mod Dict
+pub mod Index
+pub mod IndexRest
+pub mod IndexView
+pub mod Limited
 pub mod Numbers
+pub mod OffsetSizes
+pub mod Owned
 pub mod Reading
 pub mod TextSteps
 pub mod TokenView

@@ -2,7 +2,7 @@
 use Rattle.std.specs.Prelude.{ℕ, ◌+◌, ◌-◌, ◌*◌, ◌/◌, ◌%◌, FitsSigned, ℤ, pos, negsuc, neg_ℤ, ◌-ℤ◌, ◌==◌, nat_lt, if◌then◌else◌, List, [], ◌∷◌, Option, Some, None}
 use Rattle.std.specs.Int.{w16, w32, cast_signed, cast_unsigned, to_be_bytes}
 use Rattle.subsetter_cffdata.specs.Bytes.{◌>>=◌, byte, card}
-use Rattle.subsetter_cffdata.specs.Decimals.{Decimal, HasText, real_at, real_text, packed}
+use Rattle.subsetter_cffdata.specs.Decimals.{Decimal, HasText, real_at, real_text, packed, whole}
 
 -- A number with its kind: an integer, an exact decimal, or a Fixed in 65536ths.
 pub data Number : Type 0 where
@@ -100,3 +100,38 @@ abbrev pub FitsDict : Number → Type 0
 FitsDict (Integer z) = FitsSigned w32 z
 FitsDict (Real d) = HasText d
 FitsDict (Fixed k) = ⊥
+
+-- ---- the whole number that a number is
+-- the Fixed k / 65536, where it has no fraction
+abbrev pub whole_fixed : ℤ → Option ℤ
+whole_fixed (pos n) = if n % 65536 == 0 then Some (pos (n / 65536)) else None
+whole_fixed (negsuc n) = if (n + 1) % 65536 == 0 then Some (neg_ℤ (pos ((n + 1) / 65536))) else None
+
+-- the value, where it has no fraction
+abbrev pub whole_number : Number → Option ℤ
+whole_number (Integer z) = Some z
+whole_number (Real d) = whole d
+whole_number (Fixed k) = whole_fixed k
+
+-- at least -2147483648 and at most 2147483647
+unfoldable pub in_i32 : ℤ → Option ℤ
+in_i32 (pos n) = if nat_lt n 2147483648 then Some (pos n) else None
+in_i32 (negsuc n) = if nat_lt n 2147483648 then Some (negsuc n) else None
+
+abbrev pub not_negative : ℤ → Option ℕ
+not_negative (pos n) = Some n
+not_negative (negsuc n) = None
+
+-- of a real, and of a Fixed
+abbrev pub real_as_i32 : Decimal → Option ℤ
+real_as_i32 d = whole d >>= in_i32
+
+abbrev pub fixed_as_i32 : ℤ → Option ℤ
+fixed_as_i32 k = whole_fixed k >>= in_i32
+
+-- as a signed and as an unsigned number of 32 bits
+unfoldable pub as_i32 : Number → Option ℤ
+as_i32 x = whole_number x >>= in_i32
+
+unfoldable pub as_u32 : Number → Option ℕ
+as_u32 x = as_i32 x >>= not_negative

@@ -4,14 +4,22 @@
 mod card;
 pub mod charstring_number;
 pub mod dict;
+pub mod index;
+mod index_iter;
+mod index_size;
+mod index_view;
 pub mod number;
+mod offset_size;
 pub mod operator;
 pub mod reading;
+mod reading_index;
 mod reading_text;
 mod real_number;
 mod real_text;
 mod text;
 mod tokens;
+mod whole;
+mod writing_index;
 
 #[cfg(test)]
 mod tests;

@@ -3,7 +3,7 @@
 ghost use Rattle.std.specs.Prelude.{◌≡◌, ◌∷◌, ◌++◌, pos, OnOk, IfErr};
 ghost use Rattle.std.specs.Int.{w32, cast_unsigned, to_be_bytes};
 ghost use Rattle.subsetter_base.specs.declared.error.Error.TheVariants.{OutOfMemory};
-ghost use Rattle.subsetter_cffdata.specs.Numbers.{Integer as StoredInteger, integer, fixed, integer_at, integer_from, short_integer, fixed_number_at, dict_number_from, dict_number_at, charstring_number_from, charstring_number_at};
+ghost use Rattle.subsetter_cffdata.specs.Numbers.{Integer as StoredInteger, integer, fixed, integer_at, integer_from, short_integer, fixed_number_at, dict_number_from, dict_number_at, charstring_number_from, charstring_number_at, fixed_as_i32, in_i32, as_i32, as_u32};
 ghost use Rattle.subsetter_cffdata.specs.Reading.{Takes};
 ghost use Rattle.subsetter_cffdata.specs.Views.{number_of};
 
@@ -72,6 +72,16 @@ impl IntegerNumber {
     }
 }
 
+impl IntegerNumber {
+    // Every one fits.
+    #[tactic(auto, unfolding(crate::specs::Numbers::in_i32))]
+    fn as_i32(&self) -> Option<i32>
+        ensures { result ≡ in_i32 self.now.0 }
+    {
+        Some(self.0)
+    }
+}
+
 impl Writeable for IntegerNumber {
     ghost bytes_of = { λ z. integer z.0 };
 
@@ -110,6 +120,20 @@ impl FixedNumber {
         match reading::next_byte(r)? {
             255 => Some(FixedNumber(reading::next_i32(r)?)),
             _ => None,
+        }
+    }
+}
+
+impl FixedNumber {
+    // The whole number that this is, where it has no fraction.
+    #[tactic(auto, unfolding(crate::specs::Numbers::in_i32))]
+    fn as_i32(&self) -> Option<i32>
+        ensures { result ≡ fixed_as_i32 self.now.0 }
+    {
+        if self.0 % 65536 == 0 {
+            Some(self.0 / 65536)
+        } else {
+            None
         }
     }
 }
@@ -203,5 +227,25 @@ impl Number {
         ensures { number_of result ≡ StoredInteger (pos 1) }
     {
         Number::Integer(IntegerNumber(1))
+    }
+
+    /// The whole number that this is, where it has no fraction and fits.
+    #[tactic(auto, unfolding(crate::specs::Numbers::as_i32))]
+    pub fn as_i32(&self) -> Option<i32>
+        ensures { result ≡ as_i32 (number_of self.now) }
+    {
+        match self {
+            Number::Integer(integer) => integer.as_i32(),
+            Number::Real(real) => real.as_i32(),
+            Number::Fixed(fixed) => fixed.as_i32(),
+        }
+    }
+
+    /// The same, where it is not below zero.
+    #[tactic(auto, unfolding(crate::specs::Numbers::as_u32))]
+    pub fn as_u32(&self) -> Option<u32>
+        ensures { result ≡ as_u32 (number_of self.now) }
+    {
+        u32::try_from(self.as_i32()?).ok()
     }
 }

@@ -1,26 +1,32 @@
 //! The reals of a DICT (Technical Note 5176, section 4 "DICT Data", table 5).
 
-ghost use Rattle.std.specs.Prelude.{◌≡◌};
-ghost use Rattle.subsetter_cffdata.specs.Decimals.{real_at};
-ghost use Rattle.subsetter_cffdata.specs.Reading.{rest, Takes};
-ghost use Rattle.subsetter_cffdata.specs.Views.{decimal_of};
-ghost use Rattle.subsetter_cffdata.specs.Numbers.{real_number_at};
+ghost use Rattle.std.specs.Prelude.{◌≤◌, take};
+ghost use Rattle.subsetter_cffdata.specs.Decimals.{IsPlain};
 
 use crate::reading;
 use crate::reading_text::text_of;
 use crate::real_text::real_of_text;
+use crate::whole::whole_of;
 use subsetter_base::read::Reader;
 
-/// An exact decimal: a sign, at most 64 digits without zeros at the end, and the power of ten of the last digit.
+/// An exact decimal: a sign, at most 64 digits without zeros in front and at the end, and the power of ten of the last digit.
 #[derive(Clone, Copy, Debug)]
 pub struct RealNumber {
-    pub negative: bool,
-    pub digits: [u8; 64],
-    pub len: u8,
-    pub power: i32,
+    pub(crate) negative: bool,
+    pub(crate) digits: [u8; 64],
+    pub(crate) len: u8,
+    pub(crate) power: i32,
+    ghost within: { len ≤ 64 },
+    ghost plain: { IsPlain negative (take len digits) power },
 }
 
 impl RealNumber {
+    ghost use Rattle.std.specs.Prelude.{◌≡◌, length};
+    ghost use Rattle.subsetter_cffdata.specs.Decimals.{real_at};
+    ghost use Rattle.subsetter_cffdata.specs.Reading.{rest, Takes};
+    ghost use Rattle.subsetter_cffdata.specs.Views.{decimal_of};
+    ghost use Rattle.subsetter_cffdata.specs.Numbers.{real_number_at, real_as_i32};
+
     /// Reads a real; None where no byte 30 stands there, or the text behind it can't be read.
     #[tactic(auto, unfolding(crate::specs::Numbers::real_from))]
     pub fn parse(r: &mut Reader<'_>) -> Option<RealNumber>
@@ -42,5 +48,23 @@ impl RealNumber {
         let (text, len) = text_of(reading::tail(r))?;
         reading::pass(r, len);
         real_of_text(&text.characters[..text.len])
+    }
+
+    // The digits, the highest first.
+    pub(crate) fn digits(&self) -> &[u8]
+        ensures value { result.now ≡ take self.now.len self.now.digits }
+        ensures len { length result.now ≡ self.now.len }
+    {
+        &self.digits[..usize::from(self.len)]
+    }
+
+    /// The whole number that this is, where it has no fraction and fits.
+    pub fn as_i32(&self) -> Option<i32>
+        ensures { result ≡ real_as_i32 (decimal_of self.now) }
+    {
+        if self.power < 0 {
+            return None;
+        }
+        whole_of(self.negative, self.digits(), self.power as u32)
     }
 }

@@ -1,8 +1,8 @@
 //! What the text of a real means.
 
-ghost use Rattle.std.specs.Prelude.{◌≡◌, ◌+◌, ◌<◌, ◌≤◌, ◌++◌, [], length, take, pos, ◌-ℤ◌, ◌≤ℤ◌, negsuc, IfSome};
+ghost use Rattle.std.specs.Prelude.{◌≡◌, ◌+◌, ◌-◌, ◌<◌, ◌≤◌, ◌++◌, [], length, take, drop, pos, ◌-ℤ◌, ◌≤ℤ◌, negsuc, IfSome};
 ghost use Rattle.std.specs.Option.{option_map};
-ghost use Rattle.subsetter_cffdata.specs.Decimals.{digits, after_digits, sign, fraction, small_number, exponent_value, exponent, trimmed, decimal, unsigned_real, real_of};
+ghost use Rattle.subsetter_cffdata.specs.Decimals.{IsPlain, signed, number, stripped, digits, after_digits, sign, fraction, small_number, exponent_value, exponent, trimmed, decimal, unsigned_real, real_of};
 ghost use Rattle.subsetter_cffdata.specs.TextSteps.{shown};
 ghost use Rattle.subsetter_cffdata.specs.Views.{decimal_of};
 
@@ -23,6 +23,7 @@ fn split_sign(text: &[u8]) -> (bool, &[u8])
 // The digits in front, and what follows them.
 fn split_digits(text: &[u8]) -> (&[u8], &[u8])
     ensures front { result.0.now ≡ digits text.now }
+    ensures digits { digits result.0.now ≡ result.0.now }
     ensures behind { result.1.now ≡ after_digits text.now }
     ensures len { length result.0.now + length result.1.now ≡ length text.now }
 {
@@ -37,6 +38,7 @@ fn split_digits(text: &[u8]) -> (&[u8], &[u8])
 // The digits behind a point, and what follows.
 fn split_fraction(text: &[u8]) -> (&[u8], &[u8])
     ensures value { (result.0.now, result.1.now) ≡ fraction text.now }
+    ensures digits { digits result.0.now ≡ result.0.now }
     ensures len { length result.0.now ≤ length text.now }
 {
     match text {
@@ -115,8 +117,74 @@ fn trimmed_len(ds: &[u8]) -> usize
     len
 }
 
+// How many zeros stand in front.
+fn zeros_in_front(ds: &[u8]) -> usize
+    ensures within { result ≤ length ds.now }
+    ensures left { drop result ds.now ≡ stripped ds.now }
+{
+    for (i, d) in ds.iter().enumerate() {
+        if *d != 0 {
+            return i;
+        }
+    }
+    ds.len()
+}
+
+// The digits without the zeros in front and at the end, and how many stood at the end.
+fn without_outer_zeros(ds: &[u8]) -> (&[u8], usize)
+    ensures kept { result.0.now ≡ stripped (trimmed ds.now) }
+    ensures zeros { result.1 ≡ length ds.now - length (trimmed ds.now) }
+    ensures within { length result.0.now + result.1 ≤ length ds.now }
+{
+    let end = trimmed_len(ds);
+    let start = zeros_in_front(&ds[..end]);
+    (&ds[start..end], ds.len() - end)
+}
+
+// The decimal that plain digits are.
+fn plain_decimal(negative: bool, ds: &[u8], power: i32) -> RealNumber
+    requires room { length ds.now ≤ 64 }
+    requires plain { IsPlain negative ds.now power }
+    ensures { decimal_of result ≡ record { mantissa = signed negative (number ds.now); power = power } }
+{
+    let mut kept = Text::empty();
+    put_all(&mut kept, ds);
+    RealNumber {
+        negative,
+        digits: kept.characters,
+        len: kept.len as u8,
+        power,
+    }
+}
+
+/// The digits times a power of ten.
+pub fn decimal_from(negative: bool, ds: &[u8], power: i32) -> RealNumber
+    requires digits { digits ds.now ≡ ds.now }
+    requires room { length ds.now ≤ 64 }
+    requires high { power ≤ℤ pos 2147483000 }
+    ensures { decimal_of result ≡ decimal negative ds.now power }
+{
+    let (kept, zeros) = without_outer_zeros(ds);
+    if kept.len() == 0 {
+        return plain_decimal(false, &[], 0);
+    }
+    plain_decimal(negative, kept, power + zeros as i32)
+}
+
+// The power of ten of the last of so many digits behind the point.
+fn last_power(exponent: i32, count: usize) -> i32
+    requires low { negsuc 999 ≤ℤ exponent }
+    requires high { exponent ≤ℤ pos 1000 }
+    requires few { count ≤ 64 }
+    ensures { result ≡ exponent -ℤ pos count }
+{
+    exponent - count as i32
+}
+
 // The digits of both lists times a power of ten.
-fn decimal_from(negative: bool, front: &[u8], fraction: &[u8], exponent: i32) -> RealNumber
+fn decimal_of_both(negative: bool, front: &[u8], fraction: &[u8], exponent: i32) -> RealNumber
+    requires front { digits front.now ≡ front.now }
+    requires fraction { digits fraction.now ≡ fraction.now }
     requires room { length front.now + length fraction.now ≤ 64 }
     requires low { negsuc 999 ≤ℤ exponent }
     requires high { exponent ≤ℤ pos 1000 }
@@ -125,21 +193,8 @@ fn decimal_from(negative: bool, front: &[u8], fraction: &[u8], exponent: i32) ->
     let mut all = Text::empty();
     put_all(&mut all, front);
     put_all(&mut all, fraction);
-    let len = trimmed_len(&all.characters[..all.len]);
-    if len == 0 {
-        return RealNumber {
-            negative: false,
-            digits: [0; 64],
-            len: 0,
-            power: 0,
-        };
-    }
-    RealNumber {
-        negative,
-        digits: all.characters,
-        len: len as u8,
-        power: exponent - fraction.len() as i32 + (all.len - len) as i32,
-    }
+    let power = last_power(exponent, fraction.len());
+    decimal_from(negative, &all.characters[..all.len], power)
 }
 
 // The value of a text without a sign.
@@ -154,7 +209,7 @@ fn unsigned_of(negative: bool, text: &[u8]) -> Option<RealNumber>
         return None;
     }
     let exponent = exponent_of(rest)?;
-    Some(decimal_from(negative, front, fraction, exponent))
+    Some(decimal_of_both(negative, front, fraction, exponent))
 }
 
 /// The value of a text.
