@@ -1,0 +1,130 @@
+-- What reading and writing bytes has in common: numbers written and read again, and parts of joined lists.
+--   be-u8, be-u16, be-u32        a number that was written is read
+--   be-append, be-fits           the number of joined bytes; a number of n bytes is below 256 ^ n
+--   range-left, range-right, range-middle, range-whole, range-none, range-length
+--                                parts of `a ++ b`, a part between two others, no part past the end
+--   number_at                    a number between two other parts
+--   range-fits, range-take_drop  where there is a part, and what it is
+--   range-drop                   a part of what is left behind a place
+--   flat_map-bytes               an array of bytes, as it is written
+use Rattle.std.proofs.Common.{◌≡◌, ℕ, zero, suc, ◌+◌, ◌-◌, ◌*◌, ◌^◌, ◌<◌, ◌≤◌, Bool, true, false, cond, leb, List, [], ◌∷◌, ◌++◌, length, take, drop, Option, Some, None, refl, sym, ap, ◌∙◌, inl, inr, lit<, append_assoc, add_assoc, arith}
+use Rattle.std.specs.Prelude.{flat_map, slice_index}
+use Rattle.std.specs.Option.{option_map}
+use Rattle.std.specs.Int.{w16, w32, to_be_bytes}
+use Rattle.std.proofs.lemmas.Bool.{le-leb, lt-leb, leb-true, cases_lt}
+use Rattle.std.proofs.lemmas.Nat.{from_be_bytes-to_be_bytes_2, from_be_bytes-to_be_bytes_4, pow-add}
+use Rattle.std.proofs.lemmas.List.{append-nil, take_at, drop_at, length-append, length-take-le, length-drop, drop-append-le, take-append-le, take-append-drop}
+use Rattle.std.proofs.Math.Seq.{drop-append-add}
+use Rattle.std.proofs.Math.Nat.{mul_assoc, add-mul, mul-le-mul_right}
+use Rattle.subsetter_base.specs.Bytes.{be, range, number, IsBytes}
+
+-- ---- numbers
+
+leb-shift : (n a b : ℕ) {m : ℕ} → m ≡ n + a → leb m (n + b) ≡ leb a b
+leb-shift n a b {m} e = elim (cases_lt b a) [
+  | inl gt ↦ lt-leb m (n + b) (omega arith) ∙ sym (lt-leb a b gt)
+  | inr le ↦ le-leb m (n + b) (omega arith) ∙ sym (le-leb a b le)
+]
+
+joined : (x p q a b : ℕ) → x * (p * q) + (a * q + b) ≡ (x * p + a) * q + b
+joined x p q a b = omega (arith, mul_assoc x p q, add-mul (x * p) a q)
+
+pub be-u8 : (n : ℕ) → be (n ∷ []) ≡ n
+be-u8 n = omega arith
+
+pub be-u16 : (n : ℕ) → n < 2 ^ 16 → be (to_be_bytes w16 n) ≡ n
+be-u16 n lt = omega (arith, from_be_bytes-to_be_bytes_2 n lt)
+
+pub be-u32 : (n : ℕ) → n < 2 ^ 32 → be (to_be_bytes w32 n) ≡ n
+be-u32 n lt = omega (arith, from_be_bytes-to_be_bytes_4 n lt)
+
+-- ---- parts
+
+abbrev part : Bool → List ℕ → Option (List ℕ)
+part b bytes = cond b (Some bytes) None
+
+-- where there are as many bytes, they are the part
+pub range-take_drop : (bytes : List ℕ) (at size : ℕ) → at + size ≤ length bytes → range bytes at size ≡ Some (take size (drop at bytes))
+range-take_drop bytes at size h = ap (λ b. part b (take size (drop at bytes))) (le-leb _ _ h)
+
+found : (b : Bool) (x y : List ℕ) → part b x ≡ Some y → (b ≡ true) × (y ≡ x)
+found true x y e = (refl, cc)
+found false x y e = absurd cc
+
+-- where a part is found, there are as many bytes
+pub range-fits : (bytes part : List ℕ) (at size : ℕ) → range bytes at size ≡ Some part → at + size ≤ length bytes
+range-fits bytes p at size e = leb-true _ _ (found (leb (at + size) (length bytes)) (take size (drop at bytes)) p e).0
+
+pub range-length : (bytes part : List ℕ) (at size : ℕ) → range bytes at size ≡ Some part → length part ≡ size
+range-length bytes p at size e =
+    let is = (found (leb (at + size) (length bytes)) (take size (drop at bytes)) p e).1 in
+    let fits = range-fits bytes p at size e in
+    ap length is ∙ length-take-le size (drop at bytes) (omega (arith, length-drop at bytes))
+
+unfit : (b : Bool) (x : List ℕ) → (b ≡ true → ⊥) → part b x ≡ None
+unfit true x h = absurd (h refl)
+unfit false x h = refl
+
+pub range-none : (bytes : List ℕ) (at size : ℕ) → length bytes < at + size → range bytes at size ≡ None
+range-none bytes at size h = unfit (leb (at + size) (length bytes)) (take size (drop at bytes)) (λ e. let le = leb-true (at + size) (length bytes) e in omega arith)
+
+-- a part between two others
+pub range-middle : (bytes pre mid post : List ℕ) (at size : ℕ) → bytes ≡ pre ++ (mid ++ post) → at ≡ length pre → size ≡ length mid → range bytes at size ≡ Some mid
+range-middle bytes pre mid post at size is a s =
+    let enough : at + size ≤ length bytes = omega (arith, ap length is, length-append pre (mid ++ post), length-append mid post) in
+    let there : take size (drop at bytes) ≡ mid = ap (λ (l : List ℕ). take size (drop at l)) is ∙ ap (take size) (drop_at pre (mid ++ post) at (sym a)) ∙ take_at mid post size (sym s) in
+    range-take_drop bytes at size enough ∙ ap Some there
+
+pub number_at : (bytes pre mid post : List ℕ) (at size n : ℕ) → bytes ≡ pre ++ (mid ++ post) → at ≡ length pre → size ≡ length mid → be mid ≡ n → number bytes at size ≡ Some n
+number_at bytes pre mid post at size n is a s v = ap (option_map be) (range-middle bytes pre mid post at size is a s) ∙ ap Some v
+
+pub range-whole : (bytes : List ℕ) (size : ℕ) → size ≡ length bytes → range bytes 0 size ≡ Some bytes
+range-whole bytes size s = range-middle bytes [] bytes [] 0 size (sym (append-nil bytes)) refl s
+
+-- ---- arrays of bytes
+
+pub flat_map-bytes : (bytes : List ℕ) → flat_map (λ b. b ∷ []) bytes ≡ bytes
+flat_map-bytes [] = refl
+flat_map-bytes (b ∷ bytes) = ap (λ l. b ∷ l) (flat_map-bytes bytes)
+
+-- ---- joined lists
+
+-- a part that ends before the join, or begins behind it
+pub range-left : (a b part : List ℕ) (at size : ℕ) → range a at size ≡ Some part → range (a ++ b) at size ≡ Some part
+range-left a b p at size e =
+    let fits = range-fits a p at size e in
+    let is = (found (leb (at + size) (length a)) (take size (drop at a)) p e).1 in
+    let here : drop at (a ++ b) ≡ drop at a ++ b = drop-append-le at a b (omega arith) in
+    let there : take size (drop at a ++ b) ≡ take size (drop at a) = take-append-le size (drop at a) b (omega (arith, length-drop at a)) in
+    range-take_drop (a ++ b) at size (omega (arith, length-append a b)) ∙ ap Some (ap (take size) here ∙ there ∙ sym is)
+
+pub range-right : (a b : List ℕ) (at size : ℕ) → range (a ++ b) (length a + at) size ≡ range b at size
+range-right a b at size =
+    let same : drop (length a + at) (a ++ b) ≡ drop at b = drop-append-add a b at in
+    let test : leb (length a + at + size) (length (a ++ b)) ≡ leb (at + size) (length b) = ap (leb (length a + at + size)) (length-append a b) ∙ leb-shift (length a) (at + size) (length b) (add_assoc (length a) at size) in
+    ap (λ (l : List ℕ). part (leb (length a + at + size) (length (a ++ b))) (take size l)) same ∙ ap (λ t. part t (take size (drop at b))) test
+
+-- ---- joined numbers
+
+pub be-append : (a b : List ℕ) → be (a ++ b) ≡ be a * 256 ^ length b + be b
+be-append [] b = omega arith
+be-append (x ∷ a) b =
+    let len : 256 ^ length (a ++ b) ≡ 256 ^ length a * 256 ^ length b = ap (λ (k : ℕ). 256 ^ k) (length-append a b) ∙ pow-add 256 (length a) (length b) in
+    let rest = be-append a b in
+    ap (λ (k : ℕ). x * k + be (a ++ b)) len ∙ ap (λ (k : ℕ). x * (256 ^ length a * 256 ^ length b) + k) rest ∙ joined x (256 ^ length a) (256 ^ length b) (be a) (be b)
+
+pub be-fits : (bytes : List ℕ) → IsBytes bytes → be bytes < 256 ^ length bytes
+be-fits [] all = lit< tt
+be-fits (b ∷ bytes) all =
+    let first : b < 256 = all 0 in
+    let rest = be-fits bytes (λ i. all (suc i)) in
+    let power : 256 ^ length (b ∷ bytes) ≡ 256 * 256 ^ length bytes = grind arith in
+    let whole : (b + 1) * 256 ^ length bytes ≤ 256 * 256 ^ length bytes = mul-le-mul_right (256 ^ length bytes) (omega arith) in
+    omega (arith, power, whole, rest, add-mul b 1 (256 ^ length bytes))
+
+-- a part of what is left behind a place
+pub range-drop : (bytes : List ℕ) (k at size : ℕ) → k ≤ length bytes → range (drop k bytes) at size ≡ range bytes (k + at) size
+range-drop bytes k at size h =
+    let len : length (take k bytes) ≡ k = length-take-le k bytes h in
+    let whole : take k bytes ++ drop k bytes ≡ bytes = take-append-drop k bytes in
+    sym (range-right (take k bytes) (drop k bytes) at size) ∙ ap (λ (l : List ℕ). range l (length (take k bytes) + at) size) whole ∙ ap (λ (n : ℕ). range bytes (n + at) size) len

@@ -1,0 +1,132 @@
+//! Names of tables.
+
+ghost use Rattle.std.specs.Prelude.{◌≡◌, ◌++◌, length, Option, Some, MatchResult, codes};
+ghost use Rattle.subsetter_base.specs.Texts.{tag_text};
+
+use crate::error::Error;
+use crate::read::{Readable, Reader};
+use crate::write::{Writeable, Writer};
+use std::fmt;
+use std::str::FromStr;
+
+/// The four bytes that name a table, as in the table directory of OpenType.
+#[derive(Clone, Copy, PartialEq, Eq, PartialOrd, Ord, Hash)]
+pub struct Tag([u8; 4]);
+
+impl Tag {
+    pub const HEAD: Tag = Tag(*b"head");
+
+    pub const HHEA: Tag = Tag(*b"hhea");
+
+    pub const HMTX: Tag = Tag(*b"hmtx");
+
+    pub const MAXP: Tag = Tag(*b"maxp");
+
+    pub const NAME: Tag = Tag(*b"name");
+
+    pub const POST: Tag = Tag(*b"post");
+
+    pub const GLYF: Tag = Tag(*b"glyf");
+
+    pub const LOCA: Tag = Tag(*b"loca");
+
+    pub const CVT: Tag = Tag(*b"cvt ");
+
+    pub const FPGM: Tag = Tag(*b"fpgm");
+
+    pub const PREP: Tag = Tag(*b"prep");
+
+    pub const CFF: Tag = Tag(*b"CFF ");
+
+    pub const CFF2: Tag = Tag(*b"CFF2");
+
+    /// The tag of four bytes.
+    pub fn new(tag: &[u8; 4]) -> Self
+        ensures { result.0 ≡ tag.now }
+    {
+        Self(*tag)
+    }
+
+    /// The four bytes.
+    pub fn get(&self) -> &[u8; 4]
+        ensures { result.now ≡ self.now.0 }
+    {
+        &self.0
+    }
+
+    /// The bytes as text, or three dots.
+    #[tactic(auto, using(crate::proofs::TextLemmas::text_is, crate::proofs::TextLemmas::dots_are))]
+    fn text(&self) -> &str
+        ensures { result.now ≡ tag_text self.now.0 }
+    {
+        match std::str::from_utf8(&self.0) {
+            Ok(text) => text,
+            Err(_) => "...",
+        }
+    }
+}
+
+impl Readable<'_> for Tag {
+    const SIZE: usize = 4;
+
+    ghost SIZE = { 4 };
+
+    ghost value_of = { λ bytes. Some (record { 0 = bytes }) };
+
+    fn read(r: &mut Reader<'_>) -> Option<Self> {
+        Some(Tag(r.read::<[u8; 4]>()?))
+    }
+}
+
+impl Writeable for Tag {
+    ghost bytes_of = { λ tag. tag.0 };
+
+    fn write(&self, w: &mut Writer) -> Result<(), Error> {
+        w.extend(&self.0)
+    }
+}
+
+impl FromStr for Tag {
+    type Err = TagLengthError;
+
+    ghost from_str_gives = { λ text r. MatchResult r (λ tag. tag.0 ≡ text) (λ _. ¬ (length text ≡ 4)) };
+
+    fn from_str(s: &str) -> Result<Self, TagLengthError> {
+        let bytes = s.as_bytes();
+        if bytes.len() != 4 {
+            return Err(TagLengthError);
+        }
+        Ok(Tag([bytes[0], bytes[1], bytes[2], bytes[3]]))
+    }
+}
+
+/// Prints the bytes as text, or three dots where they aren't UTF-8.
+impl fmt::Display for Tag {
+    ghost output = { λ tag. Some (tag_text tag.0) };
+
+    fn fmt<W: fmt::Write>(&self, f: &mut fmt::Formatter<W>) -> fmt::Result {
+        f.pad(self.text())
+    }
+}
+
+impl fmt::Debug for Tag {
+    ghost debug_output = { λ tag. Some (codes "Tag(" ++ tag_text tag.0 ++ codes ")") };
+
+    fn fmt<W: fmt::Write>(&self, f: &mut fmt::Formatter<W>) -> fmt::Result {
+        write!(f, "Tag({self})")
+    }
+}
+
+/// A text that was to be a tag is not four bytes long.
+#[derive(Clone, Copy, Debug, PartialEq, Eq)]
+pub struct TagLengthError;
+
+impl fmt::Display for TagLengthError {
+    ghost output = { λ _. Some (codes "tag is not four bytes") };
+
+    fn fmt<W: fmt::Write>(&self, f: &mut fmt::Formatter<W>) -> fmt::Result {
+        f.write_str("tag is not four bytes")
+    }
+}
+
+impl std::error::Error for TagLengthError {}
