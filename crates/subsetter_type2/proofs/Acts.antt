@@ -1,11 +1,9 @@
 -- What an act leaves, and that the bytes of its event make it again, whatever the subroutines.
-use Rattle.std.proofs.Common.{◌≡◌, ℕ, zero, suc, ◌+◌, ◌-◌, ◌*◌, ◌/◌, ◌<◌, ◌≤◌, List, [], ◌∷◌, ◌++◌, length, take, drop, Option, Some, None, Bool, true, false, refl, sym, ap, ◌∙◌, subst, arith, append_assoc, append-nil, length-append, rules}
+use Rattle.std.proofs.Common.{◌≡◌, ℕ, zero, suc, ◌+◌, ◌-◌, ◌/◌, ◌<◌, ◌≤◌, List, [], ◌∷◌, ◌++◌, length, take, Option, Some, None, Bool, true, false, refl, ap, ◌∙◌, arith, length-append}
 use Rattle.std.proofs.lemmas.List.{take_at, drop_at, length-take, length-take-le}
-use Rattle.std.proofs.lemmas.Bool.{le-leb, lt-ltb}
+use Rattle.std.proofs.lemmas.Bool.{le-leb}
 use Rattle.std.proofs.lemmas.Bool.Decides.{nat_tests}
-use Rattle.std.specs.Prelude.{nat_lt, nat_le, if◌then◌else◌, ◌==◌, ◌||◌, slice_get}
-use Rattle.std.specs.Option.{option_and_then}
-use Rattle.subsetter_base.specs.declared.error.Error.TheVariants.{CFFError, Unimplemented}
+use Rattle.std.specs.Prelude.{nat_lt, nat_le, if◌then◌else◌, ◌==◌, ◌||◌}
 use Rattle.subsetter_cffdata.specs.declared.charstring_number.CharStringNumber.{CharStringNumber}
 use Rattle.subsetter_cffdata.specs.declared.operator.Operator.{Operator}
 use Rattle.subsetter_cffdata.specs.declared.operator.OperatorType.{OperatorType}
@@ -15,8 +13,8 @@ use Rattle.subsetter_type2.specs.declared.token.Token.TheVariants.{Operand, Oper
 use Rattle.subsetter_type2.specs.declared.token.Effect.{Effect}
 use Rattle.subsetter_type2.specs.declared.token.Effect.TheVariants.{CountsStems, Draws, CallsLocal, CallsGlobal, Returns, Ends, Masks}
 use Rattle.subsetter_cffdata.specs.CharStringNumber.{NumberFits, FitsIn, number_at}
-use Rattle.subsetter_type2.specs.Token.{token_of, number_token, two_byte_token, effect_of, type_effect, one_byte_effect, two_byte_effect, one_byte, two_byte}
-use Rattle.subsetter_type2.specs.Machine.{Library, Registers, Event, Act, Does, Fails, Lead, On, Into, Back, Over, push, draw, stems_after, count_stems, take_mask, mask, enter, call, end, operate, act, act_on, act_at, subroutine, last_operand, but_last}
+use Rattle.subsetter_type2.specs.Token.{token_of, number_token, two_byte_token, effect_of, type_effect, one_byte_effect, two_byte_effect, one_byte}
+use Rattle.subsetter_type2.specs.Machine.{Library, Registers, Event, Act, Does, Fails, Lead, On, Into, Back, Over, draw, stems_after, take_mask, mask, enter, operate, act, act_on, act_at}
 use Rattle.subsetter_cffdata.proofs.CharStringNumbers.{number_fits}
 use Rattle.subsetter_cffdata.specs.Views.{operator_of, type_bytes}
 use Rattle.subsetter_type2.proofs.Replay.{FitAll}
@@ -109,19 +107,20 @@ mask_loud : (library : Library) (op : Operator) (rest : List ℕ) (r : Registers
 mask_loud library op rest r e =
     if_class r (r.mask_len == 0) _ _
     (λ z. if_class r (nat_le (stems_after r) 65535) _ _
-      (λ h. let r1 : Registers = record r { stems = stems_after r; mask_len = (stems_after r + 7) / 8 } in
-        if_class r (nat_le r1.mask_len (length rest)) _ _
-        (λ t. record { operands = refl; emptied = refl; onward = tt; again = λ l x. act_operator l op Masks _ r e ∙ rw (z, h) (take_again op rest x r1 t) })
-        (λ _. tt))
-      (λ _. tt))
+    (λ h. let r1 : Registers = record r { stems = stems_after r; mask_len = (stems_after r + 7) / 8 } in
+    if_class r (nat_le r1.mask_len (length rest)) _ _
+    (λ t. record { operands = refl; emptied = refl; onward = tt; again = λ l x. act_operator l op Masks _ r e ∙ rw (z, h) (take_again op rest x r1 t) })
+    (λ _. tt))
+    (λ _. tt))
     (λ z. if_class r (nat_le r.mask_len (length rest)) _ _
-      (λ t. record { operands = refl; emptied = refl; onward = tt; again = λ l x. act_operator l op Masks _ r e ∙ rw z (take_again op rest x r t) })
-      (λ _. tt))
+    (λ t. record { operands = refl; emptied = refl; onward = tt; again = λ l x. act_operator l op Masks _ r e ∙ rw z (take_again op rest x r t) })
+    (λ _. tt))
 
 class_call : (r : Registers) (entries : List (Option (List ℕ))) (rest : List ℕ) (body : Option (List ℕ)) → Sound r → Class r (enter body rest r)
 class_call r entries rest None s = tt
 class_call r entries rest (Some body) s = record {
-  stems = refl; mask_len = refl;
+  stems = refl;
+  mask_len = refl;
   one_more = omega (arith, length-take {A = CharStringNumber});
   sound = record { few = omega (arith, s.few, length-take {A = CharStringNumber}); fit = fit_front r.operands (length r.operands - 1) s.fit };
 }
@@ -174,7 +173,8 @@ class_token : (library : Library) (token : Token) (rest : List ℕ) (r : Registe
 class_token library (Operand n) rest r f s =
     if_class r (nat_lt (length r.operands) 48) _ _
     (λ h. let room : length r.operands < 48 = grind (arith, nat_tests) in record {
-      stems = refl; mask_len = refl;
+      stems = refl;
+      mask_len = refl;
       one_more = omega (arith, length-append r.operands (n ∷ []));
       sound = record { few = omega (arith, length-append r.operands (n ∷ [])); fit = fit_more r.operands n s.fit f };
     })

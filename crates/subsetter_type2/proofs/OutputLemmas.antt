@@ -1,19 +1,14 @@
 -- The operands at the end of the output.
-use Rattle.std.proofs.lemmas.Grind.{common_steps}
 use Rattle.std.proofs.lemmas.Option.{slice_get-get_or}
 use Rattle.std.proofs.lemmas.List.{get_or_at}
 use Rattle.subsetter_type2.specs.Machine.{last_operand, but_last}
-use Rattle.std.specs.Prelude.{slice_get}
-use Rattle.std.proofs.Common.{◌≡◌, ℕ, ◌+◌, ◌-◌, ◌<◌, ◌≤◌, Some, List, [], ◌∷◌, ◌++◌, length, take, get_or, map, refl, sym, ap, ◌∙◌, subst, arith, append_assoc, append-nil, length-append, add_assoc}
+use Rattle.std.proofs.Common.{◌≡◌, ℕ, ◌+◌, ◌-◌, ◌<◌, Some, List, [], ◌∷◌, ◌++◌, length, take, get_or, refl, sym, ap, ◌∙◌, subst, arith, append_assoc, append-nil, length-append}
 use Rattle.std.proofs.lemmas.List.{take_at, map-append}
 use Rattle.std.proofs.lemmas.Grind.{flat_map-append}
-use Rattle.std.specs.List.{flat_map}
-use Rattle.subsetter_cffdata.specs.declared.charstring_number.CharStringNumber.{CharStringNumber}
 use Rattle.subsetter_type2.specs.declared.output.Operand.{Operand}
 use Rattle.subsetter_cffdata.specs.CharStringNumber.{written}
 use Rattle.subsetter_type2.specs.Flat.{flat_operands}
 use Rattle.subsetter_type2.specs.OutputView.{values, settled_of, written_of, StandFrom, EndsWith}
-use Rattle.subsetter_type2.specs.Output.{Written}
 
 pub values-append : (xs ys : List Operand) → values (xs ++ ys) ≡ values xs ++ values ys
 values-append xs ys = map-append _ xs ys
@@ -52,7 +47,7 @@ stand_last at (p ∷ ps) o h =
 pub ends_push : (bytes settled : List ℕ) (operands : List Operand) (o : Operand) → o.place ≡ length bytes → EndsWith bytes settled operands → EndsWith (bytes ++ written o.value) settled (operands ++ o ∷ [])
 ends_push bytes settled operands o e h = record {
   bytes_are = ap (λ b. b ++ written o.value) h.bytes_are ∙ append_assoc settled _ _
-    ∙ ap (λ b. settled ++ b) (ap (λ w. flat_operands (values operands) ++ w) (sym (append-nil (written o.value))) ∙ sym (flat-values-append operands (o ∷ [])));
+      ∙ ap (λ b. settled ++ b) (ap (λ w. flat_operands (values operands) ++ w) (sym (append-nil (written o.value))) ∙ sym (flat-values-append operands (o ∷ [])));
   places = stand_more (length settled) operands o h.places (e ∙ ap length h.bytes_are ∙ length-append settled _);
 }
 
@@ -60,11 +55,11 @@ ends_push bytes settled operands o e h = record {
 pub ends_pop : (bytes settled : List ℕ) (operands : List Operand) (o : Operand) → EndsWith bytes settled (operands ++ o ∷ []) → EndsWith (take o.place bytes) settled operands
 ends_pop bytes settled operands o h = record {
   bytes_are =
-    let before = settled ++ flat_operands (values operands) in
-    let whole : bytes ≡ before ++ flat_operands (values (o ∷ [])) =
-        h.bytes_are ∙ ap (λ b. settled ++ b) (flat-values-append operands (o ∷ [])) ∙ sym (append_assoc settled _ _) in
-    let at : length before ≡ o.place = length-append settled _ ∙ sym (stand_last (length settled) operands o h.places) in
-    ap (take o.place) whole ∙ take_at before _ o.place at;
+      let before = settled ++ flat_operands (values operands) in
+      let whole : bytes ≡ before ++ flat_operands (values (o ∷ [])) =
+      h.bytes_are ∙ ap (λ b. settled ++ b) (flat-values-append operands (o ∷ [])) ∙ sym (append_assoc settled _ _) in
+      let at : length before ≡ o.place = length-append settled _ ∙ sym (stand_last (length settled) operands o h.places) in
+      ap (take o.place) whole ∙ take_at before _ o.place at;
   places = stand_front (length settled) operands o h.places;
 }
 
@@ -82,7 +77,7 @@ last_after_pop operands operands' o e =
     let n : length (values operands') ≡ length (values operands) - 1 = omega (arith, ap length all, length-append (values operands') (o.value ∷ [])) in
     let within : length (values operands) - 1 < length (values operands) = omega (arith, ap length all, length-append (values operands') (o.value ∷ [])) in
     sym (slice_get-get_or (values operands) (length (values operands) - 1) o.value within
-      ∙ ap Some (ap (λ xs. get_or xs (length (values operands) - 1) o.value) all ∙ get_or_at (values operands') o.value [] o.value _ n))
+    ∙ ap Some (ap (λ xs. get_or xs (length (values operands) - 1) o.value) all ∙ get_or_at (values operands') o.value [] o.value _ n))
 
 pub front_after_pop : (operands operands' : List Operand) (o : Operand) → operands ≡ operands' ++ o ∷ [] → values operands' ≡ but_last (values operands)
 front_after_pop operands operands' o e =

@@ -1,15 +1,13 @@
 -- The bytes of a trace have that trace, with no subroutines, in no more tokens.
-use Rattle.std.proofs.Common.{◌≡◌, ℕ, zero, suc, ◌+◌, ◌-◌, ◌<◌, ◌≤◌, List, [], ◌∷◌, ◌++◌, length, Option, Some, None, Ok, Err, Bool, true, false, refl, sym, ap, ◌∙◌, subst, arith, append_assoc, append-nil, length-append, rules}
+use Rattle.std.proofs.Common.{◌≡◌, ℕ, zero, suc, ◌+◌, ◌-◌, ◌<◌, ◌≤◌, List, [], ◌∷◌, ◌++◌, length, Option, Some, None, Ok, Bool, true, false, refl, sym, ap, ◌∙◌, subst, arith, append_assoc, append-nil}
 use Rattle.std.proofs.lemmas.Bool.{le-leb}
 use Rattle.std.specs.Prelude.{nat_le, if◌then◌else◌}
 use Rattle.subsetter_cffdata.specs.declared.charstring_number.CharStringNumber.{CharStringNumber}
-use Rattle.subsetter_cffdata.specs.declared.operator.Operator.{Operator}
-use Rattle.subsetter_cffdata.specs.declared.operator.OperatorType.{OperatorType}
 use Rattle.subsetter_base.specs.declared.error.Error.TheVariants.{CFFError}
 use Rattle.subsetter_cffdata.specs.Views.{operator_of}
 use Rattle.subsetter_type2.specs.Token.{token_of}
 use Rattle.subsetter_type2.specs.Flat.{flat_operands, flat_event, flat_events, flat, bytes_of, flat_form}
-use Rattle.subsetter_type2.specs.Machine.{Library, Registers, State, Event, Trace, Act, Does, Fails, Step, Goes, Faults, Lead, On, Into, Back, Over, Outcome, Finishes, Stops, unended, follow, said_also, act_at, move, rests_after, run, outcome, start}
+use Rattle.subsetter_type2.specs.Machine.{Library, Registers, State, Event, Trace, Act, Does, Fails, Goes, Faults, Lead, On, Into, Back, Over, Outcome, Finishes, Stops, unended, follow, said_also, act_at, move, rests_after, run, outcome, start}
 use Rattle.subsetter_type2.proofs.Runs.{run_more, run_over, run_out}
 use Rattle.subsetter_type2.proofs.RecursionLemmas.{unended_front}
 use Rattle.subsetter_type2.proofs.Replay.{one, operands_run, FitAll}
@@ -21,7 +19,7 @@ emptied r = record { operands = []; stems = r.stems; mask_len = r.mask_len }
 -- the events and the operands that are to come, as bytes, run from emptied registers
 pub record Plays (r : Registers) (n : ℕ) (events : List Event) (left : List CharStringNumber) : Type 0 where
   pub by : (library : Library) (depth m : ℕ) (said : List Event) → 1 ≤ depth → n + length r.operands ≤ m
-    → run library depth m said (one (flat_events events ++ flat_operands left) (emptied r)) ≡ Finishes (record { events = said ++ events; left = left })
+      → run library depth m said (one (flat_events events ++ flat_operands left) (emptied r)) ≡ Finishes (record { events = said ++ events; left = left })
 
 pub record Ahead (said : List Event) (r : Registers) (n : ℕ) (u : Trace) : Type 0 where
   pub events : List Event
@@ -30,14 +28,16 @@ pub record Ahead (said : List Event) (r : Registers) (n : ℕ) (u : Trace) : Typ
 
 -- nothing left to run
 plays_over : (r : Registers) (n : ℕ) → Sound r → Plays r n [] r.operands
-plays_over r n s = record { by = λ library depth m said d b.
-  let k : length r.operands + (m - length r.operands) ≡ m = omega arith in
-  let bytes : flat_operands r.operands ≡ flat_operands r.operands ++ [] = sym (append-nil (flat_operands r.operands)) in
-  ap (λ x. run library depth m said (one x (emptied r))) bytes
-  ∙ ap (λ x. run library depth x said (one (flat_operands r.operands ++ []) (emptied r))) (sym k)
-  ∙ operands_run library depth (m - length r.operands) said r.operands [] (emptied r) d s.fit (omega (arith, s.few))
-  ∙ run_over library depth (m - length r.operands) said (one [] r) refl
-  ∙ ap (λ x. Finishes (record { events = x; left = r.operands })) (sym (append-nil said)) }
+plays_over r n s = record {
+  by = λ library depth m said d b.
+      let k : length r.operands + (m - length r.operands) ≡ m = omega arith in
+      let bytes : flat_operands r.operands ≡ flat_operands r.operands ++ [] = sym (append-nil (flat_operands r.operands)) in
+      ap (λ x. run library depth m said (one x (emptied r))) bytes
+      ∙ ap (λ x. run library depth x said (one (flat_operands r.operands ++ []) (emptied r))) (sym k)
+      ∙ operands_run library depth (m - length r.operands) said r.operands [] (emptied r) d s.fit (omega (arith, s.few))
+      ∙ run_over library depth (m - length r.operands) said (one [] r) refl
+      ∙ ap (λ x. Finishes (record { events = x; left = r.operands })) (sym (append-nil said));
+}
 
 ahead_over : (said : List Event) (r : Registers) (n : ℕ) (u : Trace) → Sound r → Finishes (record { events = said; left = r.operands }) ≡ Finishes u → Ahead said r n u
 ahead_over said r n u s e =
@@ -52,12 +52,12 @@ some_act library (b ∷ bytes) r event r' lead e = omega arith
 
 -- the operands and the operator of an event
 event_run : (library : Library) (depth m : ℕ) (said : List Event) (r r' : Registers) (e : Event) (lead : Lead) (x : List ℕ) → 1 ≤ depth → Sound r → Loud r e r' lead
-  → run library depth (length r.operands + suc m) said (one (flat_event e ++ x) (emptied r)) ≡ follow (move depth [] (Does (Some e) r' (lead_with lead x))) said (run library depth m)
+    → run library depth (length r.operands + suc m) said (one (flat_event e ++ x) (emptied r)) ≡ follow (move depth [] (Does (Some e) r' (lead_with lead x))) said (run library depth m)
 event_run library depth m said r r' e lead x d s l =
     let bytes : flat_event e ++ x ≡ flat_operands r.operands ++ (operator_of e.operator ++ (e.mask ++ x)) =
-        append_assoc (flat_operands e.operands) (operator_of e.operator ++ e.mask) x
-        ∙ ap (λ ns. flat_operands ns ++ (operator_of e.operator ++ e.mask ++ x)) l.operands
-        ∙ ap (λ y. flat_operands r.operands ++ y) (append_assoc (operator_of e.operator) e.mask x) in
+    append_assoc (flat_operands e.operands) (operator_of e.operator ++ e.mask) x
+    ∙ ap (λ ns. flat_operands ns ++ (operator_of e.operator ++ e.mask ++ x)) l.operands
+    ∙ ap (λ y. flat_operands r.operands ++ y) (append_assoc (operator_of e.operator) e.mask x) in
     let rest = operator_of e.operator ++ (e.mask ++ x) in
     ap (λ y. run library depth (length r.operands + suc m) said (one y (emptied r))) bytes
     ∙ operands_run library depth (suc m) said r.operands rest (emptied r) d s.fit (omega (arith, s.few))
@@ -75,38 +75,44 @@ over_within depth e r = let z : 0 ≤ depth = omega arith in rw (le-leb 0 depth 
 
 -- an event, and what comes after it
 plays_on : (r r' : Registers) (e : Event) (rest : List ℕ) (n : ℕ) (events : List Event) (left : List CharStringNumber) → Sound r → Loud r e r' (On rest) → Plays r' n events left → Plays r (suc n) (e ∷ events) left
-plays_on r r' e rest n events left s l p = record { by = λ library depth m said d b.
-  let m' = m - length r.operands - 1 in
-  let x = flat_events events ++ flat_operands left in
-  let k : m ≡ length r.operands + suc m' = omega arith in
-  let none : length r'.operands ≡ 0 = ap length l.emptied in
-  let enough : n + length r'.operands ≤ m' = omega arith in
-  ap (λ y. run library depth m said (one y (emptied r))) (append_assoc (flat_event e) (flat_events events) (flat_operands left))
-  ∙ ap (λ y. run library depth y said (one (flat_event e ++ x) (emptied r))) k
-  ∙ event_run library depth m' said r r' e (On rest) x d s l
-  ∙ ap (λ st. follow st said (run library depth m')) (one_within depth e r' x d)
-  ∙ ap (λ y. run library depth m' (said ++ e ∷ []) (one x y)) (is_emptied r' l.emptied)
-  ∙ p.by library depth m' (said ++ e ∷ []) d enough
-  ∙ ap (λ y. Finishes (record { events = y; left = left })) (append_assoc said (e ∷ []) events) }
+plays_on r r' e rest n events left s l p = record {
+  by = λ library depth m said d b.
+      let m' = m - length r.operands - 1 in
+      let x = flat_events events ++ flat_operands left in
+      let k : m ≡ length r.operands + suc m' = omega arith in
+      let none : length r'.operands ≡ 0 = ap length l.emptied in
+      let enough : n + length r'.operands ≤ m' = omega arith in
+      ap (λ y. run library depth m said (one y (emptied r))) (append_assoc (flat_event e) (flat_events events) (flat_operands left))
+      ∙ ap (λ y. run library depth y said (one (flat_event e ++ x) (emptied r))) k
+      ∙ event_run library depth m' said r r' e (On rest) x d s l
+      ∙ ap (λ st. follow st said (run library depth m')) (one_within depth e r' x d)
+      ∙ ap (λ y. run library depth m' (said ++ e ∷ []) (one x y)) (is_emptied r' l.emptied)
+      ∙ p.by library depth m' (said ++ e ∷ []) d enough
+      ∙ ap (λ y. Finishes (record { events = y; left = left })) (append_assoc said (e ∷ []) events);
+}
 
 -- the last event of the glyph
 plays_last : (r r' : Registers) (e : Event) (n : ℕ) → Sound r → Loud r e r' Over → Plays r (suc n) (e ∷ []) []
-plays_last r r' e n s l = record { by = λ library depth m said d b.
-  let m' = m - length r.operands - 1 in
-  let k : m ≡ length r.operands + suc m' = omega arith in
-  ap (λ y. run library depth m said (one y (emptied r))) (append_assoc (flat_event e) [] [])
-  ∙ ap (λ y. run library depth y said (one (flat_event e ++ []) (emptied r))) k
-  ∙ event_run library depth m' said r r' e Over [] d s l
-  ∙ ap (λ st. follow st said (run library depth m')) (over_within depth e r')
-  ∙ run_over library depth m' (said ++ e ∷ []) (record { rests = []; registers = r' }) refl
-  ∙ ap (λ y. Finishes (record { events = said ++ e ∷ []; left = y })) l.emptied }
+plays_last r r' e n s l = record {
+  by = λ library depth m said d b.
+      let m' = m - length r.operands - 1 in
+      let k : m ≡ length r.operands + suc m' = omega arith in
+      ap (λ y. run library depth m said (one y (emptied r))) (append_assoc (flat_event e) [] [])
+      ∙ ap (λ y. run library depth y said (one (flat_event e ++ []) (emptied r))) k
+      ∙ event_run library depth m' said r r' e Over [] d s l
+      ∙ ap (λ st. follow st said (run library depth m')) (over_within depth e r')
+      ∙ run_over library depth m' (said ++ e ∷ []) (record { rests = []; registers = r' }) refl
+      ∙ ap (λ y. Finishes (record { events = said ++ e ∷ []; left = y })) l.emptied;
+}
 
 plays_silent : (r r' : Registers) (n : ℕ) (events : List Event) (left : List CharStringNumber) → Silent r r' → Plays r' n events left → Plays r (suc n) events left
-plays_silent r r' n events left c p = record { by = λ library depth m said d b.
-  let enough : n + length r'.operands ≤ m = omega (arith, c.one_more) in
-  ap (λ y. run library depth m said (one (flat_events events ++ flat_operands left) y))
-    (ap (λ y. record { operands = []; stems = y; mask_len = r.mask_len }) (sym c.stems) ∙ ap (λ y. record { operands = []; stems = r'.stems; mask_len = y }) (sym c.mask_len))
-  ∙ p.by library depth m said d enough }
+plays_silent r r' n events left c p = record {
+  by = λ library depth m said d b.
+      let enough : n + length r'.operands ≤ m = omega (arith, c.one_more) in
+      ap (λ y. run library depth m said (one (flat_events events ++ flat_operands left) y))
+      (ap (λ y. record { operands = []; stems = y; mask_len = r.mask_len }) (sym c.stems) ∙ ap (λ y. record { operands = []; stems = r'.stems; mask_len = y }) (sym c.mask_len))
+      ∙ p.by library depth m said d enough;
+}
 
 empty_sound : (r : Registers) → r.operands ≡ [] → Sound r
 empty_sound r e =
@@ -124,8 +130,8 @@ moved depth callers event r lead said go u e = test_moved (nat_le (length (rests
 module _ (library : Library) (depth : ℕ) where
   -- what is to come from here on, where one step is taken
   ahead_act : (n : ℕ) (said : List Event) (r : Registers) (u : Trace) (callers : List (List ℕ)) (a : Act) → Sound r → Class r a
-    → ((said' : List Event) (s' : State) → Sound s'.registers → run library depth n said' s' ≡ Finishes u → Ahead said' s'.registers n u)
-    → follow (move depth callers a) said (run library depth n) ≡ Finishes u → Ahead said r (suc n) u
+      → ((said' : List Event) (s' : State) → Sound s'.registers → run library depth n said' s' ≡ Finishes u → Ahead said' s'.registers n u)
+      → follow (move depth callers a) said (run library depth n) ≡ Finishes u → Ahead said r (suc n) u
   ahead_act n said r u callers (Fails error) s c ih e = absurd (cc)
   ahead_act n said r u callers (Does None r' lead) s c ih e =
       let a = ih said _ c.sound (moved depth callers None r' lead said (run library depth n) u e) in
@@ -149,8 +155,8 @@ module _ (library : Library) (depth : ℕ) where
       absurd (cc)
 
   ahead_suc : (n : ℕ) (said : List Event) (s : State) (u : Trace) (rests : List (List ℕ)) → unended s.rests ≡ rests → Sound s.registers
-    → ((said' : List Event) (s' : State) → Sound s'.registers → run library depth n said' s' ≡ Finishes u → Ahead said' s'.registers n u)
-    → run library depth (suc n) said s ≡ Finishes u → Ahead said s.registers (suc n) u
+      → ((said' : List Event) (s' : State) → Sound s'.registers → run library depth n said' s' ≡ Finishes u → Ahead said' s'.registers n u)
+      → run library depth (suc n) said s ≡ Finishes u → Ahead said s.registers (suc n) u
   ahead_suc n said s u [] r h ih e = ahead_over said s.registers (suc n) u h (sym (run_over library depth (suc n) said s r) ∙ e)
   ahead_suc n said s u (bytes ∷ callers) r h ih e =
       ahead_act n said s.registers u callers (act_at library bytes s.registers) h (class_at library bytes s.registers h) ih

@@ -1,10 +1,10 @@
 -- A charstring that is run to its end.
-use Rattle.std.proofs.Common.{◌≡◌, ◌≢◌, ℕ, zero, suc, ◌+◌, ◌-◌, ◌<◌, ◌≤◌, List, [], ◌∷◌, length, Result, Ok, Err, refl, sym, ap, ◌∙◌, arith}
+use Rattle.std.proofs.Common.{◌≡◌, ◌≢◌, ℕ, zero, suc, ◌-◌, ◌<◌, ◌≤◌, List, [], ◌∷◌, length, Ok, Err, refl, ◌∙◌, arith}
 use Rattle.subsetter_base.specs.declared.error.Error.{Error}
 use Rattle.subsetter_base.specs.declared.error.Error.TheVariants.{CFFError}
 use Rattle.subsetter_type2.specs.declared.recursion.CharStringEnd.{CharStringEnd}
 use Rattle.subsetter_type2.specs.declared.recursion.CharStringEnd.TheVariants.{Return, EndChar}
-use Rattle.subsetter_type2.specs.Machine.{Library, Registers, State, Event, Outcome, Finishes, Stops, Lead, On, Into, Back, Over, unended, rests_after, act_at, run}
+use Rattle.subsetter_type2.specs.Machine.{Library, Registers, Event, Outcome, Stops, unended, rests_after, act_at, run}
 use Rattle.subsetter_type2.specs.Reached.{Reached}
 use Rattle.subsetter_type2.specs.Recursion.{rests_at_end}
 use Rattle.subsetter_type2.specs.View.{Done, done}

@@ -1,17 +1,13 @@
 -- The bytes of a trace, run without subroutines, give the trace.
-use Rattle.std.proofs.Common.{◌≡◌, ℕ, zero, suc, ◌+◌, ◌-◌, ◌*◌, ◌^◌, ◌<◌, ◌≤◌, List, [], ◌∷◌, ◌++◌, length, Option, Some, None, Bool, true, false, refl, sym, ap, ◌∙◌, subst, arith, append_assoc, append-nil, length-append, ℤ, pos, negsuc, ◌-ℤ◌, FitsSigned, to_z, of_z, w16, w32, rules}
-use Rattle.std.proofs.lemmas.Int.{ints}
+use Rattle.std.proofs.Common.{◌≡◌, ℕ, suc, ◌+◌, ◌<◌, ◌≤◌, List, [], ◌∷◌, ◌++◌, length, Option, Some, None, refl, ap, ◌∙◌, arith, append_assoc, append-nil, length-append}
 use Rattle.std.proofs.lemmas.Bool.{le-leb, lt-ltb}
 use Rattle.std.proofs.lemmas.Bool.Decides.{nat_tests}
-use Rattle.std.specs.Prelude.{nat_lt, nat_le, if◌then◌else◌, ◌==◌}
 use Rattle.subsetter_cffdata.specs.declared.charstring_number.CharStringNumber.{CharStringNumber}
-use Rattle.subsetter_cffdata.specs.declared.charstring_number.CharStringNumber.TheVariants.{Integer, Fixed}
-use Rattle.subsetter_type2.specs.declared.token.Token.{Token}
-use Rattle.subsetter_type2.specs.declared.token.Token.TheVariants.{Operand, Operation}
-use Rattle.subsetter_cffdata.specs.CharStringNumber.{NumberFits, FitsIn, number_at, written, short_number, fixed_number, middle_number}
-use Rattle.subsetter_type2.specs.Token.{token_of, number_token, two_byte_token}
+use Rattle.subsetter_type2.specs.declared.token.Token.TheVariants.{Operand}
+use Rattle.subsetter_cffdata.specs.CharStringNumber.{NumberFits, number_at, written}
+use Rattle.subsetter_type2.specs.Token.{token_of}
 use Rattle.subsetter_type2.specs.Flat.{flat_operands}
-use Rattle.subsetter_type2.specs.Machine.{Library, Registers, State, Event, Act, Does, Fails, Step, Goes, Faults, Lead, On, Outcome, unended, follow, push, act, act_on, act_at, move, rests_after, run}
+use Rattle.subsetter_type2.specs.Machine.{Library, Registers, State, Event, Does, Goes, On, follow, act_at, move, run}
 use Rattle.subsetter_type2.proofs.Runs.{run_more}
 use Rattle.subsetter_type2.proofs.RecursionLemmas.{unended_front}
 use Rattle.subsetter_cffdata.proofs.CharStringNumbers.{read_back}
@@ -45,11 +41,11 @@ move_on depth event r rest h = rw (le-leb 1 depth h) refl
 
 -- one operand
 push_run : (library : Library) (depth m : ℕ) (said : List Event) (n : CharStringNumber) (rest : List ℕ) (r : Registers) → 1 ≤ depth → NumberFits n → length r.operands < 48
-  → run library depth (suc m) said (one (written n ++ rest) r) ≡ run library depth m said (one rest (record r { operands = r.operands ++ n ∷ [] }))
+    → run library depth (suc m) said (one (written n ++ rest) r) ≡ run library depth m said (one rest (record r { operands = r.operands ++ n ∷ [] }))
 push_run library depth m said n rest r d f l =
     run_more library depth m said _ (written n ++ rest) [] (unended_front (written n ++ rest) [] (some_written n rest f))
     ∙ ap (λ st. follow st said (run library depth m))
-      (ap (move depth []) (act_push library (written n ++ rest) rest n r (token_back n rest f) l) ∙ move_on depth None _ rest d)
+    (ap (move depth []) (act_push library (written n ++ rest) rest n r (token_back n rest f) l) ∙ move_on depth None _ rest d)
 
 abbrev pub FitAll : List CharStringNumber → Type 0
 FitAll [] = Unit {0}
@@ -57,7 +53,7 @@ FitAll (n ∷ ns) = NumberFits n × FitAll ns
 
 -- all operands of an event, or those that are left
 pub operands_run : (library : Library) (depth m : ℕ) (said : List Event) (ns : List CharStringNumber) (rest : List ℕ) (r : Registers) → 1 ≤ depth → FitAll ns → length r.operands + length ns ≤ 48
-  → run library depth (length ns + m) said (one (flat_operands ns ++ rest) r) ≡ run library depth m said (one rest (record r { operands = r.operands ++ ns }))
+    → run library depth (length ns + m) said (one (flat_operands ns ++ rest) r) ≡ run library depth m said (one rest (record r { operands = r.operands ++ ns }))
 operands_run library depth m said [] rest r d f l =
     let z : 0 + m ≡ m = omega arith in
     rw (z, append-nil) refl
@@ -65,5 +61,5 @@ operands_run library depth m said (n ∷ ns) rest r d f l =
     let s : suc (length ns) + m ≡ suc (length ns + m) = omega arith in
     rw (s, append_assoc (written n))
     (push_run library depth (length ns + m) said n (flat_operands ns ++ rest) r d f.0 (omega arith)
-     ∙ operands_run library depth m said ns rest (record r { operands = r.operands ++ n ∷ [] }) d f.1 (omega (arith, length-append r.operands (n ∷ [])))
-     ∙ ap (λ ops. run library depth m said (one rest (record r { operands = ops }))) (append_assoc r.operands (n ∷ []) ns))
+    ∙ operands_run library depth m said ns rest (record r { operands = r.operands ++ n ∷ [] }) d f.1 (omega (arith, length-append r.operands (n ∷ [])))
+    ∙ ap (λ ops. run library depth m said (one rest (record r { operands = ops }))) (append_assoc r.operands (n ∷ []) ns))

@@ -1,12 +1,12 @@
 -- A run, one step at a time, and what the flattener has written by then.
-use Rattle.std.proofs.Common.{◌≡◌, ◌≢◌, ℕ, zero, suc, ◌+◌, ◌<◌, ◌≤◌, List, [], ◌∷◌, ◌++◌, length, Option, Some, None, Result, Ok, Err, refl, sym, ap, ◌∙◌, subst, append-nil, arith}
+use Rattle.std.proofs.Common.{◌≡◌, ◌≢◌, ℕ, zero, suc, ◌<◌, ◌≤◌, List, [], ◌∷◌, ◌++◌, length, Option, Some, None, Ok, Err, refl, sym, ap, ◌∙◌, subst, append-nil, arith}
 use Rattle.std.proofs.lemmas.Grind.{flat_map-append}
 use Rattle.std.proofs.lemmas.Bool.{le-leb}
 use Rattle.std.proofs.lemmas.Bool.Decides.{nat_tests}
 use Rattle.subsetter_base.specs.declared.error.Error.{Error}
 use Rattle.subsetter_base.specs.declared.error.Error.TheVariants.{UnknownKind, MalformedFont, Unimplemented, SubsetError, OverflowError, CFFError, OutOfMemory}
 use Rattle.subsetter_base.specs.Gives.{Fails as FailsWith}
-use Rattle.subsetter_type2.specs.Machine.{Library, Registers, State, Event, Act, Does, Fails, Step, Goes, Faults, Outcome, Finishes, Stops, unended, follow, said_also, act_at, move, rests_after, run, outcome, start}
+use Rattle.subsetter_type2.specs.Machine.{Library, Registers, State, Event, Act, Does, Fails, Step, Goes, Faults, Outcome, Finishes, Stops, unended, follow, said_also, act_at, move, rests_after, run, outcome}
 use Rattle.subsetter_type2.specs.Flat.{flat_event, flat_events, flat_operands, bytes_of}
 use Rattle.std.specs.Prelude.{nat_le, if◌then◌else◌}
 use Rattle.subsetter_type2.specs.Reached.{Reached}
@@ -52,7 +52,7 @@ move_deep depth callers (Does event next lead) settled d e =
 move_deep depth callers (Fails x) settled d e = absurd (cc)
 
 move_goes : (depth : ℕ) (callers : List (List ℕ)) (a : Act) (settled : List ℕ) (d : Done) → done a settled ≡ Ok d → length (rests_after d.lead callers) ≤ depth
-  → (event : Option Event) × (move depth callers a ≡ Goes event (record { rests = rests_after d.lead callers; registers = d.registers })) × (d.settled ≡ settled ++ said_bytes event)
+    → (event : Option Event) × (move depth callers a ≡ Goes event (record { rests = rests_after d.lead callers; registers = d.registers })) × (d.settled ≡ settled ++ said_bytes event)
 move_goes depth callers (Does event next lead) settled d e =
     let p : ◌≡◌ {A = Done} (record { registers = next; settled = settled ++ said_bytes event; lead = lead }) d = cc in
     let P : Done → Type 0 = λ x. length (rests_after x.lead callers) ≤ depth → (ev : Option Event) × (move depth callers (Does event next lead) ≡ Goes ev (record { rests = rests_after x.lead callers; registers = x.registers })) × (x.settled ≡ settled ++ said_bytes ev) in

@@ -1,10 +1,10 @@
 -- With more tokens and more depth a run that finishes stays as it is.
-use Rattle.std.proofs.Common.{◌≡◌, ℕ, zero, suc, ◌<◌, ◌≤◌, List, [], ◌∷◌, length, Option, Some, None, Bool, true, false, refl, sym, ap, ◌∙◌, arith, max}
+use Rattle.std.proofs.Common.{◌≡◌, ℕ, zero, suc, ◌≤◌, List, [], ◌∷◌, length, Option, Bool, true, false, refl, sym, ap, ◌∙◌, arith, max}
 use Rattle.std.proofs.lemmas.Bool.{le-leb}
 use Rattle.std.proofs.lemmas.Bool.Decides.{nat_tests}
 use Rattle.std.specs.Prelude.{nat_le, if◌then◌else◌}
 use Rattle.subsetter_base.specs.declared.error.Error.TheVariants.{CFFError}
-use Rattle.subsetter_type2.specs.Machine.{Library, State, Event, Trace, Act, Does, Fails, Step, Goes, Faults, Outcome, Finishes, Stops, unended, follow, said_also, act_at, move, rests_after, run, outcome, start}
+use Rattle.subsetter_type2.specs.Machine.{Library, State, Event, Trace, Act, Does, Fails, Goes, Faults, Outcome, Finishes, Stops, unended, follow, said_also, act_at, move, rests_after, run, outcome, start}
 use Rattle.subsetter_type2.proofs.Runs.{run_more, run_over, run_out}
 use Rattle.subsetter_type2.proofs.Playback.{moved}
 

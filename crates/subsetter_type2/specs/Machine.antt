@@ -1,6 +1,6 @@
 -- The machine that runs a charstring (Technical Note 5177, sections 3 and 4). It puts no subroutine into another:
 -- it keeps, of each charstring that it has entered, the bytes that are left.
-use Rattle.std.specs.Prelude.{ℕ, zero, suc, ◌+◌, ◌-◌, ◌*◌, ◌/◌, ℤ, pos, negsuc, ◌+ℤ◌, List, [], ◌∷◌, ◌++◌, Option, Some, None, nat_lt, nat_le, ◌==◌, if◌then◌else◌, length, take, drop, slice_get}
+use Rattle.std.specs.Prelude.{ℕ, zero, suc, ◌+◌, ◌-◌, ◌/◌, List, [], ◌∷◌, ◌++◌, Option, Some, None, nat_lt, nat_le, ◌==◌, if◌then◌else◌, length, take, drop, slice_get}
 use Rattle.std.specs.Option.{option_and_then}
 use Rattle.subsetter_base.specs.declared.error.Error.{Error}
 use Rattle.subsetter_base.specs.declared.error.Error.TheVariants.{CFFError, Unimplemented}
@@ -95,8 +95,8 @@ abbrev pub mask : Operator → List ℕ → Registers → Act
 mask operator rest r =
     if r.mask_len == 0
     then (if nat_le (stems_after r) 65535
-          then take_mask operator rest (record r { stems = stems_after r; mask_len = (stems_after r + 7) / 8 })
-          else Fails CFFError)
+    then take_mask operator rest (record r { stems = stems_after r; mask_len = (stems_after r + 7) / 8 })
+    else Fails CFFError)
     else take_mask operator rest r
 
 -- into a subroutine, if there is one
@@ -191,7 +191,7 @@ run library depth zero said s =
     want (unended s.rests) (Finishes (record { events = said; left = s.registers.operands })) (λ bytes callers. Stops CFFError)
 run library depth (suc tokens) said s =
     want (unended s.rests) (Finishes (record { events = said; left = s.registers.operands }))
-      (λ bytes callers. follow (move depth callers (act_at library bytes s.registers)) said (run library depth tokens))
+    (λ bytes callers. follow (move depth callers (act_at library bytes s.registers)) said (run library depth tokens))
 
 abbrev pub start : List ℕ → State
 start charstring = record { rests = charstring ∷ []; registers = record { operands = []; stems = 0; mask_len = 0 } }

@@ -1,5 +1,5 @@
 -- The registers of the code's machine.
-use Rattle.std.specs.Prelude.{◌≡◌, ◌≢◌, ℕ, List, Result, Ok, Err, MatchResult}
+use Rattle.std.specs.Prelude.{◌≡◌, ◌≢◌, Result, Ok, Err, MatchResult}
 use Rattle.subsetter_base.specs.declared.error.Error.{Error}
 use Rattle.subsetter_base.specs.declared.error.Error.TheVariants.{OutOfMemory}
 use Rattle.subsetter_type2.specs.declared.machine.Machine.{Machine}
@@ -26,5 +26,5 @@ lead_of Ends = Over
 abbrev pub Performs : {S : Type 0} → Act → (S → Written) → Machine S → Machine S → Result Flow Error → Type 0
 Performs a written old new result =
     MatchResult result
-      (λ flow. done a (written old.output).settled ≡ Ok (record { registers = registers_of written new; settled = (written new.output).settled; lead = lead_of flow }))
-      (λ error. error ≢ OutOfMemory → done a (written old.output).settled ≡ Err error)
+    (λ flow. done a (written old.output).settled ≡ Ok (record { registers = registers_of written new; settled = (written new.output).settled; lead = lead_of flow }))
+    (λ error. error ≢ OutOfMemory → done a (written old.output).settled ≡ Err error)

@@ -22,7 +22,7 @@ Comes o library limit d rests =
 abbrev pub RunsThrough : Library → ℕ → ℕ → List ℕ → Recursion → Recursion → Result CharStringEnd Error → Type 0
 RunsThrough library limit depth charstring old new result =
     MatchResult result
-      (λ end. (o : Outcome) (callers : List (List ℕ)) → length callers + 1 ≡ depth
-        → Comes o library limit old (charstring ∷ callers) → Comes o library limit new (rests_at_end end callers))
-      (λ error. error ≢ OutOfMemory → (o : Outcome) (callers : List (List ℕ)) → length callers + 1 ≡ depth
-        → Comes o library limit old (charstring ∷ callers) → o ≡ Stops error)
+    (λ end. (o : Outcome) (callers : List (List ℕ)) → length callers + 1 ≡ depth
+    → Comes o library limit old (charstring ∷ callers) → Comes o library limit new (rests_at_end end callers))
+    (λ error. error ≢ OutOfMemory → (o : Outcome) (callers : List (List ℕ)) → length callers + 1 ≡ depth
+    → Comes o library limit old (charstring ∷ callers) → o ≡ Stops error)

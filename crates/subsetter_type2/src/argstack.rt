@@ -2,10 +2,10 @@
 
 ghost use Rattle.std.specs.Prelude.{◌≡◌, ◌≤◌, ◌∷◌, ◌++◌, [], length, OnOk, OnErr, IfErr, MatchOption};
 
-use subsetter_cffdata::charstring_number::CharStringNumber;
 use crate::fixed_stack::FixedStack;
 use std::marker::Model;
 use subsetter_base::error::Error;
+use subsetter_cffdata::charstring_number::CharStringNumber;
 
 /// How many numbers the stack holds (Technical Note 5177, appendix B "Type 2 Charstring Implementation Limits").
 pub const MAX_OPERANDS: usize = 48;

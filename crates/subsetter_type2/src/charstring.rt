@@ -5,14 +5,12 @@ ghost use Rattle.subsetter_base.specs.Gives.{Gives};
 ghost use Rattle.subsetter_type2.specs.Flat.{flat_form};
 ghost use Rattle.subsetter_type2.specs.ProgramView.{program_bytes};
 
-pub use crate::operators;
-pub use crate::program::{Instruction, Program};
-
-use crate::flattening;
 use crate::limits::Limits;
 use crate::machine::Subroutines;
-use crate::recursion;
+pub use crate::operators;
+pub use crate::program::{Instruction, Program};
 use crate::subroutines::SubroutineHandler;
+use crate::{flattening, recursion};
 use std::alloc::Global;
 use std::marker::Model;
 use subsetter_base::error::Error;
@@ -34,9 +32,10 @@ impl<'a> Model for Decompiler<'a> {
     ghost Value = { Setting };
 
     ghost view = { λ d. record {
-        library = record { global = d.subroutines.global; local = d.subroutines.local };
-        tokens = d.limits.tokens;
-        depth = d.limits.depth } };
+      library = record { global = d.subroutines.global; local = d.subroutines.local };
+      tokens = d.limits.tokens;
+      depth = d.limits.depth;
+    } };
 }
 
 impl<'a> Decompiler<'a> {
@@ -48,7 +47,11 @@ impl<'a> Decompiler<'a> {
     }
 
     /// With these global subroutines, the local ones of the glyph's font dict, and these limits.
-    pub fn with_limits(global: SubroutineHandler<'a>, local: SubroutineHandler<'a>, limits: Limits) -> Self
+    pub fn with_limits(
+        global: SubroutineHandler<'a>,
+        local: SubroutineHandler<'a>,
+        limits: Limits,
+    ) -> Self
         ensures { result ≡ record { library = record { global = global.entry; local = local.entry }; tokens = limits.tokens; depth = limits.depth } }
     {
         Decompiler {

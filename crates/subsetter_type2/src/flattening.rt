@@ -51,7 +51,12 @@ fn follow<'a>(rests: &mut FixedStack<&'a [u8], 255>, flow: Flow<'a>, depth: u8) 
 }
 
 /// The flat form of a charstring.
-pub fn flatten<'a>(alloc: Global, subroutines: &Subroutines<'a>, limits: &Limits, charstring: &'a [u8]) -> Result<Vec<u8>, Error>
+pub fn flatten<'a>(
+    alloc: Global,
+    subroutines: &Subroutines<'a>,
+    limits: &Limits,
+    charstring: &'a [u8],
+) -> Result<Vec<u8>, Error>
     ensures { Gives (λ bytes. bytes.items) result (flat_form (library_of subroutines.now) limits.now.tokens limits.now.depth charstring.now) }
 {
     let output = Output::with_capacity(alloc, charstring.len())?;

@@ -15,7 +15,6 @@ mod program;
 mod recursion;
 mod sink;
 pub mod subroutines;
-mod token;
-
 #[cfg(test)]
 mod tests;
+mod token;

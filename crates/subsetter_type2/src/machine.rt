@@ -6,12 +6,12 @@ ghost use Rattle.subsetter_type2.specs.Machine.{subroutine, push, draw, On, stem
 ghost use Rattle.subsetter_type2.specs.MachineView.{registers_of, library_of, Performs};
 
 use crate::argstack::MAX_OPERANDS;
-use subsetter_cffdata::charstring_number::CharStringNumber;
-use subsetter_cffdata::operator::Operator;
 use crate::sink::Sink;
 use crate::subroutines::SubroutineHandler;
 use crate::token::{self, Effect, Token};
 use subsetter_base::error::Error;
+use subsetter_cffdata::charstring_number::CharStringNumber;
+use subsetter_cffdata::operator::Operator;
 
 /// The subroutines that a charstring may call.
 #[derive(Drop)]
@@ -128,7 +128,11 @@ impl<'a, S: Sink<'a>> Machine<S> {
     }
 
     /// A call of one of these subroutines.
-    fn call(&mut self, subroutines: &SubroutineHandler<'a>, rest: &'a [u8]) -> Result<Flow<'a>, Error>
+    fn call(
+        &mut self,
+        subroutines: &SubroutineHandler<'a>,
+        rest: &'a [u8],
+    ) -> Result<Flow<'a>, Error>
         ensures { Performs (call subroutines.now rest.now (registers_of S.written self.old)) S.written self.old self.new result }
     {
         let number = self.output.pop().ok_or(Error::CFFError)?;
@@ -137,7 +141,12 @@ impl<'a, S: Sink<'a>> Machine<S> {
     }
 
     /// One token, with what stands after it in its charstring.
-    fn act(&mut self, subroutines: &Subroutines<'a>, token: Token, rest: &'a [u8]) -> Result<Flow<'a>, Error>
+    fn act(
+        &mut self,
+        subroutines: &Subroutines<'a>,
+        token: Token,
+        rest: &'a [u8],
+    ) -> Result<Flow<'a>, Error>
         ensures { Performs (act (library_of subroutines.now) token rest.now (registers_of S.written self.old)) S.written self.old self.new result }
     {
         let operator = match token {
@@ -158,7 +167,11 @@ impl<'a, S: Sink<'a>> Machine<S> {
 
     /// The token at the front of these bytes.
     #[tactic(auto, unfolding(crate::specs::Machine::act_at))]
-    pub fn act_at(&mut self, subroutines: &Subroutines<'a>, bytes: &'a [u8]) -> Result<Flow<'a>, Error>
+    pub fn act_at(
+        &mut self,
+        subroutines: &Subroutines<'a>,
+        bytes: &'a [u8],
+    ) -> Result<Flow<'a>, Error>
         ensures { Performs (act_at (library_of subroutines.now) bytes.now (registers_of S.written self.old)) S.written self.old self.new result }
     {
         let (token, rest) = token::read_token(bytes).ok_or(Error::CFFError)?;

@@ -5,13 +5,13 @@ ghost use Rattle.subsetter_base.specs.declared.error.Error.TheVariants.{OutOfMem
 ghost use Rattle.subsetter_cffdata.specs.Views.{operator_of};
 ghost use Rattle.subsetter_type2.specs.Flat.{flat_operands};
 
-use subsetter_cffdata::charstring_number::CharStringNumber;
 use crate::fixed_stack::FixedStack;
-use subsetter_cffdata::operator::{Operator, OperatorType};
 use crate::sink::Sink;
 use std::alloc::Global;
 use std::marker::Model;
 use subsetter_base::error::Error;
+use subsetter_cffdata::charstring_number::CharStringNumber;
+use subsetter_cffdata::operator::{Operator, OperatorType};
 
 /// An operand, and the place in the output where it begins.
 #[derive(Clone, Copy, Default)]

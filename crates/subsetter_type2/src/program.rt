@@ -6,13 +6,13 @@ ghost use Rattle.subsetter_type2.specs.ProgramView.{instruction_bytes, program_b
 ghost use Rattle.subsetter_base.specs.declared.error.Error.TheVariants.{OutOfMemory};
 
 use crate::argstack::ArgumentsStack;
-use subsetter_cffdata::charstring_number::CharStringNumber;
-use subsetter_cffdata::operator::Operator;
 use crate::output::append_operator;
 use crate::sink::Sink;
 use std::alloc::Global;
 use std::marker::Model;
 use subsetter_base::error::Error;
+use subsetter_cffdata::charstring_number::CharStringNumber;
+use subsetter_cffdata::operator::Operator;
 
 /// One instruction of a program. The bytes of a mask are a part of the charstring that holds them.
 #[derive(Clone, Copy, Debug)]

@@ -29,7 +29,13 @@ struct Recursion<'a> {
 
 impl<'a> Recursion<'a> {
     /// Runs a charstring to its end, `depth` deep.
-    fn run(&mut self, subroutines: &Subroutines<'a>, limit: u8, depth: u8, charstring: &'a [u8]) -> Result<CharStringEnd, Error>
+    fn run(
+        &mut self,
+        subroutines: &Subroutines<'a>,
+        limit: u8,
+        depth: u8,
+        charstring: &'a [u8],
+    ) -> Result<CharStringEnd, Error>
         requires { depth ≤ limit }
         ensures run { RunsThrough (library_of subroutines.now) limit depth charstring.now self.old self.new result }
         ensures tokens { self.new.tokens ≤ self.old.tokens }
@@ -60,7 +66,12 @@ impl<'a> Recursion<'a> {
 }
 
 /// The program of a charstring without its subroutines.
-pub fn decompile<'a>(alloc: Global, subroutines: &Subroutines<'a>, limits: &Limits, charstring: &'a [u8]) -> Result<Program<'a>, Error>
+pub fn decompile<'a>(
+    alloc: Global,
+    subroutines: &Subroutines<'a>,
+    limits: &Limits,
+    charstring: &'a [u8],
+) -> Result<Program<'a>, Error>
     ensures { Gives program_bytes result (flat_form (library_of subroutines.now) limits.now.tokens limits.now.depth charstring.now) }
 {
     let mut recursion = Recursion {

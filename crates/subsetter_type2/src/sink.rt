@@ -5,9 +5,9 @@ ghost use Rattle.subsetter_type2.specs.Machine.{last_operand, but_last};
 ghost use Rattle.subsetter_type2.specs.Flat.{flat_event};
 ghost use Rattle.subsetter_base.specs.declared.error.Error.TheVariants.{OutOfMemory};
 
+use subsetter_base::error::Error;
 use subsetter_cffdata::charstring_number::CharStringNumber;
 use subsetter_cffdata::operator::Operator;
-use subsetter_base::error::Error;
 
 /// The flat form so far, whose end is the operands on the stack.
 pub trait Sink<'a> {
@@ -33,7 +33,8 @@ pub trait Sink<'a> {
     /// An operator with its mask bytes, which takes all operands.
     fn draw(&mut self, operator: Operator, mask: &'a [u8]) -> Result<(), Error>
         ensures ok { OnOk result (written self.new ≡ record {
-            settled = (written self.old).settled ++ flat_event (record { operator = operator; operands = (written self.old).operands; mask = mask.now });
-            operands = [] }) }
+          settled = (written self.old).settled ++ flat_event (record { operator = operator; operands = (written self.old).operands; mask = mask.now });
+          operands = [];
+        }) }
         ensures err { IfErr result (λ e. e ≡ OutOfMemory) };
 }

@@ -3,7 +3,9 @@
 use crate::argstack::ArgumentsStack;
 use crate::charstring::{CharString, Decompiler, Instruction, Program, operators};
 use crate::limits::Limits;
-use crate::subroutines::{SubroutineCollection, SubroutineContainer, SubroutineHandler, unapply_bias};
+use crate::subroutines::{
+    SubroutineCollection, SubroutineContainer, SubroutineHandler, unapply_bias,
+};
 use crate::token::{Effect, find_effect};
 use std::alloc::Global;
 use std::process::Abort;
@@ -34,13 +36,24 @@ impl<'a> Lists<'a> {
 }
 
 /// The flat form by recursion.
-fn compiled<'a>(alloc: Global, lists: &Lists<'a>, limits: Limits, charstring: &'a [u8]) -> Result<Vec<u8>, Error> {
+fn compiled<'a>(
+    alloc: Global,
+    lists: &Lists<'a>,
+    limits: Limits,
+    charstring: &'a [u8],
+) -> Result<Vec<u8>, Error> {
     let program = lists.decompiler(limits).decompile(alloc, charstring)?;
     program.compile(alloc)
 }
 
 /// The flat form by both ways, whose bytes and errors agree.
-fn flat<'a>(rt: &impl Abort, alloc: Global, lists: &Lists<'a>, limits: Limits, charstring: &'a [u8]) -> Result<Vec<u8>, Error> {
+fn flat<'a>(
+    rt: &impl Abort,
+    alloc: Global,
+    lists: &Lists<'a>,
+    limits: Limits,
+    charstring: &'a [u8],
+) -> Result<Vec<u8>, Error> {
     let by_rests = lists.decompiler(limits).flatten(alloc, charstring);
     match (&by_rests, &compiled(alloc, lists, limits, charstring)) {
         (Ok(bytes), Ok(others)) => assert!(rt; bytes.as_slice() == others.as_slice()),
@@ -51,7 +64,14 @@ fn flat<'a>(rt: &impl Abort, alloc: Global, lists: &Lists<'a>, limits: Limits, c
 }
 
 /// The charstring has this flat form.
-fn gives(rt: &impl Abort, alloc: Global, lists: &Lists, limits: Limits, charstring: &[u8], want: &[u8]) {
+fn gives(
+    rt: &impl Abort,
+    alloc: Global,
+    lists: &Lists,
+    limits: Limits,
+    charstring: &[u8],
+    want: &[u8],
+) {
     match flat(rt, alloc, lists, limits, charstring) {
         Ok(bytes) => assert!(rt; bytes.as_slice() == want),
         Err(_error) => assert!(rt; false),
@@ -59,7 +79,14 @@ fn gives(rt: &impl Abort, alloc: Global, lists: &Lists, limits: Limits, charstri
 }
 
 /// The charstring has this fault.
-fn fails(rt: &impl Abort, alloc: Global, lists: &Lists, limits: Limits, charstring: &[u8], want: Error) {
+fn fails(
+    rt: &impl Abort,
+    alloc: Global,
+    lists: &Lists,
+    limits: Limits,
+    charstring: &[u8],
+    want: Error,
+) {
     match flat(rt, alloc, lists, limits, charstring) {
         Ok(_bytes) => assert!(rt; false),
         Err(error) => assert!(rt; error == want),
@@ -67,8 +94,17 @@ fn fails(rt: &impl Abort, alloc: Global, lists: &Lists, limits: Limits, charstri
 }
 
 /// The charstring has this flat form both ways, where memory suffices.
-fn gives_or_wants_memory(rt: &impl Abort, alloc: Global, lists: &Lists, charstring: &[u8], want: &[u8]) {
-    match lists.decompiler(Limits::default()).flatten(alloc, charstring) {
+fn gives_or_wants_memory(
+    rt: &impl Abort,
+    alloc: Global,
+    lists: &Lists,
+    charstring: &[u8],
+    want: &[u8],
+) {
+    match lists
+        .decompiler(Limits::default())
+        .flatten(alloc, charstring)
+    {
         Ok(bytes) => assert!(rt; bytes.as_slice() == want),
         Err(error) => assert!(rt; error == Error::OutOfMemory),
     }
@@ -82,7 +118,10 @@ fn gives_or_wants_memory(rt: &impl Abort, alloc: Global, lists: &Lists, charstri
 #[test]
 fn want_of_memory_is_reported(rt: HostRuntime) {
     let alloc = rt.alloc();
-    let global = Lists { global: &[Some(&[149, 22, 11])], local: &[] };
+    let global = Lists {
+        global: &[Some(&[149, 22, 11])],
+        local: &[],
+    };
     gives_or_wants_memory(&rt, alloc, &global, &[32, 29, 14], &[149, 22, 14]);
     let moves = Lists::local(&[Some(&[21, 14])]);
     gives_or_wants_memory(&rt, alloc, &moves, &[139, 140, 32, 10], &[139, 140, 21, 14]);
@@ -104,10 +143,20 @@ fn entries(alloc: Global, bodies: &Vec<Vec<u8>>) -> Result<Vec<Option<CharString
 fn subroutines_are_inlined(rt: HostRuntime) {
     let alloc = rt.alloc();
     let usual = Limits::default();
-    let global = Lists { global: &[Some(&[149, 22, 11])], local: &[] };
+    let global = Lists {
+        global: &[Some(&[149, 22, 11])],
+        local: &[],
+    };
     gives(&rt, alloc, &global, usual, &[32, 29, 14], &[149, 22, 14]);
     let moves = Lists::local(&[Some(&[21, 14])]);
-    gives(&rt, alloc, &moves, usual, &[139, 140, 32, 10], &[139, 140, 21, 14]);
+    gives(
+        &rt,
+        alloc,
+        &moves,
+        usual,
+        &[139, 140, 32, 10],
+        &[139, 140, 21, 14],
+    );
     let two = Lists::local(&[Some(&[33, 11]), Some(&[22])]);
     gives(&rt, alloc, &two, usual, &[32, 10, 10, 14], &[22, 14]);
 }
@@ -117,11 +166,25 @@ fn flat_charstrings_stay(rt: HostRuntime) {
     let alloc = rt.alloc();
     let usual = Limits::default();
     let none = Lists::local(&[]);
-    gives(&rt, alloc, &none, usual, &[140, 141, 1, 142, 143, 19, 192, 14], &[140, 141, 1, 142, 143, 19, 192, 14]);
+    gives(
+        &rt,
+        alloc,
+        &none,
+        usual,
+        &[140, 141, 1, 142, 143, 19, 192, 14],
+        &[140, 141, 1, 142, 143, 19, 192, 14],
+    );
     gives(&rt, alloc, &none, usual, &[139, 140], &[139, 140]);
     gives(&rt, alloc, &none, usual, &[], &[]);
     gives(&rt, alloc, &none, usual, &[28, 0, 0, 14], &[139, 14]);
-    gives(&rt, alloc, &none, usual, &[255, 0, 1, 0, 0, 14], &[255, 0, 1, 0, 0, 14]);
+    gives(
+        &rt,
+        alloc,
+        &none,
+        usual,
+        &[255, 0, 1, 0, 0, 14],
+        &[255, 0, 1, 0, 0, 14],
+    );
     gives(&rt, alloc, &none, usual, &[14, 5, 5], &[14]);
 }
 
@@ -132,12 +195,20 @@ fn masks_take_their_operands_and_bytes(rt: HostRuntime) {
     let ends = Lists::local(&[Some(&[14])]);
 
     // The second mask leaves the call no operand.
-    fails(&rt, alloc, &ends, usual, &[140, 141, 1, 142, 143, 19, 192, 32, 19, 128, 10], Error::CFFError);
+    fails(
+        &rt,
+        alloc,
+        &ends,
+        usual,
+        &[140, 141, 1, 142, 143, 19, 192, 32, 19, 128, 10],
+        Error::CFFError,
+    );
 
     // Sixteen more stems after the first mask of one byte: the second one has one byte too.
     let none = Lists::local(&[]);
     let grown = [
-        140, 141, 1, 19, 128, 139, 139, 139, 139, 139, 139, 139, 139, 139, 139, 139, 139, 139, 139, 139, 139, 1, 20, 64, 14,
+        140, 141, 1, 19, 128, 139, 139, 139, 139, 139, 139, 139, 139, 139, 139, 139, 139, 139, 139,
+        139, 139, 1, 20, 64, 14,
     ];
     gives(&rt, alloc, &none, usual, &grown, &grown);
 
@@ -152,7 +223,14 @@ fn calls_need_a_whole_operand(rt: HostRuntime) {
     let usual = Limits::default();
     let ends = Lists::local(&[Some(&[14])]);
     gives(&rt, alloc, &ends, usual, &[255, 255, 149, 0, 0, 10], &[14]);
-    fails(&rt, alloc, &ends, usual, &[255, 255, 149, 0, 1, 10], Error::CFFError);
+    fails(
+        &rt,
+        alloc,
+        &ends,
+        usual,
+        &[255, 255, 149, 0, 1, 10],
+        Error::CFFError,
+    );
 }
 
 #[test]
@@ -164,7 +242,14 @@ fn malformed_charstrings_are_refused(rt: HostRuntime) {
     fails(&rt, alloc, &none, usual, &[0], Error::CFFError);
     fails(&rt, alloc, &none, usual, &[12], Error::CFFError);
     fails(&rt, alloc, &none, usual, &[28, 0], Error::CFFError);
-    fails(&rt, alloc, &none, usual, &[139, 139, 140, 141, 14], Error::Unimplemented);
+    fails(
+        &rt,
+        alloc,
+        &none,
+        usual,
+        &[139, 139, 140, 141, 14],
+        Error::Unimplemented,
+    );
 }
 
 #[test]
@@ -207,11 +292,25 @@ fn tokens_are_limited_where_subroutines_double(rt: HostRuntime) -> Result<(), Fa
     bodies.push(vec![in alloc; 11u8]?)?;
     let list = entries(alloc, &bodies).ok().ok_or("memory")?;
     let doubled_17_times = Lists::local(&list);
-    gives(&rt, alloc, &doubled_17_times, Limits::default(), &[32, 10, 14], &[14]);
+    gives(
+        &rt,
+        alloc,
+        &doubled_17_times,
+        Limits::default(),
+        &[32, 10, 14],
+        &[14],
+    );
     let fits = Limits::new(786_430, 64).ok_or("depth")?;
     gives(&rt, alloc, &doubled_17_times, fits, &[32, 10, 14], &[14]);
     let short = Limits::new(786_429, 64).ok_or("depth")?;
-    fails(&rt, alloc, &doubled_17_times, short, &[32, 10, 14], Error::CFFError);
+    fails(
+        &rt,
+        alloc,
+        &doubled_17_times,
+        short,
+        &[32, 10, 14],
+        Error::CFFError,
+    );
     Ok(())
 }
 
@@ -225,11 +324,25 @@ fn tokens_are_limited_where_subroutines_double_again(rt: HostRuntime) -> Result<
     bodies.push(vec![in alloc; 11u8]?)?;
     let list = entries(alloc, &bodies).ok().ok_or("memory")?;
     let doubled_18_times = Lists::local(&list);
-    fails(&rt, alloc, &doubled_18_times, Limits::default(), &[32, 10, 14], Error::CFFError);
+    fails(
+        &rt,
+        alloc,
+        &doubled_18_times,
+        Limits::default(),
+        &[32, 10, 14],
+        Error::CFFError,
+    );
     let fits = Limits::new(1_572_862, 64).ok_or("depth")?;
     gives(&rt, alloc, &doubled_18_times, fits, &[32, 10, 14], &[14]);
     let short = Limits::new(1_572_861, 64).ok_or("depth")?;
-    fails(&rt, alloc, &doubled_18_times, short, &[32, 10, 14], Error::CFFError);
+    fails(
+        &rt,
+        alloc,
+        &doubled_18_times,
+        short,
+        &[32, 10, 14],
+        Error::CFFError,
+    );
     Ok(())
 }
 
@@ -253,14 +366,42 @@ fn depth_is_limited(rt: HostRuntime) -> Result<(), Fail> {
     let alloc = rt.alloc();
     let bodies_63 = chain(alloc, 63).ok().ok_or("memory")?;
     let list_63 = entries(alloc, &bodies_63).ok().ok_or("memory")?;
-    gives(&rt, alloc, &Lists::local(&list_63), Limits::default(), &[32, 10], &[14]);
+    gives(
+        &rt,
+        alloc,
+        &Lists::local(&list_63),
+        Limits::default(),
+        &[32, 10],
+        &[14],
+    );
     let bodies_64 = chain(alloc, 64).ok().ok_or("memory")?;
     let list_64 = entries(alloc, &bodies_64).ok().ok_or("memory")?;
-    fails(&rt, alloc, &Lists::local(&list_64), Limits::default(), &[32, 10], Error::CFFError);
+    fails(
+        &rt,
+        alloc,
+        &Lists::local(&list_64),
+        Limits::default(),
+        &[32, 10],
+        Error::CFFError,
+    );
     let one_more = Limits::new(1_000_000, 65).ok_or("depth")?;
-    gives(&rt, alloc, &Lists::local(&list_64), one_more, &[32, 10], &[14]);
+    gives(
+        &rt,
+        alloc,
+        &Lists::local(&list_64),
+        one_more,
+        &[32, 10],
+        &[14],
+    );
     let endless = Lists::local(&[Some(&[32, 10])]);
-    fails(&rt, alloc, &endless, Limits::default(), &[32, 10], Error::CFFError);
+    fails(
+        &rt,
+        alloc,
+        &endless,
+        Limits::default(),
+        &[32, 10],
+        Error::CFFError,
+    );
     Ok(())
 }
 
@@ -270,10 +411,24 @@ fn the_greatest_depth_is_255(rt: HostRuntime) -> Result<(), Fail> {
     let deepest = Limits::new(1_000_000, 255).ok_or("depth")?;
     let bodies_254 = chain(alloc, 254).ok().ok_or("memory")?;
     let list_254 = entries(alloc, &bodies_254).ok().ok_or("memory")?;
-    gives(&rt, alloc, &Lists::local(&list_254), deepest, &[32, 10], &[14]);
+    gives(
+        &rt,
+        alloc,
+        &Lists::local(&list_254),
+        deepest,
+        &[32, 10],
+        &[14],
+    );
     let bodies_255 = chain(alloc, 255).ok().ok_or("memory")?;
     let list_255 = entries(alloc, &bodies_255).ok().ok_or("memory")?;
-    fails(&rt, alloc, &Lists::local(&list_255), deepest, &[32, 10], Error::CFFError);
+    fails(
+        &rt,
+        alloc,
+        &Lists::local(&list_255),
+        deepest,
+        &[32, 10],
+        Error::CFFError,
+    );
     Ok(())
 }
 
@@ -356,7 +511,14 @@ fn the_longest_mask(rt: HostRuntime) -> Result<(), Fail> {
     for _ in 0..8191usize {
         whole.push(170)?;
     }
-    fails(&rt, alloc, &none, Limits::default(), &whole, Error::CFFError);
+    fails(
+        &rt,
+        alloc,
+        &none,
+        Limits::default(),
+        &whole,
+        Error::CFFError,
+    );
     whole.push(170)?;
     whole.push(14)?;
     gives(&rt, alloc, &none, Limits::default(), &whole, &whole);
@@ -398,8 +560,18 @@ fn both_ways_agree_on_drawn_charstrings(rt: HostRuntime) -> Result<(), Fail> {
         let first = generator.bytes(alloc).ok().ok_or("memory")?;
         let second = generator.bytes(alloc).ok().ok_or("memory")?;
         let third = generator.bytes(alloc).ok().ok_or("memory")?;
-        let local = [Some(first.as_slice()), Some(second.as_slice()), Some(third.as_slice())];
-        match flat(&rt, alloc, &Lists::local(&local), Limits::default(), &charstring) {
+        let local = [
+            Some(first.as_slice()),
+            Some(second.as_slice()),
+            Some(third.as_slice()),
+        ];
+        match flat(
+            &rt,
+            alloc,
+            &Lists::local(&local),
+            Limits::default(),
+            &charstring,
+        ) {
             Ok(_bytes) => flattened = flattened.saturating_add(1),
             Err(Error::CFFError) => malformed = malformed.saturating_add(1),
             Err(Error::Unimplemented) => unimplemented = unimplemented.saturating_add(1),
@@ -413,7 +585,11 @@ fn both_ways_agree_on_drawn_charstrings(rt: HostRuntime) -> Result<(), Fail> {
 }
 
 /// Two font dicts, the first of which has these two subroutines and an unreadable one.
-fn two_font_dicts<'a>(alloc: Global, ends: &'a [u8], moves: &'a [u8]) -> Result<SubroutineCollection<'a>, Error> {
+fn two_font_dicts<'a>(
+    alloc: Global,
+    ends: &'a [u8],
+    moves: &'a [u8],
+) -> Result<SubroutineCollection<'a>, Error> {
     let mut first = Vec::new(alloc);
     first.push(Some(ends))?;
     first.push(Some(moves))?;
@@ -448,7 +624,9 @@ fn finds_font_dicts(rt: &impl Abort, collection: &SubroutineCollection) {
 
 #[test]
 fn subroutines_by_number(rt: HostRuntime) -> Result<(), Fail> {
-    let collection = two_font_dicts(rt.alloc(), &[14], &[22, 14]).ok().ok_or("memory")?;
+    let collection = two_font_dicts(rt.alloc(), &[14], &[22, 14])
+        .ok()
+        .ok_or("memory")?;
     finds_font_dicts(&rt, &collection);
     assert!(rt; unapply_bias(-107, 107) == Some(0));
     assert!(rt; unapply_bias(-108, 107).is_none());
@@ -475,29 +653,75 @@ fn arguments_come_back_in_turn(rt: HostRuntime) -> Result<(), Fail> {
 fn programs_are_compiled(rt: HostRuntime) -> Result<(), Fail> {
     let alloc = rt.alloc();
     let mut program = Program::default(alloc);
-    program.push(Instruction::Operand(CharStringNumber::Integer(1))).ok().ok_or("memory")?;
-    program.push(Instruction::Operand(CharStringNumber::Fixed(65536))).ok().ok_or("memory")?;
-    program.push(Instruction::Operator(operators::HORIZONTAL_STEM_HINT_MASK)).ok().ok_or("memory")?;
-    program.push(Instruction::Operator(operators::HINT_MASK)).ok().ok_or("memory")?;
-    program.push(Instruction::HintMask(&[128])).ok().ok_or("memory")?;
-    program.push(Instruction::Operator(operators::FLEX1)).ok().ok_or("memory")?;
+    program
+        .push(Instruction::Operand(CharStringNumber::Integer(1)))
+        .ok()
+        .ok_or("memory")?;
+    program
+        .push(Instruction::Operand(CharStringNumber::Fixed(65536)))
+        .ok()
+        .ok_or("memory")?;
+    program
+        .push(Instruction::Operator(operators::HORIZONTAL_STEM_HINT_MASK))
+        .ok()
+        .ok_or("memory")?;
+    program
+        .push(Instruction::Operator(operators::HINT_MASK))
+        .ok()
+        .ok_or("memory")?;
+    program
+        .push(Instruction::HintMask(&[128]))
+        .ok()
+        .ok_or("memory")?;
+    program
+        .push(Instruction::Operator(operators::FLEX1))
+        .ok()
+        .ok_or("memory")?;
     let bytes = program.compile(alloc).ok().ok_or("memory")?;
-    assert_eq!(rt; bytes.as_slice(), [140, 255, 0, 1, 0, 0, 18, 19, 128, 12, 37].as_slice());
+    assert_eq!(rt;
+        bytes.as_slice(),
+        [140, 255, 0, 1, 0, 0, 18, 19, 128, 12, 37].as_slice()
+    );
     Ok(())
 }
 
 #[test]
 fn operators_have_their_effects(rt: HostRuntime) {
-    for operator in [operators::HORIZONTAL_STEM, operators::VERTICAL_STEM, operators::HORIZONTAL_STEM_HINT_MASK, operators::VERTICAL_STEM_HINT_MASK] {
+    for operator in [
+        operators::HORIZONTAL_STEM,
+        operators::VERTICAL_STEM,
+        operators::HORIZONTAL_STEM_HINT_MASK,
+        operators::VERTICAL_STEM_HINT_MASK,
+    ] {
         assert!(rt; find_effect(operator) == Some(Effect::CountsStems));
     }
-    for operator in [operators::VERTICAL_MOVE_TO, operators::LINE_TO, operators::HORIZONTAL_LINE_TO, operators::VERTICAL_LINE_TO, operators::CURVE_TO, operators::MOVE_TO, operators::HORIZONTAL_MOVE_TO] {
+    for operator in [
+        operators::VERTICAL_MOVE_TO,
+        operators::LINE_TO,
+        operators::HORIZONTAL_LINE_TO,
+        operators::VERTICAL_LINE_TO,
+        operators::CURVE_TO,
+        operators::MOVE_TO,
+        operators::HORIZONTAL_MOVE_TO,
+    ] {
         assert!(rt; find_effect(operator) == Some(Effect::Draws));
     }
-    for operator in [operators::CURVE_LINE, operators::LINE_CURVE, operators::VV_CURVE_TO, operators::HH_CURVE_TO, operators::VH_CURVE_TO, operators::HV_CURVE_TO] {
+    for operator in [
+        operators::CURVE_LINE,
+        operators::LINE_CURVE,
+        operators::VV_CURVE_TO,
+        operators::HH_CURVE_TO,
+        operators::VH_CURVE_TO,
+        operators::HV_CURVE_TO,
+    ] {
         assert!(rt; find_effect(operator) == Some(Effect::Draws));
     }
-    for operator in [operators::HFLEX, operators::FLEX, operators::HFLEX1, operators::FLEX1] {
+    for operator in [
+        operators::HFLEX,
+        operators::FLEX,
+        operators::HFLEX1,
+        operators::FLEX1,
+    ] {
         assert!(rt; find_effect(operator) == Some(Effect::Draws));
     }
     for operator in [operators::HINT_MASK, operators::COUNTER_MASK] {

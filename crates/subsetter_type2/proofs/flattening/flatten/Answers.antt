@@ -1,4 +1,4 @@
-use Rattle.std.proofs.Common.{◌≡◌, ◌≤◌, ◌<◌, ◌-◌, [], ◌∷◌, ◌++◌, suc, length, ap, sym, ◌∙◌, Ok, arith}
+use Rattle.std.proofs.Common.{◌≡◌, ◌≤◌, ◌-◌, [], ◌∷◌, suc, length, ap, sym, ◌∙◌, Ok, arith}
 use Rattle.std.proofs.lemmas.List.{length-map, length-reverse}
 use Rattle.std.proofs.lemmas.Result.{err_from_is_err_and}
 use Rattle.subsetter_type2.specs.Flat.{bytes_of}
@@ -12,8 +12,8 @@ loop-bytes-init c =
     let one : c.push.new.self ≡ c.args.charstring ∷ [] = rw (c.push.ensures, c.new-rests.ensures) in
     record {
       reached = reached_start _ _ _ _ _ _ _ (ap rests_of one)
-        (ap (registers_of (λ w. w)) c.new-machine.ensures ∙ ap (λ w. record { operands = w.operands; stems = 0; mask_len = 0 }) c.in_ok-output.ensures.ok)
-        (ap (λ m. m.output.settled) c.new-machine.ensures ∙ ap (λ w. w.settled) c.in_ok-output.ensures.ok);
+          (ap (registers_of (λ w. w)) c.new-machine.ensures ∙ ap (λ w. record { operands = w.operands; stems = 0; mask_len = 0 }) c.in_ok-output.ensures.ok)
+          (ap (λ m. m.output.settled) c.new-machine.ensures ∙ ap (λ w. w.settled) c.in_ok-output.ensures.ok);
       room = omega (arith, ap length one);
     }
 

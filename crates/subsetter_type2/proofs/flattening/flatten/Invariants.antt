@@ -10,7 +10,7 @@ invariant-loop-bytes l =
     let library = library_of l.subroutines in
     record {
       reached : Reached (outcome library l.limits.tokens l.limits.depth l.charstring) library l.limits.depth l.tokens
-        (record { rests = rests_of l.rests; registers = registers_of (λ w. w) l.machine }) l.machine.output.settled;
+          (record { rests = rests_of l.rests; registers = registers_of (λ w. w) l.machine }) l.machine.output.settled;
       room : length l.rests ≤ l.limits.depth;
     }
 

@@ -1,4 +1,4 @@
-use Rattle.std.proofs.Common.{◌≡◌, ◌≤◌, ◌<◌, ◌-◌, ◌+◌, [], ◌∷◌, length, ap, sym, ◌∙◌, arith, rules}
+use Rattle.std.proofs.Common.{◌≡◌, ◌<◌, ◌∷◌, length, arith, rules}
 use Rattle.std.proofs.lemmas.Result.{err_from_is_err_and}
 use Rattle.subsetter_type2.proofs.RecursionLemmas.{reached_end, not_ended, act_out, act_fault, act_deep, act_leads}
 use Rattle.subsetter_type2.proofs.recursion.Recursion.+run.Goals as goal
@@ -49,7 +49,7 @@ returns-in_err-run-in-Calls-clause-run t c =
     let p = err_from_is_err_and c.from_residual-in_err-run-in-Calls.result c.from_residual-in_err-run-in-Calls.ensures.1 in
     rw (p.1, p.2)
     (λ ne o callers n h. c.in_err-run-in-Calls.ensures.run ne o (c.in-Calls.next.now ∷ callers) (omega arith)
-      (act_leads _ _ _ _ _ _ _ _ (c.loop-rest.invariant.came o callers n h) some _ c.if-self-eq0.false is (omega arith)))
+    (act_leads _ _ _ _ _ _ _ _ (c.loop-rest.invariant.came o callers n h) some _ c.if-self-eq0.false is (omega arith)))
 
 pub returns-in-EndChar-clause-run : goal.returns-in-EndChar-clause-run
 returns-in-EndChar-clause-run t c =
@@ -57,7 +57,7 @@ returns-in-EndChar-clause-run t c =
     let is = rw c.in-Calls.is at c.in_ok-next.ensures in
     let end = rw c.in-EndChar.is at c.in_ok-run-in-Calls.ensures.run in
     λ o callers n h. end o (c.in-Calls.next.now ∷ callers) (omega arith)
-      (act_leads _ _ _ _ _ _ _ _ (c.loop-rest.invariant.came o callers n h) some _ c.if-self-eq0.false is (omega arith))
+    (act_leads _ _ _ _ _ _ _ _ (c.loop-rest.invariant.came o callers n h) some _ c.if-self-eq0.false is (omega arith))
 
 pub loop-rest-preserved : goal.loop-rest-preserved
 loop-rest-preserved t c =
@@ -65,8 +65,8 @@ loop-rest-preserved t c =
     let is = rw c.in-Calls.is at c.in_ok-next.ensures in
     record {
       came = λ o callers n h.
-        rw (← not_ended c.in_ok-run-in-Calls.field-0 (c.in-Calls.next.now ∷ callers) c.in_default.not-EndChar)
-        (c.in_ok-run-in-Calls.ensures.run o (c.in-Calls.next.now ∷ callers) (omega arith)
+          rw (← not_ended c.in_ok-run-in-Calls.field-0 (c.in-Calls.next.now ∷ callers) c.in_default.not-EndChar)
+          (c.in_ok-run-in-Calls.ensures.run o (c.in-Calls.next.now ∷ callers) (omega arith)
           (act_leads _ _ _ _ _ _ _ _ (c.loop-rest.invariant.came o callers n h) some _ c.if-self-eq0.false is (omega arith)));
       fewer = omega arith;
     }

@@ -10,8 +10,8 @@ decreases-run l = l.self.now.tokens
 abbrev pub invariant-loop-rest : goal.invariant-loop-rest
 invariant-loop-rest l = record {
   came : (o : Outcome) (callers : List (List ℕ)) → length callers + 1 ≡ l.depth
-    → Comes o (library_of l.subroutines) l.limit l.initial.self (l.charstring ∷ callers)
-    → Comes o (library_of l.subroutines) l.limit l.self (l.rest ∷ callers);
+      → Comes o (library_of l.subroutines) l.limit l.initial.self (l.charstring ∷ callers)
+      → Comes o (library_of l.subroutines) l.limit l.self (l.rest ∷ callers);
   fewer : l.self.tokens ≤ l.initial.self.tokens;
 }
 
