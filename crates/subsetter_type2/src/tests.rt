@@ -622,6 +622,35 @@ fn finds_font_dicts(rt: &impl Abort, collection: &SubroutineCollection) {
     assert!(rt; collection.get_handler(2).is_none());
 }
 
+/// The flat form with these global subroutines and the local ones of this font dict.
+fn flatten_in(
+    alloc: Global,
+    global: &SubroutineContainer,
+    local: &SubroutineCollection,
+    font_dict: u8,
+    charstring: CharString,
+) -> Result<Vec<u8>, Error> {
+    let handler = local.get_handler(font_dict).ok_or(Error::CFFError)?;
+    Decompiler::new(global.get_handler(), handler).flatten(alloc, charstring)
+}
+
+#[test]
+fn local_subroutines_are_those_of_the_font_dict(rt: HostRuntime) -> Result<(), Fail> {
+    let alloc = rt.alloc();
+    let local = two_font_dicts(alloc, &[14], &[22, 14])
+        .ok()
+        .ok_or("memory")?;
+    let mut moves = Vec::new(alloc);
+    moves.push(Some([149, 22, 11].as_slice()))?;
+    let global = SubroutineContainer::new(moves);
+    let bytes = flatten_in(alloc, &global, &local, 0, &[32, 29, 32, 10])
+        .ok()
+        .ok_or("memory")?;
+    assert_eq!(rt; bytes.as_slice(), [149, 22, 14].as_slice());
+    assert!(rt; flatten_in(alloc, &global, &local, 1, &[32, 29, 32, 10]).is_err());
+    Ok(())
+}
+
 #[test]
 fn subroutines_by_number(rt: HostRuntime) -> Result<(), Fail> {
     let collection = two_font_dicts(rt.alloc(), &[14], &[22, 14])
