@@ -5,7 +5,7 @@ pub mod Indexes
 pub mod IndexItems
 pub mod IndexRests
 pub mod Integers
-pub mod Operands
+pub mod OperandSteps
 pub mod Reals
 pub mod Shorter
 pub mod Texts

@@ -8,6 +8,8 @@ ghost use Rattle.subsetter_cffdata.specs.Reading.{Takes};
 ghost use Rattle.subsetter_cffdata.specs.Views.{number_of};
 
 pub use crate::real_number::RealNumber;
+pub use crate::string_id::StringId;
+pub use crate::u24::U24;
 use crate::reading;
 use subsetter_base::error::Error;
 use subsetter_base::read::Reader;
