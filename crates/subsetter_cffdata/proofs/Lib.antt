@@ -13,3 +13,4 @@ pub mod Trims
 pub mod PlainDigits
 pub mod Writing
 pub mod Wholes
+pub mod RealTexts
