@@ -5,7 +5,7 @@ pub mod Indexes
 pub mod IndexItems
 pub mod IndexRests
 pub mod Integers
-pub mod Operands
+pub mod OperandSteps
 pub mod Reals
 pub mod Shorter
 pub mod Texts
@@ -13,3 +13,4 @@ pub mod Trims
 pub mod PlainDigits
 pub mod Writing
 pub mod Wholes
+pub mod RealTexts

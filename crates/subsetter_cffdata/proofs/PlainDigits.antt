@@ -158,7 +158,7 @@ plain_digits ds all front short =
 pub mantissa_digits : (negative : Bool) (ds : List ℕ) → AreDigits ds → stripped ds ≡ ds → length ds ≤ 64 → decimal_digits (unsigned_abs (signed negative (number ds))) ≡ ds
 mantissa_digits negative ds all front short = ap decimal_digits (size_of_signed negative (number ds)) ∙ plain_digits ds all front short
 
-positive_number : (ds : List ℕ) → stripped ds ≡ ds → 0 < length ds → 0 < number ds
+pub positive_number : (ds : List ℕ) → stripped ds ≡ ds → 0 < length ds → 0 < number ds
 positive_number [] front some = absurd (omega arith)
 positive_number (d ∷ ds) front some =
     elim (cases_eq d 0) [

@@ -12,7 +12,7 @@ use Rattle.subsetter_cffdata.specs.Bytes.{ReadAgain}
 use Rattle.subsetter_cffdata.specs.Decimals.{Decimal, HasText, is_normal, is_zero, point, digits, after_digits, number, sign, signed, trimmed, decimal, unsigned_real, real_of, characters, text_at, real_at, unsigned_text, decimal_digits, real_text, packed}
 
 -- ---- characters and bytes
-abbrev IsCharacter : ℕ → Type 0
+abbrev pub IsCharacter : ℕ → Type 0
 IsCharacter c = (c < 15) × (c ≢ 12) × (c ≢ 13)
 
 characters_is : (c : ℕ) → IsCharacter c → characters c ≡ Some (c ∷ [])
@@ -207,7 +207,7 @@ below_text n power last small =
     let t = digits_text (suc n) power last small in
     record { means = t.means true; characters = ((omega arith, λ e. omega arith, λ e. omega arith), t.characters) }
 
-text_of : (m power : ℤ) → IsTrue (is_normal (record { mantissa = m; power = power })) → unsigned_abs m < 10 ^ 64 → IsTextOf (record { mantissa = m; power = power })
+pub text_of : (m power : ℤ) → IsTrue (is_normal (record { mantissa = m; power = power })) → unsigned_abs m < 10 ^ 64 → IsTextOf (record { mantissa = m; power = power })
 text_of (pos n) power normal small =
     elim (cases_eq n 0) [
       | inl z ↦ rw z (zero_text power (rw z at normal))

@@ -8,7 +8,7 @@ use Rattle.std.proofs.lemmas.Int.Digits.{number_after_ge}
 use Rattle.subsetter_cffdata.specs.Decimals.{trimmed, number, small_number, signed, decimal}
 use Rattle.subsetter_cffdata.proofs.Reals.{trimmed_more, ends}
 
-last_of : (ds : List ℕ) (len : ℕ) → 0 < len → len ≤ length ds → take len ds ≡ take (len - 1) ds ++ get_or ds (len - 1) 0 ∷ []
+pub last_of : (ds : List ℕ) (len : ℕ) → 0 < len → len ≤ length ds → take len ds ≡ take (len - 1) ds ++ get_or ds (len - 1) 0 ∷ []
 last_of ds len some le = let step : len ≡ len - 1 + 1 = omega arith in ap (λ (n : ℕ). take n ds) step ∙ take_more ds (len - 1) 0 (omega arith)
 
 pub one_zero : (ds : List ℕ) (len : ℕ) → 0 < len → len ≤ length ds → get_or ds (len - 1) 0 ≡ 0 → trimmed (take (len - 1) ds) ≡ trimmed (take len ds)

@@ -142,8 +142,11 @@ unsigned_text (d ∷ ds) (negsuc k) = pointed (d ∷ ds) (suc k)
 unfoldable pub decimal_digits : ℕ → List ℕ
 decimal_digits n = digits_with_fuel 10 65 n
 
+abbrev pub signs : Bool → List ℕ
+signs negative = if negative then minus ∷ [] else []
+
 unfoldable pub real_text : Decimal → List ℕ
-real_text d = (if is_negative d.mantissa then minus ∷ [] else []) ++ unsigned_text (decimal_digits (unsigned_abs d.mantissa)) d.power
+real_text d = signs (is_negative d.mantissa) ++ unsigned_text (decimal_digits (unsigned_abs d.mantissa)) d.power
 
 -- two characters to a byte, then f, and a second f where the low half is free
 abbrev pub packed : List ℕ → List ℕ

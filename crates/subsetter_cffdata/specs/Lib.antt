@@ -8,7 +8,9 @@ pub mod IndexView
 pub mod Limited
 pub mod Numbers
 pub mod OffsetSizes
+pub mod Operands
 pub mod Owned
+pub mod ParserView
 pub mod Reading
 pub mod TextSteps
 pub mod TokenView

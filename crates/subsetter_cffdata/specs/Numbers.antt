@@ -1,8 +1,8 @@
 -- The numbers of a DICT and of a charstring.
-use Rattle.std.specs.Prelude.{ℕ, ◌+◌, ◌-◌, ◌*◌, ◌/◌, ◌%◌, FitsSigned, ℤ, pos, negsuc, neg_ℤ, ◌-ℤ◌, ◌==◌, nat_lt, if◌then◌else◌, List, [], ◌∷◌, Option, Some, None}
+use Rattle.std.specs.Prelude.{ℕ, ◌+◌, ◌-◌, ◌*◌, ◌/◌, ◌%◌, ◌<◌, length, FitsSigned, ℤ, pos, negsuc, neg_ℤ, ◌-ℤ◌, ◌==◌, nat_lt, if◌then◌else◌, List, [], ◌∷◌, Option, Some, None}
 use Rattle.std.specs.Int.{w16, w32, cast_signed, cast_unsigned, to_be_bytes}
 use Rattle.subsetter_cffdata.specs.Bytes.{◌>>=◌, byte, card}
-use Rattle.subsetter_cffdata.specs.Decimals.{Decimal, HasText, real_at, real_text, packed, whole}
+use Rattle.subsetter_cffdata.specs.Decimals.{Decimal, HasText, real_at, real_text, packed, whole, text_limit}
 
 -- A number with its kind: an integer, an exact decimal, or a Fixed in 65536ths.
 pub data Number : Type 0 where
@@ -100,6 +100,12 @@ abbrev pub FitsDict : Number → Type 0
 FitsDict (Integer z) = FitsSigned w32 z
 FitsDict (Real d) = HasText d
 FitsDict (Fixed k) = ⊥
+
+-- a real whose text is longer than the limit
+abbrev pub IsTooLong : Number → Type 0
+IsTooLong (Integer z) = ⊥
+IsTooLong (Real d) = text_limit < length (real_text d)
+IsTooLong (Fixed k) = ⊥
 
 -- ---- the whole number that a number is
 -- the Fixed k / 65536, where it has no fraction

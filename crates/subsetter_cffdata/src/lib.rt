@@ -10,14 +10,18 @@ mod index_size;
 mod index_view;
 pub mod number;
 mod offset_size;
+mod operands;
 pub mod operator;
 pub mod reading;
 mod reading_index;
 mod reading_text;
 mod real_number;
 mod real_text;
+mod real_writing;
+mod string_id;
 mod text;
 mod tokens;
+mod u24;
 mod whole;
 mod writing_index;
 

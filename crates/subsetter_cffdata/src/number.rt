@@ -1,13 +1,15 @@
 //! Numbers of a DICT and of a charstring (Technical Note 5176, section 4 "DICT Data").
 
-ghost use Rattle.std.specs.Prelude.{◌≡◌, ◌∷◌, ◌++◌, pos, OnOk, IfErr};
+ghost use Rattle.std.specs.Prelude.{◌≡◌, ◌∷◌, ◌++◌, ◌⊎◌, pos, OnOk, IfErr};
 ghost use Rattle.std.specs.Int.{w32, cast_unsigned, to_be_bytes};
-ghost use Rattle.subsetter_base.specs.declared.error.Error.TheVariants.{OutOfMemory};
-ghost use Rattle.subsetter_cffdata.specs.Numbers.{Integer as StoredInteger, integer, fixed, integer_at, integer_from, short_integer, fixed_number_at, dict_number_from, dict_number_at, charstring_number_from, charstring_number_at, fixed_as_i32, in_i32, as_i32, as_u32};
+ghost use Rattle.subsetter_base.specs.declared.error.Error.TheVariants.{OutOfMemory, OverflowError};
+ghost use Rattle.subsetter_cffdata.specs.Numbers.{Integer as StoredInteger, number as written, IsTooLong, integer, fixed, integer_at, integer_from, short_integer, fixed_number_at, dict_number_from, dict_number_at, charstring_number_from, charstring_number_at, fixed_as_i32, in_i32, as_i32, as_u32};
 ghost use Rattle.subsetter_cffdata.specs.Reading.{Takes};
 ghost use Rattle.subsetter_cffdata.specs.Views.{number_of};
 
 pub use crate::real_number::RealNumber;
+pub use crate::string_id::StringId;
+pub use crate::u24::U24;
 use crate::reading;
 use subsetter_base::error::Error;
 use subsetter_base::read::Reader;
@@ -247,5 +249,18 @@ impl Number {
         ensures { result ≡ as_u32 (number_of self.now) }
     {
         u32::try_from(self.as_i32()?).ok()
+    }
+
+    /// Writes the number in its own kind: an integer in the first form that holds it, a real as a plain decimal, a number of 65536ths in five bytes. `OverflowError` where the text of a real has more than 64 characters.
+    pub fn write(&self, w: &mut Writer) -> Result<(), Error>
+        ensures ok { OnOk result (w.new ≡ w.old ++ written (number_of self.now)) }
+        ensures err { IfErr result (λ e. (e ≡ OutOfMemory) ⊎ ((e ≡ OverflowError) × IsTooLong (number_of self.now))) }
+        ensures fits { OnOk result (IsTooLong (number_of self.now) → ⊥) }
+    {
+        match self {
+            Number::Real(real) => real.write(w),
+            Number::Integer(integer) => w.write(integer),
+            Number::Fixed(fixed) => w.write(fixed),
+        }
     }
 }

@@ -6,8 +6,12 @@ ghost use Rattle.subsetter_cffdata.specs.Decimals.{IsPlain};
 use crate::reading;
 use crate::reading_text::text_of;
 use crate::real_text::real_of_text;
+use crate::real_writing::{pack, text_of_digits};
+use crate::text::Text;
 use crate::whole::whole_of;
+use subsetter_base::error::Error;
 use subsetter_base::read::Reader;
+use subsetter_base::write::Writer;
 
 /// An exact decimal: a sign, at most 64 digits without zeros in front and at the end, and the power of ten of the last digit.
 #[derive(Clone, Copy, Debug)]
@@ -21,8 +25,12 @@ pub struct RealNumber {
 }
 
 impl RealNumber {
-    ghost use Rattle.std.specs.Prelude.{◌≡◌, length};
-    ghost use Rattle.subsetter_cffdata.specs.Decimals.{real_at};
+    ghost use Rattle.std.specs.Prelude.{◌≡◌, ◌<◌, ◌++◌, ◌∷◌, ◌⊎◌, length, OnOk, IfErr};
+    ghost use Rattle.std.specs.List.{AllByRecursion};
+    ghost use Rattle.std.specs.Option.{option_map};
+    ghost use Rattle.subsetter_base.specs.declared.error.Error.TheVariants.{OutOfMemory, OverflowError};
+    ghost use Rattle.subsetter_cffdata.specs.TextSteps.{shown, fitting};
+    ghost use Rattle.subsetter_cffdata.specs.Decimals.{HasText, packed, real_at, real_text};
     ghost use Rattle.subsetter_cffdata.specs.Reading.{rest, Takes};
     ghost use Rattle.subsetter_cffdata.specs.Views.{decimal_of};
     ghost use Rattle.subsetter_cffdata.specs.Numbers.{real_number_at, real_as_i32};
@@ -66,5 +74,27 @@ impl RealNumber {
             return None;
         }
         whole_of(self.negative, self.digits(), self.power as u32)
+    }
+
+    // The text, where it has at most 64 characters.
+    pub(crate) fn text(&self) -> Option<Text>
+        ensures value { option_map shown result ≡ fitting (real_text (decimal_of self.now)) }
+        ensures characters { AllByRecursion (λ c. c < 16) (real_text (decimal_of self.now)) }
+    {
+        text_of_digits(self.negative, self.digits(), self.power)
+    }
+
+    /// Writes the real as a plain decimal without an exponent: `OverflowError` where its text has more than 64 characters.
+    pub fn write(&self, w: &mut Writer) -> Result<(), Error>
+        ensures ok { OnOk result (w.new ≡ w.old ++ (30 ∷ packed (real_text (decimal_of self.now)))) }
+        // So it is read again.
+        ensures again { OnOk result (HasText (decimal_of self.now)) }
+        ensures err { IfErr result (λ e. (e ≡ OutOfMemory) ⊎ ((e ≡ OverflowError) × (64 < length (real_text (decimal_of self.now))))) }
+    {
+        let Some(text) = self.text() else {
+            return Err(Error::OverflowError);
+        };
+        let bytes = pack(&text.characters[..text.len]);
+        w.extend(&bytes.characters[..bytes.len])
     }
 }

@@ -95,7 +95,7 @@ fn exponent_of(text: &[u8]) -> Option<i32>
 }
 
 // Digits behind a text.
-fn put_all(text: &mut Text, ds: &[u8])
+pub fn put_all(text: &mut Text, ds: &[u8])
     requires { text.old.len + length ds.now ≤ 64 }
     ensures after { shown text.new ≡ shown text.old ++ ds.now }
     ensures len { text.new.len ≡ text.old.len + length ds.now }

@@ -1,12 +1,13 @@
 //! The tokens of a DICT: operands and operators (Technical Note 5176, section 4 "DICT Data").
 
-ghost use Rattle.std.specs.Prelude.{ℕ, List, Some, ◌≡◌, ◌<◌, ◌≤◌, length, take, drop, map};
+ghost use Rattle.std.specs.Prelude.{ℕ, List, Some, ◌≡◌, ◌<◌, ◌≤◌, length, take, drop, map, IfSome};
 ghost use Rattle.std.specs.Option.{option_map};
-ghost use Rattle.subsetter_cffdata.specs.Dict.{Entry, is_operator, operator_from, token_at, entry_at};
+ghost use Rattle.subsetter_cffdata.specs.Operands.{operands_at};
+ghost use Rattle.subsetter_cffdata.specs.Dict.{is_operator, operator_from, token_at, entry_at};
 ghost use Rattle.subsetter_cffdata.specs.Reading.{rest, Takes};
 ghost use Rattle.subsetter_cffdata.specs.TokenView.{token_of};
 ghost use Rattle.subsetter_cffdata.specs.Views.{number_of, operator_of};
-ghost use Rattle.subsetter_cffdata.specs.Tokens.{operator_part, with_operands};
+ghost use Rattle.subsetter_cffdata.specs.Tokens.{operator_part};
 
 use crate::number::Number;
 use crate::operator::{Operator, TWO_BYTE_OPERATOR_MARK};
@@ -68,25 +69,27 @@ pub fn next_operator(bytes: &[u8], offset: usize) -> Option<(Operator, usize)>
     None
 }
 
-// The operands of the entry at the offset, as many as the buffer holds.
-pub fn read_operands(bytes: &[u8], offset: usize, buffer: &mut [Number]) -> usize
+// The operands of the entry at the offset, as many as the buffer holds; None where no entry can be read.
+#[tactic(auto, unfolding(crate::specs::Operands::operands_at))]
+pub fn read_operands(bytes: &[u8], offset: usize, buffer: &mut [Number]) -> Option<usize>
     requires { 0 < length buffer.old }
-    ensures within { result ≤ length buffer.old }
-    ensures operands { (e : Entry × List ℕ) → entry_at (drop offset bytes.now) ≡ Some e → map number_of (take result buffer.new) ≡ take (length buffer.old) e.0.operands }
+    ensures within { IfSome result (λ n. n ≤ length buffer.old) }
+    ensures operands { option_map (λ n. map number_of (take n buffer.new)) result ≡ operands_at (length buffer.old) (drop offset bytes.now) }
 {
     let mut r = Reader::new_at(bytes, offset);
     let mut len = 0;
     while let Some(found) = next_token(&mut r) {
         match found {
-            Token::Operator(_) => return len,
+            Token::Operator(_) => return Some(len),
             Token::Operand(operand) => {
                 buffer[len] = operand;
                 len += 1;
                 if len == buffer.len() {
-                    return len;
+                    next_operator(bytes, r.offset())?;
+                    return Some(len);
                 }
             }
         }
     }
-    len
+    None
 }
