@@ -1,4 +1,4 @@
-use crate::read::{LazyArray16, LazyArrayIter16, Readable, Reader};
+use crate::read::{LazyArray16, LazyArrayIter16, Readable, Reader, u16_at, u32_at};
 use crate::remapper::{CheckedAdd, Remapper};
 use crate::write::{Writeable, Writer};
 use crate::{Error, GlyphRemapper, Tag, TagLengthError};
@@ -34,6 +34,8 @@ fn numbers_are_read_in_big_endian(rt: HostRuntime) {
     assert_eq!(rt; next::<u16>(&mut r), None);
     r.jump(1);
     assert_eq!(rt; next::<u16>(&mut r), Some(0xFEDC));
+    assert_eq!(rt; u16_at(&data, 1), 0xFEDC);
+    assert_eq!(rt; u32_at(&data, 3), 0x80000001);
 }
 
 #[test]
@@ -134,8 +136,25 @@ fn errors_have_their_texts(rt: HostRuntime) -> Result<(), Fail> {
 
 #[test]
 fn tags_are_four_bytes(rt: HostRuntime) -> Result<(), Fail> {
+    let named = [
+        (Tag::HEAD, "head"),
+        (Tag::HHEA, "hhea"),
+        (Tag::HMTX, "hmtx"),
+        (Tag::MAXP, "maxp"),
+        (Tag::NAME, "name"),
+        (Tag::POST, "post"),
+        (Tag::GLYF, "glyf"),
+        (Tag::LOCA, "loca"),
+        (Tag::CVT, "cvt "),
+        (Tag::FPGM, "fpgm"),
+        (Tag::PREP, "prep"),
+        (Tag::CFF, "CFF "),
+        (Tag::CFF2, "CFF2"),
+    ];
+    for (tag, text) in named {
+        assert_eq!(rt; tag.get().as_slice(), text.as_bytes());
+    }
     assert_eq!(rt; Tag::new(b"glyf"), Tag::GLYF);
-    assert_eq!(rt; *Tag::CVT.get(), *b"cvt ");
     assert_eq!(rt; "CFF ".parse::<Tag>(), Ok(Tag::CFF));
     assert_eq!(rt; "CFF".parse::<Tag>(), Err(TagLengthError));
     assert_eq!(rt; "glyph".parse::<Tag>(), Err(TagLengthError));

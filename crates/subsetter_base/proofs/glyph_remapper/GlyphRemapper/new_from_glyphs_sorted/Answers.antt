@@ -1,8 +1,6 @@
-use Rattle.std.proofs.Common.{◌≡◌, ℕ, List, subst, sym, ap, ◌∙◌}
+use Rattle.std.proofs.Common.{◌≡◌}
 use Rattle.std.specs.List.Sorted.{IsPermutation, IsSorted}
 use Rattle.std.specs.Ordering.{nat_cmp}
-use Rattle.std.proofs.lemmas.List.Sorted.{IsPermutation-sym}
-use Rattle.subsetter_base.proofs.GlyphLemmas.{ascending, HasAllAboveZero-permutation}
 use Rattle.subsetter_base.proofs.GlyphResults.{ok_as, room_as, err_as}
 use Rattle.subsetter_base.proofs.glyph_remapper.GlyphRemapper.new_from_glyphs_sorted.Goals as goal
 

@@ -1,10 +1,10 @@
-use Rattle.std.proofs.Common.{◌≡◌, [], ◌∷◌, ◌++◌, cond, length, ap, sym, ◌∙◌, Some, None, List, ℕ, ◌+◌, Option, arith}
+use Rattle.std.proofs.Common.{◌≡◌, [], ◌∷◌, ◌++◌, cond, ap, sym, ◌∙◌, Some, None, ◌+◌, arith}
 use Rattle.std.specs.Option.{option_map}
 use Rattle.std.specs.HashMap.{get}
 use Rattle.std.proofs.lemmas.List.{length_push}
 use Rattle.std.proofs.lemmas.Map.Keys.{IsDistinct-push}
 use Rattle.std.proofs.lemmas.Slice.{pushed}
-use Rattle.subsetter_base.specs.Remap.{place_by, sum_below}
+use Rattle.subsetter_base.specs.Remap.{place_by}
 use Rattle.subsetter_base.proofs.RemapLemmas.{place_by-push, place_by-pushed, any-is_placed, sum_is, mapped_cond}
 use Rattle.std.specs.Prelude.{is_some}
 use Rattle.subsetter_base.proofs.remapper.Remapper.remap.Goals as goal
