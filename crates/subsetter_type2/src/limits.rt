@@ -21,7 +21,8 @@ impl Limits {
         Some(Limits { tokens, depth })
     }
 
-    /// The most tokens of a run. A token is a number, or an operator with its mask; calls and returns count.
+    /// The most tokens of a run: each number is one, and so is each operator together with its mask, be it a call or a
+    /// return.
     pub fn tokens(&self) -> u32
         ensures { result ≡ self.now.tokens }
     {
