@@ -1,0 +1,16 @@
+pub mod Cards
+pub mod CharStringNumbers
+pub mod Dicts
+pub mod Indexes
+pub mod IndexItems
+pub mod IndexRests
+pub mod Integers
+pub mod OperandSteps
+pub mod Reals
+pub mod Shorter
+pub mod Texts
+pub mod Trims
+pub mod PlainDigits
+pub mod Writing
+pub mod Wholes
+pub mod RealTexts

@@ -1,0 +1,26 @@
+-- What numbers and operators in memory show.
+use Rattle.std.specs.Prelude.{ℕ, List, [], ◌∷◌, take}
+use Rattle.subsetter_cffdata.specs.Decimals.{Decimal, signed, number}
+use Rattle.subsetter_cffdata.specs.Numbers.{Number, Integer, Real, Fixed}
+use Rattle.subsetter_cffdata.specs.declared.real_number.RealNumber.{RealNumber}
+use Rattle.subsetter_cffdata.specs.declared.number.Number.{Number as StoredNumber}
+use Rattle.subsetter_cffdata.specs.declared.number.Number.TheVariants as numbers
+use Rattle.subsetter_cffdata.specs.declared.operator.OperatorType.{OperatorType}
+use Rattle.subsetter_cffdata.specs.declared.operator.OperatorType.TheVariants as types
+use Rattle.subsetter_cffdata.specs.declared.operator.Operator.{Operator}
+
+abbrev pub decimal_of : RealNumber → Decimal
+decimal_of r = record { mantissa = signed r.negative (number (take r.len r.digits)); power = r.power }
+
+abbrev pub number_of : StoredNumber → Number
+number_of (numbers.Real r) = Real (decimal_of r)
+number_of (numbers.Integer z) = Integer z.0
+number_of (numbers.Fixed k) = Fixed k.0
+
+-- an operator's bytes
+abbrev pub type_bytes : OperatorType → List ℕ
+type_bytes (types.OneByteOperator bytes) = bytes
+type_bytes (types.TwoByteOperator bytes) = bytes
+
+abbrev pub operator_of : Operator → List ℕ
+operator_of o = type_bytes o.0

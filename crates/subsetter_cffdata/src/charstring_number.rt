@@ -1,0 +1,204 @@
+//! The numbers of a charstring (Technical Note 5177, section 3.2 "Charstring Number Encoding").
+
+ghost use Rattle.std.specs.Prelude.{◌≡◌, Some, None, ◌≤◌, ◌<◌, ℕ, List, MatchOption};
+ghost use Rattle.subsetter_cffdata.specs.declared.charstring_number.CharStringNumber.{CharStringNumber};
+ghost use Rattle.subsetter_cffdata.specs.CharStringNumber.{number_at, short_number, middle_number, fixed_number, written, whole_of, NumberFits, FitsIn, IsReadAgain};
+
+use std::marker::Model;
+use subsetter_base::error::Error;
+use subsetter_base::write::{Writeable, Writer};
+
+/// A number, and which of the two kinds it is.
+#[derive(Clone, Copy, PartialEq, Eq, Debug)]
+pub enum CharStringNumber {
+    /// A whole number.
+    Integer(i16),
+    /// A number of 65536ths.
+    Fixed(i32),
+}
+
+impl Default for CharStringNumber {
+    fn default() -> Self {
+        CharStringNumber::Integer(0)
+    }
+}
+
+/// The one to five bytes of a number.
+#[derive(Drop)]
+pub struct NumberBytes {
+    bytes: [u8; 5],
+    len: usize,
+}
+
+impl Model for NumberBytes {
+    ghost use Rattle.std.specs.Prelude.{◌≤◌, ℕ, List, take};
+
+    ghost Value = { List ℕ };
+
+    ghost view = { λ n. take n.len n.bytes };
+
+    ghost invariant = { λ n. n.len ≤ 5 };
+}
+
+impl NumberBytes {
+    /// The bytes.
+    pub fn as_slice(&self) -> &[u8]
+        ensures { result.now ≡ self.now }
+    {
+        &self.bytes[..self.len]
+    }
+}
+
+/// The number at the front, and the bytes after it; None where no number stands there or it is cut short.
+#[tactic(auto, unfolding(crate::specs::CharStringNumber::number_at))]
+pub fn read_number(bytes: &[u8]) -> Option<(CharStringNumber, &[u8])>
+    ensures { MatchOption result (number_at bytes.now ≡ None) (λ r. number_at bytes.now ≡ Some (r.0, r.1.now)) }
+{
+    match bytes {
+        [first, rest @ ..] => match *first {
+            28 => read_short(rest),
+            32..=246 => Some((CharStringNumber::Integer(*first as i16 - 139), rest)),
+            247..=254 => read_middle(*first, rest),
+            255 => read_fixed(rest),
+            _ => None,
+        },
+        [] => None,
+    }
+}
+
+/// A whole number of two bytes.
+fn read_short(bytes: &[u8]) -> Option<(CharStringNumber, &[u8])>
+    ensures { MatchOption result (short_number bytes.now ≡ None) (λ r. short_number bytes.now ≡ Some (r.0, r.1.now)) }
+{
+    match bytes {
+        [high, low, rest @ ..] => {
+            let bits = *high as u16 * 256 + *low as u16;
+            Some((CharStringNumber::Integer(bits.cast_signed()), rest))
+        }
+        _ => None,
+    }
+}
+
+/// A whole number of the first byte and one more.
+fn read_middle(first: u8, bytes: &[u8]) -> Option<(CharStringNumber, &[u8])>
+    requires low { 247 ≤ first }
+    requires high { first < 255 }
+    ensures { MatchOption result (middle_number first bytes.now ≡ None) (λ r. middle_number first bytes.now ≡ Some (r.0, r.1.now)) }
+{
+    match bytes {
+        [second, rest @ ..] => {
+            let value = if first < 251 {
+                ((first as u16 - 247) * 256 + *second as u16 + 108) as i16
+            } else {
+                -(((first as u16 - 251) * 256 + *second as u16 + 108) as i16)
+            };
+            Some((CharStringNumber::Integer(value), rest))
+        }
+        [] => None,
+    }
+}
+
+/// A number of 65536ths.
+fn read_fixed(bytes: &[u8]) -> Option<(CharStringNumber, &[u8])>
+    ensures { MatchOption result (fixed_number bytes.now ≡ None) (λ r. fixed_number bytes.now ≡ Some (r.0, r.1.now)) }
+{
+    match bytes {
+        [a, b, c, d, rest @ ..] => {
+            let bits = *a as u32 * 16777216 + *b as u32 * 65536 + *c as u32 * 256 + *d as u32;
+            Some((CharStringNumber::Fixed(bits.cast_signed()), rest))
+        }
+        _ => None,
+    }
+}
+
+/// The bytes of a whole number, in the shortest form.
+#[tactic(auto, unfolding(crate::specs::CharStringNumber::written))]
+fn integer_bytes(value: i16) -> NumberBytes
+    ensures { result ≡ written (CharStringNumber.Integer value) }
+{
+    if value >= -107 && value <= 107 {
+        return NumberBytes {
+            bytes: [(value + 139) as u8, 0, 0, 0, 0],
+            len: 1,
+        };
+    }
+    let size = value.unsigned_abs();
+    if size <= 1131 {
+        let above = size - 108;
+        let first = if value < 0 { 251 } else { 247 };
+        return NumberBytes {
+            bytes: [(above / 256) as u8 + first, (above % 256) as u8, 0, 0, 0],
+            len: 2,
+        };
+    }
+    let bits = value.cast_unsigned();
+    NumberBytes {
+        bytes: [28, (bits / 256) as u8, (bits % 256) as u8, 0, 0],
+        len: 3,
+    }
+}
+
+/// The bytes of a number of 65536ths.
+#[tactic(auto, unfolding(crate::specs::CharStringNumber::written))]
+fn fixed_bytes(value: i32) -> NumberBytes
+    ensures { result ≡ written (CharStringNumber.Fixed value) }
+{
+    let bits = value.cast_unsigned();
+    NumberBytes {
+        bytes: [
+            255,
+            (bits / 16777216) as u8,
+            (bits / 65536 % 256) as u8,
+            (bits / 256 % 256) as u8,
+            (bits % 256) as u8,
+        ],
+        len: 5,
+    }
+}
+
+impl CharStringNumber {
+    /// The number's bytes, in the shortest form.
+    pub fn bytes(&self) -> NumberBytes
+        ensures { result ≡ written self.now }
+    {
+        match *self {
+            CharStringNumber::Integer(value) => integer_bytes(value),
+            CharStringNumber::Fixed(value) => fixed_bytes(value),
+        }
+    }
+
+    /// The number where it has no fraction.
+    #[tactic(auto, unfolding(crate::specs::CharStringNumber::whole_of))]
+    pub fn whole(&self) -> Option<i32>
+        ensures { result ≡ whole_of self.now }
+    {
+        match *self {
+            CharStringNumber::Integer(value) => Some(value as i32),
+            CharStringNumber::Fixed(value) => {
+                if value % 65536 == 0 {
+                    Some(value / 65536)
+                } else {
+                    None
+                }
+            }
+        }
+    }
+}
+
+impl Writeable for CharStringNumber {
+    ghost bytes_of = { λ number. written number };
+
+    fn write(&self, w: &mut Writer) -> Result<(), Error> {
+        w.extend(self.bytes().as_slice())
+    }
+}
+
+/// A number that is written is read again, whatever follows it.
+pub fn number_is_read_again()
+    ensures { (number : CharStringNumber) → NumberFits number → IsReadAgain number }
+{}
+
+/// A number that is read is one that a charstring can hold.
+pub fn read_number_fits()
+    ensures { (bytes : List ℕ) → FitsIn (number_at bytes) }
+{}

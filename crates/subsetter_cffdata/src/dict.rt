@@ -1,0 +1,171 @@
+//! The entries of a DICT, one after the other (Technical Note 5176, section 4 "DICT Data").
+
+ghost use Rattle.std.specs.Prelude.{◌<◌, ◌≤◌, length};
+
+use crate::number::{Number, StringId};
+use crate::operands::{four_of, offset_of, range_of, six_of, string_of};
+use crate::operator::Operator;
+use crate::tokens::{next_operator, read_operands};
+use std::ops::Range;
+
+/// Reads the entries of a DICT. The operands of an entry go into a buffer, as many as it holds.
+#[derive(Drop)]
+pub struct DictionaryParser<'a> {
+    pub(crate) data: &'a [u8],
+    pub(crate) offset: usize,
+    pub(crate) operands_offset: usize,
+    pub(crate) operands: &'a mut [Number],
+    pub(crate) operands_len: u16,
+    ghost room: { 0 < length operands.now },
+    ghost few: { length operands.now < 65536 },
+    ghost filled: { operands_len ≤ length operands.now },
+}
+
+impl<'a> DictionaryParser<'a> {
+    ghost use Rattle.std.specs.Prelude.{ℕ, List, ◌≡◌, take, drop, map};
+    ghost use Rattle.std.specs.Option.{option_map};
+    ghost use Rattle.subsetter_cffdata.specs.Dict.{entry_at};
+    ghost use Rattle.subsetter_cffdata.specs.Operands.{operands_at};
+    ghost use Rattle.subsetter_cffdata.specs.ParserView.{left, entry_of, shown, string_in, offset_in, range_in, numbers_in};
+    ghost use Rattle.subsetter_cffdata.specs.Tokens.{operator_part};
+    ghost use Rattle.subsetter_cffdata.specs.Views.{number_of, operator_of};
+
+    /// At the first entry, with a buffer for operands.
+    pub fn new(bytes: &'a [u8], operands: &'a mut [Number]) -> Self
+        requires room { 0 < length operands.old }
+        requires few { length operands.old < 65536 }
+        ensures left { left result ≡ bytes.now }
+        ensures same { result.data.now ≡ bytes.now }
+        ensures room { length result.operands.now ≡ length operands.old }
+    {
+        DictionaryParser {
+            data: bytes,
+            offset: 0,
+            operands_offset: 0,
+            operands,
+            operands_len: 0,
+        }
+    }
+
+    /// Goes to the next entry, and answers its operator; None where no entry can be read.
+    pub fn parse_next(&mut self) -> Option<Operator>
+        ensures value { operator_part (entry_at (left self.old)) ≡ option_map (λ x. (operator_of x, left self.new)) result }
+        ensures entry { entry_of self.new ≡ left self.old }
+        ensures same { self.new.data.now ≡ self.old.data.now }
+        ensures room { length self.new.operands.now ≡ length self.old.operands.now }
+    {
+        self.operands_offset = self.offset;
+        let (operator, end) = next_operator(self.data, self.offset)?;
+        self.offset = end;
+        Some(operator)
+    }
+
+    /// Reads the operands of the entry, as many as the buffer holds; None where no entry can be read.
+    pub fn parse_operands(&mut self) -> Option<()>
+        ensures operands { option_map (λ _. shown self.new) result ≡ operands_at (length self.old.operands.now) (entry_of self.old) }
+        ensures entry { entry_of self.new ≡ entry_of self.old }
+        ensures left { left self.new ≡ left self.old }
+        ensures same { self.new.data.now ≡ self.old.data.now }
+        ensures room { length self.new.operands.now ≡ length self.old.operands.now }
+    {
+        let len = read_operands(self.data, self.operands_offset, self.operands)?;
+        self.operands_len = len as u16;
+        Some(())
+    }
+
+    /// The operands that were read.
+    pub fn operands(&self) -> &[Number]
+        ensures { map number_of result.now ≡ shown self.now }
+    {
+        &self.operands[..usize::from(self.operands_len)]
+    }
+
+    /// The entry's one string number; None where it has other operands.
+    pub fn parse_sid(&mut self) -> Option<StringId>
+        ensures value { option_map (λ s. s.0) result ≡ string_in self.old }
+        ensures left { left self.new ≡ left self.old }
+        ensures same { self.new.data.now ≡ self.old.data.now }
+        ensures room { length self.new.operands.now ≡ length self.old.operands.now }
+    {
+        self.parse_operands()?;
+        string_of(self.operands())
+    }
+
+    /// The entry's one offset; None where it has other operands.
+    pub fn parse_offset(&mut self) -> Option<usize>
+        ensures value { result ≡ offset_in self.old }
+        ensures left { left self.new ≡ left self.old }
+        ensures same { self.new.data.now ≡ self.old.data.now }
+        ensures room { length self.new.operands.now ≡ length self.old.operands.now }
+    {
+        self.parse_operands()?;
+        offset_of(self.operands())
+    }
+
+    /// The entry's four numbers; None where it has other operands.
+    pub fn parse_font_bbox(&mut self) -> Option<[Number; 4]>
+        ensures value { option_map (map number_of) result ≡ numbers_in 4 self.old }
+        ensures left { left self.new ≡ left self.old }
+        ensures same { self.new.data.now ≡ self.old.data.now }
+        ensures room { length self.new.operands.now ≡ length self.old.operands.now }
+    {
+        self.parse_operands()?;
+        four_of(self.operands())
+    }
+
+    /// The entry's six numbers; None where it has other operands.
+    pub fn parse_font_matrix(&mut self) -> Option<[Number; 6]>
+        ensures value { option_map (map number_of) result ≡ numbers_in 6 self.old }
+        ensures left { left self.new ≡ left self.old }
+        ensures same { self.new.data.now ≡ self.old.data.now }
+        ensures room { length self.new.operands.now ≡ length self.old.operands.now }
+    {
+        self.parse_operands()?;
+        six_of(self.operands())
+    }
+
+    /// The entry's length and offset, as a range; None where it has other operands.
+    pub fn parse_range(&mut self) -> Option<Range<usize>>
+        ensures value { option_map (λ r. (r.start, r.end)) result ≡ range_in self.old }
+        ensures left { left self.new ≡ left self.old }
+        ensures same { self.new.data.now ≡ self.old.data.now }
+        ensures room { length self.new.operands.now ≡ length self.old.operands.now }
+    {
+        self.parse_operands()?;
+        range_of(self.operands())
+    }
+}
+
+/// The operators whose entries are read or written (Technical Note 5176, section 9 "Top DICT Data", tables 9 and 10, and section 15 "Private DICT Data").
+pub mod operators {
+    use crate::operator::{Operator, OperatorType, TWO_BYTE_OPERATOR_MARK};
+
+    /// The notice.
+    pub const NOTICE: Operator = Operator(OperatorType::OneByteOperator([1]));
+    /// The bounding box of the font.
+    pub const FONT_BBOX: Operator = Operator(OperatorType::OneByteOperator([5]));
+    /// The offset of the charset.
+    pub const CHARSET: Operator = Operator(OperatorType::OneByteOperator([15]));
+    /// The offset of the encoding.
+    pub const ENCODING: Operator = Operator(OperatorType::OneByteOperator([16]));
+    /// The offset of the CharStrings INDEX.
+    pub const CHAR_STRINGS: Operator = Operator(OperatorType::OneByteOperator([17]));
+    /// The length and the offset of the Private DICT.
+    pub const PRIVATE: Operator = Operator(OperatorType::OneByteOperator([18]));
+    /// The offset of the local subroutines, from the start of the Private DICT.
+    pub const SUBRS: Operator = Operator(OperatorType::OneByteOperator([19]));
+    /// The copyright.
+    pub const COPYRIGHT: Operator = Operator(OperatorType::TwoByteOperator([TWO_BYTE_OPERATOR_MARK, 0]));
+    /// The matrix of the font.
+    pub const FONT_MATRIX: Operator = Operator(OperatorType::TwoByteOperator([TWO_BYTE_OPERATOR_MARK, 7]));
+    /// Registry, ordering and supplement of a CID-keyed font.
+    pub const ROS: Operator = Operator(OperatorType::TwoByteOperator([TWO_BYTE_OPERATOR_MARK, 30]));
+    /// The number of CIDs.
+    pub const CID_COUNT: Operator = Operator(OperatorType::TwoByteOperator([TWO_BYTE_OPERATOR_MARK, 34]));
+    /// The offset of the Font DICT INDEX.
+    pub const FD_ARRAY: Operator = Operator(OperatorType::TwoByteOperator([TWO_BYTE_OPERATOR_MARK, 36]));
+    /// The offset of the FDSelect.
+    pub const FD_SELECT: Operator = Operator(OperatorType::TwoByteOperator([TWO_BYTE_OPERATOR_MARK, 37]));
+    /// The name of a Font DICT.
+    pub const FONT_NAME: Operator = Operator(OperatorType::TwoByteOperator([TWO_BYTE_OPERATOR_MARK, 38]));
+}

@@ -1,0 +1,48 @@
+//! The operators of a DICT (Technical Note 5176, section 4 "DICT Data").
+
+ghost use Rattle.std.specs.Prelude.{◌≡◌, ◌∷◌, []};
+ghost use Rattle.subsetter_cffdata.specs.Views.{operator_of};
+
+use subsetter_base::error::Error;
+use subsetter_base::write::{Writeable, Writer};
+
+/// The first byte of an operator of two bytes.
+pub const TWO_BYTE_OPERATOR_MARK: u8 = 12;
+
+/// The bytes of an operator.
+#[derive(Clone, Copy, Debug, PartialEq, Eq)]
+pub enum OperatorType {
+    OneByteOperator([u8; 1]),
+    TwoByteOperator([u8; 2]),
+}
+
+/// An operator.
+#[derive(Clone, Copy, Debug, PartialEq, Eq)]
+pub struct Operator(pub OperatorType);
+
+impl Operator {
+    /// The operator of one byte.
+    pub const fn from_one_byte(b: u8) -> Self
+        ensures { operator_of result ≡ b ∷ [] }
+    {
+        Self(OperatorType::OneByteOperator([b]))
+    }
+
+    /// The operator of the mark and one byte more.
+    pub const fn from_two_byte(b: u8) -> Self
+        ensures { operator_of result ≡ 12 ∷ b ∷ [] }
+    {
+        Self(OperatorType::TwoByteOperator([TWO_BYTE_OPERATOR_MARK, b]))
+    }
+}
+
+impl Writeable for Operator {
+    ghost bytes_of = { λ operator. operator_of operator };
+
+    fn write(&self, w: &mut Writer) -> Result<(), Error> {
+        match &self.0 {
+            OperatorType::OneByteOperator(b) => w.extend(b),
+            OperatorType::TwoByteOperator(b) => w.extend(b),
+        }
+    }
+}

@@ -1,0 +1,100 @@
+//! The reals of a DICT (Technical Note 5176, section 4 "DICT Data", table 5).
+
+ghost use Rattle.std.specs.Prelude.{◌≤◌, take};
+ghost use Rattle.subsetter_cffdata.specs.Decimals.{IsPlain};
+
+use crate::reading;
+use crate::reading_text::text_of;
+use crate::real_text::real_of_text;
+use crate::real_writing::{pack, text_of_digits};
+use crate::text::Text;
+use crate::whole::whole_of;
+use subsetter_base::error::Error;
+use subsetter_base::read::Reader;
+use subsetter_base::write::Writer;
+
+/// An exact decimal: a sign, at most 64 digits without zeros in front and at the end, and the power of ten of the last digit.
+#[derive(Clone, Copy, Debug)]
+pub struct RealNumber {
+    pub(crate) negative: bool,
+    pub(crate) digits: [u8; 64],
+    pub(crate) len: u8,
+    pub(crate) power: i32,
+    ghost within: { len ≤ 64 },
+    ghost plain: { IsPlain negative (take len digits) power },
+}
+
+impl RealNumber {
+    ghost use Rattle.std.specs.Prelude.{◌≡◌, ◌<◌, ◌++◌, ◌∷◌, ◌⊎◌, length, OnOk, IfErr};
+    ghost use Rattle.std.specs.List.{AllByRecursion};
+    ghost use Rattle.std.specs.Option.{option_map};
+    ghost use Rattle.subsetter_base.specs.declared.error.Error.TheVariants.{OutOfMemory, OverflowError};
+    ghost use Rattle.subsetter_cffdata.specs.TextSteps.{shown, fitting};
+    ghost use Rattle.subsetter_cffdata.specs.Decimals.{HasText, packed, real_at, real_text};
+    ghost use Rattle.subsetter_cffdata.specs.Reading.{rest, Takes};
+    ghost use Rattle.subsetter_cffdata.specs.Views.{decimal_of};
+    ghost use Rattle.subsetter_cffdata.specs.Numbers.{real_number_at, real_as_i32};
+
+    /// Reads a real; None where no byte 30 stands there, or the text behind it can't be read.
+    #[tactic(auto, unfolding(crate::specs::Numbers::real_from))]
+    pub fn parse(r: &mut Reader<'_>) -> Option<RealNumber>
+        ensures value { Takes decimal_of result r.old r.new real_number_at }
+        ensures same { r.new.bytes ≡ r.old.bytes }
+    {
+        match reading::next_byte(r)? {
+            30 => Self::parse_text(r),
+            _ => None,
+        }
+    }
+
+    /// Reads the text behind a byte 30.
+    #[tactic(auto, using(crate::proofs::Texts::real_by_text))]
+    pub fn parse_text(r: &mut Reader<'_>) -> Option<RealNumber>
+        ensures value { Takes decimal_of result r.old r.new real_at }
+        ensures same { r.new.bytes ≡ r.old.bytes }
+    {
+        let (text, len) = text_of(reading::tail(r))?;
+        reading::pass(r, len);
+        real_of_text(&text.characters[..text.len])
+    }
+
+    // The digits, the highest first.
+    pub(crate) fn digits(&self) -> &[u8]
+        ensures value { result.now ≡ take self.now.len self.now.digits }
+        ensures len { length result.now ≡ self.now.len }
+    {
+        &self.digits[..usize::from(self.len)]
+    }
+
+    /// The whole number that this is, where it has no fraction and fits.
+    pub fn as_i32(&self) -> Option<i32>
+        ensures { result ≡ real_as_i32 (decimal_of self.now) }
+    {
+        if self.power < 0 {
+            return None;
+        }
+        whole_of(self.negative, self.digits(), self.power as u32)
+    }
+
+    // The text, where it has at most 64 characters.
+    pub(crate) fn text(&self) -> Option<Text>
+        ensures value { option_map shown result ≡ fitting (real_text (decimal_of self.now)) }
+        ensures characters { AllByRecursion (λ c. c < 16) (real_text (decimal_of self.now)) }
+    {
+        text_of_digits(self.negative, self.digits(), self.power)
+    }
+
+    /// Writes the real as a plain decimal without an exponent: `OverflowError` where its text has more than 64 characters.
+    pub fn write(&self, w: &mut Writer) -> Result<(), Error>
+        ensures ok { OnOk result (w.new ≡ w.old ++ (30 ∷ packed (real_text (decimal_of self.now)))) }
+        // So it is read again.
+        ensures again { OnOk result (HasText (decimal_of self.now)) }
+        ensures err { IfErr result (λ e. (e ≡ OutOfMemory) ⊎ ((e ≡ OverflowError) × (64 < length (real_text (decimal_of self.now))))) }
+    {
+        let Some(text) = self.text() else {
+            return Err(Error::OverflowError);
+        };
+        let bytes = pack(&text.characters[..text.len]);
+        w.extend(&bytes.characters[..bytes.len])
+    }
+}

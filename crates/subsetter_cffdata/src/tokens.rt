@@ -1,0 +1,95 @@
+//! The tokens of a DICT: operands and operators (Technical Note 5176, section 4 "DICT Data").
+
+ghost use Rattle.std.specs.Prelude.{ℕ, List, Some, ◌≡◌, ◌<◌, ◌≤◌, length, take, drop, map, IfSome};
+ghost use Rattle.std.specs.Option.{option_map};
+ghost use Rattle.subsetter_cffdata.specs.Operands.{operands_at};
+ghost use Rattle.subsetter_cffdata.specs.Dict.{is_operator, operator_from, token_at, entry_at};
+ghost use Rattle.subsetter_cffdata.specs.Reading.{rest, Takes};
+ghost use Rattle.subsetter_cffdata.specs.TokenView.{token_of};
+ghost use Rattle.subsetter_cffdata.specs.Views.{number_of, operator_of};
+ghost use Rattle.subsetter_cffdata.specs.Tokens.{operator_part};
+
+use crate::number::Number;
+use crate::operator::{Operator, TWO_BYTE_OPERATOR_MARK};
+use crate::reading;
+use subsetter_base::read::Reader;
+
+fn begins_operator(b: u8) -> bool
+    ensures { result ≡ is_operator b }
+{
+    match b {
+        0..=27 => true,
+        28..=30 => false,
+        31 => true,
+        32..=254 => false,
+        255 => true,
+    }
+}
+
+// The operator whose first byte was read.
+fn operator_after(b: u8, r: &mut Reader<'_>) -> Option<Operator>
+    ensures value { Takes operator_of result r.old r.new (operator_from b) }
+    ensures same { r.new.bytes ≡ r.old.bytes }
+{
+    if b == TWO_BYTE_OPERATOR_MARK {
+        let second = reading::next_byte(r)?;
+        return Some(Operator::from_two_byte(second));
+    }
+    Some(Operator::from_one_byte(b))
+}
+
+#[derive(Clone, Copy, Debug)]
+enum Token {
+    Operand(Number),
+    Operator(Operator),
+}
+
+#[tactic(auto, unfolding(crate::specs::Dict::token_at))]
+fn next_token(r: &mut Reader<'_>) -> Option<Token>
+    ensures value { Takes token_of result r.old r.new token_at }
+    ensures same { r.new.bytes ≡ r.old.bytes }
+{
+    let b = reading::next_byte(r)?;
+    if begins_operator(b) {
+        return Some(Token::Operator(operator_after(b, r)?));
+    }
+    Some(Token::Operand(Number::parse_dict_number(b, r)?))
+}
+
+// The operator of the entry at the offset, and where the next one begins.
+pub fn next_operator(bytes: &[u8], offset: usize) -> Option<(Operator, usize)>
+    ensures { operator_part (entry_at (drop offset bytes.now)) ≡ option_map (λ x. (operator_of x.0, drop x.1 bytes.now)) result }
+{
+    let mut r = Reader::new_at(bytes, offset);
+    while let Some(found) = next_token(&mut r) {
+        if let Token::Operator(operator) = found {
+            return Some((operator, r.offset()));
+        }
+    }
+    None
+}
+
+// The operands of the entry at the offset, as many as the buffer holds; None where no entry can be read.
+#[tactic(auto, unfolding(crate::specs::Operands::operands_at))]
+pub fn read_operands(bytes: &[u8], offset: usize, buffer: &mut [Number]) -> Option<usize>
+    requires { 0 < length buffer.old }
+    ensures within { IfSome result (λ n. n ≤ length buffer.old) }
+    ensures operands { option_map (λ n. map number_of (take n buffer.new)) result ≡ operands_at (length buffer.old) (drop offset bytes.now) }
+{
+    let mut r = Reader::new_at(bytes, offset);
+    let mut len = 0;
+    while let Some(found) = next_token(&mut r) {
+        match found {
+            Token::Operator(_) => return Some(len),
+            Token::Operand(operand) => {
+                buffer[len] = operand;
+                len += 1;
+                if len == buffer.len() {
+                    next_operator(bytes, r.offset())?;
+                    return Some(len);
+                }
+            }
+        }
+    }
+    None
+}

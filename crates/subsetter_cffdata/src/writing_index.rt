@@ -1,0 +1,143 @@
+//! Writing an INDEX (Technical Note 5176, section 5 "INDEX Data").
+
+ghost use Rattle.std.specs.Prelude.{◌≡◌, ◌≢◌, ◌+◌, ◌-◌, ◌<◌, ◌≤◌, ◌^◌, ◌∷◌, ◌++◌, [], ◌⊎◌, length, OnOk, IfOk, IfErr, SomeIff};
+ghost use Rattle.std.specs.Int.{bytes_high_first};
+ghost use Rattle.std.specs.List.{concat};
+ghost use Rattle.subsetter_base.specs.declared.error.Error.TheVariants.{OverflowError, OutOfMemory};
+ghost use Rattle.subsetter_cffdata.specs.Owned.{views, FitIndex};
+ghost use Rattle.subsetter_cffdata.specs.Index.{offset_size, offsets, numbers, header, index};
+
+use std::alloc::{AllocError, Global};
+use subsetter_base::error::Error;
+use subsetter_base::write::{Writeable, Writer};
+
+/// An INDEX as bytes, and how many of them stand before the data.
+#[derive(Drop)]
+pub struct OwnedIndex {
+    pub data: Vec<u8>,
+    pub header_size: usize,
+}
+
+impl OwnedIndex {
+    /// The INDEX without items.
+    #[tactic(auto, unfolding(crate::specs::Index::index))]
+    pub fn default(alloc: Global) -> Result<OwnedIndex, Error>
+        ensures ok { IfOk result (λ x. (x.data.items ≡ index []) × (x.header_size ≡ 2)) }
+        ensures err { IfErr result (λ e. e ≡ OutOfMemory) }
+    {
+        let mut data = Vec::new(alloc);
+        data.extend_from_slice(&[0, 0])?;
+        Ok(OwnedIndex {
+            data,
+            header_size: 2,
+        })
+    }
+}
+
+impl Writeable for OwnedIndex {
+    ghost bytes_of = { λ x. x.data.items };
+
+    fn write(&self, w: &mut Writer) -> Result<(), Error> {
+        w.extend(&self.data)
+    }
+}
+
+// How many bytes an offset takes.
+fn size_of_offset(n: u32) -> u8
+    ensures size { result ≡ offset_size n }
+    ensures small { result ≤ 4 }
+{
+    if n < 256 {
+        1
+    } else if n < 65536 {
+        2
+    } else if n < 16777216 {
+        3
+    } else {
+        4
+    }
+}
+
+// Writes the low bytes of a number.
+#[tactic(auto, using(crate::proofs::Writing::low_bytes))]
+fn put_number(w: &mut Vec<u8>, size: u8, n: u32) -> Result<(), AllocError>
+    requires { size ≤ 4 }
+    ensures { OnOk result (w.new.items ≡ w.old.items ++ bytes_high_first size n) }
+{
+    let bytes = n.to_be_bytes();
+    w.extend_from_slice(&bytes[4 - size as usize..])
+}
+
+// The length of all items together with one, where it fits.
+fn total(items: &[Vec<u8>]) -> Option<u32>
+    ensures { SomeIff result (length (concat (views items.now)) + 1 < 2 ^ 32) (length (concat (views items.now)) + 1) }
+{
+    let mut sum: u32 = 1;
+    for item in items {
+        let len = u32::try_from(item.len()).ok()?;
+        sum = sum.checked_add(len)?;
+    }
+    Some(sum)
+}
+
+// Writes the offset behind each item.
+fn put_offsets(w: &mut Vec<u8>, size: u8, items: &[Vec<u8>]) -> Result<(), AllocError>
+    requires small { size ≤ 4 }
+    requires fits { length (concat (views items.now)) + 1 < 2 ^ 32 }
+    ensures { OnOk result (w.new.items ≡ w.old.items ++ numbers size (offsets 1 (views items.now))) }
+{
+    let mut offset: u32 = 1;
+    for item in items {
+        offset += item.len() as u32;
+        put_number(w, size, offset)?;
+    }
+    Ok(())
+}
+
+// Writes the items.
+fn put_items(w: &mut Vec<u8>, items: &[Vec<u8>]) -> Result<(), AllocError>
+    ensures { OnOk result (w.new.items ≡ w.old.items ++ concat (views items.now)) }
+{
+    for item in items {
+        w.extend_from_slice(item)?;
+    }
+    Ok(())
+}
+
+// The count, the size of an offset and the offsets.
+#[tactic(auto, unfolding(crate::specs::Index::header))]
+fn put_header(w: &mut Vec<u8>, items: &[Vec<u8>], count: u16, total: u32) -> Result<(), AllocError>
+    requires count { count ≡ length items.now }
+    requires total { total ≡ length (concat (views items.now)) + 1 }
+    ensures { OnOk result (w.new.items ≡ w.old.items ++ header (views items.now)) }
+{
+    let size = size_of_offset(total);
+    w.extend_from_slice(&count.to_be_bytes())?;
+    w.push(size)?;
+    put_number(w, size, 1)?;
+    put_offsets(w, size, items)
+}
+
+/// Writes an INDEX of the items.
+#[tactic(auto, unfolding(crate::specs::Index::index))]
+pub fn create_index(alloc: Global, items: &[Vec<u8>]) -> Result<OwnedIndex, Error>
+    ensures bytes { IfOk result (λ x. x.data.items ≡ index (views items.now)) }
+    ensures fits { OnOk result (FitIndex (views items.now)) }
+    ensures header { IfOk result (λ x. x.header_size ≡ length (index (views items.now)) - length (concat (views items.now))) }
+    ensures err { IfErr result (λ e. (e ≡ OutOfMemory) ⊎ ((e ≡ OverflowError) × (FitIndex (views items.now) → ⊥))) }
+{
+    let Ok(count) = u16::try_from(items.len()) else {
+        return Err(Error::OverflowError);
+    };
+    let Some(total) = total(items) else {
+        return Err(Error::OverflowError);
+    };
+    if count == 0 {
+        return OwnedIndex::default(alloc);
+    }
+    let mut data = Vec::new(alloc);
+    put_header(&mut data, items, count, total)?;
+    let header_size = data.len();
+    put_items(&mut data, items)?;
+    Ok(OwnedIndex { data, header_size })
+}

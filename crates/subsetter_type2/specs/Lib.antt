@@ -1,0 +1,13 @@
+pub mod Subroutines
+pub mod Token
+pub mod Machine
+pub mod Flat
+pub mod Laws
+pub mod Setting
+pub mod Output
+pub mod OutputView
+pub mod ProgramView
+pub mod View
+pub mod MachineView
+pub mod Reached
+pub mod Recursion

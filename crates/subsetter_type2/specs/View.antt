@@ -1,0 +1,24 @@
+-- What the code's values stand for.
+use Rattle.std.specs.Prelude.{ℕ, List, [], ◌++◌, map, reverse, Option, Some, None, Result, Ok, Err}
+use Rattle.std.specs.Borrow.{Bor}
+use Rattle.subsetter_base.specs.declared.error.Error.{Error}
+use Rattle.subsetter_type2.specs.Machine.{Registers, Lead, Act, Does, Fails, Event}
+use Rattle.subsetter_type2.specs.Flat.{flat_event}
+
+-- the rests, the running one first
+abbrev pub rests_of : List (Bor (List ℕ)) → List (List ℕ)
+rests_of rests = map (λ r. r.now) (reverse rests)
+
+abbrev pub said_bytes : Option Event → List ℕ
+said_bytes None = []
+said_bytes (Some event) = flat_event event
+
+-- what an act leaves: the registers, the bytes that are then settled, and where it leads
+pub record Done : Type 0 where
+  pub registers : Registers
+  pub settled : List ℕ
+  pub lead : Lead
+
+abbrev pub done : Act → List ℕ → Result Done Error
+done (Does said next lead) settled = Ok (record { registers = next; settled = settled ++ said_bytes said; lead = lead })
+done (Fails error) settled = Err error

@@ -1,0 +1,82 @@
+//! Type 2 charstrings (Technical Note 5177).
+
+ghost use Rattle.std.specs.Prelude.{◌≡◌};
+ghost use Rattle.subsetter_base.specs.Gives.{Gives};
+ghost use Rattle.subsetter_type2.specs.Flat.{flat_form};
+ghost use Rattle.subsetter_type2.specs.ProgramView.{program_bytes};
+
+use crate::limits::Limits;
+use crate::machine::Subroutines;
+pub use crate::operators;
+pub use crate::program::{Instruction, Program};
+use crate::subroutines::SubroutineHandler;
+use crate::{flattening, recursion};
+use std::alloc::Global;
+use std::marker::Model;
+use subsetter_base::error::Error;
+
+/// The bytes of a charstring.
+pub type CharString<'a> = &'a [u8];
+
+/// Takes the subroutines out of a charstring.
+#[derive(Drop)]
+pub struct Decompiler<'a> {
+    subroutines: Subroutines<'a>,
+    limits: Limits,
+}
+
+impl<'a> Model for Decompiler<'a> {
+    ghost use Rattle.subsetter_type2.specs.Machine.{Library};
+    ghost use Rattle.subsetter_type2.specs.Setting.{Setting};
+
+    ghost Value = { Setting };
+
+    ghost view = { λ d. record {
+      library = record { global = d.subroutines.global; local = d.subroutines.local };
+      tokens = d.limits.tokens;
+      depth = d.limits.depth;
+    } };
+}
+
+impl<'a> Decompiler<'a> {
+    /// With these global subroutines, the local ones of the glyph's font dict, and the default limits.
+    pub fn new(global: SubroutineHandler<'a>, local: SubroutineHandler<'a>) -> Self
+        ensures { result ≡ record { library = record { global = global.entry; local = local.entry }; tokens = 1000000; depth = 64 } }
+    {
+        Self::with_limits(global, local, Limits::default())
+    }
+
+    /// With these global subroutines, the local ones of the glyph's font dict, and these limits.
+    pub fn with_limits(
+        global: SubroutineHandler<'a>,
+        local: SubroutineHandler<'a>,
+        limits: Limits,
+    ) -> Self
+        ensures { result ≡ record { library = record { global = global.entry; local = local.entry }; tokens = limits.tokens; depth = limits.depth } }
+    {
+        Decompiler {
+            subroutines: Subroutines { global, local },
+            limits,
+        }
+    }
+
+    /// The program of the charstring without its subroutines, whose bytes are the flat form of the trace.
+    ///
+    /// `CFFError` where the charstring is malformed or passes a limit, `Unimplemented` where it ends by putting two
+    /// glyphs together.
+    pub fn decompile(self, alloc: Global, charstring: CharString<'a>) -> Result<Program<'a>, Error>
+        ensures { Gives program_bytes result (flat_form self.entry.library self.entry.tokens self.entry.depth charstring.now) }
+    {
+        recursion::decompile(alloc, &self.subroutines, &self.limits, charstring)
+    }
+
+    /// The charstring without its subroutines: the flat form of the trace. Nothing but these bytes takes memory.
+    ///
+    /// `CFFError` where the charstring is malformed or passes a limit, `Unimplemented` where it ends by putting two
+    /// glyphs together.
+    pub fn flatten(self, alloc: Global, charstring: CharString<'a>) -> Result<Vec<u8>, Error>
+        ensures { Gives (λ bytes. bytes.items) result (flat_form self.entry.library self.entry.tokens self.entry.depth charstring.now) }
+    {
+        flattening::flatten(alloc, &self.subroutines, &self.limits, charstring)
+    }
+}

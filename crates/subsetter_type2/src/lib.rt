@@ -1,0 +1,20 @@
+//! Type 2 charstrings (Technical Note 5177): flattening, which inlines the subroutines that a charstring calls,
+//! and the machine that it agrees with.
+#![tactic(auto)]
+
+pub mod argstack;
+pub mod charstring;
+mod fixed_stack;
+mod flattening;
+pub mod laws;
+pub mod limits;
+mod machine;
+pub mod operators;
+mod output;
+mod program;
+mod recursion;
+mod sink;
+pub mod subroutines;
+#[cfg(test)]
+mod tests;
+mod token;

@@ -1,0 +1,137 @@
+//! Subroutines, and how a charstring names them (Technical Note 5177, section 4.7 "Subroutine Operators").
+
+ghost use Rattle.std.specs.Prelude.{◌≡◌, ◌+ℤ◌, pos, map, length, slice_get};
+ghost use Rattle.std.specs.Option.{option_copied};
+ghost use Rattle.subsetter_type2.specs.Subroutines.{bias_of, natural_of, entry_at, biased_entry, entries_of};
+
+use crate::charstring::CharString;
+use std::marker::Model;
+
+/// The local subroutines of each font dict.
+#[derive(Drop)]
+pub struct SubroutineCollection<'a> {
+    containers: Vec<SubroutineContainer<'a>>,
+}
+
+impl<'a> Model for SubroutineCollection<'a> {
+    ghost use Rattle.std.specs.Prelude.{ℕ, List, Option};
+
+    ghost Value = { List (List (Option (List ℕ))) };
+
+    ghost view = { λ c. c.containers.items };
+}
+
+impl<'a> SubroutineCollection<'a> {
+    pub fn new(containers: Vec<SubroutineContainer<'a>>) -> Self
+        ensures { result ≡ containers.entry.items }
+    {
+        SubroutineCollection { containers }
+    }
+
+    /// The local subroutines of this font dict, if there is one of that number.
+    pub fn get_handler(&self, font_dict: u8) -> Option<SubroutineHandler<'_>>
+        ensures { result ≡ slice_get self.now font_dict }
+    {
+        match self.containers.get(font_dict as usize) {
+            Some(container) => Some(container.get_handler()),
+            None => None,
+        }
+    }
+}
+
+/// The entries of one subroutine INDEX, with `None` for one that cannot be read.
+#[derive(Drop)]
+pub struct SubroutineContainer<'a> {
+    entries: Vec<Option<CharString<'a>>>,
+}
+
+impl<'a> Model for SubroutineContainer<'a> {
+    ghost use Rattle.std.specs.Prelude.{ℕ, List, Option};
+    ghost use Rattle.subsetter_type2.specs.Subroutines.{entries_of};
+
+    ghost Value = { List (Option (List ℕ)) };
+
+    ghost view = { λ c. entries_of c.entries.items };
+}
+
+impl<'a> SubroutineContainer<'a> {
+    pub fn new(entries: Vec<Option<CharString<'a>>>) -> Self
+        ensures { result ≡ entries_of entries.entry.items }
+    {
+        SubroutineContainer { entries }
+    }
+
+    /// Access to the subroutines.
+    pub fn get_handler(&self) -> SubroutineHandler<'_>
+        ensures { result ≡ self.now }
+    {
+        SubroutineHandler::new(self.entries.as_slice())
+    }
+}
+
+/// Access to the subroutines of one INDEX by their numbers.
+#[derive(Drop)]
+pub struct SubroutineHandler<'a> {
+    entries: &'a [Option<CharString<'a>>],
+}
+
+impl<'a> Model for SubroutineHandler<'a> {
+    ghost use Rattle.std.specs.Prelude.{ℕ, List, Option};
+    ghost use Rattle.subsetter_type2.specs.Subroutines.{entries_of};
+
+    ghost Value = { List (Option (List ℕ)) };
+
+    ghost view = { λ h. entries_of h.entries.now };
+}
+
+impl<'a> SubroutineHandler<'a> {
+    /// The entries, with `None` for one that cannot be read: it counts for the bias all the same.
+    pub fn new(entries: &'a [Option<CharString<'a>>]) -> Self
+        ensures { result ≡ entries_of entries.now }
+    {
+        SubroutineHandler { entries }
+    }
+
+    /// The subroutine that an operand names; none where there is none, or it cannot be read.
+    #[tactic(auto, unfolding(crate::specs::Subroutines::biased_entry))]
+    pub fn get_with_biased(&self, index: i32) -> Option<CharString<'a>>
+        ensures { option_copied result ≡ biased_entry self.now index }
+    {
+        let unbiased = unapply_bias(index, bias(self.entries.len()))?;
+        self.get_with_unbiased(unbiased)
+    }
+
+    /// The entry at this place; none where there is none, or it cannot be read.
+    pub fn get_with_unbiased(&self, index: u32) -> Option<CharString<'a>>
+        ensures { option_copied result ≡ entry_at self.now index }
+    {
+        match self.entries.get(index as usize) {
+            Some(entry) => *entry,
+            None => None,
+        }
+    }
+}
+
+/// What is added to an operand, by how many subroutines there are.
+fn bias(count: usize) -> u16
+    ensures { result ≡ bias_of count }
+{
+    if count < 1240 {
+        107
+    } else if count < 33900 {
+        1131
+    } else {
+        32768
+    }
+}
+
+/// The place in the INDEX that an operand names; none where the sum with the bias is below 0.
+pub fn unapply_bias(index: i32, bias: u16) -> Option<u32>
+    ensures { result ≡ natural_of (index +ℤ pos bias) }
+{
+    let sum = index as i64 + bias as i64;
+    if sum < 0 {
+        return None;
+    }
+    Some(sum as u32)
+}
