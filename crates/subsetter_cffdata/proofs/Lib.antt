@@ -14,3 +14,4 @@ pub mod PlainDigits
 pub mod Writing
 pub mod Wholes
 pub mod RealTexts
+pub mod Entries

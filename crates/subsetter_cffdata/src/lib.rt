@@ -8,6 +8,7 @@ pub mod index;
 mod index_iter;
 mod index_size;
 mod index_view;
+pub mod laws;
 pub mod number;
 mod offset_size;
 mod operands;
