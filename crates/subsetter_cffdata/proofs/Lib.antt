@@ -15,3 +15,4 @@ pub mod Writing
 pub mod Wholes
 pub mod RealTexts
 pub mod Entries
+pub mod Rows

@@ -20,11 +20,10 @@ mod real_number;
 mod real_text;
 mod real_writing;
 mod string_id;
+#[cfg(test)]
+mod tests;
 mod text;
 mod tokens;
 mod u24;
 mod whole;
 mod writing_index;
-
-#[cfg(test)]
-mod tests;

@@ -45,16 +45,32 @@ fn charstring_numbers_are_read(rt: HostRuntime) -> Result<(), Fail> {
 #[test]
 fn charstring_numbers_are_written_in_the_shortest_form(rt: HostRuntime) -> Result<(), Fail> {
     let mut w = Writer::new(rt.alloc());
-    w.write(&CharStringNumber::Integer(-107)).ok().ok_or("memory")?;
-    w.write(&CharStringNumber::Integer(108)).ok().ok_or("memory")?;
-    w.write(&CharStringNumber::Integer(-1131)).ok().ok_or("memory")?;
-    w.write(&CharStringNumber::Integer(1132)).ok().ok_or("memory")?;
-    w.write(&CharStringNumber::Fixed(-1704429528)).ok().ok_or("memory")?;
+    w.write(&CharStringNumber::Integer(-107))
+        .ok()
+        .ok_or("memory")?;
+    w.write(&CharStringNumber::Integer(108))
+        .ok()
+        .ok_or("memory")?;
+    w.write(&CharStringNumber::Integer(-1131))
+        .ok()
+        .ok_or("memory")?;
+    w.write(&CharStringNumber::Integer(1132))
+        .ok()
+        .ok_or("memory")?;
+    w.write(&CharStringNumber::Fixed(-1704429528))
+        .ok()
+        .ok_or("memory")?;
     assert_eq!(rt;
         w.as_slice(),
-        [32, 0xF7, 0, 0xFE, 0xFF, 0x1C, 0x04, 0x6C, 255, 154, 104, 120, 40].as_slice()
+        [
+            32, 0xF7, 0, 0xFE, 0xFF, 0x1C, 0x04, 0x6C, 255, 154, 104, 120, 40
+        ]
+        .as_slice()
     );
-    assert_eq!(rt; CharStringNumber::Integer(108).bytes().as_slice(), [0xF7, 0].as_slice());
+    assert_eq!(rt;
+        CharStringNumber::Integer(108).bytes().as_slice(),
+        [0xF7, 0].as_slice()
+    );
     Ok(())
 }
 
@@ -70,7 +86,9 @@ fn whole_charstring_numbers_have_no_fraction(rt: HostRuntime) -> Result<(), Fail
 fn numbers_of_a_charstring_have_no_reals(rt: HostRuntime) -> Result<(), Fail> {
     assert!(rt; Number::parse_char_string_number(&mut Reader::new(&[29, 0, 0, 0, 1])).is_none());
     assert!(rt; Number::parse_char_string_number(&mut Reader::new(&[30, 0x5F])).is_none());
-    let fixed = Number::parse_char_string_number(&mut Reader::new(&[255, 0, 3, 0, 0])).ok_or("cut")?;
+    let fixed = Number::parse_char_string_number(&mut Reader::new(&[255, 0, 3, 0, 0])).ok_or(
+        "cut",
+    )?;
     assert!(rt; matches!(fixed, Number::Fixed(FixedNumber(196608))));
     assert!(rt; fixed.as_i32() == Some(3));
     assert!(rt; Number::parse_cff_number(&mut Reader::new(&[255, 0, 3, 0, 0])).is_none());
@@ -81,19 +99,30 @@ fn numbers_of_a_charstring_have_no_reals(rt: HostRuntime) -> Result<(), Fail> {
 fn written_decimals(rt: HostRuntime) -> Result<(), Fail> {
     let bytes = rewritten(&rt, &[0x1E, 0xA5, 0x8F]).ok().ok_or("fits")?;
     assert_eq!(rt; bytes.as_slice(), [0x1E, 0x0A, 0x58, 0xFF].as_slice());
-    let bytes = rewritten(&rt, &[0x1E, 0xE0, 0xA2, 0x1F]).ok().ok_or("fits")?;
+    let bytes = rewritten(&rt, &[0x1E, 0xE0, 0xA2, 0x1F])
+        .ok()
+        .ok_or("fits")?;
     assert_eq!(rt; bytes.as_slice(), [0x1E, 0xE0, 0xA2, 0x1F].as_slice());
-    let bytes = rewritten(&rt, &[0x1E, 0x59, 0x06, 0x2C, 0x1F]).ok().ok_or("fits")?;
+    let bytes = rewritten(&rt, &[0x1E, 0x59, 0x06, 0x2C, 0x1F])
+        .ok()
+        .ok_or("fits")?;
     assert_eq!(rt; bytes.as_slice(), [0x1E, 0x59, 0x06, 0xA2, 0xFF].as_slice());
-    let bytes = rewritten(&rt, &[0x1E, 0x0A, 0x00, 0x1F]).ok().ok_or("fits")?;
+    let bytes = rewritten(&rt, &[0x1E, 0x0A, 0x00, 0x1F])
+        .ok()
+        .ok_or("fits")?;
     assert_eq!(rt; bytes.as_slice(), [0x1E, 0x0A, 0x00, 0x1F].as_slice());
     Ok(())
 }
 
 #[test]
 fn a_negative_real_with_an_exponent(rt: HostRuntime) -> Result<(), Fail> {
-    let bytes = rewritten(&rt, &[0x1E, 0xE2, 0x49, 0x32, 0xA1, 0x2C, 0x2F]).ok().ok_or("fits")?;
-    assert_eq!(rt; bytes.as_slice(), [0x1E, 0xE2, 0x49, 0xA3, 0x21, 0x2F].as_slice());
+    let bytes = rewritten(&rt, &[0x1E, 0xE2, 0x49, 0x32, 0xA1, 0x2C, 0x2F])
+        .ok()
+        .ok_or("fits")?;
+    assert_eq!(rt;
+        bytes.as_slice(),
+        [0x1E, 0xE2, 0x49, 0xA3, 0x21, 0x2F].as_slice()
+    );
     Ok(())
 }
 
@@ -158,10 +187,16 @@ fn integers_in_their_first_form(rt: HostRuntime) -> Result<(), Fail> {
     w.write(&IntegerNumber(32768)).ok().ok_or("memory")?;
     assert_eq!(rt;
         w.as_slice(),
-        [0x20, 0xF7, 0, 0xFA, 0xFF, 0x1C, 0x04, 0x6C, 0x1C, 0x80, 0, 0x1D, 0, 0, 0x80, 0].as_slice()
+        [
+            0x20, 0xF7, 0, 0xFA, 0xFF, 0x1C, 0x04, 0x6C, 0x1C, 0x80, 0, 0x1D, 0, 0, 0x80, 0
+        ]
+        .as_slice()
     );
     let mut w = Writer::new(rt.alloc());
-    IntegerNumber(95).write_as_5_bytes(&mut w).ok().ok_or("memory")?;
+    IntegerNumber(95)
+        .write_as_5_bytes(&mut w)
+        .ok()
+        .ok_or("memory")?;
     assert_eq!(rt; w.as_slice(), [0x1D, 0, 0, 0, 0x5F].as_slice());
     Ok(())
 }
@@ -174,7 +209,9 @@ fn integers_are_read_again(rt: HostRuntime) -> Result<(), Fail> {
     for n in [108, -108, 255, -255, 349, -349, 845, -845, 1131, -1131] {
         assert!(rt; is_read_again(&rt, n, 2) == Ok(true));
     }
-    for n in [1132, -1132, 2450, -2450, 4096, -4096, 8965, -8965, 32767, -32768] {
+    for n in [
+        1132, -1132, 2450, -2450, 4096, -4096, 8965, -8965, 32767, -32768,
+    ] {
         assert!(rt; is_read_again(&rt, n, 3) == Ok(true));
     }
     for n in [32768, -32769, 2147483647, -2147483648] {
@@ -192,7 +229,10 @@ fn numbers_keep_their_kind(rt: HostRuntime) -> Result<(), Fail> {
     Number::zero().write(&mut w).ok().ok_or("fits")?;
     Number::from_i32(-1131).write(&mut w).ok().ok_or("fits")?;
     Number::default().write(&mut w).ok().ok_or("fits")?;
-    assert_eq!(rt; w.as_slice(), [0x1E, 0x1F, 0x8C, 0x8B, 0xFE, 0xFF, 0x8B].as_slice());
+    assert_eq!(rt;
+        w.as_slice(),
+        [0x1E, 0x1F, 0x8C, 0x8B, 0xFE, 0xFF, 0x8B].as_slice()
+    );
     Ok(())
 }
 
@@ -201,10 +241,14 @@ fn whole_numbers_of_operands(rt: HostRuntime) -> Result<(), Fail> {
     let half = Number::parse_cff_number(&mut Reader::new(&[0x1E, 0xA5, 0xFF])).ok_or("a real")?;
     assert!(rt; half.as_i32().is_none());
     // -2147483648 and 2147483648
-    let low = Number::parse_cff_number(&mut Reader::new(&[0x1E, 0xE2, 0x14, 0x74, 0x83, 0x64, 0x8F])).ok_or("a real")?;
+    let low = Number::parse_cff_number(&mut Reader::new(&[
+        0x1E, 0xE2, 0x14, 0x74, 0x83, 0x64, 0x8F,
+    ])).ok_or("a real")?;
     assert!(rt; low.as_i32() == Some(-2147483648));
     assert!(rt; low.as_u32().is_none());
-    let high = Number::parse_cff_number(&mut Reader::new(&[0x1E, 0x21, 0x47, 0x48, 0x36, 0x48, 0xFF])).ok_or("a real")?;
+    let high = Number::parse_cff_number(&mut Reader::new(&[
+        0x1E, 0x21, 0x47, 0x48, 0x36, 0x48, 0xFF,
+    ])).ok_or("a real")?;
     assert!(rt; high.as_i32().is_none());
     assert!(rt; Number::from_i32(-1).as_u32().is_none());
     Ok(())
@@ -308,7 +352,9 @@ fn a_count_of_four_bytes(rt: HostRuntime) -> Result<(), Fail> {
     assert!(rt; index.len() == 0);
     assert!(rt; r.offset() == 4);
     // 4294967294 offsets of two bytes
-    assert!(rt; index::parse_index::<u32>(&mut Reader::new(&[255, 255, 255, 254, 2, 0, 0])).is_none());
+    assert!(rt;
+        index::parse_index::<u32>(&mut Reader::new(&[255, 255, 255, 254, 2, 0, 0])).is_none()
+    );
     Ok(())
 }
 
@@ -351,7 +397,9 @@ fn created_indexes(rt: HostRuntime) -> Result<(), Fail> {
     assert_eq!(rt; created.data.as_slice(), [0, 0].as_slice());
     assert_eq!(rt; created.header_size, 2);
     let mut w = Writer::new(rt.alloc());
-    w.write(&OwnedIndex::default(rt.alloc()).ok().ok_or("memory")?).ok().ok_or("memory")?;
+    w.write(&OwnedIndex::default(rt.alloc()).ok().ok_or("memory")?)
+        .ok()
+        .ok_or("memory")?;
     assert_eq!(rt; w.as_slice(), [0, 0].as_slice());
     Ok(())
 }
@@ -413,7 +461,8 @@ fn demanded_operands(rt: HostRuntime) -> Result<(), Fail> {
     let mut buffer = [Number::zero(); 48];
     // 1 2 3 4 FontBBox, 1 0 0 1 0 0 FontMatrix, 4 31 Private, -1 charset
     let bytes = [
-        0x8C, 0x8D, 0x8E, 0x8F, 5, 0x8C, 0x8B, 0x8B, 0x8C, 0x8B, 0x8B, 12, 7, 0x8F, 0xAA, 18, 0x8A, 15,
+        0x8C, 0x8D, 0x8E, 0x8F, 5, 0x8C, 0x8B, 0x8B, 0x8C, 0x8B, 0x8B, 12, 7, 0x8F, 0xAA, 18, 0x8A,
+        15,
     ];
     let mut parser = DictionaryParser::new(&bytes, &mut buffer);
     assert!(rt; parser.parse_next() == Some(operators::FONT_BBOX));
