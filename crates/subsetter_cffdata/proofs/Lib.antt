@@ -14,3 +14,5 @@ pub mod PlainDigits
 pub mod Writing
 pub mod Wholes
 pub mod RealTexts
+pub mod Entries
+pub mod Rows

@@ -37,10 +37,10 @@ length-trimmed : (ds : List ℕ) → length (trimmed ds) ≤ length ds
 length-trimmed [] = omega arith
 length-trimmed (d ∷ ds) = by_test (eqb d 0) (eqb (length (trimmed ds)) 0) d ds (length-trimmed ds)
   where
-  by_test : (a b : Bool) (d : ℕ) (ds : List ℕ) → length (trimmed ds) ≤ length ds → length (cond (a && b) [] (d ∷ trimmed ds)) ≤ length (d ∷ ds)
-  by_test true true d ds le = omega arith
-  by_test true false d ds le = omega (arith, le)
-  by_test false b d ds le = omega (arith, le)
+    by_test : (a b : Bool) (d : ℕ) (ds : List ℕ) → length (trimmed ds) ≤ length ds → length (cond (a && b) [] (d ∷ trimmed ds)) ≤ length (d ∷ ds)
+    by_test true true d ds le = omega arith
+    by_test true false d ds le = omega (arith, le)
+    by_test false b d ds le = omega (arith, le)
 
 digit_at : (ds : List ℕ) (i : ℕ) → AreDigits ds → i < length ds → get_or ds i 0 < 10
 digit_at [] i all lt = absurd (omega arith)

@@ -1,5 +1,6 @@
 -- What numbers and operators in memory show.
-use Rattle.std.specs.Prelude.{ℕ, List, [], ◌∷◌, take}
+use Rattle.std.specs.Prelude.{ℕ, List, [], ◌∷◌, ◌++◌, take, slice_index}
+use Rattle.std.specs.Fmt.{decimal}
 use Rattle.subsetter_cffdata.specs.Decimals.{Decimal, signed, number}
 use Rattle.subsetter_cffdata.specs.Numbers.{Number, Integer, Real, Fixed}
 use Rattle.subsetter_cffdata.specs.declared.real_number.RealNumber.{RealNumber}
@@ -24,3 +25,11 @@ type_bytes (types.TwoByteOperator bytes) = bytes
 
 abbrev pub operator_of : Operator → List ℕ
 operator_of o = type_bytes o.0
+
+-- its bytes in decimal, joined
+abbrev pub type_text : OperatorType → List ℕ
+type_text (types.OneByteOperator bytes) = decimal (slice_index bytes 0)
+type_text (types.TwoByteOperator bytes) = decimal (slice_index bytes 0) ++ decimal (slice_index bytes 1)
+
+abbrev pub operator_text : Operator → List ℕ
+operator_text o = type_text o.0

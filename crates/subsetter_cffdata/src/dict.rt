@@ -155,17 +155,35 @@ pub mod operators {
     /// The offset of the local subroutines, from the start of the Private DICT.
     pub const SUBRS: Operator = Operator(OperatorType::OneByteOperator([19]));
     /// The copyright.
-    pub const COPYRIGHT: Operator = Operator(OperatorType::TwoByteOperator([TWO_BYTE_OPERATOR_MARK, 0]));
+    pub const COPYRIGHT: Operator = Operator(OperatorType::TwoByteOperator([
+        TWO_BYTE_OPERATOR_MARK,
+        0,
+    ]));
     /// The matrix of the font.
-    pub const FONT_MATRIX: Operator = Operator(OperatorType::TwoByteOperator([TWO_BYTE_OPERATOR_MARK, 7]));
+    pub const FONT_MATRIX: Operator = Operator(OperatorType::TwoByteOperator([
+        TWO_BYTE_OPERATOR_MARK,
+        7,
+    ]));
     /// Registry, ordering and supplement of a CID-keyed font.
     pub const ROS: Operator = Operator(OperatorType::TwoByteOperator([TWO_BYTE_OPERATOR_MARK, 30]));
     /// The number of CIDs.
-    pub const CID_COUNT: Operator = Operator(OperatorType::TwoByteOperator([TWO_BYTE_OPERATOR_MARK, 34]));
+    pub const CID_COUNT: Operator = Operator(OperatorType::TwoByteOperator([
+        TWO_BYTE_OPERATOR_MARK,
+        34,
+    ]));
     /// The offset of the Font DICT INDEX.
-    pub const FD_ARRAY: Operator = Operator(OperatorType::TwoByteOperator([TWO_BYTE_OPERATOR_MARK, 36]));
+    pub const FD_ARRAY: Operator = Operator(OperatorType::TwoByteOperator([
+        TWO_BYTE_OPERATOR_MARK,
+        36,
+    ]));
     /// The offset of the FDSelect.
-    pub const FD_SELECT: Operator = Operator(OperatorType::TwoByteOperator([TWO_BYTE_OPERATOR_MARK, 37]));
+    pub const FD_SELECT: Operator = Operator(OperatorType::TwoByteOperator([
+        TWO_BYTE_OPERATOR_MARK,
+        37,
+    ]));
     /// The name of a Font DICT.
-    pub const FONT_NAME: Operator = Operator(OperatorType::TwoByteOperator([TWO_BYTE_OPERATOR_MARK, 38]));
+    pub const FONT_NAME: Operator = Operator(OperatorType::TwoByteOperator([
+        TWO_BYTE_OPERATOR_MARK,
+        38,
+    ]));
 }

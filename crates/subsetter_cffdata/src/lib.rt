@@ -8,6 +8,7 @@ pub mod index;
 mod index_iter;
 mod index_size;
 mod index_view;
+pub mod laws;
 pub mod number;
 mod offset_size;
 mod operands;
@@ -19,11 +20,10 @@ mod real_number;
 mod real_text;
 mod real_writing;
 mod string_id;
+#[cfg(test)]
+mod tests;
 mod text;
 mod tokens;
 mod u24;
 mod whole;
 mod writing_index;
-
-#[cfg(test)]
-mod tests;

@@ -7,10 +7,10 @@ ghost use Rattle.subsetter_cffdata.specs.Numbers.{Integer as StoredInteger, numb
 ghost use Rattle.subsetter_cffdata.specs.Reading.{Takes};
 ghost use Rattle.subsetter_cffdata.specs.Views.{number_of};
 
+use crate::reading;
 pub use crate::real_number::RealNumber;
 pub use crate::string_id::StringId;
 pub use crate::u24::U24;
-use crate::reading;
 use subsetter_base::error::Error;
 use subsetter_base::read::Reader;
 use subsetter_base::write::{Writeable, Writer};

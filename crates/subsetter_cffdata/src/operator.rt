@@ -1,8 +1,9 @@
 //! The operators of a DICT (Technical Note 5176, section 4 "DICT Data").
 
-ghost use Rattle.std.specs.Prelude.{◌≡◌, ◌∷◌, []};
-ghost use Rattle.subsetter_cffdata.specs.Views.{operator_of};
+ghost use Rattle.std.specs.Prelude.{◌≡◌, ◌∷◌, [], Some};
+ghost use Rattle.subsetter_cffdata.specs.Views.{operator_of, operator_text};
 
+use std::fmt;
 use subsetter_base::error::Error;
 use subsetter_base::write::{Writeable, Writer};
 
@@ -33,6 +34,25 @@ impl Operator {
         ensures { operator_of result ≡ 12 ∷ b ∷ [] }
     {
         Self(OperatorType::TwoByteOperator([TWO_BYTE_OPERATOR_MARK, b]))
+    }
+}
+
+/// The bytes in decimal, joined.
+impl fmt::Display for Operator {
+    ghost output = { λ o. Some (operator_text o) };
+
+    fn fmt<W: fmt::Write>(&self, f: &mut fmt::Formatter<W>) -> fmt::Result {
+        match self.0 {
+            OperatorType::OneByteOperator(b) => {
+                let first = b[0];
+                write!(f, "{first}")
+            }
+            OperatorType::TwoByteOperator(b) => {
+                let first = b[0];
+                let second = b[1];
+                write!(f, "{first}{second}")
+            }
+        }
     }
 }
 

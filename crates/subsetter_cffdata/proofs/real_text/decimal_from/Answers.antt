@@ -20,4 +20,4 @@ returns c =
     let some : 0 < length (stripped (trimmed c.args.ds.now)) = omega (arith, ap length kept, c.if-kept-eq0.false) in
     c.plain_decimal-2.ensures
     ∙ rw kept (plain_is c.args.negative c.args.ds.now c.args.power _ c.requires.digits some
-      (omega (arith, ints, c.without_outer_zeros-zeros.ensures.zeros, c.without_outer_zeros-zeros.ensures.within, c.requires.room, c.requires.high)))
+    (omega (arith, ints, c.without_outer_zeros-zeros.ensures.zeros, c.without_outer_zeros-zeros.ensures.within, c.requires.room, c.requires.high)))

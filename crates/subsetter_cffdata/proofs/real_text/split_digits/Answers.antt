@@ -9,6 +9,6 @@ returns-then-c-ge10-clause-digits c =
     let text = c.args.text.now in
     let i = c.loop-i.i in
     let front : c.split_at.result.0.now ≡ digits text =
-      c.split_at.ensures.front ∙ sym (append-nil (take i text))
-      ∙ ap (λ (x : List ℕ). take i text ++ x) (sym (no_digits text i c.loop-i-test.true c.if-c-ge10.true)) ∙ c.loop-i.invariant.front in
+    c.split_at.ensures.front ∙ sym (append-nil (take i text))
+    ∙ ap (λ (x : List ℕ). take i text ++ x) (sym (no_digits text i c.loop-i-test.true c.if-c-ge10.true)) ∙ c.loop-i.invariant.front in
     rw front (digits_twice text)

@@ -8,6 +8,6 @@ loop-preserved c =
     let step : c.args.count - c.loop.counter ≡ suc more = omega arith in
     record {
       after = ap (λ (x : List ℕ). x ++ replicate more 0) c.put.ensures.after ∙ append_assoc (shown c.loop.text) _ (replicate more 0)
-        ∙ ap (λ (n : ℕ). shown c.loop.text ++ replicate n 0) (sym step) ∙ c.loop.invariant.after;
+          ∙ ap (λ (n : ℕ). shown c.loop.text ++ replicate n 0) (sym step) ∙ c.loop.invariant.after;
       len = omega (arith, c.put.ensures.len, c.loop.invariant.len);
     }

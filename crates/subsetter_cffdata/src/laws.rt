@@ -1,0 +1,53 @@
+//! What was written is read again, whatever follows.
+
+ghost use Rattle.std.specs.Prelude.{◌≡◌, ◌<◌, ◌^◌, ℕ, ℤ, pos, FitsSigned, List, [], ◌∷◌, map, Some};
+ghost use Rattle.std.specs.Int.{w32};
+ghost use Rattle.std.specs.List.{AllByRecursion};
+ghost use Rattle.std.specs.Option.{option_map_or};
+ghost use Rattle.subsetter_cffdata.specs.Bytes.{ReadAgain};
+ghost use Rattle.subsetter_cffdata.specs.Dict.{Line, FitsLine, line, meaning, dict, entries, entry_at, kept};
+ghost use Rattle.subsetter_cffdata.specs.Index.{index, index_at};
+ghost use Rattle.subsetter_cffdata.specs.Numbers.{Number, FitsDict, integer, integer_at, offset, number, dict_number_at};
+ghost use Rattle.subsetter_cffdata.specs.Owned.{FitIndex};
+
+/// An integer that is written is read again.
+#[tactic(auto, using(crate::proofs::Integers::integer_again))]
+pub fn integer_is_read_again()
+    ensures { (z : ℤ) → FitsSigned w32 z → ReadAgain integer_at (integer z) z }
+{}
+
+/// An offset that is written in five bytes is read again.
+#[tactic(auto, using(crate::proofs::Integers::offset_again))]
+pub fn offset_is_read_again()
+    ensures { (n : ℕ) → n < 2 ^ 31 → ReadAgain integer_at (offset n) (pos n) }
+{}
+
+/// A number of a DICT that is written is read again: an integer, or a real whose text is not too long.
+#[tactic(auto, using(crate::proofs::Dicts::number_again))]
+pub fn number_is_read_again()
+    ensures { (x : Number) → FitsDict x → ReadAgain dict_number_at (number x) x }
+{}
+
+/// An INDEX that is written is read again: all its items can be read.
+#[tactic(auto, using(crate::proofs::Indexes::index_again))]
+pub fn index_is_read_again()
+    ensures { (items : List (List ℕ)) → FitIndex items → ReadAgain index_at (index items) (map Some items) }
+{}
+
+/// An entry of a DICT that is written is read again.
+#[tactic(auto, using(crate::proofs::Dicts::line_again))]
+pub fn entry_is_read_again()
+    ensures { (l : Line) → FitsLine l → ReadAgain entry_at (line l) (meaning l) }
+{}
+
+/// A DICT that is written is read again, entry by entry.
+#[tactic(auto, using(crate::proofs::Dicts::dict_again))]
+pub fn dict_is_read_again()
+    ensures { (ls : List Line) → AllByRecursion FitsLine ls → entries (dict ls) ≡ map meaning ls }
+{}
+
+/// The entries of a DICT are the one in front, and those behind it.
+#[tactic(auto, using(crate::proofs::Entries::entries_step))]
+pub fn entries_follow_one_another()
+    ensures { (bytes : List ℕ) → entries bytes ≡ option_map_or (λ e. kept e.0 ∷ entries e.1) (entry_at bytes) [] }
+{}
