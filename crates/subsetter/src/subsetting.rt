@@ -42,8 +42,10 @@ pub fn subset(
     index: u32,
     mapper: &GlyphRemapper,
 ) -> Result<Vec<u8>, Error>
-    // What is answered is a subset of the font, and no fault stands in the source, the size limits being judged for the answer's order of glyphs.
-    ensures ok { IfOk result (λ out. (s : IsSubset (record { bytes = «data».now; index = index }) mapper.now out.items) × ((e : SpecError) → ¬ (HasFault (record { bytes = «data».now; index = index }) mapper.now s.order e))) }
+    // What is answered is a subset of the font.
+    ensures ok { IfOk result (λ out. IsSubset (record { bytes = «data».now; index = index }) mapper.now out.items) }
+    // And then no fault stands in the source, the size limits being judged for the answer's order of glyphs.
+    ensures clean { IfOk result (λ out. (s : IsSubset (record { bytes = «data».now; index = index }) mapper.now out.items) × ((e : SpecError) → ¬ (HasFault (record { bytes = «data».now; index = index }) mapper.now s.order e))) }
     // What is refused has a fault of that name.
     ensures err { IfErr result (λ e. (e ≡ OutOfMemory) ⊎ ((order : List ℕ) × HasFault (record { bytes = «data».now; index = index }) mapper.now order e)) }
     // Where a fault stands that is found before memory is taken, the answer isn't want of memory.

@@ -7,6 +7,7 @@ use Rattle.subsetter.specs.Answered.{IsAnswered, IsRefused}
 use Rattle.subsetter.specs.declared.flavor.FontFlavor.{FontFlavor}
 use Rattle.subsetter.specs.Font.{Font, table_in}
 use Rattle.subsetter.specs.Opened.{flavored}
+use Rattle.subsetter.specs.Subset.{IsSubset}
 use Rattle.subsetter.proofs.FaultLaws.{Stands}
 use Rattle.subsetter.proofs.OpeningLaws.{opened_refused, flavored_refused}
 use Rattle.subsetter.proofs.Headline.{not_memory, unopened, unflavored, cff_refused, truetype_subset, truetype_refused, opening_clean}
@@ -56,13 +57,18 @@ returns-in_err-flavor-clause-before_memory c = λ e g.
     let f = same_flavor c.in_ok-face.face.«data».now c.args.«data».now c.in_ok-face.face.records.now (Err c.in_err-flavor.field-0.0) c.in_ok-face.ensures.ok.0 c.in_err-flavor.ensures in
     err_apart c.in_err-flavor.field-0.0 (not_memory font c.in_err-flavor.field-0.0 (flavored_refused font c.in_ok-face.face.records.now c.in_err-flavor.field-0.0 c.in_ok-face.ensures.ok.1 f)) c.from_residual-in_err-flavor.result (p.1 ∙ ap Err p.2)
 
-pub returns-in-TrueType-clause-ok : goal.returns-in-TrueType-clause-ok
-returns-in-TrueType-clause-ok c =
+pub returns-in-TrueType-clause-clean : goal.returns-in-TrueType-clause-clean
+returns-in-TrueType-clause-clean c =
     let font : Font = record { bytes = c.args.«data».now; index = c.args.index } in
     let f = same_flavor c.in_ok-face.face.«data».now c.args.«data».now c.in_ok-face.face.records.now (Ok c.in_ok-flavor.field-0) c.in_ok-face.ensures.ok.0 c.in_ok-flavor.ensures ∙ ap (λ (x : FontFlavor). Ok x) c.in-TrueType.is in
     for_ok c.truetype.result (λ v. IsAnswered (table_in c.in_ok-face.face.«data».now c.in_ok-face.face.records.now) c.args.mapper.now v.items) (λ v. IsClean font c.args.mapper.now v.items)
     (λ v a. truetype_subset font c.args.mapper.now c.in_ok-face.face.records.now c.in_ok-face.ensures.ok.1 f v.items c.parse.ensures.bytes c.num_gids-count.ensures.first
     (subst (λ (b : List ℕ). IsAnswered (table_in b c.in_ok-face.face.records.now) c.args.mapper.now v.items) c.in_ok-face.ensures.ok.0 a)) c.truetype.ensures.ok
+
+pub returns-in-TrueType-clause-ok : goal.returns-in-TrueType-clause-ok
+returns-in-TrueType-clause-ok c =
+    let font : Font = record { bytes = c.args.«data».now; index = c.args.index } in
+    for_ok c.truetype.result (λ v. IsClean font c.args.mapper.now v.items) (λ v. IsSubset font c.args.mapper.now v.items) (λ v s. s.0) (returns-in-TrueType-clause-clean c)
 
 pub returns-in-TrueType-clause-err : goal.returns-in-TrueType-clause-err
 returns-in-TrueType-clause-err c =
