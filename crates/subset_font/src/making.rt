@@ -30,6 +30,22 @@ pub fn make<R: Read>(
         return Err(Failure::Read);
     }
     let mapper = GlyphRemapper::new_from_glyphs(alloc, glyphs).map_err(Failure::Error)?;
-    let subset = subset(alloc, &font, index, &mapper).map_err(Failure::Error)?;
+    let subset = subset_of(alloc, &font, index, &mapper)?;
     Ok((subset, mapper))
+}
+
+/// The subset of a font that was read.
+fn subset_of(
+    alloc: Global,
+    font: &[u8],
+    index: u32,
+    mapper: &GlyphRemapper,
+) -> Result<Vec<u8>, Failure>
+    ensures font { IfOk result (λ out. IsSubset (record { bytes = font.now; index = index }) mapper.now out.items) }
+    ensures err { IfErr result (λ e. (why : SpecError) × (e ≡ Refused why)) }
+{
+    match subset(alloc, font, index, mapper) {
+        Ok(subset) => Ok(subset),
+        Err(error) => Err(Failure::Error(error)),
+    }
 }
