@@ -1,13 +1,13 @@
 -- The glyphs that a list reaches, while they are found.
-use Rattle.std.proofs.Common.{◌≡◌, ℕ, zero, suc, ◌+◌, ◌-◌, ◌*◌, ◌^◌, ◌<◌, ◌≤◌, Bool, true, false, cond, eqb, ltb, ◌&&◌, List, [], ◌∷◌, ◌++◌, length, get_or, drop, Option, Some, None, refl, sym, ap, subst, ◌∙◌, ◌⊎◌, inl, inr, append_assoc, arith}
-use Rattle.std.specs.Prelude.{Contains, is_some, not, slice_index}
+use Rattle.std.proofs.Common.{◌≡◌, ℕ, zero, suc, ◌+◌, ◌-◌, ◌*◌, ◌^◌, ◌<◌, ◌≤◌, Bool, true, false, cond, ltb, ◌&&◌, List, [], ◌∷◌, ◌++◌, length, drop, Option, Some, None, refl, sym, ap, subst, ◌∙◌, ◌⊎◌, inl, inr, append_assoc, arith}
+use Rattle.std.specs.Prelude.{Contains, is_some, not}
 use Rattle.std.specs.Option.{option_and_then}
 use Rattle.std.proofs.lemmas.Bool.{ltb-true}
 use Rattle.std.proofs.lemmas.List.{append-nil, length_push, length-append}
 use Rattle.std.proofs.lemmas.List.Elements.{Contains-append_left, Contains-append_right, Contains-append_cases, Contains-push, Contains-push_cases}
-use Rattle.subsetter_base.specs.Places.{place, with_glyph, IsWithoutRepeats}
+use Rattle.subsetter_base.specs.Places.{place, IsWithoutRepeats}
 use Rattle.subsetter_base.proofs.PlaceLemmas.{IsWithoutRepeats-push}
-use Rattle.subsetter_base.proofs.GlyphLemmas.{place-Contains, Contains-place, length-le_small, small-push}
+use Rattle.subsetter_base.proofs.GlyphLemmas.{place-Contains, length-le_small, small-push}
 use Rattle.subsetter.specs.Glyph.{Outlines, outline_in}
 use Rattle.subsetter_base.proofs.ByteLemmas.{range-none}
 use Rattle.subsetter.specs.Parts.{Simple, Composite, component_numbers, chain_at, composite_parts, outline_parts}
@@ -195,6 +195,7 @@ finish t glyphs order f = record {
       | inl k ↦ absurd (no_member g k)
       | inr k ↦ elim k [ inl d ↦ d | inr d ↦ absurd (no_member h d) ]
     ]
+
     holds : (g : ℕ) → Reached t glyphs g → Contains order g
     holds g (given q c) = subst (λ (l : List ℕ). Contains l g) (sym f.begins) (Contains-append_left glyphs f.others g c)
     holds h (step g q bytes r e c) = next g h (holds g r) (subst (λ (o : Option (List ℕ)). Contains (components_in o) h) (sym e) c)
@@ -262,6 +263,7 @@ headless (a ∷ b ∷ bytes) h = by (ltb a 128) (ltb (length (a ∷ b ∷ bytes)
   where
     short : ltb (length (a ∷ b ∷ bytes)) 10 ≡ true → composite_parts (a ∷ b ∷ bytes) ≡ None
     short lt = ap (λ (o : Option (List ℕ)). option_and_then (λ head. option_and_then (λ chain. Some (Composite head chain)) (chain_at (length (a ∷ b ∷ bytes)) (drop 10 (a ∷ b ∷ bytes)))) o) (range-none (a ∷ b ∷ bytes) 0 10 (ltb-true (length (a ∷ b ∷ bytes)) 10 lt))
+
     by : (q r : Bool) → ltb (length (a ∷ b ∷ bytes)) 10 ≡ r → (not q && r) ≡ true → cond q (Some (Simple (a ∷ b ∷ bytes))) (composite_parts (a ∷ b ∷ bytes)) ≡ None
     by true r e k = absurd cc
     by false true e k = short e

@@ -1,5 +1,5 @@
 -- Outlines that were written are read back.
-use Rattle.std.proofs.Common.{◌≡◌, ℕ, zero, suc, ◌+◌, ◌-◌, ◌*◌, ◌/◌, ◌%◌, ◌^◌, ◌<◌, ◌≤◌, Bool, true, false, cond, leb, List, [], ◌∷◌, ◌++◌, length, get_or, take, drop, Option, Some, None, refl, sym, ap, ◌∙◌, append_assoc, add-one, zero-add, arith}
+use Rattle.std.proofs.Common.{◌≡◌, ℕ, zero, suc, ◌+◌, ◌-◌, ◌*◌, ◌/◌, ◌%◌, ◌^◌, ◌<◌, ◌≤◌, Bool, true, false, cond, leb, List, [], ◌∷◌, ◌++◌, length, get_or, take, drop, Some, None, refl, sym, ap, ◌∙◌, append_assoc, add-one, zero-add, arith}
 use Rattle.std.specs.Option.{option_and_then, option_map}
 use Rattle.std.specs.Int.{w16, w32, to_be_bytes}
 use Rattle.std.proofs.lemmas.Bool.{le-leb, ltb-false}
@@ -99,7 +99,6 @@ outline_back t bs i is glyf_is lt fit =
     let part : range t.glyf from (to - from) ≡ Some b = range-middle t.glyf (glyf_bytes t.long (take i bs)) b (glyf_bytes t.long (drop (suc i) bs)) from (to - from) (glyf_is ∙ split_at t.long bs i lt) refl (omega arith) in
     ap (λ o. option_and_then (λ m. option_and_then (λ n. between t.glyf m n) (offset t (i + 1))) o) starts ∙ ap (λ o. option_and_then (λ n. between t.glyf from n) o) ends
     ∙ ap (λ c. cond c (range t.glyf from (to - from)) None) order ∙ part
-
 
 -- ---- tables that were written from a list of outlines
 

@@ -1,17 +1,16 @@
 -- An outline that was written under new numbers has the same parts under new numbers.
-use Rattle.std.proofs.Common.{◌≡◌, ℕ, zero, suc, ◌+◌, ◌-◌, ◌*◌, ◌%◌, ◌^◌, ◌<◌, ◌≤◌, Bool, true, false, cond, leb, ltb, List, [], ◌∷◌, ◌++◌, length, get_or, take, drop, Option, Some, None, refl, sym, ap, subst, ◌∙◌, inl, inr, append_assoc, arith}
-use Rattle.std.specs.Prelude.{map, replicate, slice_index}
-use Rattle.std.specs.Option.{option_and_then, option_map, unwrap_or}
+use Rattle.std.proofs.Common.{◌≡◌, ℕ, zero, suc, ◌+◌, ◌-◌, ◌%◌, ◌^◌, ◌<◌, ◌≤◌, Bool, true, false, cond, leb, List, [], ◌∷◌, ◌++◌, length, take, drop, Option, Some, None, refl, sym, ap, subst, ◌∙◌, inl, inr, append_assoc, arith}
+use Rattle.std.specs.Prelude.{map, replicate}
+use Rattle.std.specs.Option.{option_and_then, option_map}
 use Rattle.std.specs.List.{flat_map}
 use Rattle.std.specs.Int.{w16, to_be_bytes}
-use Rattle.std.proofs.lemmas.Bool.{le-leb, le-ltb, ltb-true, ltb-false, leb-true, cases_lt}
-use Rattle.std.proofs.lemmas.List.{append-nil, take_at, drop_at, get_or-drop, get_or-take, get_or_append_left, length-append, length-take, length-drop, get_or_past}
-use Rattle.subsetter_base.specs.Bytes.{be, range, number, aligned, IsBytes}
-use Rattle.subsetter_base.specs.Places.{place}
-use Rattle.subsetter_base.proofs.ByteLemmas.{be-u16, be-fits, range-middle, range-fits, range-length, number_at}
+use Rattle.std.proofs.lemmas.Bool.{cases_lt}
+use Rattle.std.proofs.lemmas.List.{append-nil, drop_at, get_or-drop, get_or-take, length-append, length-take, get_or_past}
+use Rattle.subsetter_base.specs.Bytes.{be, range, number, IsBytes}
+use Rattle.subsetter_base.proofs.ByteLemmas.{be-u16, be-fits, range-middle, range-length, number_at}
 use Rattle.subsetter.specs.Unfold.{padded}
-use Rattle.subsetter.specs.Parts.{Component, Chain, Parts, Empty, Simple, Composite, has, rest_size, has_more, has_instructions, component_at, with_component, last_component, chain_at, composite_parts, outline_parts, spelled, parts_bytes}
-use Rattle.subsetter.specs.PlainGlyph.{new_number, renumbered_component, renumbered_chain, renumbered}
+use Rattle.subsetter.specs.Parts.{Component, Chain, has, rest_size, has_more, has_instructions, component_at, with_component, last_component, chain_at, spelled}
+use Rattle.subsetter.specs.PlainGlyph.{new_number, renumbered_component}
 use Rattle.subsetter.proofs.ChainLemmas.{bind_some, IsComponent, is_component, chain_none, chain_more}
 
 -- ---- bytes
@@ -104,6 +103,7 @@ chain_is (suc n) bytes chain fit h = by (λ rest whole r e. chain_is n rest whol
     into again c is false m e =
         let same : last_component c (drop (4 + rest_size c.flags) bytes) ≡ chain = same_chain (last_component c (drop (4 + rest_size c.flags) bytes)) chain e in
         subst ChainOf same (last c is.size (fits_word bytes 0 c.flags fit is.flags_is) m (λ none. no_tail (has_instructions c.flags) (drop (4 + rest_size c.flags) bytes) none))
+
     by : ((rest : List ℕ) (whole : Chain) → IsBytes rest → chain_at n rest ≡ Some whole → IsChain whole.tail whole.components) → (o : Option Component) → component_at bytes ≡ o → IsChain chain.tail chain.components
     by again None k = let e = sym (chain_none (suc n) bytes k) ∙ h in absurd cc
     by again (Some c) k = into again c (is_component bytes c k) (has_more c.flags) refl (sym (chain_more n bytes c k) ∙ h)
@@ -153,7 +153,7 @@ module _ (order : List ℕ) (small : (g : ℕ) → new_number order g < 2 ^ 16) 
       let read = component_back (again c) T fit (small c.glyph) len in
       let rest : drop (4 + rest_size c.flags) X ≡ T = behind (again c) T len in
       let kept : last_component (again c) (drop (4 + rest_size c.flags) X) ≡ record { components = again c ∷ []; tail = T } =
-          ap (λ (l : List ℕ). last_component (again c) l) rest ∙ ap (λ (l : List ℕ). record { components = again c ∷ []; tail = l }) (kept_tail (has_instructions c.flags) long tail none) in
+      ap (λ (l : List ℕ). last_component (again c) l) rest ∙ ap (λ (l : List ℕ). record { components = again c ∷ []; tail = l }) (kept_tail (has_instructions c.flags) long tail none) in
       ap (chain_at (suc n)) whole ∙ chain_more n X (again c) read
       ∙ ap (λ b. cond b (option_and_then (λ chain. chain_there (with_component (again c) chain)) (chain_at n (drop (4 + rest_size c.flags) X))) (Some (last_component (again c) (drop (4 + rest_size c.flags) X)))) stop
       ∙ ap chain_there kept

@@ -11,10 +11,10 @@ use Rattle.subsetter_base.proofs.ByteLemmas.{range-middle, range-fits, range-len
 use Rattle.subsetter_base.proofs.GlyphLemmas.{place-finds, Contains-place}
 use Rattle.subsetter.specs.Font.{Font}
 use Rattle.subsetter.specs.Glyph.{Outlines, outlines, outline_in, outline, between, offset}
-use Rattle.subsetter.specs.Unfold.{padded, SameComponents, SameParts, HaveSameParts, UnfoldAlike}
-use Rattle.subsetter.specs.Parts.{Component, Chain, Parts, Empty, Simple, Composite, rest_size, has_more, component_at, with_component, last_component, chain_at, numbers_at, component_numbers, composite_parts, outline_parts, glyph_parts, spelled, parts_bytes}
-use Rattle.subsetter.specs.PlainGlyph.{new_number, renumbered_component, renumbered_chain, renumbered, kept_all}
-use Rattle.subsetter.specs.Reach.{IsReachable, IsGlyphOrder, step}
+use Rattle.subsetter.specs.Unfold.{padded, SameComponents, SameParts, UnfoldAlike}
+use Rattle.subsetter.specs.Parts.{Component, Chain, Parts, Empty, Simple, Composite, rest_size, has_more, component_at, with_component, last_component, chain_at, numbers_at, component_numbers, composite_parts, outline_parts, spelled, parts_bytes}
+use Rattle.subsetter.specs.PlainGlyph.{new_number, renumbered_component, renumbered, kept_all}
+use Rattle.subsetter.specs.Reach.{IsGlyphOrder, step}
 use Rattle.subsetter.proofs.ComponentLemmas.{numbers_more, numbers_enough, components_composite}
 use Rattle.subsetter.proofs.ChainLemmas.{bind_some, IsComponent, is_component, chain_none, chain_more}
 use Rattle.subsetter.proofs.PartsBack.{IsBytes-range, IsBytes-drop, padded-append, padded-nil, chain_is, chain_back, chain-even, chain-length}
@@ -57,12 +57,13 @@ each_numbered (suc n) bytes chain h = by (λ rest whole e. each_numbered n rest 
         let same : with_component c k.0 ≡ chain = same_chain (with_component c k.0) chain k.2 in
         let numbers : c.glyph ∷ numbers_at n after ≡ numbers_at (suc n) bytes = sym (numbers_more n bytes c.flags c.glyph is.flags_is is.glyph_is ∙ ap (λ b. c.glyph ∷ cond b (numbers_at n after) []) m) in
         subst (λ (l : List ℕ). EachGlyph (λ g. Contains l g) chain.components) numbers (subst (λ (whole : Chain). EachGlyph (λ g. Contains (c.glyph ∷ numbers_at n after) g) whole.components) same
-            (first_number c.glyph (numbers_at n after), each_weaker (λ g. Contains (numbers_at n after) g) (λ g. Contains (c.glyph ∷ numbers_at n after) g) k.0.components (λ g at. later_number c.glyph g (numbers_at n after) at) (again after k.0 k.1)))
+        (first_number c.glyph (numbers_at n after), each_weaker (λ g. Contains (numbers_at n after) g) (λ g. Contains (c.glyph ∷ numbers_at n after) g) k.0.components (λ g at. later_number c.glyph g (numbers_at n after) at) (again after k.0 k.1)))
     into again c is false m e =
         let after = drop (4 + rest_size c.flags) bytes in
         let same : last_component c after ≡ chain = same_chain (last_component c after) chain e in
         let numbers : c.glyph ∷ [] ≡ numbers_at (suc n) bytes = sym (numbers_more n bytes c.flags c.glyph is.flags_is is.glyph_is ∙ ap (λ b. c.glyph ∷ cond b (numbers_at n after) []) m) in
         subst (λ (l : List ℕ). EachGlyph (λ g. Contains l g) chain.components) numbers (subst (λ (whole : Chain). EachGlyph (λ g. Contains (c.glyph ∷ []) g) whole.components) same (first_number c.glyph [], tt))
+
     by : ((rest : List ℕ) (whole : Chain) → chain_at n rest ≡ Some whole → EachGlyph (λ g. Contains (numbers_at n rest) g) whole.components) → (o : Option Component) → component_at bytes ≡ o → EachGlyph (λ g. Contains (numbers_at (suc n) bytes) g) chain.components
     by again None k = let e = sym (chain_none (suc n) bytes k) ∙ h in absurd cc
     by again (Some c) k = into again c (is_component bytes c k) (has_more c.flags) refl (sym (chain_more n bytes c k) ∙ h)
@@ -108,6 +109,7 @@ parts_are (a ∷ b ∷ rest) p h = by (ltb a 128) refl h
         let le : 10 ≤ length bytes = range-fits bytes k.0 0 10 k.1 in
         let head_is : k.0 ≡ take 10 bytes = same_bytes k.0 (take 10 bytes) (sym k.1 ∙ range-take_drop bytes 0 10 le) in
         is_composite k.0 l.0 (record { long = le; high = ltb-false a 128 t; head_is = head_is; size = range-length bytes k.0 0 10 k.1; chain_read = l.1 }) (sym (same_parts_are (Composite k.0 l.0) p l.2))
+
     by : (q : Bool) → ltb a 128 ≡ q → cond q (Some (Simple (a ∷ b ∷ rest))) (composite_parts (a ∷ b ∷ rest)) ≡ Some p → PartsAre (a ∷ b ∷ rest) p
     by true t e = is_simple a b rest refl t (sym (same_parts_are (Simple (a ∷ b ∷ rest)) p e))
     by false t e = whole t e
@@ -156,6 +158,7 @@ parts_back long order bytes p small fit h = by (parts_are bytes p h)
         ∙ ap (λ (o : Option (List ℕ)). option_and_then (λ head. option_and_then (λ c. parts_there (Composite head c)) (chain_at (length W) (drop 10 W))) o) front
         ∙ ap (λ (l : List ℕ). option_and_then (λ c. parts_there (Composite H c)) (chain_at (length W) l)) rest
         ∙ ap (λ (o : Option Chain). option_and_then (λ c. parts_there (Composite H c)) o) read
+
     by : PartsAre bytes p → outline_parts (padded long (parts_bytes (renumbered order p))) ≡ Some (padded_parts long (renumbered order p))
     by (is_empty e q) = subst (λ (r : Parts). outline_parts (padded long (parts_bytes (renumbered order r))) ≡ Some (padded_parts long (renumbered order r))) (sym q) (ap outline_parts (padded-nil long) ∙ no_parts)
     by (is_simple a b rest e t q) =
@@ -242,11 +245,11 @@ module _ (font out : Font) (glyphs order : List ℕ) (t u : Outlines) (bs : List
       let k = kept_at t order order bs i keeps lt in
       let source : outline font g ≡ Some k.bytes = outline_is font t g read ∙ k.there in
       let copy : outline out i ≡ Some (padded u.long (parts_bytes (renumbered order k.parts))) =
-          outline_is out u i again ∙ read_back bs u i written (omega (arith, length-kept_all t order order bs keeps)) ∙ ap (λ (l : List ℕ). Some (padded u.long l)) (sym k.written) in
+      outline_is out u i again ∙ read_back bs u i written (omega (arith, length-kept_all t order order bs keeps)) ∙ ap (λ (l : List ℕ). Some (padded u.long l)) (sym k.written) in
       let each : EachGlyph (λ h. UnfoldAlike font out n h (new_number order h)) (components_of k.parts) =
-          each_weaker (λ h. Contains (component_numbers k.bytes) h) (λ h. UnfoldAlike font out n h (new_number order h)) (components_of k.parts) (λ h c.
-          let at = has_number order h ((closed.members h).1 (step g h k.bytes ((closed.members g).0 (i, lt, get_or_default order i g 0 lt)) source c)) in
-          subst (λ (m : ℕ). UnfoldAlike font out n h m) (sym at.3) (subst (λ (m : ℕ). UnfoldAlike font out n m at.0) at.2 (unfolds_alike n at.0 at.1))) (are_numbered k.bytes k.parts k.parts_are) in
+      each_weaker (λ h. Contains (component_numbers k.bytes) h) (λ h. UnfoldAlike font out n h (new_number order h)) (components_of k.parts) (λ h c.
+      let at = has_number order h ((closed.members h).1 (step g h k.bytes ((closed.members g).0 (i, lt, get_or_default order i g 0 lt)) source c)) in
+      subst (λ (m : ℕ). UnfoldAlike font out n h m) (sym at.3) (subst (λ (m : ℕ). UnfoldAlike font out n m at.0) at.2 (unfolds_alike n at.0 at.1))) (are_numbered k.bytes k.parts k.parts_are) in
       record {
         tables = u;
         read = again;

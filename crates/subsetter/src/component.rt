@@ -162,7 +162,11 @@ fn behind(bytes: &[u8], flags: u16) -> &[u8]
 }
 
 /// Writes a component under the new number of its glyph.
-fn write_component(w: &mut Writer, order: &GlyphRemapper, component: Component<'_>) -> Result<(), Error>
+fn write_component(
+    w: &mut Writer,
+    order: &GlyphRemapper,
+    component: Component<'_>,
+) -> Result<(), Error>
     ensures ok { OnOk result (w.new ≡ w.old ++ spelled (renumbered_component order.now (component_seen component.entry))) }
     ensures err { IfErr result (λ e. e ≡ OutOfMemory) }
 {
@@ -209,7 +213,11 @@ fn rewrite_composite(alloc: Global, outline: &[u8], order: &GlyphRemapper) -> Re
 /// An outline with its components under their new numbers; an empty or a simple one is borrowed.
 /// `MalformedFont` for one byte and for a composite that is cut.
 #[tactic(auto, unfolding(crate::specs::PlainGlyph::rewritten, crate::specs::Parts::outline_parts))]
-pub fn rewrite<'a>(alloc: Global, outline: &'a [u8], order: &GlyphRemapper) -> Result<CowSlice<'a, u8>, Error>
+pub fn rewrite<'a>(
+    alloc: Global,
+    outline: &'a [u8],
+    order: &GlyphRemapper,
+) -> Result<CowSlice<'a, u8>, Error>
     ensures { Gives cow_slice_items result (rewritten order.now outline.now) }
 {
     match outline {

@@ -92,7 +92,11 @@ impl<'a> Table<'a> {
 }
 
 /// The outlines of the glyphs of an order, each as it stands in the new `glyf` but for its padding.
-pub fn subset<'a>(alloc: Global, table: &Table<'a>, order: &GlyphRemapper) -> Result<Vec<CowSlice<'a, u8>>, Error>
+pub fn subset<'a>(
+    alloc: Global,
+    table: &Table<'a>,
+    order: &GlyphRemapper,
+) -> Result<Vec<CowSlice<'a, u8>>, Error>
     ensures { Gives (λ v. map cow_slice_items v.items) result (kept_all (seen table.now) order.now order.now) }
 {
     let mut outlines = Vec::with_capacity(alloc, order.num_gids() as usize)?;
@@ -181,7 +185,11 @@ fn stacked(alloc: Global, mapper: &GlyphRemapper) -> Result<Vec<u16>, Error>
 /// The last of the waiting glyphs is taken first, and the mapper's glyphs wait before all others.
 /// `OverflowError` where all 65536 numbers are reached; `MalformedFont` where a reached glyph has
 /// one byte or is a composite that is shorter than its head.
-pub fn closure(alloc: Global, table: &Table<'_>, mapper: &GlyphRemapper) -> Result<GlyphRemapper, Error>
+pub fn closure(
+    alloc: Global,
+    table: &Table<'_>,
+    mapper: &GlyphRemapper,
+) -> Result<GlyphRemapper, Error>
     ensures ok { IfOk result (λ order. IsGlyphOrderBy (outline_in (seen table.now)) mapper.now order) }
     ensures err { IfErr result (λ e. StopsClosure (seen table.now) mapper.now e) }
 {

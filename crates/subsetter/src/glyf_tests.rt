@@ -41,7 +41,10 @@ fn the_last_component_comes_first_behind_the_given_glyphs(rt: HostRuntime) -> Re
     let table = short(&SEVEN_GLYPHS, &TWO_COMPONENTS);
     let mapper = GlyphRemapper::new_from_glyphs(rt.alloc(), &[1])?;
     let order = closure(rt.alloc(), &table, &mapper)?;
-    assert_eq!(rt; listed(rt.alloc(), &order)?.as_slice(), [0, 1, 6, 5].as_slice());
+    assert_eq!(rt;
+        listed(rt.alloc(), &order)?.as_slice(),
+        [0, 1, 6, 5].as_slice()
+    );
     Ok(())
 }
 
@@ -55,7 +58,12 @@ fn components_get_their_new_numbers(rt: HostRuntime) -> Result<(), Fail> {
         0xFF, 0xFF, 0, 0, 0, 0, 0, 0, 0, 0, 0x00, 0x20, 0, 3, 0, 0, 0, 0, 0, 2, 0, 0,
     ];
     assert_eq!(rt; outlines.len(), 4);
-    assert_eq!(rt; outlines.get(1).map(|outline| outline.as_ref() == renumbered.as_slice()), Some(true));
+    assert_eq!(rt;
+        outlines
+            .get(1)
+            .map(|outline| outline.as_ref() == renumbered.as_slice()),
+        Some(true)
+    );
     assert_eq!(rt; outlines.get(2).map(|outline| outline.len()), Some(0));
     Ok(())
 }
@@ -69,22 +77,30 @@ fn components_in_a_circle_come_once(rt: HostRuntime) -> Result<(), Fail> {
     let table = short(&[0, 0, 0, 0, 0, 8, 0, 16], &glyf);
     let mapper = GlyphRemapper::new_from_glyphs(rt.alloc(), &[1])?;
     let order = closure(rt.alloc(), &table, &mapper)?;
-    assert_eq!(rt; listed(rt.alloc(), &order)?.as_slice(), [0, 1, 2].as_slice());
+    assert_eq!(rt;
+        listed(rt.alloc(), &order)?.as_slice(),
+        [0, 1, 2].as_slice()
+    );
     Ok(())
 }
 
 #[test]
 fn a_composite_of_itself_comes_once(rt: HostRuntime) -> Result<(), Fail> {
     let glyf: [u8; 28] = [
-        0xFF, 0xFF, 0, 0, 0, 0, 0, 0, 0, 0, 0, 0x20, 0, 1, 0, 0, 0, 0x20, 0, 1, 0, 0, 0, 0, 0, 1, 0,
-        0,
+        0xFF, 0xFF, 0, 0, 0, 0, 0, 0, 0, 0, 0, 0x20, 0, 1, 0, 0, 0, 0x20, 0, 1, 0, 0, 0, 0, 0, 1,
+        0, 0,
     ];
     let table = short(&[0, 0, 0, 0, 0, 14], &glyf);
     let mapper = GlyphRemapper::new_from_glyphs(rt.alloc(), &[1])?;
     let order = closure(rt.alloc(), &table, &mapper)?;
     assert_eq!(rt; listed(rt.alloc(), &order)?.as_slice(), [0, 1].as_slice());
     let outlines = subset(rt.alloc(), &table, &order)?;
-    assert_eq!(rt; outlines.get(1).map(|outline| outline.as_ref() == glyf.as_slice()), Some(true));
+    assert_eq!(rt;
+        outlines
+            .get(1)
+            .map(|outline| outline.as_ref() == glyf.as_slice()),
+        Some(true)
+    );
     Ok(())
 }
 
@@ -94,7 +110,10 @@ fn a_composite_without_components_is_malformed(rt: HostRuntime) -> Result<(), Fa
     let table = short(&[0, 0, 0, 0, 0, 5], &glyf);
     let mapper = GlyphRemapper::new_from_glyphs(rt.alloc(), &[1])?;
     let order = closure(rt.alloc(), &table, &mapper)?;
-    assert_eq!(rt; subset(rt.alloc(), &table, &order).err(), Some(Error::MalformedFont));
+    assert_eq!(rt;
+        subset(rt.alloc(), &table, &order).err(),
+        Some(Error::MalformedFont)
+    );
     Ok(())
 }
 
@@ -107,7 +126,10 @@ fn offsets_are_halves_up_to_131070_bytes(rt: HostRuntime) -> Result<(), Fail> {
     outlines.push(CowSlice::Borrowed(&bytes[1..]))?;
     assert!(rt; !loca::is_long(&outlines));
     let places = loca::subset(rt.alloc(), &outlines, false)?;
-    assert_eq!(rt; places.as_slice(), [0, 0, 0, 0, 0x80, 0, 0xFF, 0xFF].as_slice());
+    assert_eq!(rt;
+        places.as_slice(),
+        [0, 0, 0, 0, 0x80, 0, 0xFF, 0xFF].as_slice()
+    );
     Ok(())
 }
 
@@ -120,7 +142,10 @@ fn offsets_are_whole_above_131070_bytes(rt: HostRuntime) -> Result<(), Fail> {
     outlines.push(CowSlice::Borrowed(&bytes))?;
     assert!(rt; loca::is_long(&outlines));
     let places = loca::subset(rt.alloc(), &outlines, true)?;
-    assert_eq!(rt; places.as_slice(), [0, 0, 0, 0, 0, 0, 0, 0, 0, 0, 0xFF, 0xFF, 0, 1, 0xFF, 0xFE].as_slice());
+    assert_eq!(rt;
+        places.as_slice(),
+        [0, 0, 0, 0, 0, 0, 0, 0, 0, 0, 0xFF, 0xFF, 0, 1, 0xFF, 0xFE].as_slice()
+    );
     Ok(())
 }
 
@@ -135,9 +160,18 @@ fn head_says_the_format_of_loca(rt: HostRuntime) -> Result<(), Fail> {
     expected[11] = 0;
     expected[50] = 0;
     expected[51] = 0;
-    assert_eq!(rt; head::subset(rt.alloc(), &source, false)?.as_slice(), expected.as_slice());
+    assert_eq!(rt;
+        head::subset(rt.alloc(), &source, false)?.as_slice(),
+        expected.as_slice()
+    );
     expected[51] = 1;
-    assert_eq!(rt; head::subset(rt.alloc(), &source, true)?.as_slice(), expected.as_slice());
-    assert_eq!(rt; head::subset(rt.alloc(), &source[..51], true).err(), Some(Error::MalformedFont));
+    assert_eq!(rt;
+        head::subset(rt.alloc(), &source, true)?.as_slice(),
+        expected.as_slice()
+    );
+    assert_eq!(rt;
+        head::subset(rt.alloc(), &source[..51], true).err(),
+        Some(Error::MalformedFont)
+    );
     Ok(())
 }
