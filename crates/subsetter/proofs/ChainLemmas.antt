@@ -1,13 +1,12 @@
 -- The components of a composite, read in full and written under new numbers.
-use Rattle.std.proofs.Common.{◌≡◌, ℕ, zero, suc, ◌+◌, ◌-◌, ◌<◌, ◌≤◌, Bool, true, false, cond, leb, List, [], ◌∷◌, ◌++◌, length, get_or, take, drop, Option, Some, None, Result, Ok, Err, refl, sym, ap, ◌∙◌, append_assoc, arith}
-use Rattle.std.specs.Prelude.{map}
+use Rattle.std.proofs.Common.{◌≡◌, ℕ, zero, suc, ◌+◌, ◌-◌, ◌<◌, ◌≤◌, Bool, true, false, cond, leb, List, [], ◌∷◌, ◌++◌, length, get_or, take, drop, Option, Some, None, Err, refl, sym, ap, ◌∙◌, append_assoc, arith}
 use Rattle.std.specs.Option.{option_and_then, option_map, ok_or}
 use Rattle.std.specs.List.{flat_map}
 use Rattle.std.proofs.lemmas.Bool.{le-leb, lt-leb, leb-true, le-ltb}
 use Rattle.std.proofs.lemmas.List.{append-nil, length-drop, length-take}
-use Rattle.subsetter_base.specs.Bytes.{be, range, number}
+use Rattle.subsetter_base.specs.Bytes.{range, number}
 use Rattle.subsetter_base.specs.declared.error.Error.TheVariants.{MalformedFont}
-use Rattle.subsetter.specs.Parts.{Component, Chain, Parts, Composite, Simple, rest_size, has_more, has_instructions, component_at, with_component, last_component, chain_at, composite_parts, outline_parts, spelled, parts_bytes}
+use Rattle.subsetter.specs.Parts.{Component, Chain, Composite, Simple, rest_size, has_more, has_instructions, component_at, with_component, last_component, chain_at, composite_parts, outline_parts, spelled, parts_bytes}
 use Rattle.subsetter.specs.PlainGlyph.{renumbered_component, renumbered_chain, renumbered, rewritten_composite, rewritten}
 
 -- the first of two steps that gave something

@@ -1,13 +1,13 @@
 -- The glyphs that a list reaches, while they are found.
-use Rattle.std.proofs.Common.{◌≡◌, ℕ, zero, suc, ◌+◌, ◌-◌, ◌*◌, ◌^◌, ◌<◌, ◌≤◌, Bool, true, false, cond, eqb, ltb, ◌&&◌, List, [], ◌∷◌, ◌++◌, length, get_or, drop, Option, Some, None, refl, sym, ap, subst, ◌∙◌, ◌⊎◌, inl, inr, append_assoc, arith}
-use Rattle.std.specs.Prelude.{Contains, is_some, not, slice_index}
+use Rattle.std.proofs.Common.{◌≡◌, ℕ, zero, suc, ◌+◌, ◌-◌, ◌*◌, ◌^◌, ◌<◌, ◌≤◌, Bool, true, false, cond, ltb, ◌&&◌, List, [], ◌∷◌, ◌++◌, length, drop, Option, Some, None, refl, sym, ap, subst, ◌∙◌, ◌⊎◌, inl, inr, append_assoc, arith}
+use Rattle.std.specs.Prelude.{Contains, is_some, not}
 use Rattle.std.specs.Option.{option_and_then}
 use Rattle.std.proofs.lemmas.Bool.{ltb-true}
 use Rattle.std.proofs.lemmas.List.{append-nil, length_push, length-append}
 use Rattle.std.proofs.lemmas.List.Elements.{Contains-append_left, Contains-append_right, Contains-append_cases, Contains-push, Contains-push_cases}
-use Rattle.subsetter_base.specs.Places.{place, with_glyph, IsWithoutRepeats}
+use Rattle.subsetter_base.specs.Places.{place, IsWithoutRepeats}
 use Rattle.subsetter_base.proofs.PlaceLemmas.{IsWithoutRepeats-push}
-use Rattle.subsetter_base.proofs.GlyphLemmas.{place-Contains, Contains-place, length-le_small, small-push}
+use Rattle.subsetter_base.proofs.GlyphLemmas.{place-Contains, length-le_small, small-push}
 use Rattle.subsetter.specs.Glyph.{Outlines, outline_in}
 use Rattle.subsetter_base.proofs.ByteLemmas.{range-none}
 use Rattle.subsetter.specs.Parts.{Simple, Composite, component_numbers, chain_at, composite_parts, outline_parts}

@@ -1,5 +1,5 @@
 -- The bytes of a font's tables are bytes of its file.
-use Rattle.std.proofs.Common.{◌≡◌, ℕ, List, Option, Some, ◌∙◌, ◌/◌, length}
+use Rattle.std.proofs.Common.{◌≡◌, ℕ, List, Some, ◌/◌, length}
 use Rattle.std.specs.Prelude.{codes}
 use Rattle.subsetter_base.specs.Bytes.{range, IsBytes}
 use Rattle.subsetter.specs.declared.face.TableRecord.{TableRecord}

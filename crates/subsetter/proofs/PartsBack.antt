@@ -1,17 +1,16 @@
 -- An outline that was written under new numbers has the same parts under new numbers.
-use Rattle.std.proofs.Common.{◌≡◌, ℕ, zero, suc, ◌+◌, ◌-◌, ◌*◌, ◌%◌, ◌^◌, ◌<◌, ◌≤◌, Bool, true, false, cond, leb, ltb, List, [], ◌∷◌, ◌++◌, length, get_or, take, drop, Option, Some, None, refl, sym, ap, subst, ◌∙◌, inl, inr, append_assoc, arith}
-use Rattle.std.specs.Prelude.{map, replicate, slice_index}
-use Rattle.std.specs.Option.{option_and_then, option_map, unwrap_or}
+use Rattle.std.proofs.Common.{◌≡◌, ℕ, zero, suc, ◌+◌, ◌-◌, ◌%◌, ◌^◌, ◌<◌, ◌≤◌, Bool, true, false, cond, leb, List, [], ◌∷◌, ◌++◌, length, take, drop, Option, Some, None, refl, sym, ap, subst, ◌∙◌, inl, inr, append_assoc, arith}
+use Rattle.std.specs.Prelude.{map, replicate}
+use Rattle.std.specs.Option.{option_and_then, option_map}
 use Rattle.std.specs.List.{flat_map}
 use Rattle.std.specs.Int.{w16, to_be_bytes}
-use Rattle.std.proofs.lemmas.Bool.{le-leb, le-ltb, ltb-true, ltb-false, leb-true, cases_lt}
-use Rattle.std.proofs.lemmas.List.{append-nil, take_at, drop_at, get_or-drop, get_or-take, get_or_append_left, length-append, length-take, length-drop, get_or_past}
-use Rattle.subsetter_base.specs.Bytes.{be, range, number, aligned, IsBytes}
-use Rattle.subsetter_base.specs.Places.{place}
-use Rattle.subsetter_base.proofs.ByteLemmas.{be-u16, be-fits, range-middle, range-fits, range-length, number_at}
+use Rattle.std.proofs.lemmas.Bool.{cases_lt}
+use Rattle.std.proofs.lemmas.List.{append-nil, drop_at, get_or-drop, get_or-take, length-append, length-take, get_or_past}
+use Rattle.subsetter_base.specs.Bytes.{be, range, number, IsBytes}
+use Rattle.subsetter_base.proofs.ByteLemmas.{be-u16, be-fits, range-middle, range-length, number_at}
 use Rattle.subsetter.specs.Unfold.{padded}
-use Rattle.subsetter.specs.Parts.{Component, Chain, Parts, Empty, Simple, Composite, has, rest_size, has_more, has_instructions, component_at, with_component, last_component, chain_at, composite_parts, outline_parts, spelled, parts_bytes}
-use Rattle.subsetter.specs.PlainGlyph.{new_number, renumbered_component, renumbered_chain, renumbered}
+use Rattle.subsetter.specs.Parts.{Component, Chain, has, rest_size, has_more, has_instructions, component_at, with_component, last_component, chain_at, spelled}
+use Rattle.subsetter.specs.PlainGlyph.{new_number, renumbered_component}
 use Rattle.subsetter.proofs.ChainLemmas.{bind_some, IsComponent, is_component, chain_none, chain_more}
 
 -- ---- bytes

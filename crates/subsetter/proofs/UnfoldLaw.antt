@@ -11,10 +11,10 @@ use Rattle.subsetter_base.proofs.ByteLemmas.{range-middle, range-fits, range-len
 use Rattle.subsetter_base.proofs.GlyphLemmas.{place-finds, Contains-place}
 use Rattle.subsetter.specs.Font.{Font}
 use Rattle.subsetter.specs.Glyph.{Outlines, outlines, outline_in, outline, between, offset}
-use Rattle.subsetter.specs.Unfold.{padded, SameComponents, SameParts, HaveSameParts, UnfoldAlike}
-use Rattle.subsetter.specs.Parts.{Component, Chain, Parts, Empty, Simple, Composite, rest_size, has_more, component_at, with_component, last_component, chain_at, numbers_at, component_numbers, composite_parts, outline_parts, glyph_parts, spelled, parts_bytes}
-use Rattle.subsetter.specs.PlainGlyph.{new_number, renumbered_component, renumbered_chain, renumbered, kept_all}
-use Rattle.subsetter.specs.Reach.{IsReachable, IsGlyphOrder, step}
+use Rattle.subsetter.specs.Unfold.{padded, SameComponents, SameParts, UnfoldAlike}
+use Rattle.subsetter.specs.Parts.{Component, Chain, Parts, Empty, Simple, Composite, rest_size, has_more, component_at, with_component, last_component, chain_at, numbers_at, component_numbers, composite_parts, outline_parts, spelled, parts_bytes}
+use Rattle.subsetter.specs.PlainGlyph.{new_number, renumbered_component, renumbered, kept_all}
+use Rattle.subsetter.specs.Reach.{IsGlyphOrder, step}
 use Rattle.subsetter.proofs.ComponentLemmas.{numbers_more, numbers_enough, components_composite}
 use Rattle.subsetter.proofs.ChainLemmas.{bind_some, IsComponent, is_component, chain_none, chain_more}
 use Rattle.subsetter.proofs.PartsBack.{IsBytes-range, IsBytes-drop, padded-append, padded-nil, chain_is, chain_back, chain-even, chain-length}

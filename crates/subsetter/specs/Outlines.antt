@@ -1,6 +1,4 @@
 -- What the code's tables of outlines are.
-use Rattle.std.specs.Prelude.{ℕ, List}
-use Rattle.std.specs.Borrow.{Bor}
 use Rattle.subsetter.specs.declared.glyf.Table.{Table}
 use Rattle.subsetter.specs.declared.component.Component.{Component}
 use Rattle.subsetter.specs.Glyph.{Outlines}

@@ -1,4 +1,4 @@
-use Rattle.std.proofs.Common.{◌≡◌, ℕ, List, [], length, sym, ap, ◌∙◌, arith}
+use Rattle.std.proofs.Common.{ℕ, List, [], length, sym, ap, ◌∙◌, arith}
 use Rattle.std.proofs.lemmas.List.{take_rest}
 use Rattle.subsetter.specs.Parts.{numbers_at}
 use Rattle.subsetter.proofs.ComponentLemmas.{numbers_none, components_short, components_simple, components_composite}

@@ -1,4 +1,4 @@
-use Rattle.std.proofs.Common.{◌≡◌, ℕ, length, sym, ap, ◌∙◌, arith, rules}
+use Rattle.std.proofs.Common.{rules}
 use Rattle.subsetter.proofs.ChainLemmas.{rewritten_high}
 use Rattle.subsetter.proofs.component.rewrite.Goals as goal
 

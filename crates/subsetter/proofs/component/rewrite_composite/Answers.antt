@@ -1,4 +1,4 @@
-use Rattle.std.proofs.Common.{◌≡◌, ℕ, List, Option, Some, length, take, drop, sym, ap, ◌∙◌, arith}
+use Rattle.std.proofs.Common.{ℕ, List, Option, Some, take, drop, sym, ap, ◌∙◌, arith}
 use Rattle.std.specs.Option.{ok_or}
 use Rattle.subsetter_base.specs.declared.error.Error.TheVariants.{MalformedFont}
 use Rattle.subsetter.specs.Outlines.{component_seen}

@@ -1,4 +1,4 @@
-use Rattle.std.proofs.Common.{◌≡◌, refl, sym, inr}
+use Rattle.std.proofs.Common.{refl, sym, inr}
 use Rattle.subsetter.specs.Glyph.{outline_in}
 use Rattle.subsetter.specs.Outlines.{seen}
 use Rattle.subsetter.specs.Closure.{others_in}

@@ -1,4 +1,4 @@
-use Rattle.std.proofs.Common.{◌≡◌, ℕ, [], length, sym, ap, ◌∙◌, arith}
+use Rattle.std.proofs.Common.{length, sym, ap, ◌∙◌, arith}
 use Rattle.subsetter.proofs.ComponentLemmas.{numbers_none, numbers_next}
 use Rattle.subsetter.proofs.component.ComponentsIterator.next.Goals as goal
 
