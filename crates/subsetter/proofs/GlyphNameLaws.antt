@@ -343,7 +343,7 @@ read_parts bytes t h = header (range bytes 0 32) refl h
     rest header count indexes n r None k = absurd cc
     rest header count indexes n r (Some x) k =
         subst (PostRead bytes) (some_table (record { header = header; indexes = record { bytes = indexes; count = count }; names_data = x }) t k)
-          (record { count = n; long = omega (arith, range-fits bytes indexes 34 (count * 2) r); indexes = r })
+        (record { count = n; long = omega (arith, range-fits bytes indexes 34 (count * 2) r); indexes = r })
 
     indexes : (header : List ℕ) (count : ℕ) → number bytes 32 2 ≡ Some count → (o : Option (List ℕ)) → range bytes 34 (count * 2) ≡ o → option_and_then (λ (indexes : List ℕ). option_and_then (λ (names : List ℕ). whole header count indexes names) (bytes_from bytes (34 + count * 2))) o ≡ Some t → PostRead bytes t
     indexes header count n None e k = absurd cc
@@ -386,8 +386,8 @@ each_member (x ∷ xs) P h g (suc k, lt, e) = each_member xs P h.1 g (k, omega a
 too_many : (find : List ℕ → Option (List ℕ)) (bytes order is : List ℕ) (t : PostTable) → find (codes "post") ≡ Some bytes → number bytes 0 4 ≡ Some 0x00020000 → IsWithoutRepeats order → post_table bytes ≡ Some t → indexes_of t order ≡ Ok is → 65278 < custom_count is → HasGlyphNameFault find (Contains order) OverflowError
 too_many find bytes order is t there v once read are lt =
     faults.many_own_names bytes (owned order is) there v (owned_distinct order is (IsDistinct-places order once))
-      (both_all (owned order is) (all_owned (Contains order) order is (all_members order (Contains order) (λ g c. c))) (all_named (owned order is) (each_own t order is are)))
-      (omega (arith, lt, owned_counted t order is are))
+    (both_all (owned order is) (all_owned (Contains order) order is (all_members order (Contains order) (λ g c. c))) (all_named (owned order is) (each_own t order is are)))
+    (omega (arith, lt, owned_counted t order is are))
   where
     all_named : (gs : List ℕ) → AllByRecursion (IsOwn t) gs → AllByRecursion (HasOwnName bytes) gs
     all_named [] h = tt

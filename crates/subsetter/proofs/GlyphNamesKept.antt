@@ -247,12 +247,12 @@ has_glyph_names source order is t all v parts few h small =
       count = back.count_is ∙ ap Some len;
       name = λ i lt. get_or ns i (Standard 0);
       source_name = λ i lt.
-        let index = each.each i lt in
-        ap (option_and_then (λ (x : PostTable). option_and_then (λ (j : ℕ). Some (name_of_index (names_in x.names_data) j)) (glyph_index x (slice_index order i)))) source_read ∙ ap (option_and_then (λ (j : ℕ). Some (name_of_index names j))) index ∙ ap Some (sym (nth_of_map (name_of_index names) is i (omega (arith, each.count))));
+          let index = each.each i lt in
+          ap (option_and_then (λ (x : PostTable). option_and_then (λ (j : ℕ). Some (name_of_index (names_in x.names_data) j)) (glyph_index x (slice_index order i)))) source_read ∙ ap (option_and_then (λ (j : ℕ). Some (name_of_index names j))) index ∙ ap Some (sym (nth_of_map (name_of_index names) is i (omega (arith, each.count))));
       new_name = λ i lt.
-        let at : i < length ns = omega (arith, len) in
-        ap (option_and_then (λ (x : PostTable). option_and_then (λ (j : ℕ). Some (name_of_index (names_in x.names_data) j)) (glyph_index x i))) new_read ∙ ap (option_and_then (λ (j : ℕ). Some (name_of_index (names_in (flat_map entry_bytes ns)) j))) (glyph_back t.header ns i named_all count at)
-        ∙ ap (λ (l : List (List ℕ)). Some (name_of_index l (new_index 0 ns i))) (customs_back ns named_all) ∙ ap Some (named_back [] 0 ns i refl named_all at);
+          let at : i < length ns = omega (arith, len) in
+          ap (option_and_then (λ (x : PostTable). option_and_then (λ (j : ℕ). Some (name_of_index (names_in x.names_data) j)) (glyph_index x i))) new_read ∙ ap (option_and_then (λ (j : ℕ). Some (name_of_index (names_in (flat_map entry_bytes ns)) j))) (glyph_back t.header ns i named_all count at)
+          ∙ ap (λ (l : List (List ℕ)). Some (name_of_index l (new_index 0 ns i))) (customs_back ns named_all) ∙ ap Some (named_back [] 0 ns i refl named_all at);
     }
   where
     names_bytes : (source : List ℕ) (t : PostTable) → AllBytes source → post_parts source ≡ Some t → AllBytes t.names_data

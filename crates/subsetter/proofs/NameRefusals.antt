@@ -78,7 +78,7 @@ lifted : (storage : List ℕ) (seen : List (List ℕ)) (r : NameRecord) (rs : Li
 lifted storage seen r rs s h (outside q c n) = outside q (later_one rs r q c) n
 lifted storage seen r rs s h (far q c lt) =
     far q (subst (λ (l : List (List ℕ)). Contains l q) (sym (front_string storage r rs s h)) (later_one (readable storage rs) s q c))
-        (subst (λ (l : List (List ℕ)). 65535 < string_place (with_strings seen l) q) (sym (front_string storage r rs s h)) lt)
+    (subst (λ (l : List (List ℕ)). 65535 < string_place (with_strings seen l) q) (sym (front_string storage r rs s h)) lt)
 
 not_placed : (ts : List (List ℕ)) (s : List ℕ) (e : Error) → placed_string ts s ≡ Err e → (SubsetError ≡ e) × (65535 < string_place ts s)
 not_placed ts s e h = by (ltb (string_place ts s) 65536) refl h

@@ -195,8 +195,8 @@ is_subset font glyphs out bytes some a clean =
         metrics = metrics font a.source a.order made.0 read s fit bytes more a.few;
         max_profile = max_profile font a.source a.order made.0 read s fit a.few;
         names = names font a.source a.order made.0 read s fit bytes;
-      glyph_names = glyph_names font a.source a.order made.0 read s fit bytes a.few;
-      programs = programs font a.source a.order made.0 read s fit;
+        glyph_names = glyph_names font a.source a.order made.0 read s fit bytes a.few;
+        programs = programs font a.source a.order made.0 read s fit;
         layout = record { source = a.source; read = read; tables = a.tables; tables_are = a.tables_are; bytes = ap (file 0x00010000) made.2 };
       },
       clean,

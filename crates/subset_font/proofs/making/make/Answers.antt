@@ -17,4 +17,4 @@ pub returns-clause-font : goal.returns-clause-font
 returns-clause-font g c =
     let there = succeeded c.read_to_end.result _ (sym c.is_err.ensures.value ∙ c.if-is_err.false) c.read_to_end.ensures.bytes in
     all_read (g.R.Read.remaining c.args.reader.now) c.read_to_end.new.buf.items c.new-font.result.items (λ (bytes : List ℕ). IsSubset (record { bytes = bytes; index = c.args.index }) c.in_ok-mapper.mapper c.in_ok-subset.subset.items) there c.new-font.ensures.items
-      (subst (λ (bytes : List ℕ). IsSubset (record { bytes = bytes; index = c.args.index }) c.in_ok-mapper.mapper c.in_ok-subset.subset.items) c.deref.ensures.value c.in_ok-subset.ensures.font)
+    (subst (λ (bytes : List ℕ). IsSubset (record { bytes = bytes; index = c.args.index }) c.in_ok-mapper.mapper c.in_ok-subset.subset.items) c.deref.ensures.value c.in_ok-subset.ensures.font)
