@@ -13,7 +13,8 @@ last gives 2,000 damaged copies to both. It prints two tables and writes them to
     bytes     `same`, or the first place where the outputs differ and the table that it is in
     times     the least of all calls in nanoseconds, the port's as a part of the original's; the medians; the peak memory
               of one call in KiB above that of a run without a font, and the source plus twice the output
-    refusals  the answers of both on damaged copies, counted, with an example of each pair that differs
+    refusals  the answers of both on damaged copies, counted; for a pair that differs the intended difference that
+              stands in the copy, or `not explained`, with examples
 --seconds S gives each driver about S seconds a case and round (0.3); --copies N takes N damaged copies (2000).
 """
 import argparse
@@ -83,6 +84,22 @@ def directory(data, index=0):
     at = u32(data, 12 + 4 * index) if data[:4] == b"ttcf" else 0
     records = [at + 12 + 16 * k for k in range(u16(data, at + 4))]
     return {data[r:r + 4].decode("latin-1"): (u32(data, r + 8), u32(data, r + 12)) for r in records}
+
+
+def known_reason(data):
+    """Which of the intended differences in reading a font stands in a copy, if one does."""
+    try:
+        at = u32(data, 12) if data[:4] == b"ttcf" else 0
+        tags = [data[r:r + 4] for r in range(at + 12, at + 12 + 16 * u16(data, at + 4), 16) if r + 16 <= len(data)]
+        if tags != sorted(tags):
+            # (the original searches them by halves, the port takes the first)
+            return "the records don't ascend by tag"
+        if "hhea" in directory(data) and directory(data)["hhea"][1] != 36:
+            # (the original reads a short one at 0 and patches a long one at its end)
+            return "hhea isn't 36 bytes"
+    except struct.error:
+        pass
+    return "not explained"
 
 
 def glyph_count(path, index):
@@ -275,9 +292,10 @@ def refusals(drivers, fonts, copies):
                 key = tuple(it.split(" ")[0] if it.startswith("ok") else it for it in pair)
                 if key == ("ok", "ok") and pair[0] != pair[1]:
                     key = ("ok", "ok, other bytes")
+                key += (known_reason(copy) if len(set(key)) > 1 else "",)
                 seen = pairs.setdefault(key, [0, ""])
                 seen[0] += 1
-                if len(set(key)) > 1 and seen[0] <= 3:
+                if key[-1] and seen[0] <= 3:
                     with open(os.path.join(kept, f"{number}.font"), "wb") as file:
                         file.write(copy)
                     seen[1] += f"{number}.font: {os.path.basename(path)}, {what}; glyphs {glyphs}<br>"
@@ -341,7 +359,7 @@ def main():
     text += table(head, time_rows)
     text += "\n## Damaged copies\n\n"
     rows = refusals(drivers, DAMAGED + (DAMAGED_CFF if given.cff else []), given.copies)
-    text += table(["Copies", "Original"] + (["Port"] if both else []) + ["Examples"], rows)
+    text += table(["Copies", "Original"] + (["Port"] if both else []) + ["Why they differ", "Examples"], rows)
     os.makedirs(os.path.dirname(os.path.abspath(given.to)), exist_ok=True)
     with open(given.to, "w") as file:
         file.write(text)
