@@ -18,6 +18,7 @@ mod parse;
 mod post;
 mod room;
 mod subsetting;
+mod text;
 mod truetype;
 
 pub use subsetter_base::{Error, GlyphRemapper, Tag};

@@ -9,6 +9,7 @@ ghost use Rattle.subsetter.specs.Names.{name_record_bytes, name_parts, is_unicod
 ghost use Rattle.subsetter.specs.NamesPlain.{Placed, placed_string, subset_names, name_of_table, new_name};
 ghost use Rattle.subsetter.specs.NamesSeen.{seen_parts, seen_table};
 
+use crate::text::Text;
 use std::alloc::Global;
 use std::borrow::CowSlice;
 use std::collections::HashMap;
@@ -95,14 +96,14 @@ impl Writeable for NameRecord {
 /// Distinct strings, which are to stand one after another.
 #[derive(Drop)]
 struct Strings<'a> {
-    places: HashMap<&'a [u8], u16>,
+    places: HashMap<Text<'a>, u16>,
     strings: Vec<&'a [u8]>,
     size: usize,
 }
 
 impl<'a> Model for Strings<'a> {
     ghost use Rattle.std.specs.Prelude.{◌≡◌, ℕ, List, length, Some, None, if◌then◌else◌};
-    ghost use Rattle.std.specs.HashMap.{get_by};
+    ghost use Rattle.std.specs.HashMap.{get};
     ghost use Rattle.std.specs.Str.{bytes_eq};
     ghost use Rattle.subsetter.specs.Names.{among, string_place, joined};
     ghost use Rattle.subsetter.specs.NamesSeen.{nows};
@@ -112,7 +113,7 @@ impl<'a> Model for Strings<'a> {
     ghost view = { λ s. nows s.strings.items };
 
     ghost invariant = { λ s. record {
-      places_are : (q : List ℕ) → get_by (λ k. bytes_eq q k.now) s.places ≡ (if among (nows s.strings.items) q then Some (string_place (nows s.strings.items) q) else None);
+      places_are : (q : List ℕ) → get bytes_eq s.places q ≡ (if among (nows s.strings.items) q then Some (string_place (nows s.strings.items) q) else None);
       size_is : s.size ≡ length (joined (nows s.strings.items));
     } };
 }
@@ -134,7 +135,7 @@ impl<'a> Strings<'a> {
         ensures place { Gives (λ at. at) result (placed_string self.old string.now) }
         ensures list { OnOk result (self.new ≡ with_string self.old string.now) }
     {
-        if let Some(place) = self.places.get(string) {
+        if let Some(place) = self.places.get(&Text::new(string)) {
             return Ok(*place);
         }
         if self.size > 65535 {
@@ -142,7 +143,7 @@ impl<'a> Strings<'a> {
         }
         let place = self.size as u16;
         self.strings.reserve(1)?;
-        self.places.insert(string, place)?;
+        self.places.insert(Text::new(string), place)?;
         self.strings.push(string).unwrap();
         self.size += string.len();
         Ok(place)

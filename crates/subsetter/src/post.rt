@@ -1,6 +1,6 @@
 //! The names of glyphs.
 
-ghost use Rattle.std.specs.Prelude.{◌≡◌, ◌≤◌, ◌++◌, [], Some, length, map, flat_map, OnOk, IfOk, IfErr};
+ghost use Rattle.std.specs.Prelude.{◌≡◌, ◌≤◌, ◌<◌, ◌+◌, ◌++◌, ℕ, [], Some, length, take, slice_index, map, flat_map, OnOk, IfOk, IfErr};
 ghost use Rattle.std.specs.Option.{option_copied, option_map};
 ghost use Rattle.std.specs.Cow.{cow_slice_items};
 ghost use Rattle.std.specs.Iterator.{YieldsFirstRef, item_count};
@@ -89,13 +89,16 @@ impl<'a> Version2Table<'a> {
         }
     }
 
-    /// The font's own names by their numbers, so that none is walked to twice.
-    fn name_list(&self, alloc: Global) -> Result<Vec<&'a [u8]>, Error>
-        ensures ok { IfOk result (λ v. nows v.items ≡ names_in self.now.names_data.now) }
+    /// The font's own names below a number, by their numbers, so that none is walked to twice.
+    fn name_list(&self, alloc: Global, limit: usize) -> Result<Vec<&'a [u8]>, Error>
+        ensures ok { IfOk result (λ v. nows v.items ≡ take limit (names_in self.now.names_data.now)) }
         ensures err { IfErr result (λ e. e ≡ OutOfMemory) }
     {
-        let mut names = Vec::new(alloc);
+        let mut names = Vec::with_capacity(alloc, limit)?;
         for name in self.names() {
+            if names.len() == limit {
+                return Ok(names);
+            }
             names.push(name)?;
         }
         Ok(names)
@@ -106,7 +109,7 @@ impl<'a> Version2Table<'a> {
         ensures exact { Gives (λ v. v.items) result (indexes_of (seen_post self.now) mapper.now) }
         ensures each { IfOk result (λ v. length v.items ≡ length mapper.now) }
     {
-        let mut indexes = Vec::new(alloc);
+        let mut indexes = Vec::with_capacity(alloc, mapper.num_gids() as usize)?;
         for old in mapper.remapped_gids() {
             let index = self.glyph_indexes.get(old).ok_or(Error::MalformedFont)?;
             indexes.push(index)?;
@@ -126,6 +129,19 @@ fn count_custom(indexes: &[u16]) -> usize
         }
     }
     count
+}
+
+/// A number above those of all own names that the indexes name.
+fn own_limit(indexes: &[u16]) -> usize
+    ensures { (k : ℕ) → k < length indexes.now → slice_index indexes.now k < 258 + result }
+{
+    let mut limit: usize = 0;
+    for index in indexes {
+        if usize::from(*index) >= 258 + limit {
+            limit = usize::from(*index) - 257;
+        }
+    }
+    limit
 }
 
 /// Writes the indexes: a standard name keeps its own, and each other glyph gets the next from 258 on.
@@ -178,9 +194,11 @@ fn write_table(
     count: u16,
     indexes: &[u16],
     names: &[&[u8]],
+    limit: usize,
 ) -> Result<Vec<u8>, Error>
     requires count { count ≡ length indexes.now }
-    requires names { nows names.now ≡ names_in table.now.names_data.now }
+    requires names { nows names.now ≡ take limit (names_in table.now.names_data.now) }
+    requires limit { (k : ℕ) → k < length indexes.now → slice_index indexes.now k < 258 + limit }
     ensures { Gives (λ v. v.items) result (post_of_indexes (seen_post table.now) indexes.now) }
 {
     if count_custom(indexes) > 65278 {
@@ -214,8 +232,9 @@ pub fn subset<'a>(
     }
     let table = Version2Table::parse(bytes).ok_or(Error::MalformedFont)?;
     let indexes = table.indexes(alloc, mapper)?;
-    let names = table.name_list(alloc)?;
-    let new = write_table(alloc, &table, mapper.num_gids(), &indexes, &names)?;
+    let limit = own_limit(&indexes);
+    let names = table.name_list(alloc, limit)?;
+    let new = write_table(alloc, &table, mapper.num_gids(), &indexes, &names, limit)?;
     Ok(Some(CowSlice::Owned(new)))
 }
 

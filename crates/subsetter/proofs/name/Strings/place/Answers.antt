@@ -1,7 +1,7 @@
 use Rattle.std.proofs.Common.{◌≡◌, ◌+◌, [], ◌∷◌, ◌++◌, cond, false, length, ap, sym, ◌∙◌, Some, None, Ok, Err, List, ℕ, arith}
+use Rattle.std.specs.HashMap.{get}
 use Rattle.std.specs.Str.{bytes_eq}
 use Rattle.std.proofs.lemmas.Slice.{pushed}
-use Rattle.std.proofs.lemmas.Map.Text.{hash_map_updates_str}
 use Rattle.subsetter_base.specs.declared.error.Error.TheVariants.{SubsetError}
 use Rattle.subsetter.specs.Names.{among, string_place, joined}
 use Rattle.subsetter.specs.NamesSeen.{nows}
@@ -12,10 +12,10 @@ pub invariant_of-self-2 : goal.invariant_of-self-2
 invariant_of-self-2 c =
     let ts = nows c.self.inside.strings.items in
     let s = c.args.string.now in
-    let absent : among ts s ≡ false = is_new _ _ (sym (c.self.invariant.places_are s) ∙ sym c.in_default.ensures.value) in
+    let absent : among ts s ≡ false = is_new _ _ (sym (c.self.invariant.places_are s) ∙ ap (λ (k : List ℕ). get bytes_eq c.self.inside.places k) (sym c.new.ensures) ∙ sym c.in_default.ensures.value) in
     let now : nows c.push.new.self.items ≡ ts ++ s ∷ [] = ap nows (pushed (c.args.string ∷ []) c.reserve.ensures.items c.unwrap.ensures c.push.ensures.items) ∙ nows-push c.self.inside.strings.items c.args.string in
     rw now (record {
-      places_are = λ q. hash_map_updates_str s c.self.inside.places c.insert.new.self (Some c.self.inside.size) c.in_ok-insert.ensures.updates q ∙ ap (cond (bytes_eq s q) (Some c.self.inside.size)) (c.self.invariant.places_are q) ∙ places_more ts s q c.self.inside.size absent c.self.invariant.size_is;
+      places_are = λ q. c.in_ok-insert.ensures.updates.0 q ∙ ap (λ (k : List ℕ). cond (bytes_eq k q) (Some c.self.inside.size) (get bytes_eq c.self.inside.places q)) c.new-2.ensures ∙ ap (cond (bytes_eq s q) (Some c.self.inside.size)) (c.self.invariant.places_are q) ∙ places_more ts s q c.self.inside.size absent c.self.invariant.size_is;
       size_is = ap (λ (n : ℕ). n + length s) c.self.invariant.size_is ∙ sym (joined-push ts s);
     })
 
@@ -23,12 +23,12 @@ pub returns-clause-place : goal.returns-clause-place
 returns-clause-place c =
     let ts = nows c.self.inside.strings.items in
     let s = c.args.string.now in
-    let absent : among ts s ≡ false = is_new _ _ (sym (c.self.invariant.places_are s) ∙ sym c.in_default.ensures.value) in
+    let absent : among ts s ≡ false = is_new _ _ (sym (c.self.invariant.places_are s) ∙ ap (λ (k : List ℕ). get bytes_eq c.self.inside.places k) (sym c.new.ensures) ∙ sym c.in_default.ensures.value) in
     rw (← c.self.view_is) (fits_16 ts s c.self.inside.size (place_new ts s absent ∙ sym c.self.invariant.size_is) (omega arith))
 
 pub returns-then-self-gt65535-clause-place : goal.returns-then-self-gt65535-clause-place
 returns-then-self-gt65535-clause-place c =
     let ts = nows c.self.inside.strings.items in
     let s = c.args.string.now in
-    let absent : among ts s ≡ false = is_new _ _ (sym (c.self.invariant.places_are s) ∙ sym c.in_default.ensures.value) in
+    let absent : among ts s ≡ false = is_new _ _ (sym (c.self.invariant.places_are s) ∙ ap (λ (k : List ℕ). get bytes_eq c.self.inside.places k) (sym c.new.ensures) ∙ sym c.in_default.ensures.value) in
     rw (← c.self.view_is) (too_far ts s c.self.inside.size (place_new ts s absent ∙ sym c.self.invariant.size_is) (omega arith))
