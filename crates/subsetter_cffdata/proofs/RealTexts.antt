@@ -19,7 +19,7 @@ below_zero : (n : ℕ) → 0 < n → is_negative (neg_ℤ (pos n)) ≡ true
 below_zero zero some = absurd (omega arith)
 below_zero (suc n) some = refl
 
-sign_of : (negative : Bool) (ds : List ℕ) (power : ℤ) → IsPlain negative ds power → is_negative (signed negative (number ds)) ≡ negative
+pub sign_of : (negative : Bool) (ds : List ℕ) (power : ℤ) → IsPlain negative ds power → is_negative (signed negative (number ds)) ≡ negative
 sign_of false ds power plain = le-ltb (number ds) 0 (omega arith)
 sign_of true ds power plain =
     elim (cases_eq (length ds) 0) [
