@@ -26,9 +26,9 @@ in_i32_not (negsuc n) past = absurd (omega (arith, ints, past))
 pub zero_held : (d : Decimal) → is_zero d.mantissa ≡ true → negsuc 2147483647 ≤ℤ d.power → d.power ≤ℤ pos 2147483647 → Some d ≡ held (thousandfold d)
 zero_held d none low high = rw (none, in_i32_is d.power low high) refl
 
-pub thousand_held : (d : Decimal) → is_zero d.mantissa ≡ false → negsuc 2147483647 ≤ℤ (d.power +ℤ pos 3) → (d.power +ℤ pos 3) ≤ℤ pos 2147483647
-    → Some record { mantissa = d.mantissa; power = d.power +ℤ pos 3 } ≡ held (thousandfold d)
-thousand_held d some low high = rw (some, in_i32_is (d.power +ℤ pos 3) low high) refl
+pub thousand_held : (d : Decimal) (power : ℤ) → is_zero d.mantissa ≡ false → power ≡ d.power +ℤ pos 3 → negsuc 2147483647 ≤ℤ power → power ≤ℤ pos 2147483647
+    → Some (decimal_by d.mantissa power) ≡ held (thousandfold d)
+thousand_held d power some same low high = rw (some, sym same, in_i32_is power low high) refl
 
 pub thousand_past : (d : Decimal) → is_zero d.mantissa ≡ false → pos 2147483647 <ℤ (d.power +ℤ pos 3) → None ≡ held (thousandfold d)
 thousand_past d some past = rw (some, in_i32_not (d.power +ℤ pos 3) past) refl

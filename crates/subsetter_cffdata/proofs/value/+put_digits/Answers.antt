@@ -1,4 +1,4 @@
-use Rattle.std.proofs.Common.{rules, ◌≡◌, ◌+◌, ◌≤◌, ◌++◌, ◌/◌, ◌%◌, ◌∙◌, List, ℕ, [], ◌∷◌, length, arith, ap, sym, append_assoc}
+use Rattle.std.proofs.Common.{◌++◌, ◌/◌, ◌%◌, ◌∙◌, List, ℕ, [], ◌∷◌, arith, ap, sym, append_assoc}
 use Rattle.std.specs.Int.Digits.{digits_of}
 use Rattle.std.proofs.lemmas.Int.Digits.{digits_of_step, length-digits_of_step}
 use Rattle.subsetter_cffdata.specs.TextSteps.{shown}

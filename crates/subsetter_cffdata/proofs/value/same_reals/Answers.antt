@@ -1,5 +1,4 @@
-use Rattle.std.proofs.Common.{rules, ◌≡◌, ◌≤◌, ◌∙◌, ℕ, ℤ, IsTrue, arith, ap, sym, take, length, length-take}
-use Rattle.subsetter_cffdata.specs.Views.{decimal_of}
+use Rattle.std.proofs.Common.{rules, ◌≡◌, ◌≤◌, IsTrue, arith, take, length, length-take}
 use Rattle.subsetter_cffdata.proofs.Values.{same_decimals, same_signs, same_digits, same_powers}
 use Rattle.subsetter_cffdata.proofs.value.same_reals.Goals as goal
 

@@ -1,7 +1,6 @@
-use Rattle.std.proofs.Common.{rules, ◌≡◌, ◌<◌, ◌≤◌, ◌∙◌, ℕ, ℤ, ◌+ℤ◌, ◌≤ℤ◌, ◌<ℤ◌, pos, negsuc, to_z, of_z, w32, true, false, Some, arith, ap, sym, take, length, length-take}
-use Rattle.std.proofs.lemmas.Int.{ints}
+use Rattle.std.proofs.Common.{rules, ◌≡◌, ◌<◌, ◌≤◌, ◌+ℤ◌, ◌≤ℤ◌, ◌<ℤ◌, pos, negsuc, to_z, of_z, w32, true, arith, take, length}
 use Rattle.std.proofs.lemmas.List.{length-take-le}
-use Rattle.subsetter_cffdata.specs.Decimals.{Decimal, is_zero, number, signed}
+use Rattle.subsetter_cffdata.specs.Decimals.{is_zero, number, signed}
 use Rattle.subsetter_cffdata.specs.Views.{decimal_of}
 use Rattle.subsetter_cffdata.proofs.Values.{zero_held, thousand_held, thousand_past, not_zero}
 use Rattle.subsetter_cffdata.proofs.value.thousandfold_of.Goals as goal
@@ -32,7 +31,8 @@ returns c =
     let fits : r.len ≤ 64 = r.within in
     let long : length r.digits ≡ 64 = search rules in
     let some : 0 < length ds = omega (arith, length-take-le r.len r.digits (omega (arith, fits, long)), c.if-real-eq0.false) in
-    let low : negsuc 2147483647 ≤ℤ (r.power +ℤ pos 3) = search rules in
-    let high : (r.power +ℤ pos 3) ≤ℤ pos 2147483647 = search rules in
-    let same : to_z w32 (of_z w32 (to_z w32 (of_z w32 r.power) +ℤ pos 3)) ≡ r.power +ℤ pos 3 = search rules in
-    ap (λ (p : ℤ). Some record { mantissa = signed r.negative (number (take r.len r.digits)); power = p }) same ∙ thousand_held (decimal_of r) (not_zero r.negative ds r.plain.front some) low high
+    let power = to_z w32 (of_z w32 (to_z w32 (of_z w32 r.power) +ℤ pos 3)) in
+    let same : power ≡ r.power +ℤ pos 3 = search rules in
+    let low : negsuc 2147483647 ≤ℤ power = search rules in
+    let high : power ≤ℤ pos 2147483647 = search rules in
+    thousand_held (decimal_of r) power (not_zero r.negative ds r.plain.front some) same low high
