@@ -1,9 +1,9 @@
 -- Worked examples, computed.
 use Rattle.std.proofs.Common.{◌≡◌, [], ◌∷◌, ◌++◌, replicate, Some, None, refl}
-use Rattle.std.specs.Prelude.{ℤ, pos, negsuc}
+use Rattle.std.specs.Prelude.{pos, negsuc}
 use Rattle.subsetter_cffdata.specs.Bytes.{byte, card, part}
-use Rattle.subsetter_cffdata.specs.Decimals.{Decimal, decimal_digits, unsigned_real, real_of, text_at, real_at, real_text, packed}
-use Rattle.subsetter_cffdata.specs.Numbers.{Number, Integer, Real, in_i32, integer, integer_from, signed16, signed32, integer_at, dict_number_from, short_integer}
+use Rattle.subsetter_cffdata.specs.Decimals.{decimal_digits, unsigned_real, real_of, text_at, real_at, real_text, packed}
+use Rattle.subsetter_cffdata.specs.Numbers.{Integer, Real, in_i32, integer, integer_from, signed16, signed32, integer_at, dict_number_from, short_integer}
 use Rattle.subsetter_cffdata.specs.Values.{value, thousand, by_1000}
 use Rattle.subsetter_cffdata.specs.Index.{index_data, index_body, index_of, index_at, header, index}
 use Rattle.subsetter_cffdata.specs.Dict.{entry_in, entry_at, entries_in, entries}

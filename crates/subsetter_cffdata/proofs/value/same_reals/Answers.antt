@@ -25,6 +25,7 @@ returns c =
     let same : IsTrue c.eq.result → take a.len a.digits ≡ take b.len b.digits = search rules in
     let true_of : take a.len a.digits ≡ take b.len b.digits → IsTrue c.eq.result = search rules in
     let short : length (take a.len a.digits) ≤ 64 = omega (arith, length-take a.len a.digits, a.within) in
-    let short' : length (take b.len b.digits) ≤ 64 = omega (arith, length-take b.len b.digits, b.within) in
-    (λ t. same_decimals a.negative b.negative (take a.len a.digits) (take b.len b.digits) a.power b.power signs (same t) powers,
-    λ e. true_of (same_digits a.negative b.negative (take a.len a.digits) (take b.len b.digits) a.power b.power a.plain b.plain short short' e))
+    let short' : length (take b.len b.digits) ≤ 64 = omega (arith, length-take b.len b.digits, b.within) in (
+      λ t. same_decimals a.negative b.negative (take a.len a.digits) (take b.len b.digits) a.power b.power signs (same t) powers,
+      λ e. true_of (same_digits a.negative b.negative (take a.len a.digits) (take b.len b.digits) a.power b.power a.plain b.plain short short' e),
+    )
