@@ -599,3 +599,23 @@ fn demanded_operands(rt: HostRuntime) -> Result<(), Fail> {
     assert!(rt; parser.parse_range().is_none());
     Ok(())
 }
+
+#[test]
+fn an_index_has_at_most_65535_items(rt: HostRuntime) -> Result<(), Fail> {
+    let mut items: Vec<Vec<u8>> = Vec::new(rt.alloc());
+    for _ in 0..65535 {
+        items.push(Vec::new(rt.alloc()))?;
+    }
+    let created = index::create_index(rt.alloc(), &items).ok().ok_or("fits")?;
+    // A count, the size of an offset, 65536 offsets of one byte.
+    assert_eq!(rt; created.header_size, 65539);
+    assert_eq!(rt; created.data.len(), 65539);
+    items.push(Vec::new(rt.alloc()))?;
+    assert!(rt;
+        matches!(
+            index::create_index(rt.alloc(), &items),
+            Err(Error::OverflowError)
+        )
+    );
+    Ok(())
+}
