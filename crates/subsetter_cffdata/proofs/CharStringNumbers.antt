@@ -1,11 +1,10 @@
 -- The numbers of a charstring: what is written is read again, and what is read can be written.
-use Rattle.std.proofs.Common.{◌≡◌, ℕ, zero, suc, ◌+◌, ◌-◌, ◌*◌, ◌/◌, ◌%◌, ◌^◌, ◌<◌, ◌≤◌, Bool, true, false, List, [], ◌∷◌, ◌++◌, length, Option, Some, None, refl, sym, ap, ◌∙◌, arith, ℤ, pos, negsuc, FitsSigned, to_z, of_z, w16, w32, rules, nat_lt, nat_le, if◌then◌else◌, ◌==◌, ◌-ℤ◌}
+use Rattle.std.proofs.Common.{◌≡◌, ℕ, ◌+◌, ◌-◌, ◌*◌, ◌/◌, ◌%◌, ◌<◌, Bool, true, false, List, [], ◌∷◌, ◌++◌, Option, Some, refl, ap, ◌∙◌, arith, pos, negsuc, FitsSigned, to_z, of_z, w16, w32, nat_lt, nat_le, if◌then◌else◌, ◌==◌, ◌-ℤ◌}
 use Rattle.std.proofs.lemmas.Int.{ints, to_z-of_z}
 use Rattle.std.proofs.lemmas.Bool.Decides.{nat_tests}
-use Rattle.std.proofs.lemmas.Grind.{common_steps}
 use Rattle.subsetter_cffdata.specs.declared.charstring_number.CharStringNumber.{CharStringNumber}
 use Rattle.subsetter_cffdata.specs.declared.charstring_number.CharStringNumber.TheVariants.{Integer, Fixed}
-use Rattle.subsetter_cffdata.specs.CharStringNumber.{number_at, written, written_short, short_number, fixed_number, middle_number, NumberFits, FitsIn, IsReadAgain}
+use Rattle.subsetter_cffdata.specs.CharStringNumber.{number_at, written, written_short, short_number, fixed_number, middle_number, NumberFits, FitsIn}
 
 two_bytes : (n : ℕ) → n / 256 * 256 + n % 256 ≡ n
 two_bytes n = omega arith

@@ -1,9 +1,9 @@
 -- The entries before the first that can't be read, one by one.
-use Rattle.std.proofs.Common.{◌≡◌, ℕ, zero, suc, ◌+◌, ◌<◌, ◌≤◌, List, [], ◌∷◌, length, drop, Option, Some, None, refl, ap, arith, ◌∙◌, sym}
+use Rattle.std.proofs.Common.{◌≡◌, ℕ, zero, suc, ◌+◌, ◌≤◌, List, [], ◌∷◌, length, drop, Option, Some, None, refl, ap, arith}
 use Rattle.std.specs.Prelude.{slice_get}
 use Rattle.std.specs.Option.{option_and_then}
 use Rattle.std.proofs.lemmas.List.{drop_all}
-use Rattle.std.proofs.lemmas.Option.{none-some, same_Some}
+use Rattle.std.proofs.lemmas.Option.{same_Some}
 use Rattle.subsetter_cffdata.specs.Index.{readable}
 
 readable_next : (es : List (Option (List ℕ))) (i : ℕ) (x : List ℕ) → option_and_then (λ (e : Option (List ℕ)). e) (slice_get es i) ≡ Some x → readable (drop i es) ≡ x ∷ readable (drop (suc i) es)

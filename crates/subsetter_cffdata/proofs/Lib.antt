@@ -16,3 +16,4 @@ pub mod Wholes
 pub mod RealTexts
 pub mod Entries
 pub mod Rows
+pub mod Values

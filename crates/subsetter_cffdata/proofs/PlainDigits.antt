@@ -1,16 +1,13 @@
 -- Digits without zeros in front and at the end: a decimal has just one such form.
-use Rattle.std.proofs.Common.{◌≡◌, ◌≢◌, ℕ, zero, suc, ◌+◌, ◌-◌, ◌*◌, ◌/◌, ◌%◌, ◌^◌, ◌<◌, ◌≤◌, Bool, true, false, eqb, List, [], ◌∷◌, ◌++◌, take, drop, length, get_or, refl, ap, arith, inl, inr, ◌∙◌, sym, subst, append_assoc, length-append}
-use Rattle.std.specs.Prelude.{ℤ, pos, negsuc, ◌+ℤ◌, ◌==◌, ◌&&◌, if◌then◌else◌, unsigned_abs}
-use Rattle.std.specs.Int.{is_negative}
-use Rattle.std.specs.List.{AllByRecursion}
-use Rattle.std.specs.Int.Digits.{digits_with_fuel, digits_of, number_from_digits_after}
+use Rattle.std.proofs.Common.{◌≡◌, ℕ, zero, suc, ◌+◌, ◌-◌, ◌*◌, ◌/◌, ◌%◌, ◌<◌, ◌≤◌, Bool, true, false, List, [], ◌∷◌, ◌++◌, drop, length, get_or, refl, ap, arith, inl, inr, ◌∙◌, sym, subst, append_assoc}
+use Rattle.std.specs.Prelude.{ℤ, pos, ◌+ℤ◌, ◌==◌, ◌&&◌, if◌then◌else◌, unsigned_abs}
+use Rattle.std.specs.Int.Digits.{digits_of, number_from_digits_after}
 use Rattle.std.proofs.Math.Nat.{pow-le-pow_right}
-use Rattle.std.proofs.lemmas.Bool.{cases_eq, ne_eqb, and_right, cases_Bool, cases_lt, lt-ltb, le-ltb}
-use Rattle.std.proofs.lemmas.List.{append-nil, drop_more, length-drop, nil_from_length}
+use Rattle.std.proofs.lemmas.Bool.{cases_eq, ne_eqb, cases_Bool, cases_lt, lt-ltb, le-ltb}
+use Rattle.std.proofs.lemmas.List.{append-nil, drop_more, nil_from_length}
 use Rattle.std.proofs.lemmas.Int.Digits.{digits_of_step, number_lt, number_after_ge}
 use Rattle.subsetter_cffdata.specs.Decimals.{IsPlain, stripped, trimmed, number, signed, decimal, decimal_digits, digits}
-use Rattle.std.proofs.lemmas.List.{take_more, drop_at}
-use Rattle.subsetter_cffdata.proofs.Reals.{AreDigits, digits_are, digits_front, all_take}
+use Rattle.subsetter_cffdata.proofs.Reals.{AreDigits, digits_are, digits_front}
 
 -- ---- the digits of the number that digits are
 step_is : (n d : ℕ) → 0 < n * 10 + d → d < 10 → digits_of 10 (n * 10 + d) ≡ digits_of 10 n ++ d ∷ []

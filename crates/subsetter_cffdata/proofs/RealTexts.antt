@@ -1,6 +1,6 @@
 -- The text of a real in memory.
-use Rattle.std.proofs.Common.{◌≡◌, ℕ, zero, suc, ◌+◌, ◌-◌, ◌*◌, ◌%◌, ◌^◌, ◌<◌, ◌≤◌, Bool, true, false, cond, ◌&&◌, eqb, ltb, List, [], ◌∷◌, ◌++◌, take, length, get_or, Option, Some, None, refl, ap, arith, inl, inr, ◌∙◌, sym, subst}
-use Rattle.std.specs.Prelude.{ℤ, pos, negsuc, neg_ℤ, unsigned_abs, IsTrue, Result, Ok, Err, OnOk}
+use Rattle.std.proofs.Common.{◌≡◌, ℕ, zero, suc, ◌+◌, ◌-◌, ◌*◌, ◌%◌, ◌^◌, ◌<◌, ◌≤◌, Bool, true, false, cond, ◌&&◌, eqb, List, [], ◌∷◌, ◌++◌, take, length, get_or, Some, None, refl, ap, arith, inl, inr, ◌∙◌, sym}
+use Rattle.std.specs.Prelude.{ℤ, pos, neg_ℤ, unsigned_abs, IsTrue, Result, Ok, Err, OnOk}
 use Rattle.std.specs.Int.{is_negative}
 use Rattle.std.specs.List.{AllByRecursion}
 use Rattle.std.proofs.Math.Nat.{pow-le-pow_right}
@@ -8,7 +8,7 @@ use Rattle.std.proofs.lemmas.Bool.{cases_eq, cases_lt, ne_eqb, lt-ltb, le-ltb, l
 use Rattle.std.proofs.lemmas.List.{nil_from_length, length-take, take_all}
 use Rattle.std.proofs.lemmas.Option.{none-some, same_Some}
 use Rattle.std.proofs.lemmas.Int.Digits.{number_lt, number_more}
-use Rattle.subsetter_cffdata.specs.Decimals.{Decimal, HasText, IsPlain, is_normal, is_zero, trimmed, number, signed, signs, decimal_digits, unsigned_text, real_text}
+use Rattle.subsetter_cffdata.specs.Decimals.{HasText, IsPlain, is_normal, trimmed, number, signed, signs, unsigned_text, real_text}
 use Rattle.subsetter_cffdata.specs.TextSteps.{fitting}
 use Rattle.subsetter_cffdata.proofs.PlainDigits.{only_digits, positive_number, size_of_signed, mantissa_digits}
 use Rattle.subsetter_cffdata.proofs.Reals.{AreDigits, IsCharacter, text_of, trimmed_more}
@@ -19,7 +19,7 @@ below_zero : (n : ℕ) → 0 < n → is_negative (neg_ℤ (pos n)) ≡ true
 below_zero zero some = absurd (omega arith)
 below_zero (suc n) some = refl
 
-sign_of : (negative : Bool) (ds : List ℕ) (power : ℤ) → IsPlain negative ds power → is_negative (signed negative (number ds)) ≡ negative
+pub sign_of : (negative : Bool) (ds : List ℕ) (power : ℤ) → IsPlain negative ds power → is_negative (signed negative (number ds)) ≡ negative
 sign_of false ds power plain = le-ltb (number ds) 0 (omega arith)
 sign_of true ds power plain =
     elim (cases_eq (length ds) 0) [

@@ -1,9 +1,10 @@
 -- Worked examples, computed.
 use Rattle.std.proofs.Common.{◌≡◌, [], ◌∷◌, ◌++◌, replicate, Some, None, refl}
-use Rattle.std.specs.Prelude.{ℤ, pos, negsuc}
+use Rattle.std.specs.Prelude.{pos, negsuc}
 use Rattle.subsetter_cffdata.specs.Bytes.{byte, card, part}
-use Rattle.subsetter_cffdata.specs.Decimals.{Decimal, decimal_digits, unsigned_real, real_of, text_at, real_at, real_text, packed}
-use Rattle.subsetter_cffdata.specs.Numbers.{Number, Integer, integer, integer_from, signed16, signed32, integer_at, dict_number_from, short_integer}
+use Rattle.subsetter_cffdata.specs.Decimals.{decimal_digits, unsigned_real, real_of, text_at, real_at, real_text, packed}
+use Rattle.subsetter_cffdata.specs.Numbers.{Integer, Real, in_i32, integer, integer_from, signed16, signed32, integer_at, dict_number_from, short_integer}
+use Rattle.subsetter_cffdata.specs.Values.{value, thousand, by_1000}
 use Rattle.subsetter_cffdata.specs.Index.{index_data, index_body, index_of, index_at, header, index}
 use Rattle.subsetter_cffdata.specs.Dict.{entry_in, entry_at, entries_in, entries}
 
@@ -60,3 +61,22 @@ dicts : (entries (0x8C ∷ 0x14 ∷ 0x1E ∷ 0xD0 ∷ 0x15 ∷ []) ≡ record { 
     × (entries (replicate 49 0x8B ++ 6 ∷ []) ≡ record { operator = 6 ∷ []; operands = replicate 48 (Integer (pos 0)) } ∷ [])
 unfolding entries entries_in entry_at entry_in dict_number_from integer_from short_integer signed16 signed32 real_at text_at real_of unsigned_real byte card part
 dicts = (refl, refl, refl)
+
+-- exact values: 5, 1000, 0, -20
+values : (value (Integer (pos 5)) ≡ record { mantissa = pos 5; power = pos 0 }) × (value (Integer (pos 1000)) ≡ record { mantissa = pos 1; power = pos 3 })
+    × (value (Integer (pos 0)) ≡ record { mantissa = pos 0; power = pos 0 }) × (value (Integer (negsuc 19)) ≡ record { mantissa = negsuc 1; power = pos 1 })
+values = (refl, refl, refl, refl)
+
+-- a thousand times 0.001, 0 and -120; a power of ten that doesn't fit in 32 bits
+thousands : (thousand (Real (record { mantissa = pos 1; power = negsuc 2 })) ≡ Some (Real (record { mantissa = pos 1; power = pos 0 })))
+    × (thousand (Integer (pos 0)) ≡ Some (Real (record { mantissa = pos 0; power = pos 0 })))
+    × (thousand (Integer (negsuc 119)) ≡ Some (Real (record { mantissa = negsuc 11; power = pos 4 })))
+    × (thousand (Real (record { mantissa = pos 1; power = pos 2147483645 })) ≡ None)
+unfolding in_i32 thousand
+thousands = (refl, refl, refl, refl)
+
+-- the matrix 0.001 0 0 0.001 7 0 after a scaling by 1000
+matrix : (let thousandth = Real (record { mantissa = pos 1; power = negsuc 2 }) in let zero = Integer (pos 0) in let one = Real (record { mantissa = pos 1; power = pos 0 }) in let nothing = Real (record { mantissa = pos 0; power = pos 0 }) in
+    by_1000 (thousandth ∷ zero ∷ zero ∷ thousandth ∷ Integer (pos 7) ∷ zero ∷ []) ≡ Some (one ∷ nothing ∷ nothing ∷ one ∷ Real (record { mantissa = pos 7; power = pos 0 }) ∷ nothing ∷ []))
+unfolding in_i32 thousand by_1000
+matrix = refl

@@ -1,16 +1,14 @@
 -- Digits and zeros as a whole number, up to a limit.
-use Rattle.std.proofs.Common.{◌≡◌, ℕ, zero, suc, ◌+◌, ◌-◌, ◌*◌, ◌^◌, ◌<◌, ◌≤◌, Bool, true, false, List, length, drop, get_or, Option, Some, None, refl, ap, arith, ◌∙◌, sym, inl, inr}
-use Rattle.std.specs.Prelude.{ℤ, pos, negsuc, neg_ℤ, ◌*ℤ◌}
+use Rattle.std.proofs.Common.{◌≡◌, ℕ, zero, suc, ◌+◌, ◌-◌, ◌*◌, ◌^◌, ◌<◌, ◌≤◌, Bool, true, false, List, length, drop, get_or, Some, None, refl, ap, arith, ◌∙◌, sym, inl, inr}
 use Rattle.std.specs.Int.Digits.{number_from_digits_after}
 use Rattle.std.proofs.Math.Nat.{pow-suc, one-le-pow, mul-le-mul_left}
 use Rattle.std.proofs.lemmas.Bool.{cases_lt, lt-leb, le-leb, le-ltb}
 use Rattle.std.proofs.lemmas.Option.{none-some, same_Some}
 use Rattle.std.proofs.lemmas.List.{drop_more}
 use Rattle.std.proofs.lemmas.Int.Digits.{number_after_ge}
-use Rattle.subsetter_cffdata.specs.Bytes.{◌>>=◌}
 use Rattle.subsetter_cffdata.specs.Decimals.{number, signed}
 use Rattle.subsetter_cffdata.specs.Limited.{limited}
-use Rattle.subsetter_cffdata.specs.Numbers.{in_i32, real_as_i32}
+use Rattle.subsetter_cffdata.specs.Numbers.{in_i32}
 
 pub past : (n : ℕ) → 2147483648 < n → limited n ≡ None
 unfolding limited

@@ -1,5 +1,5 @@
 -- What an INDEX in memory shows.
-use Rattle.std.specs.Prelude.{ℕ, zero, suc, ◌-◌, ◌==◌, nat_lt, if◌then◌else◌, List, Option, Some, None}
+use Rattle.std.specs.Prelude.{ℕ, ◌-◌, ◌==◌, nat_lt, if◌then◌else◌, List, Option, Some, None}
 use Rattle.subsetter_cffdata.specs.declared.index_view.Index.{Index}
 use Rattle.subsetter_cffdata.specs.declared.index_view.VarOffsets.{VarOffsets}
 use Rattle.subsetter_cffdata.specs.OffsetSizes.{size_of}

@@ -15,4 +15,5 @@ pub mod Reading
 pub mod TextSteps
 pub mod TokenView
 pub mod Tokens
+pub mod Values
 pub mod Views

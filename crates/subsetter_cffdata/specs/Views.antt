@@ -1,5 +1,5 @@
 -- What numbers and operators in memory show.
-use Rattle.std.specs.Prelude.{ℕ, List, [], ◌∷◌, ◌++◌, take, slice_index}
+use Rattle.std.specs.Prelude.{ℕ, List, ◌++◌, take, slice_index}
 use Rattle.std.specs.Fmt.{decimal}
 use Rattle.subsetter_cffdata.specs.Decimals.{Decimal, signed, number}
 use Rattle.subsetter_cffdata.specs.Numbers.{Number, Integer, Real, Fixed}

@@ -25,5 +25,6 @@ mod tests;
 mod text;
 mod tokens;
 mod u24;
+mod value;
 mod whole;
 mod writing_index;

@@ -1,16 +1,19 @@
 //! Numbers of a DICT and of a charstring (Technical Note 5176, section 4 "DICT Data").
 
-ghost use Rattle.std.specs.Prelude.{◌≡◌, ◌∷◌, ◌++◌, ◌⊎◌, pos, OnOk, IfErr};
+ghost use Rattle.std.specs.Prelude.{◌≡◌, ◌∷◌, ◌++◌, ◌⊎◌, ◌↔◌, IsTrue, map, pos, OnOk, IfErr};
+ghost use Rattle.std.specs.Option.{option_map};
 ghost use Rattle.std.specs.Int.{w32, cast_unsigned, to_be_bytes};
 ghost use Rattle.subsetter_base.specs.declared.error.Error.TheVariants.{OutOfMemory, OverflowError};
 ghost use Rattle.subsetter_cffdata.specs.Numbers.{Integer as StoredInteger, number as written, IsTooLong, integer, fixed, integer_at, integer_from, short_integer, fixed_number_at, dict_number_from, dict_number_at, charstring_number_from, charstring_number_at, fixed_as_i32, in_i32, as_i32, as_u32};
 ghost use Rattle.subsetter_cffdata.specs.Reading.{Takes};
-ghost use Rattle.subsetter_cffdata.specs.Views.{number_of};
+ghost use Rattle.subsetter_cffdata.specs.Values.{value, thousand, by_1000};
+ghost use Rattle.subsetter_cffdata.specs.Views.{decimal_of, number_of};
 
 use crate::reading;
 pub use crate::real_number::RealNumber;
 pub use crate::string_id::StringId;
 pub use crate::u24::U24;
+use crate::value::{real_of_fixed, real_of_integer, same_reals, thousandfold_of};
 use subsetter_base::error::Error;
 use subsetter_base::read::Reader;
 use subsetter_base::write::{Writeable, Writer};
@@ -249,6 +252,49 @@ impl Number {
         ensures { result ≡ as_u32 (number_of self.now) }
     {
         u32::try_from(self.as_i32()?).ok()
+    }
+
+    /// The exact value as a real; a real stays as it is.
+    #[tactic(auto, unfolding(crate::specs::Values::value))]
+    pub fn to_real(&self) -> RealNumber
+        ensures { decimal_of result ≡ value (number_of self.now) }
+    {
+        match self {
+            Number::Real(real) => *real,
+            Number::Integer(integer) => real_of_integer(integer.0),
+            Number::Fixed(fixed) => real_of_fixed(fixed.0),
+        }
+    }
+
+    /// A thousand times the number, as a real; None where the power of ten of its last digit doesn't fit in an `i32`.
+    #[tactic(auto, unfolding(crate::specs::Values::thousand))]
+    pub fn times_thousand(&self) -> Option<Number>
+        ensures { option_map number_of result ≡ thousand (number_of self.now) }
+    {
+        Some(Number::Real(thousandfold_of(&self.to_real())?))
+    }
+
+    /// A matrix after a scaling by 1000: the first four entries a thousand times as great, the last two of equal value, all six as reals. None where the power of ten of an entry doesn't fit in an `i32`.
+    #[tactic(auto, unfolding(crate::specs::Values::by_1000))]
+    pub fn combine(matrix: &[Number; 6]) -> Option<[Number; 6]>
+        ensures { option_map (map number_of) result ≡ by_1000 (map number_of matrix.now) }
+    {
+        let [a, b, c, d, e, f] = matrix;
+        Some([
+            a.times_thousand()?,
+            b.times_thousand()?,
+            c.times_thousand()?,
+            d.times_thousand()?,
+            Number::Real(e.to_real()),
+            Number::Real(f.to_real()),
+        ])
+    }
+
+    /// Whether two numbers have the same exact value, of whatever kinds they are.
+    pub fn same_value(&self, other: &Number) -> bool
+        ensures { IsTrue result ↔ (value (number_of self.now) ≡ value (number_of other.now)) }
+    {
+        same_reals(&self.to_real(), &other.to_real())
     }
 
     /// Writes the number in its own kind: an integer in the first form that holds it, a real as a plain decimal, a number of 65536ths in five bytes. `OverflowError` where the text of a real has more than 64 characters.

@@ -115,6 +115,124 @@ fn written_decimals(rt: HostRuntime) -> Result<(), Fail> {
 }
 
 #[test]
+fn decimals_of_all_sizes_are_read_and_written_again(rt: HostRuntime) -> Result<(), Fail> {
+    // 3.98
+    let bytes = rewritten(&rt, &[0x1E, 0x3A, 0x98, 0xFF])
+        .ok()
+        .ok_or("fits")?;
+    assert_eq!(rt; bytes.as_slice(), [0x1E, 0x3A, 0x98, 0xFF].as_slice());
+    // 16.49
+    let bytes = rewritten(&rt, &[0x1E, 0x16, 0xA4, 0x9F])
+        .ok()
+        .ok_or("fits")?;
+    assert_eq!(rt; bytes.as_slice(), [0x1E, 0x16, 0xA4, 0x9F].as_slice());
+    // 159.18
+    let bytes = rewritten(&rt, &[0x1E, 0x15, 0x9A, 0x18, 0xFF])
+        .ok()
+        .ok_or("fits")?;
+    assert_eq!(rt; bytes.as_slice(), [0x1E, 0x15, 0x9A, 0x18, 0xFF].as_slice());
+    Ok(())
+}
+
+// The number of a DICT that the bytes spell.
+fn number(bytes: &[u8]) -> Option<Number> {
+    Number::parse_cff_number(&mut Reader::new(bytes))
+}
+
+// The number's bytes.
+fn written(rt: &HostRuntime, number: &Number) -> Result<Vec<u8>, Error> {
+    let mut w = Writer::new(rt.alloc());
+    number.write(&mut w)?;
+    Ok(w.finish())
+}
+
+#[test]
+fn numbers_of_one_value_are_the_same_of_whatever_kinds(rt: HostRuntime) -> Result<(), Fail> {
+    let integer = Number::from_i32(5);
+    let real = number(&[0x1E, 0x5F]).ok_or("a real")?;
+    assert!(rt; integer.same_value(&real));
+    assert!(rt; real.same_value(&integer));
+    assert!(rt; matches!(integer, Number::Integer(_)));
+    assert!(rt; matches!(real, Number::Real(_)));
+    // 5 and five times 65536 parts of 65536
+    assert!(rt; integer.same_value(&Number::Fixed(FixedNumber(327680))));
+    assert!(rt; !integer.same_value(&Number::from_i32(-5)));
+    assert!(rt; !integer.same_value(&Number::from_i32(50)));
+    // -0.5, and half of 65536 parts below zero
+    let half = number(&[0x1E, 0xEA, 0x5F]).ok_or("a real")?;
+    assert!(rt; half.same_value(&Number::Fixed(FixedNumber(-32768))));
+    // 1000 and 1 E 3; 0 and -0
+    let thousand = number(&[0x1E, 0x1B, 0x3F]).ok_or("a real")?;
+    assert!(rt; Number::from_i32(1000).same_value(&thousand));
+    let zero = number(&[0x1E, 0xE0, 0xFF]).ok_or("a real")?;
+    assert!(rt; Number::zero().same_value(&zero));
+    Ok(())
+}
+
+#[test]
+fn integers_become_reals_of_the_same_value(rt: HostRuntime) -> Result<(), Fail> {
+    let lowest = Number::Real(Number::from_i32(-2147483648).to_real());
+    let bytes = written(&rt, &lowest).ok().ok_or("fits")?;
+    assert_eq!(rt;
+        bytes.as_slice(),
+        [0x1E, 0xE2, 0x14, 0x74, 0x83, 0x64, 0x8F].as_slice()
+    );
+    // 1 / 65536
+    let smallest = Number::Real(Number::Fixed(FixedNumber(1)).to_real());
+    let bytes = written(&rt, &smallest).ok().ok_or("fits")?;
+    assert_eq!(rt;
+        bytes.as_slice(),
+        [
+            0x1E, 0x0A, 0x00, 0x00, 0x15, 0x25, 0x87, 0x89, 0x06, 0x25, 0xFF
+        ]
+        .as_slice()
+    );
+    Ok(())
+}
+
+#[test]
+fn a_thousand_times_a_number(rt: HostRuntime) -> Result<(), Fail> {
+    let thousandth = number(&[0x1E, 0x0A, 0x00, 0x1F]).ok_or("a real")?;
+    let one = thousandth.times_thousand().ok_or("fits")?;
+    assert!(rt; one.same_value(&Number::one()));
+    let bytes = written(&rt, &one).ok().ok_or("fits")?;
+    assert_eq!(rt; bytes.as_slice(), [0x1E, 0x1F].as_slice());
+    let zero = Number::zero().times_thousand().ok_or("fits")?;
+    assert!(rt; matches!(zero, Number::Real(_)));
+    assert!(rt; zero.same_value(&Number::zero()));
+    let many = Number::from_i32(-120).times_thousand().ok_or("fits")?;
+    assert!(rt; many.as_i32() == Some(-120000));
+    Ok(())
+}
+
+#[test]
+fn a_matrix_after_a_scaling_by_1000(rt: HostRuntime) -> Result<(), Fail> {
+    let thousandth = number(&[0x1E, 0x0A, 0x00, 0x1F]).ok_or("a real")?;
+    let zero = Number::zero();
+    let matrix = [
+        thousandth,
+        zero,
+        zero,
+        thousandth,
+        Number::from_i32(7),
+        thousandth,
+    ];
+    let scaled = Number::combine(&matrix).ok_or("fits")?;
+    let mut w = Writer::new(rt.alloc());
+    for entry in scaled.iter() {
+        entry.write(&mut w).ok().ok_or("fits")?;
+    }
+    assert_eq!(rt;
+        w.as_slice(),
+        [
+            0x1E, 0x1F, 0x1E, 0x0F, 0x1E, 0x0F, 0x1E, 0x1F, 0x1E, 0x7F, 0x1E, 0x0A, 0x00, 0x1F
+        ]
+        .as_slice()
+    );
+    Ok(())
+}
+
+#[test]
 fn a_negative_real_with_an_exponent(rt: HostRuntime) -> Result<(), Fail> {
     let bytes = rewritten(&rt, &[0x1E, 0xE2, 0x49, 0x32, 0xA1, 0x2C, 0x2F])
         .ok()
@@ -479,5 +597,25 @@ fn demanded_operands(rt: HostRuntime) -> Result<(), Fail> {
     assert!(rt; parser.parse_next() == Some(operators::CHARSET));
     assert!(rt; parser.parse_offset().is_none());
     assert!(rt; parser.parse_range().is_none());
+    Ok(())
+}
+
+#[test]
+fn an_index_has_at_most_65535_items(rt: HostRuntime) -> Result<(), Fail> {
+    let mut items: Vec<Vec<u8>> = Vec::new(rt.alloc());
+    for _ in 0..65535 {
+        items.push(Vec::new(rt.alloc()))?;
+    }
+    let created = index::create_index(rt.alloc(), &items).ok().ok_or("fits")?;
+    // A count, the size of an offset, 65536 offsets of one byte.
+    assert_eq!(rt; created.header_size, 65539);
+    assert_eq!(rt; created.data.len(), 65539);
+    items.push(Vec::new(rt.alloc()))?;
+    assert!(rt;
+        matches!(
+            index::create_index(rt.alloc(), &items),
+            Err(Error::OverflowError)
+        )
+    );
     Ok(())
 }

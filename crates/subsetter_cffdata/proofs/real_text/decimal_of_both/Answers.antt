@@ -1,5 +1,5 @@
 use Rattle.std.proofs.Common.{◌≡◌, ◌++◌, ◌∙◌, ap, List, ℕ, to_z, of_z, w32, length, take, arith}
-use Rattle.std.specs.Prelude.{ℤ, pos, ◌-ℤ◌}
+use Rattle.std.specs.Prelude.{pos, ◌-ℤ◌}
 use Rattle.std.proofs.lemmas.Int.{ints}
 use Rattle.subsetter_cffdata.proofs.PlainDigits.{digits_both, same_decimal}
 use Rattle.subsetter_cffdata.proofs.real_text.decimal_of_both.Goals as goal

@@ -1,4 +1,4 @@
-use Rattle.std.proofs.Common.{◌≡◌, ◌++◌, ◌∙◌, ap, sym, take, List, ℕ, arith}
+use Rattle.std.proofs.Common.{◌≡◌, ◌++◌, ◌∙◌, ap, sym, take, List, ℕ}
 use Rattle.std.proofs.lemmas.List.{append-nil}
 use Rattle.subsetter_cffdata.specs.Decimals.{digits}
 use Rattle.subsetter_cffdata.proofs.PlainDigits.{digits_twice, no_digits}
