@@ -138,52 +138,35 @@ impl<'a> DictionaryParser<'a> {
 
 /// The operators whose entries are read or written (Technical Note 5176, section 9 "Top DICT Data", tables 9 and 10, and section 15 "Private DICT Data").
 pub mod operators {
-    use crate::operator::{Operator, OperatorType, TWO_BYTE_OPERATOR_MARK};
+    use crate::operator::OperatorType::{OneByteOperator, TwoByteOperator};
+    use crate::operator::{Operator, TWO_BYTE_OPERATOR_MARK};
 
     /// The notice.
-    pub const NOTICE: Operator = Operator(OperatorType::OneByteOperator([1]));
+    pub const NOTICE: Operator = Operator(OneByteOperator([1]));
     /// The bounding box of the font.
-    pub const FONT_BBOX: Operator = Operator(OperatorType::OneByteOperator([5]));
+    pub const FONT_BBOX: Operator = Operator(OneByteOperator([5]));
     /// The offset of the charset.
-    pub const CHARSET: Operator = Operator(OperatorType::OneByteOperator([15]));
+    pub const CHARSET: Operator = Operator(OneByteOperator([15]));
     /// The offset of the encoding.
-    pub const ENCODING: Operator = Operator(OperatorType::OneByteOperator([16]));
+    pub const ENCODING: Operator = Operator(OneByteOperator([16]));
     /// The offset of the CharStrings INDEX.
-    pub const CHAR_STRINGS: Operator = Operator(OperatorType::OneByteOperator([17]));
+    pub const CHAR_STRINGS: Operator = Operator(OneByteOperator([17]));
     /// The length and the offset of the Private DICT.
-    pub const PRIVATE: Operator = Operator(OperatorType::OneByteOperator([18]));
+    pub const PRIVATE: Operator = Operator(OneByteOperator([18]));
     /// The offset of the local subroutines, from the start of the Private DICT.
-    pub const SUBRS: Operator = Operator(OperatorType::OneByteOperator([19]));
+    pub const SUBRS: Operator = Operator(OneByteOperator([19]));
     /// The copyright.
-    pub const COPYRIGHT: Operator = Operator(OperatorType::TwoByteOperator([
-        TWO_BYTE_OPERATOR_MARK,
-        0,
-    ]));
+    pub const COPYRIGHT: Operator = Operator(TwoByteOperator([TWO_BYTE_OPERATOR_MARK, 0]));
     /// The matrix of the font.
-    pub const FONT_MATRIX: Operator = Operator(OperatorType::TwoByteOperator([
-        TWO_BYTE_OPERATOR_MARK,
-        7,
-    ]));
+    pub const FONT_MATRIX: Operator = Operator(TwoByteOperator([TWO_BYTE_OPERATOR_MARK, 7]));
     /// Registry, ordering and supplement of a CID-keyed font.
-    pub const ROS: Operator = Operator(OperatorType::TwoByteOperator([TWO_BYTE_OPERATOR_MARK, 30]));
+    pub const ROS: Operator = Operator(TwoByteOperator([TWO_BYTE_OPERATOR_MARK, 30]));
     /// The number of CIDs.
-    pub const CID_COUNT: Operator = Operator(OperatorType::TwoByteOperator([
-        TWO_BYTE_OPERATOR_MARK,
-        34,
-    ]));
+    pub const CID_COUNT: Operator = Operator(TwoByteOperator([TWO_BYTE_OPERATOR_MARK, 34]));
     /// The offset of the Font DICT INDEX.
-    pub const FD_ARRAY: Operator = Operator(OperatorType::TwoByteOperator([
-        TWO_BYTE_OPERATOR_MARK,
-        36,
-    ]));
+    pub const FD_ARRAY: Operator = Operator(TwoByteOperator([TWO_BYTE_OPERATOR_MARK, 36]));
     /// The offset of the FDSelect.
-    pub const FD_SELECT: Operator = Operator(OperatorType::TwoByteOperator([
-        TWO_BYTE_OPERATOR_MARK,
-        37,
-    ]));
+    pub const FD_SELECT: Operator = Operator(TwoByteOperator([TWO_BYTE_OPERATOR_MARK, 37]));
     /// The name of a Font DICT.
-    pub const FONT_NAME: Operator = Operator(OperatorType::TwoByteOperator([
-        TWO_BYTE_OPERATOR_MARK,
-        38,
-    ]));
+    pub const FONT_NAME: Operator = Operator(TwoByteOperator([TWO_BYTE_OPERATOR_MARK, 38]));
 }
