@@ -27,6 +27,8 @@ fn truetype(alloc: Global, face: &Face<'_>, mapper: &GlyphRemapper) -> Result<Ve
     let order = glyf::closure(alloc, &table, mapper)?;
     let _count = order.num_gids();
     let made = make(alloc, face, &table, &order)?;
+    // Its memory is free before room for the output is taken.
+    drop(order);
     let context = fill(alloc, face, made)?;
     finish(alloc, FontFlavor::TrueType, context.tables())
 }
