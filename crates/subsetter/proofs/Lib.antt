@@ -23,6 +23,7 @@ pub mod LaidLaws
 pub mod Steps
 pub mod ClosureLemmas
 pub mod KeptLemmas
+pub mod WovenLemmas
 pub mod KeptOutlines
 pub mod OutlineFaults
 pub mod PartsBack

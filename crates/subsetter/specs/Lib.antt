@@ -15,6 +15,7 @@ pub mod PlainFile
 pub mod PlainGlyph
 pub mod OutlineFault
 pub mod Outlines
+pub mod Woven
 pub mod Closure
 pub mod Metrics
 pub mod MetricsWritten

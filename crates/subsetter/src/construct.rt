@@ -186,12 +186,13 @@ pub fn finish(alloc: Global, flavor: FontFlavor, tables: &[NewTable<'_>]) -> Res
 mod tests {
     use super::*;
     use crate::context::TableData;
+    use crate::outlines::OutlineList;
     use std::borrow::CowSlice;
     use std::test::*;
 
     #[test]
     fn three_tables(rt: HostRuntime) -> Result<(), Fail> {
-        let mut outlines = Vec::new(rt.alloc());
+        let mut outlines = OutlineList::with_capacity(rt.alloc(), 2)?;
         outlines.push(CowSlice::Borrowed(&[]))?;
         outlines.push(CowSlice::Borrowed(&[0; 11]))?;
         let tables = [

@@ -6,7 +6,7 @@ ghost use Rattle.subsetter.specs.Tables.{table_bytes};
 ghost use Rattle.subsetter_base.specs.declared.error.Error.TheVariants.{OutOfMemory};
 
 use crate::checksum::checksum;
-use crate::outlines::{outlines_checksum, outlines_len, write_outlines};
+use crate::outlines::{OutlineList, outlines_checksum, outlines_len, write_outlines};
 use crate::room::put;
 use std::alloc::Global;
 use std::borrow::CowSlice;
@@ -20,7 +20,7 @@ pub enum TableData<'a> {
     Whole(CowSlice<'a, u8>),
     /// `glyf` as its outlines, in the long or the short format of `loca`.
     Outlines {
-        outlines: Vec<CowSlice<'a, u8>>,
+        outlines: OutlineList<'a>,
         long: bool,
     },
 }

@@ -15,6 +15,7 @@ ghost use Rattle.subsetter_base.specs.declared.error.Error.TheVariants.{OutOfMem
 
 use crate::component::{Components, rewrite};
 use crate::face::Face;
+use crate::outlines::OutlineList;
 use std::alloc::Global;
 use std::borrow::CowSlice;
 use subsetter_base::read::Reader;
@@ -96,13 +97,14 @@ pub fn subset<'a>(
     alloc: Global,
     table: &Table<'a>,
     order: &GlyphRemapper,
-) -> Result<Vec<CowSlice<'a, u8>>, Error>
-    ensures { Gives (λ v. map cow_slice_items v.items) result (kept_all (seen table.now) order.now order.now) }
+) -> Result<OutlineList<'a>, Error>
+    ensures { Gives (λ list. list) result (kept_all (seen table.now) order.now order.now) }
 {
-    let mut outlines = Vec::with_capacity(alloc, order.num_gids() as usize)?;
+    let mut outlines = OutlineList::with_capacity(alloc, order.num_gids() as usize)?;
     for old in order.remapped_gids() {
         outlines.push(table.kept(alloc, old, order)?)?;
     }
+    outlines.shrink_to_fit();
     Ok(outlines)
 }
 

@@ -1,21 +1,20 @@
 //! `loca`, the places of the outlines (OpenType, "loca").
 
-ghost use Rattle.std.specs.Prelude.{◌≡◌, ◌<◌, ◌^◌, ◌++◌, length, map, if◌then◌else◌, IfOk, IfErr, OnOk};
-ghost use Rattle.std.specs.Cow.{cow_slice_items};
+ghost use Rattle.std.specs.Prelude.{◌≡◌, ◌<◌, ◌^◌, ◌++◌, length, if◌then◌else◌, IfOk, IfErr, OnOk};
 ghost use Rattle.subsetter_base.specs.declared.error.Error.TheVariants.{OutOfMemory};
 ghost use Rattle.subsetter.specs.Written.{is_long, glyf_bytes, offset_bytes, loca_bytes};
 
+use crate::outlines::OutlineList;
 use std::alloc::Global;
-use std::borrow::CowSlice;
 use subsetter_base::Error;
 use subsetter_base::write::Writer;
 
 /// Whether the offsets need the long format: halves of them don't fit 16 bits.
-pub fn is_long(outlines: &[CowSlice<'_, u8>]) -> bool
-    ensures { result ≡ is_long (map cow_slice_items outlines.now) }
+pub fn is_long(outlines: &OutlineList<'_>) -> bool
+    ensures { result ≡ is_long outlines.now }
 {
     let mut size: usize = 0;
-    for outline in outlines {
+    for outline in outlines.iter() {
         let len = outline.len();
         if len > 131_070 {
             return true;
@@ -42,14 +41,14 @@ fn write_offset(w: &mut Writer, long: bool, offset: usize) -> Result<(), Error>
 }
 
 /// `loca`: where each outline begins, and where the last one ends.
-pub fn subset(alloc: Global, outlines: &[CowSlice<'_, u8>], long: bool) -> Result<Vec<u8>, Error>
-    requires { length (glyf_bytes long (map cow_slice_items outlines.now)) < (if long then 2 ^ 32 else 2 ^ 17) }
-    ensures ok { IfOk result (λ v. v.items ≡ loca_bytes long 0 (map cow_slice_items outlines.now)) }
+pub fn subset(alloc: Global, outlines: &OutlineList<'_>, long: bool) -> Result<Vec<u8>, Error>
+    requires { length (glyf_bytes long outlines.now) < (if long then 2 ^ 32 else 2 ^ 17) }
+    ensures ok { IfOk result (λ v. v.items ≡ loca_bytes long 0 outlines.now) }
     ensures err { IfErr result (λ e. e ≡ OutOfMemory) }
 {
-    let mut w = Writer::with_capacity(alloc, 4 * (outlines.len() + 1))?;
+    let mut w = Writer::with_capacity(alloc, outlines.len().saturating_add(1).saturating_mul(4))?;
     let mut offset: usize = 0;
-    for outline in outlines {
+    for outline in outlines.iter() {
         write_offset(&mut w, long, offset)?;
         offset += outline.len();
         if !long {

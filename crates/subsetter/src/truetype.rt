@@ -18,7 +18,7 @@ use crate::face::Face;
 use crate::flavor::FontFlavor;
 use crate::glyf::{self, Table};
 use crate::hmtx::{self, MetricTables};
-use crate::outlines::outlines_len;
+use crate::outlines::{OutlineList, outlines_len};
 use crate::{head, loca, maxp, name, post};
 use std::alloc::Global;
 use std::borrow::CowSlice;
@@ -27,7 +27,7 @@ use subsetter_base::{Error, GlyphRemapper, Tag};
 /// What is made for the new font; its other tables are the source's.
 #[derive(Drop)]
 pub struct Made<'a> {
-    pub outlines: Vec<CowSlice<'a, u8>>,
+    pub outlines: OutlineList<'a>,
     /// Whether `loca` has the long format.
     pub long: bool,
     pub loca: Vec<u8>,
@@ -40,9 +40,9 @@ pub struct Made<'a> {
 
 /// `loca` of outlines. `OverflowError` where `glyf` has 2^32 bytes or more.
 #[tactic(auto, unfolding(crate::specs::Plain::located))]
-fn locate(alloc: Global, outlines: &[CowSlice<'_, u8>], long: bool) -> Result<Vec<u8>, Error>
-    requires { long ≡ is_long (map cow_slice_items outlines.now) }
-    ensures { Gives (λ v. v.items) result (located (map cow_slice_items outlines.now)) }
+fn locate(alloc: Global, outlines: &OutlineList<'_>, long: bool) -> Result<Vec<u8>, Error>
+    requires { long ≡ is_long outlines.now }
+    ensures { Gives (λ v. v.items) result (located outlines.now) }
 {
     if outlines_len(outlines, long) > 0xffff_ffff {
         return Err(Error::OverflowError);
@@ -59,7 +59,7 @@ pub fn make<'a>(
     order: &GlyphRemapper,
 ) -> Result<Made<'a>, Error>
     ensures exact { Gives made_seen result (made_of (table_in face.now.«data».now face.now.records.now) (seen table.now) order.now) }
-    ensures long { IfOk result (λ m. m.long ≡ is_long (map cow_slice_items m.outlines.items)) }
+    ensures long { IfOk result (λ m. m.long ≡ is_long m.outlines) }
 {
     let outlines = glyf::subset(alloc, table, order)?;
     let long = loca::is_long(&outlines);
@@ -133,7 +133,7 @@ fn apart(metrics: Option<MetricTables>) -> (Option<Vec<u8>>, Option<Vec<u8>>)
 /// The tables of the new font, in ascending order of their tags.
 #[tactic(auto, unfolding(crate::specs::Plain::laid))]
 pub fn fill<'a>(alloc: Global, face: &Face<'a>, made: Made<'a>) -> Result<Context<'a>, Error>
-    requires { made.long ≡ is_long (map cow_slice_items made.outlines.items) }
+    requires { made.long ≡ is_long made.outlines }
     ensures ok { IfOk result (λ context. views context ≡ laid (table_in face.now.«data».now face.now.records.now) (made_seen made.entry)) }
     ensures err { IfErr result (λ e. e ≡ OutOfMemory) }
 {
@@ -156,11 +156,11 @@ pub fn fill<'a>(alloc: Global, face: &Face<'a>, made: Made<'a>) -> Result<Contex
 /// Puts `glyf` last, as its outlines.
 fn push_outlines<'a>(
     context: &mut Context<'a>,
-    outlines: Vec<CowSlice<'a, u8>>,
+    outlines: OutlineList<'a>,
     long: bool,
 ) -> Result<(), Error>
-    requires { long ≡ is_long (map cow_slice_items outlines.items) }
-    ensures ok { OnOk result (views context.new ≡ views context.old ++ one (codes "glyf") (glyf_bytes (is_long (map cow_slice_items outlines.entry.items)) (map cow_slice_items outlines.entry.items))) }
+    requires { long ≡ is_long outlines }
+    ensures ok { OnOk result (views context.new ≡ views context.old ++ one (codes "glyf") (glyf_bytes (is_long outlines.entry) outlines.entry)) }
     ensures err { IfErr result (λ e. e ≡ OutOfMemory) }
 {
     context.push(Tag::GLYF, TableData::Outlines { outlines, long })

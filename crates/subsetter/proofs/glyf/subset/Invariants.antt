@@ -1,9 +1,8 @@
 use Rattle.std.proofs.Common.{◌≡◌, map}
-use Rattle.std.specs.Cow.{cow_slice_items}
 use Rattle.subsetter.specs.Outlines.{seen}
 use Rattle.subsetter.specs.PlainGlyph.{kept_all}
 use Rattle.subsetter.proofs.KeptLemmas.{with_front}
 use Rattle.subsetter.proofs.glyf.subset.Given as goal
 
 abbrev pub invariant-loop-old : goal.invariant-loop-old
-invariant-loop-old l = with_front (map cow_slice_items l.outlines.items) (kept_all (seen l.table) l.order l.old-iterator) ≡ kept_all (seen l.table) l.order l.order
+invariant-loop-old l = with_front l.outlines (kept_all (seen l.table) l.order l.old-iterator) ≡ kept_all (seen l.table) l.order l.order

@@ -1,5 +1,4 @@
 use Rattle.std.proofs.Common.{◌≡◌, ◌+◌, ◌<◌, ◌%◌, ◌^◌, drop, map}
-use Rattle.std.specs.Cow.{cow_slice_items}
 use Rattle.subsetter.specs.Weights.{weighed}
 use Rattle.subsetter.specs.Written.{glyf_bytes}
 use Rattle.subsetter.proofs.outlines.outlines_checksum.Given as goal
@@ -8,5 +7,5 @@ abbrev pub invariant-loop-outline : goal.invariant-loop-outline
 invariant-loop-outline l = record {
   phase : l.phase < 4;
   small : l.sum < 2 ^ 32;
-  rest : (l.sum + weighed l.phase (glyf_bytes l.long (map cow_slice_items (drop l.outline-index l.outlines)))) % 2 ^ 32 ≡ weighed 0 (glyf_bytes l.long (map cow_slice_items l.outlines)) % 2 ^ 32;
+  rest : (l.sum + weighed l.phase (glyf_bytes l.long l.outline-iterator)) % 2 ^ 32 ≡ weighed 0 (glyf_bytes l.long l.outlines) % 2 ^ 32;
 }

@@ -1,12 +1,11 @@
 use Rattle.std.proofs.Common.{◌≡◌, ◌+◌, ◌++◌, ◌≤◌, length, drop, map}
 use Rattle.std.specs.Prelude.{vec_capacity}
-use Rattle.std.specs.Cow.{cow_slice_items}
 use Rattle.subsetter.specs.Written.{glyf_bytes}
 use Rattle.subsetter.proofs.outlines.write_outlines.Given as goal
 
 abbrev pub invariant-loop-outline : goal.invariant-loop-outline
 invariant-loop-outline l = record {
-  written : l.out.items ++ glyf_bytes l.long (map cow_slice_items (drop l.outline-index l.outlines)) ≡ l.fn.out.items ++ glyf_bytes l.long (map cow_slice_items l.outlines);
-  room : length l.out.items + length (glyf_bytes l.long (map cow_slice_items (drop l.outline-index l.outlines))) ≤ vec_capacity l.out;
+  written : l.out.items ++ glyf_bytes l.long l.outline-iterator ≡ l.fn.out.items ++ glyf_bytes l.long l.outlines;
+  room : length l.out.items + length (glyf_bytes l.long l.outline-iterator) ≤ vec_capacity l.out;
   capacity : vec_capacity l.fn.out ≤ vec_capacity l.out;
 }

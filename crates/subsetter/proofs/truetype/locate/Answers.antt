@@ -1,5 +1,4 @@
 use Rattle.std.proofs.Common.{arith, map, length, ◌^◌, ◌<◌, inl, inr}
-use Rattle.std.specs.Cow.{cow_slice_items}
 use Rattle.std.proofs.lemmas.Bool.{cases_lt}
 use Rattle.subsetter.specs.Written.{glyf_bytes}
 use Rattle.subsetter.proofs.OutlinesBack.{loca_room}
@@ -7,7 +6,7 @@ use Rattle.subsetter.proofs.truetype.locate.Goals as goal
 
 pub subset-requires : goal.subset-requires
 subset-requires c =
-    let bs = map cow_slice_items c.args.outlines.now in
+    let bs = c.args.outlines.now in
     let small : length (glyf_bytes c.args.long bs) < 2 ^ 32 =
     elim (cases_lt (length (glyf_bytes c.args.long bs)) (2 ^ 32)) [
       | inl lt ↦ lt
