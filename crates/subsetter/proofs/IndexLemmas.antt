@@ -2,9 +2,9 @@
 use Rattle.std.proofs.Common.{◌≡◌, ℕ, zero, suc, ◌+◌, ◌-◌, ◌<◌, ◌≤◌, Bool, true, false, cond, leb, ltb, List, [], ◌∷◌, ◌++◌, length, get_or, take, drop, Result, Ok, Err, refl, sym, ap, ◌∙◌, append_assoc, arith}
 use Rattle.std.specs.Prelude.{map, flat_map}
 use Rattle.std.specs.Int.{w16, to_be_bytes}
-use Rattle.std.proofs.lemmas.List.{length-drop, length-map, take_rest, get_or-take}
+use Rattle.std.proofs.lemmas.List.{length-drop, length-map, take_rest}
 use Rattle.std.proofs.lemmas.List.Concat.{flat_map-cons}
-use Rattle.std.proofs.lemmas.Bool.{le-leb, ltb-false}
+use Rattle.std.proofs.lemmas.Bool.{le-leb}
 use Rattle.subsetter_base.specs.Bytes.{◌>>=◌}
 use Rattle.subsetter_base.specs.declared.error.Error.{Error}
 use Rattle.subsetter_base.specs.declared.error.Error.TheVariants.{OverflowError}
@@ -64,18 +64,3 @@ written t names is count w1 w2 w3 w4 out n c few h1 h2 h3 h4 h5 =
   where
     four : (a b c d w1 w2 w3 w4 : List ℕ) → w1 ≡ a → w2 ≡ w1 ++ b → w3 ≡ w2 ++ c → w4 ≡ w3 ++ d → w4 ≡ a ++ b ++ c ++ d
     four a b c d w1 w2 w3 w4 h1 h2 h3 h4 = rw (h4, h3, h2, h1) (simp append_assoc)
-
--- ---- names below a limit
-
-taken : (names : List (List ℕ)) (limit i : ℕ) → i < limit → get_or (take limit names) i [] ≡ get_or names i []
-taken names limit i lt = get_or-take limit names i [] lt
-
--- the entries don't need names that no index names
-pub entries_taken : (names : List (List ℕ)) (limit : ℕ) (is : List ℕ) → ((k : ℕ) → k < length is → get_or is k 0 < 258 + limit) → flat_map (entry_of (take limit names)) is ≡ flat_map (entry_of names) is
-entries_taken names limit [] h = refl
-entries_taken names limit (i ∷ is) h =
-    flat_map-cons (entry_of (take limit names)) i is ∙ by (ltb i 258) refl ∙ ap (λ (l : List ℕ). entry_of names i ++ l) (entries_taken names limit is (λ k lt. h (suc k) (omega arith))) ∙ sym (flat_map-cons (entry_of names) i is)
-  where
-    by : (b : Bool) → ltb i 258 ≡ b → cond b [] (pascal_bytes (get_or (take limit names) (i - 258) [])) ++ flat_map (entry_of (take limit names)) is ≡ cond b [] (pascal_bytes (get_or names (i - 258) [])) ++ flat_map (entry_of (take limit names)) is
-    by true e = refl
-    by false e = ap (λ (n : List ℕ). pascal_bytes n ++ flat_map (entry_of (take limit names)) is) (taken names limit (i - 258) (omega (arith, h 0 (omega arith), ltb-false i 258 e)))

@@ -17,6 +17,7 @@ pub mod OpeningLaws
 pub mod Lookups
 pub mod ContainerLaws
 pub mod IndexLemmas
+pub mod NameMarkLemmas
 pub mod MaxProfileLaws
 pub mod TableBytes
 pub mod LaidLaws

@@ -27,6 +27,7 @@ pub mod NamesPlain
 pub mod NamesSeen
 pub mod GlyphNames
 pub mod GlyphNamesPlain
+pub mod NameMarks
 pub mod OpeningFault
 pub mod Plain
 pub mod PlainSeen

@@ -1,6 +1,6 @@
 //! The names of glyphs.
 
-ghost use Rattle.std.specs.Prelude.{◌≡◌, ◌≤◌, ◌<◌, ◌+◌, ◌++◌, ℕ, [], Some, length, take, slice_index, map, flat_map, OnOk, IfOk, IfErr};
+ghost use Rattle.std.specs.Prelude.{◌≡◌, ◌≤◌, ◌<◌, ◌+◌, ◌++◌, ℕ, [], length, drop, slice_index, get_or, flat_map, OnOk, IfOk, IfErr};
 ghost use Rattle.std.specs.Option.{option_copied, option_map};
 ghost use Rattle.std.specs.Cow.{cow_slice_items};
 ghost use Rattle.std.specs.Iterator.{YieldsFirstRef, item_count};
@@ -8,7 +8,6 @@ ghost use Rattle.subsetter_base.specs.Gives.{Gives};
 ghost use Rattle.subsetter_base.specs.declared.error.Error.TheVariants.{OutOfMemory};
 ghost use Rattle.subsetter.specs.GlyphNames.{names_in, post_table, pascal_bytes};
 ghost use Rattle.subsetter.specs.GlyphNamesPlain.{seen_post, indexes_of, custom_count, new_indexes, entry_of, post_of_indexes, subset_glyph_names, new_post};
-ghost use Rattle.subsetter.specs.NamesSeen.{nows};
 
 use std::alloc::Global;
 use std::borrow::CowSlice;
@@ -89,21 +88,6 @@ impl<'a> Version2Table<'a> {
         }
     }
 
-    /// The font's own names below a number, by their numbers, so that none is walked to twice.
-    fn name_list(&self, alloc: Global, limit: usize) -> Result<Vec<&'a [u8]>, Error>
-        ensures ok { IfOk result (λ v. nows v.items ≡ take limit (names_in self.now.names_data.now)) }
-        ensures err { IfErr result (λ e. e ≡ OutOfMemory) }
-    {
-        let mut names = Vec::with_capacity(alloc, limit)?;
-        for name in self.names() {
-            if names.len() == limit {
-                return Ok(names);
-            }
-            names.push(name)?;
-        }
-        Ok(names)
-    }
-
     /// The indexes of glyphs; `MalformedFont` where one is missing.
     fn indexes(&self, alloc: Global, mapper: &GlyphRemapper) -> Result<Vec<u16>, Error>
         ensures exact { Gives (λ v. v.items) result (indexes_of (seen_post self.now) mapper.now) }
@@ -115,6 +99,74 @@ impl<'a> Version2Table<'a> {
             indexes.push(index)?;
         }
         Ok(indexes)
+    }
+}
+
+/// Passes over names.
+fn pass(names: &mut Names<'_>, count: usize)
+    ensures { names_in names.new ≡ drop count (names_in names.old) }
+{
+    for _ in 0..count {
+        let _ = names.next();
+    }
+}
+
+/// Names by their numbers. They stand one behind another, so the places of some are kept.
+#[derive(Drop)]
+struct NameList<'a> {
+    all: &'a [u8],
+    /// The bytes from every fourth name on, up to some number.
+    marks: Vec<&'a [u8]>,
+}
+
+impl<'a> Model for NameList<'a> {
+    ghost use Rattle.std.specs.Prelude.{ℕ, List};
+    ghost use Rattle.subsetter.specs.GlyphNames.{names_in};
+    ghost use Rattle.subsetter.specs.NameMarks.{AreMarks};
+    ghost use Rattle.subsetter.specs.NamesSeen.{nows};
+
+    ghost Value = { List (List ℕ) };
+
+    ghost view = { λ l. names_in l.all.now };
+
+    ghost invariant = { λ l. AreMarks (names_in l.all.now) (nows l.marks.items) };
+}
+
+impl<'a> NameList<'a> {
+    /// The names of some bytes, of which those below a number are found soon.
+    fn new(alloc: Global, all: &'a [u8], limit: usize) -> Result<Self, Error>
+        ensures ok { IfOk result (λ list. list ≡ names_in all.now) }
+        ensures err { IfErr result (λ e. e ≡ OutOfMemory) }
+    {
+        let mut marks = Vec::with_capacity(alloc, limit / 4)?;
+        let mut names = Names { rest: all };
+        for _ in 0..limit / 4 {
+            marks.push(names.rest)?;
+            pass(&mut names, 4);
+        }
+        Ok(Self { all, marks })
+    }
+
+    /// Names from which on a name is found, and how many to pass over.
+    fn from_mark(&self, number: usize) -> (Names<'a>, usize)
+        ensures { drop result.1 (names_in result.0) ≡ drop number self.now }
+    {
+        match self.marks.get(number / 4) {
+            Some(mark) => (Names { rest: *mark }, number % 4),
+            None => (Names { rest: self.all }, number),
+        }
+    }
+
+    /// The name with a number, an empty one where none is there.
+    fn name(&self, number: usize) -> &'a [u8]
+        ensures { result.now ≡ get_or self.now number [] }
+    {
+        let (mut names, count) = self.from_mark(number);
+        pass(&mut names, count);
+        match names.next() {
+            Some(name) => name,
+            None => &[],
+        }
     }
 }
 
@@ -173,14 +225,14 @@ fn write_name(w: &mut Writer, name: &[u8]) -> Result<(), Error>
 }
 
 /// Writes the names that the indexes name, an empty one where none is there.
-fn write_names(w: &mut Writer, indexes: &[u16], names: &[&[u8]]) -> Result<(), Error>
-    ensures ok { OnOk result (w.new ≡ w.old ++ flat_map (entry_of (nows names.now)) indexes.now) }
+fn write_names(w: &mut Writer, indexes: &[u16], names: &NameList<'_>) -> Result<(), Error>
+    ensures ok { OnOk result (w.new ≡ w.old ++ flat_map (entry_of names.now) indexes.now) }
     ensures err { IfErr result (λ e. e ≡ OutOfMemory) }
 {
     for index in indexes {
         if *index >= 258 {
             let place = usize::from(*index) - 258;
-            write_name(w, names.get(place).copied().unwrap_or(&[]))?;
+            write_name(w, names.name(place))?;
         }
     }
     Ok(())
@@ -193,12 +245,10 @@ fn write_table(
     table: &Version2Table<'_>,
     count: u16,
     indexes: &[u16],
-    names: &[&[u8]],
-    limit: usize,
+    names: &NameList<'_>,
 ) -> Result<Vec<u8>, Error>
     requires count { count ≡ length indexes.now }
-    requires names { nows names.now ≡ take limit (names_in table.now.names_data.now) }
-    requires limit { (k : ℕ) → k < length indexes.now → slice_index indexes.now k < 258 + limit }
+    requires names { names.now ≡ names_in table.now.names_data.now }
     ensures { Gives (λ v. v.items) result (post_of_indexes (seen_post table.now) indexes.now) }
 {
     if count_custom(indexes) > 65278 {
@@ -209,7 +259,9 @@ fn write_table(
     w.write(&count)?;
     write_indexes(&mut w, indexes)?;
     write_names(&mut w, indexes, names)?;
-    Ok(w.finish())
+    let mut bytes = w.finish();
+    bytes.shrink_to_fit();
+    Ok(bytes)
 }
 
 /// The glyph names of a subset. A table of another version than 2.0 is copied whole. `MalformedFont` where the version, the header, the count or an index is cut or the index of a glyph is missing; `OverflowError` for more than 65278 glyphs with names of the font's own.
@@ -232,9 +284,8 @@ pub fn subset<'a>(
     }
     let table = Version2Table::parse(bytes).ok_or(Error::MalformedFont)?;
     let indexes = table.indexes(alloc, mapper)?;
-    let limit = own_limit(&indexes);
-    let names = table.name_list(alloc, limit)?;
-    let new = write_table(alloc, &table, mapper.num_gids(), &indexes, &names, limit)?;
+    let names = NameList::new(alloc, table.names_data, own_limit(&indexes))?;
+    let new = write_table(alloc, &table, mapper.num_gids(), &indexes, &names)?;
     Ok(Some(CowSlice::Owned(new)))
 }
 

@@ -1,0 +1,12 @@
+use Rattle.std.proofs.Common.{◌/◌, drop, length, refl, ap, sym, ◌∙◌}
+use Rattle.std.proofs.lemmas.Bool.{ltb-true}
+use Rattle.std.proofs.lemmas.Option.{slice_get_read}
+use Rattle.std.specs.Prelude.{slice_get}
+use Rattle.subsetter.proofs.NameMarkLemmas.{from_mark}
+use Rattle.subsetter.specs.GlyphNames.{names_in}
+use Rattle.subsetter.proofs.post.NameList.from_mark.Goals as goal
+
+pub returns-in-Some : goal.returns-in-Some
+returns-in-Some c =
+    let here = slice_get_read c.deref.result.now (length c.deref.result.now) (c.args.number / 4) c.in-Some.mark.now refl (ltb-true _ _ (sym c.in-Some.ensures.lookup.0)) c.in-Some.ensures.lookup.1 in
+    from_mark (names_in c.self.inside.all.now) c.self.inside.marks.items c.args.number c.in-Some.mark.now c.self.invariant (ap (λ l. slice_get l (c.args.number / 4)) (sym c.deref.ensures.value) ∙ here) ∙ ap (drop c.args.number) c.self.view_is

@@ -1,0 +1,11 @@
+use Rattle.std.proofs.Common.{◌≡◌, ◌*◌, drop, length}
+use Rattle.subsetter.specs.GlyphNames.{names_in}
+use Rattle.subsetter.specs.NameMarks.{AreMarks}
+use Rattle.subsetter.specs.NamesSeen.{nows}
+use Rattle.subsetter.proofs.post.NameList.new.Given as goal
+
+abbrev pub invariant-loop : goal.invariant-loop
+invariant-loop l = record {
+  at : names_in l.names ≡ drop (4 * length (nows l.marks.items)) (names_in l.all);
+  marks : AreMarks (names_in l.all) (nows l.marks.items);
+}
