@@ -89,7 +89,7 @@ impl<'a> Version2Table<'a> {
         }
     }
 
-    /// The font's own names below a number, by their numbers, so that none is walked to twice.
+    /// The font's own names below a number, by their numbers, so that each is read once.
     fn name_list(&self, alloc: Global, limit: usize) -> Result<Vec<&'a [u8]>, Error>
         ensures ok { IfOk result (λ v. nows v.items ≡ take limit (names_in self.now.names_data.now)) }
         ensures err { IfErr result (λ e. e ≡ OutOfMemory) }
