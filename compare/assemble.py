@@ -1,10 +1,10 @@
 #!/usr/bin/python3
 """Lays the original crate out for Cargo, without a network: assemble.py
 
-Reads the environment variable ORIGINAL, a folder with either the crate as published (Cargo.toml and src/) or its
-files as single texts, named src--src--PATH.rs.txt with `--` for each `/`. Writes compare/build/subsetter with the
-features off, and compare/build/rustc-hash from Debian's librust-rustc-hash-dev (or the folder RUSTC_HASH). Nothing
-of what it writes belongs to the repository.
+Reads the environment variable ORIGINAL, a folder with either the crate as published (its src/) or its sources in one
+flat folder, where src/cff/index.rs is src--src--cff--index.rs.txt. Writes compare/build/subsetter with the features
+off, and compare/build/rustc-hash from Debian's librust-rustc-hash-dev (or the folder RUSTC_HASH). Nothing of what it
+writes belongs to the repository.
 """
 import glob
 import os
@@ -46,7 +46,7 @@ def stop(why):
 
 
 def lay_crate(source):
-    """The crate's src/, from a published crate or from single texts."""
+    """The crate's src/, from a published crate or from a flat folder."""
     to = os.path.join(BUILD, "subsetter")
     shutil.rmtree(to, ignore_errors=True)
     if os.path.isdir(os.path.join(source, "src")):

@@ -4,10 +4,12 @@ use subsetter_base::read::{Readable, Reader, u32_at};
 use subsetter_base::write::{Writeable, Writer};
 use subsetter_base::{Error, Tag};
 
-/// A font collection or a single font.
+/// What a file or a part of it begins with.
 #[derive(Clone, Copy, Debug, PartialEq, Eq)]
 pub enum FontKind {
+    /// The header of a collection, which says where its fonts begin.
     Collection,
+    /// The header of one font.
     Single,
 }
 

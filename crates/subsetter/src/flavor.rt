@@ -12,7 +12,9 @@ use subsetter_base::{Error, Tag};
 /// The kind of a font's outlines.
 #[derive(Clone, Copy, Debug, PartialEq, Eq)]
 pub enum FontFlavor {
+    /// Outlines in `glyf`.
     TrueType,
+    /// Outlines in `CFF `.
     Cff,
 }
 

@@ -184,7 +184,7 @@ fn stacked(alloc: Global, mapper: &GlyphRemapper) -> Result<Vec<u16>, Error>
 
 /// The mapper's glyphs, and then each further one that they reach through components.
 ///
-/// The last of the waiting glyphs is taken first, and the mapper's glyphs wait before all others.
+/// The last of the waiting glyphs is taken first, and the mapper's glyphs lie below all others.
 /// `OverflowError` where all 65536 numbers are reached; `MalformedFont` where a reached glyph has
 /// one byte or is a composite that is shorter than its head.
 pub fn closure(

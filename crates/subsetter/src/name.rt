@@ -176,7 +176,7 @@ struct Parts<'a> {
     storage: &'a [u8],
 }
 
-/// The parts of a table of version 0, if its header, its records and the begin of its storage are there.
+/// The parts of a table of version 0, if its header, its records and the start of its storage are there.
 fn parse_parts(data: &[u8]) -> Option<Parts<'_>>
     ensures parts { option_map seen_parts result ≡ name_parts «data».now }
     ensures whole { IfSome result (λ p. length p.records.bytes ≡ p.records.count * 12) }
@@ -262,7 +262,7 @@ pub fn subset_table<'a>(alloc: Global, table: &Table<'a>) -> Result<Table<'a>, E
     })
 }
 
-/// The names of a subset. A table of another version than 0 is copied whole; `MalformedFont` where the version, the header, a record or the begin of the storage is cut, and the errors of `subset_table`.
+/// The names of a subset. A table of another version than 0 is copied whole; `MalformedFont` where the version, the header, a record or the start of the storage is cut, and the errors of `subset_table`.
 #[tactic(auto, unfolding(crate::specs::NamesPlain::new_name, crate::specs::NamesPlain::name_of_table))]
 pub fn subset<'a>(alloc: Global, name: Option<&'a [u8]>) -> Result<Option<CowSlice<'a, u8>>, Error>
     ensures { Gives (option_map cow_slice_items) result (new_name (option_copied name.entry)) }

@@ -37,7 +37,37 @@ fn truetype(alloc: Global, face: &Face<'_>, mapper: &GlyphRemapper) -> Result<Ve
 ///
 /// `data` is a font file or a collection, of which `index` names a face (it is ignored for a single font).
 /// The new font has no `cmap`: use it as a CID font, with the new number of a glyph as its CID.
-/// For the errors see `HasFault`: each names what stands in the source, and a font in which nothing stands is refused only for want of memory.
+///
+/// # Errors
+///
+/// Each names what stands in the source (`HasFault`); a font in which nothing stands is refused only for want of memory.
+/// Where several faults stand, any of their names may come. The *reached* glyphs are the mapper's and those that they
+/// lead to through components.
+///
+/// - `UnknownKind`: the file doesn't begin with a known kind of font, or has none of `glyf`, `CFF ` and `CFF2`.
+/// - `MalformedFont`:
+///   - the collection has no entry for `index`, or that entry doesn't lead to the header of a single font;
+///   - the header or a record of the directory is cut;
+///   - `loca` or `head` is missing, or `head` has fewer than 52 bytes;
+///   - a reached glyph has no range in `loca`, its range isn't inside `glyf`, or it has one byte or is a composite that is
+///     cut;
+///   - `hmtx` is there, but `hhea` is missing or has fewer than 36 bytes, or the last advance or the metric of a reached
+///     glyph isn't inside `hmtx`;
+///   - `maxp` has fewer than 6 bytes;
+///   - `name` has fewer than 2 bytes, or has version 0 and its header or a record is cut or its storage begins past its
+///     end;
+///   - `post` has fewer than 4 bytes, or has version 2 and its header or its indexes are cut or it has no index for a
+///     reached glyph.
+/// - `Unimplemented`: the outlines are those of `CFF2`, or for the time being of `CFF `.
+/// - `SubsetError`: in a `name` of version 0 the string of a kept record isn't inside the storage, more than 5460 records
+///   are kept, or a kept string would begin past 65535 in the new storage.
+/// - `OverflowError`: all 65536 glyph numbers are reached; `hmtx` is there and `hhea` counts no metrics; in a `post` of
+///   version 2 more than 65278 reached glyphs have names of the font's own; or the new `glyf`, a table's place or its
+///   length would pass 4294967295 bytes.
+/// - `OutOfMemory`: a request for memory was refused. None is made before the kind, the collection, the directory and the
+///   kind of outlines are found sound.
+///
+/// `CFFError` isn't answered yet, as it is about CFF outlines. A refusal changes nothing.
 pub fn subset(
     alloc: Global,
     data: &[u8],

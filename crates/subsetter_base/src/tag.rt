@@ -14,30 +14,43 @@ use std::str::FromStr;
 pub struct Tag([u8; 4]);
 
 impl Tag {
+    /// The font header.
     pub const HEAD: Tag = Tag(*b"head");
 
+    /// The header of the horizontal metrics.
     pub const HHEA: Tag = Tag(*b"hhea");
 
+    /// The horizontal metrics of the glyphs.
     pub const HMTX: Tag = Tag(*b"hmtx");
 
+    /// The number of glyphs, and limits for an interpreter.
     pub const MAXP: Tag = Tag(*b"maxp");
 
+    /// The names of the font.
     pub const NAME: Tag = Tag(*b"name");
 
+    /// The names of the glyphs, and other data for PostScript.
     pub const POST: Tag = Tag(*b"post");
 
+    /// The TrueType outlines.
     pub const GLYF: Tag = Tag(*b"glyf");
 
+    /// Where each outline of `glyf` begins.
     pub const LOCA: Tag = Tag(*b"loca");
 
+    /// The values that hinting programs share.
     pub const CVT: Tag = Tag(*b"cvt ");
 
+    /// The hinting program that runs once for a font.
     pub const FPGM: Tag = Tag(*b"fpgm");
 
+    /// The hinting program that runs at each change of size.
     pub const PREP: Tag = Tag(*b"prep");
 
+    /// The CFF outlines.
     pub const CFF: Tag = Tag(*b"CFF ");
 
+    /// The outlines of a CFF table of version 2.
     pub const CFF2: Tag = Tag(*b"CFF2");
 
     /// The tag of four bytes.

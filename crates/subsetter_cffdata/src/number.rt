@@ -155,8 +155,11 @@ impl Writeable for FixedNumber {
 /// A number, and which kind it is.
 #[derive(Clone, Copy, Debug)]
 pub enum Number {
+    /// An exact decimal; of a DICT alone.
     Real(RealNumber),
+    /// A whole number.
     Integer(IntegerNumber),
+    /// A number of 65536ths; of a charstring alone.
     Fixed(FixedNumber),
 }
 

@@ -9,9 +9,13 @@ use subsetter_base::read::{Readable, Reader};
 /// How many bytes an offset takes.
 #[derive(Clone, Copy, PartialEq, Eq, Debug)]
 pub enum OffsetSize {
+    /// One byte.
     Size1,
+    /// Two bytes.
     Size2,
+    /// Three bytes.
     Size3,
+    /// Four bytes.
     Size4,
 }
 

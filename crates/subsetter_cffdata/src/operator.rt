@@ -13,7 +13,9 @@ pub const TWO_BYTE_OPERATOR_MARK: u8 = 12;
 /// The bytes of an operator.
 #[derive(Clone, Copy, Debug, PartialEq, Eq)]
 pub enum OperatorType {
+    /// The operator is this byte.
     OneByteOperator([u8; 1]),
+    /// The operator is the mark 12 and one byte more.
     TwoByteOperator([u8; 2]),
 }
 

@@ -14,7 +14,9 @@ use subsetter_base::write::{Writeable, Writer};
 /// An INDEX as bytes, and how many of them stand before the data.
 #[derive(Drop)]
 pub struct OwnedIndex {
+    /// The whole INDEX.
     pub data: Vec<u8>,
+    /// How many bytes stand before the first item.
     pub header_size: usize,
 }
 

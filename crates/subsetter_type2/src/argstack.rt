@@ -26,6 +26,7 @@ impl Model for ArgumentsStack {
 }
 
 impl ArgumentsStack {
+    /// No numbers.
     pub fn new() -> Self
         ensures { result ≡ [] }
     {

@@ -17,8 +17,11 @@ use subsetter_cffdata::operator::Operator;
 /// One instruction of a program. The bytes of a mask are a part of the charstring that holds them.
 #[derive(Clone, Copy, Debug)]
 pub enum Instruction<'a> {
+    /// A number for the operator that follows.
     Operand(CharStringNumber),
+    /// An operator.
     Operator(Operator),
+    /// The bytes of the mask whose operator stands before.
     HintMask(&'a [u8]),
 }
 
@@ -140,6 +143,7 @@ impl<'a> Sink<'a> for Draft<'a> {
 }
 
 impl<'a> Draft<'a> {
+    /// No instructions, and no operands.
     pub fn new(alloc: Global) -> Self
         ensures { result ≡ record { settled = []; operands = [] } }
     {

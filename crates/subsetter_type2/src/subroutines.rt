@@ -22,6 +22,7 @@ impl<'a> Model for SubroutineCollection<'a> {
 }
 
 impl<'a> SubroutineCollection<'a> {
+    /// The local subroutines of the font dicts, in the order of their numbers.
     pub fn new(containers: Vec<SubroutineContainer<'a>>) -> Self
         ensures { result ≡ containers.entry.items }
     {
@@ -55,6 +56,7 @@ impl<'a> Model for SubroutineContainer<'a> {
 }
 
 impl<'a> SubroutineContainer<'a> {
+    /// These entries, in their order.
     pub fn new(entries: Vec<Option<CharString<'a>>>) -> Self
         ensures { result ≡ entries_of entries.entry.items }
     {
