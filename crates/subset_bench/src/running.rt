@@ -36,7 +36,8 @@ fn measure_file<R: Files + Clock + AllocGlobal>(
     rt: &R,
     task: &Task,
 ) -> Result<(Times, Vec<u8>), Failure> {
-    let font = fs::read(rt, task.font.as_str()).map_err(|_| Failure::Read)?;
+    let mut font = fs::read(rt, task.font.as_str()).map_err(|_| Failure::Read)?;
+    font.shrink_to_fit();
     let (times, output) = measure(rt, rt.alloc(), &font, task)?;
     if let Some(name) = &task.output {
         fs::write(rt, name.as_str(), output.as_slice()).map_err(|_| Failure::Write)?;
