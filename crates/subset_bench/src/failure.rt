@@ -1,5 +1,8 @@
 //! Why a task has no times.
 
+ghost use Rattle.std.specs.Prelude.{◌≡◌, ◌≤◌};
+ghost use Rattle.subset_bench.specs.Failure.{status_of, status_of_end};
+
 use std::alloc::AllocError;
 use subsetter::Error;
 
@@ -24,4 +27,32 @@ pub enum Failure {
     /// Memory ran out beside the subset.
     #[error(transparent)]
     Memory(#[from(alloc)] AllocError),
+}
+
+impl Failure {
+    /// The status that the program ends with.
+    pub fn status(&self) -> u8
+        ensures value { result ≡ status_of self.now }
+        ensures range { (1 ≤ result) × (result ≤ 2) }
+    {
+        match self {
+            Failure::Usage => 2,
+            Failure::Error(_)
+            | Failure::Read
+            | Failure::Write
+            | Failure::Clock
+            | Failure::Memory(_) => 1,
+        }
+    }
+}
+
+/// The status that the program ends with: 0 where all is done, else the failure's.
+pub fn status_of_run(ended: &Result<(), Failure>) -> u8
+    ensures value { result ≡ status_of_end ended.now }
+    ensures range { result ≤ 2 }
+{
+    match ended {
+        Ok(()) => 0,
+        Err(failure) => failure.status(),
+    }
 }

@@ -14,7 +14,7 @@ mod task;
 mod times;
 
 pub use digest::digest;
-pub use failure::Failure;
+pub use failure::{Failure, status_of_run};
 pub use task::{Task, read_task};
 pub use times::{Times, times_of};
 
