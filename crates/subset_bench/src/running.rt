@@ -5,8 +5,8 @@ ghost use Rattle.subsetter.specs.Subset.{IsSubset};
 ghost use Rattle.subsetter_base.specs.Places.{with_glyphs};
 ghost use Rattle.subset_bench.specs.Failure.{status_of_end};
 
-use crate::digest::digest;
 use crate::failure::{Failure, status_of_run};
+use crate::line::Done;
 use crate::task::{Task, read_task};
 use crate::times::{Times, times_of};
 use std::alloc::Global;
@@ -76,10 +76,7 @@ fn perform<R: Files + Clock + Print + AllocGlobal>(rt: &R, task: &Task) -> Resul
         }
         Err(failure) => return Err(failure),
     };
-    let Times { median, least } = times;
-    let length = output.len();
-    let hash = digest(&output);
-    println!(rt; "ok {median} {least} {length} {hash:016x}").map_err(|_| Failure::Write)
+    println!(rt; "{}", Done::new(times, &output)).map_err(|_| Failure::Write)
 }
 
 /// Does the task of a line.

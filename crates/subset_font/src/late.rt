@@ -1,5 +1,7 @@
 //! A file that is made by its first write.
 
+ghost use Rattle.std.specs.Prelude.{◌≡◌, None};
+
 use std::fs;
 use std::io;
 use std::io::Write;
@@ -15,7 +17,10 @@ pub struct LateFile<'a, R: Files> {
 
 impl<'a, R: Files> LateFile<'a, R> {
     /// A file of this name that isn't made yet.
-    pub fn new(rt: &'a R, name: &'a str) -> Self {
+    pub fn new(rt: &'a R, name: &'a str) -> Self
+        ensures name { result.name.now ≡ name.now }
+        ensures unmade { result.file ≡ None }
+    {
         LateFile {
             rt,
             name,
@@ -25,6 +30,11 @@ impl<'a, R: Files> LateFile<'a, R> {
 }
 
 impl<R: Files> Write for LateFile<'_, R> {
+    ghost use Rattle.std.specs.Option.{option_and_then};
+
+    // What the file holds, once it is made.
+    ghost contents = { λ late. option_and_then R.File.contents late.file };
+
     fn write(&mut self, buf: &[u8]) -> io::Result<usize> {
         let mut file = match self.file.take() {
             Some(file) => file,

@@ -406,19 +406,31 @@ fn each_failure_has_its_text_and_status(rt: HostRuntime) -> Result<(), Fail> {
         let text = text_of(rt.alloc(), failure)?;
         assert_eq!(rt; text.as_str(), want);
     }
-    for (failure, status, want) in [
+    let job = job_of(&rt, "a.ttf b/c.ttf 0 1")?;
+    for (failure, status, want, line) in [
         (
             Failure::Usage,
             2,
             "usage: subset_font IN OUT INDEX GID[,GID..]",
+            "usage: subset_font IN OUT INDEX GID[,GID..]",
         ),
-        (Failure::Read, 3, "cannot read"),
-        (Failure::Write, 3, "cannot write"),
-        (Failure::Output, 3, "cannot write standard output"),
+        (Failure::Read, 3, "cannot read", "cannot read a.ttf"),
+        (Failure::Write, 3, "cannot write", "cannot write b/c.ttf"),
+        (
+            Failure::Output,
+            3,
+            "cannot write standard output",
+            "cannot write standard output",
+        ),
     ] {
-        assert_eq!(rt; failure.status(), status);
-        let text = text_of(rt.alloc(), failure)?;
+        let ended = Err(failure);
+        assert_eq!(rt; status_of_run(&ended), status);
+        let full = line_of(&rt, &ended, &job)?;
+        assert_eq!(rt; full.as_str(), line);
+        let (again, text) = told(&rt, ended)?;
+        assert_eq!(rt; again, status);
         assert_eq!(rt; text.as_str(), want);
     }
+    assert_eq!(rt; status_of_run(&Ok(())), 0);
     Ok(())
 }
