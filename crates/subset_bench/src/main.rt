@@ -9,12 +9,14 @@
 
 mod digest;
 mod failure;
+mod line;
 mod running;
 mod task;
 mod times;
 
 pub use digest::digest;
-pub use failure::Failure;
+pub use failure::{Failure, status_of_run};
+pub use line::Done;
 pub use task::{Task, read_task};
 pub use times::{Times, times_of};
 

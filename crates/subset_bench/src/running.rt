@@ -1,7 +1,12 @@
 //! A run of the program.
 
-use crate::digest::digest;
-use crate::failure::Failure;
+ghost use Rattle.std.specs.Prelude.{◌≡◌, ◌≤◌, [], ◌∷◌, IfOk};
+ghost use Rattle.subsetter.specs.Subset.{IsSubset};
+ghost use Rattle.subsetter_base.specs.Places.{with_glyphs};
+ghost use Rattle.subset_bench.specs.Failure.{status_of_end};
+
+use crate::failure::{Failure, status_of_run};
+use crate::line::Done;
 use crate::task::{Task, read_task};
 use crate::times::{Times, times_of};
 use std::alloc::Global;
@@ -10,21 +15,38 @@ use std::time::Instant;
 use std::{env, fs, io};
 use subsetter::{GlyphRemapper, subset};
 
+/// Subsets a font once, and answers how many nanoseconds it took and the output.
+fn measure_call<R: Clock>(
+    rt: &R,
+    alloc: Global,
+    font: &[u8],
+    index: u32,
+    mapper: &GlyphRemapper,
+) -> Result<(u64, Vec<u8>), Failure>
+    ensures { IfOk result (λ call. IsSubset (record { bytes = font.now; index = index }) mapper.now call.1.items) }
+{
+    let start = Instant::now(rt).map_err(|_| Failure::Clock)?;
+    let output = subset(alloc, font, index, mapper)?;
+    let took = start.elapsed(rt).map_err(|_| Failure::Clock)?;
+    Ok((u64::try_from(took.as_nanos()).unwrap_or(u64::MAX), output))
+}
+
 /// Subsets a font so many times, and answers the times and the last output.
 fn measure<R: Clock>(
     rt: &R,
     alloc: Global,
     font: &[u8],
     task: &Task,
-) -> Result<(Times, Vec<u8>), Failure> {
+) -> Result<(Times, Vec<u8>), Failure>
+    // What is measured is the subset of the font that the task asks for.
+    ensures { IfOk result (λ measured. IsSubset (record { bytes = font.now; index = task.now.index }) (with_glyphs (0 ∷ []) task.now.glyphs.items) measured.1.items) }
+{
     let mapper = GlyphRemapper::new_from_glyphs(alloc, &task.glyphs)?;
     let mut times = Vec::new(alloc);
     let mut last = Vec::new(alloc);
-    for _ in 0..task.count {
-        let start = Instant::now(rt).map_err(|_| Failure::Clock)?;
-        let output = subset(alloc, font, task.index, &mapper)?;
-        let took = start.elapsed(rt).map_err(|_| Failure::Clock)?;
-        times.push(u64::try_from(took.as_nanos()).unwrap_or(u64::MAX))?;
+    'calls: for _ in 0..task.count {
+        let (time, output) = measure_call(rt, alloc, font, task.index, &mapper)?;
+        times.push(time)?;
         last = output;
     }
     let times = times_of(&mut times).ok_or(Failure::Usage)?;
@@ -55,10 +77,7 @@ fn perform<R: Files + Clock + Print + AllocGlobal>(rt: &R, task: &Task) -> Resul
         }
         Err(failure) => return Err(failure),
     };
-    let Times { median, least } = times;
-    let length = output.len();
-    let hash = digest(&output);
-    println!(rt; "ok {median} {least} {length} {hash:016x}").map_err(|_| Failure::Write)
+    println!(rt; "{}", Done::new(times, &output)).map_err(|_| Failure::Write)
 }
 
 /// Does the task of a line.
@@ -91,18 +110,23 @@ fn perform_words<R: Env + Files + Clock + Print + AllocGlobal>(rt: &R) -> Result
     }
 }
 
+/// Prints why a run failed, if it did, and answers the status. The usage goes to the standard output.
+fn report<R: Print + Eprint>(rt: &R, ended: &Result<(), Failure>) -> u8
+    ensures { result ≡ status_of_end ended.now }
+{
+    // Nobody could be told of a failure here, so the status alone tells.
+    let _ = match ended {
+        Ok(()) => Ok(()),
+        Err(Failure::Usage) => println!(rt; "{}", Failure::Usage),
+        Err(failure) => eprintln!(rt; "{failure}"),
+    };
+    status_of_run(ended)
+}
+
 /// Runs the program, and answers its status: 0 where all is done or refused as a font, 1 where something failed, 2
-/// where the words are wrong; the usage goes to the standard output.
-pub fn run<R: Env + Files + Clock + Print + Eprint + AllocGlobal>(rt: &R) -> u8 {
-    match perform_words(rt) {
-        Ok(()) => 0,
-        Err(Failure::Usage) => {
-            let _ = println!(rt; "{}", Failure::Usage);
-            2
-        }
-        Err(failure) => {
-            let _ = eprintln!(rt; "{failure}");
-            1
-        }
-    }
+/// where the words are wrong.
+pub fn run<R: Env + Files + Clock + Print + Eprint + AllocGlobal>(rt: &R) -> u8
+    ensures { result ≤ 2 }
+{
+    report(rt, &perform_words(rt))
 }

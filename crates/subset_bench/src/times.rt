@@ -1,6 +1,6 @@
 //! The times of several calls.
 
-ghost use Rattle.std.specs.Prelude.{◌≡◌, ◌≤◌, ◌/◌, ℕ, IfSome, IfNone, All, Contains, length, slice_get, Some, IsPermutation};
+ghost use Rattle.std.specs.Prelude.{◌≡◌, ◌/◌, ◌<◌, ◌↔◌, IfSome, IsSome, length, slice_get, Some, IsPermutation};
 
 /// What several calls took, in nanoseconds.
 #[derive(Clone, Copy, Debug, PartialEq, Eq)]
@@ -16,7 +16,7 @@ pub fn times_of(times: &mut [u64]) -> Option<Times>
     ensures sorted { IsPermutation times.old times.new }
     ensures median { IfSome result (λ t. slice_get times.new (length times.old / 2) ≡ Some t.median) }
     ensures least { IfSome result (λ t. slice_get times.new 0 ≡ Some t.least) }
-    ensures none { IfNone result (length times.old ≡ 0) }
+    ensures some { IsSome result ↔ (0 < length times.old) }
 {
     times.sort_unstable();
     let median = *times.get(times.len() / 2)?;

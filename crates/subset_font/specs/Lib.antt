@@ -1,3 +1,5 @@
+pub mod Carried
 pub mod Failure
 pub mod Lines
+pub mod Made
 pub mod Words

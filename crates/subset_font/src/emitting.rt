@@ -1,6 +1,6 @@
 //! What a run writes.
 
-ghost use Rattle.std.specs.Prelude.{◌≡◌, ◌⊎◌, OnOk, IfErr};
+ghost use Rattle.std.specs.Prelude.{◌≡◌, ◌⊎◌, OnOk, IfErr, IsErrOf};
 ghost use Rattle.std.specs.Io.KnownBytes.{Appends};
 ghost use Rattle.subset_font.specs.Lines.{line_of, lines_of};
 ghost use Rattle.subset_font.specs.declared.failure.Failure.TheVariants.{Write as CannotWrite, Output};
@@ -21,6 +21,9 @@ pub fn emit<W: Write, L: Write>(
 ) -> Result<(), Failure>
     ensures font { OnOk result (Appends (W.contents output.old) (W.contents output.new) font.now) }
     ensures lines { OnOk result (Appends (L.contents lines.old) (L.contents lines.new) (lines_of mapper.now glyphs.now)) }
+    // No line is written before the whole font.
+    ensures unwritten { IsErrOf result Failure.Write → lines.new ≡ lines.old }
+    ensures written { IsErrOf result Failure.Output → Appends (W.contents output.old) (W.contents output.new) font.now }
     ensures err { IfErr result (λ e. (e ≡ CannotWrite) ⊎ (e ≡ Output)) }
 {
     write_font(font, output)?;

@@ -1,14 +1,18 @@
 //! Writes a subset of a font: `subset_font IN OUT INDEX GID[,GID..]`.
 #![tactic(auto)]
 
+mod carrying;
 mod emitting;
 mod failure;
+mod late;
 mod making;
 mod running;
 mod words;
 
+pub use carrying::carry_out;
 pub use emitting::emit;
-pub use failure::Failure;
+pub use failure::{Failure, Told, status_of_run};
+pub use late::LateFile;
 pub use making::make;
 pub use words::{Job, read_words};
 

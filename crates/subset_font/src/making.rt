@@ -1,10 +1,10 @@
 //! The subset of a font that is read.
 
-ghost use Rattle.std.specs.Prelude.{◌≡◌, ◌⊎◌, [], ◌∷◌, IfOk, IfErr, IfSome};
+ghost use Rattle.std.specs.Prelude.{◌≡◌, ◌⊎◌, [], ◌∷◌, IfOk, OnOk, IfErr, IfSome};
+ghost use Rattle.std.specs.Io.KnownBytes.{IsAtEnd};
 ghost use Rattle.subsetter.specs.Subset.{IsSubset};
-ghost use Rattle.subsetter_base.specs.Places.{with_glyphs};
-ghost use Rattle.subsetter_base.specs.declared.error.Error.{Error as SpecError};
-ghost use Rattle.subset_font.specs.declared.failure.Failure.TheVariants.{Read as CannotRead, Error as Refused};
+ghost use Rattle.subsetter_base.specs.Places.{with_glyphs, HasAllAboveZero};
+ghost use Rattle.subset_font.specs.Made.{IsFaultless, IsFailureToMake};
 
 use crate::failure::Failure;
 use std::alloc::Global;
@@ -21,31 +21,21 @@ pub fn make<R: Read>(
     glyphs: &[u16],
 ) -> Result<(Vec<u8>, GlyphRemapper), Failure>
     ensures mapper { IfOk result (λ made. made.1 ≡ with_glyphs (0 ∷ []) glyphs.now) }
+    // The font is read whole.
+    ensures end { OnOk result (IsAtEnd (R.remaining reader.new)) }
     // Where the reader's bytes are known, the font is the subset of them.
     ensures font { IfOk result (λ made. IfSome (R.remaining reader.old) (λ bytes. IsSubset (record { bytes = bytes; index = index }) made.1 made.0.items)) }
-    ensures err { IfErr result (λ e. (e ≡ CannotRead) ⊎ ((why : SpecError) × (e ≡ Refused why))) }
+    // And then no fault stands in them, and the glyphs leave a number for glyph 0.
+    ensures clean { IfOk result (λ made. IfSome (R.remaining reader.old) (λ bytes. IsFaultless (record { bytes = bytes; index = index }) made.1 made.0.items)) }
+    ensures room { OnOk result (HasAllAboveZero glyphs.now → ⊥) }
+    // What is refused has a fault of that name, where the reader's bytes are known.
+    ensures err { IfErr result (IsFailureToMake (R.remaining reader.old) index glyphs.now) }
 {
     let mut font = Vec::new(alloc);
     if reader.read_to_end(&mut font).is_err() {
         return Err(Failure::Read);
     }
-    let mapper = GlyphRemapper::new_from_glyphs(alloc, glyphs).map_err(Failure::Error)?;
-    let subset = subset_of(alloc, &font, index, &mapper)?;
+    let mapper = GlyphRemapper::new_from_glyphs(alloc, glyphs)?;
+    let subset = subset(alloc, &font, index, &mapper)?;
     Ok((subset, mapper))
-}
-
-/// The subset of a font that was read.
-fn subset_of(
-    alloc: Global,
-    font: &[u8],
-    index: u32,
-    mapper: &GlyphRemapper,
-) -> Result<Vec<u8>, Failure>
-    ensures font { IfOk result (λ out. IsSubset (record { bytes = font.now; index = index }) mapper.now out.items) }
-    ensures err { IfErr result (λ e. (why : SpecError) × (e ≡ Refused why)) }
-{
-    match subset(alloc, font, index, mapper) {
-        Ok(subset) => Ok(subset),
-        Err(error) => Err(Failure::Error(error)),
-    }
 }

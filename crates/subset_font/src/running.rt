@@ -1,59 +1,78 @@
 //! A run of the program.
 
-ghost use Rattle.std.specs.Prelude.{◌≡◌};
+ghost use Rattle.std.specs.Prelude.{◌≡◌, ◌≢◌, ◌⊎◌, ◌≤◌, drop, IfErr, IfOk};
+ghost use Rattle.std.specs.Vec.Iter.{into_iter_items};
+ghost use Rattle.subset_font.specs.Failure.{status_of_end};
+ghost use Rattle.subset_font.specs.declared.failure.Failure.TheVariants.{Error as Refused, Usage};
+ghost use Rattle.subsetter_base.specs.declared.error.Error.TheVariants.{OutOfMemory};
 
-use crate::emitting::emit;
-use crate::failure::Failure;
-use crate::making::make;
+use crate::carrying::carry_out;
+use crate::failure::{Failure, Told, status_of_run};
+use crate::late::LateFile;
 use crate::words::{Job, read_words};
+use std::alloc::Global;
 use std::io::{BufWriter, ErrorKind};
 use std::rt::{Env, Files};
 use std::{env, fs, io};
 use subsetter::Error;
 
-/// The words after the program's name. One that isn't UTF-8 is a wrong word.
-fn words<R: Env + AllocGlobal>(rt: &R) -> Result<Vec<String>, Failure> {
-    let all = match env::args(rt) {
-        Ok(all) => all,
-        Err(e) if e.kind() == ErrorKind::OutOfMemory => {
-            return Err(Failure::Error(Error::OutOfMemory));
-        }
-        Err(_) => return Err(Failure::Usage),
-    };
-    match all.skip(1).collect(rt.alloc()) {
+/// The words after the program's name, which is the first.
+fn after_name(alloc: Global, all: env::Args) -> Result<Vec<String>, Failure>
+    ensures ok { IfOk result (λ words. words.items ≡ drop 1 (into_iter_items all)) }
+    ensures err { IfErr result (λ e. e ≡ Refused OutOfMemory) }
+{
+    match all.skip(1).collect(alloc) {
         Ok(words) => Ok(words),
         Err(_) => Err(Failure::Error(Error::OutOfMemory)),
     }
 }
 
-/// Reads, subsets and writes. The output's file is opened only once the subset is made.
-fn perform<R: Files + Print + AllocGlobal>(rt: &R, job: &Job) -> Result<(), Failure> {
+/// The words after the program's name. One that isn't UTF-8 is a wrong word.
+fn words<R: Env + AllocGlobal>(rt: &R) -> Result<Vec<String>, Failure>
+    ensures { IfErr result (λ e. (e ≡ Refused OutOfMemory) ⊎ (e ≡ Usage)) }
+{
+    match env::args(rt) {
+        Ok(all) => after_name(rt.alloc(), all),
+        Err(e) if e.kind() == ErrorKind::OutOfMemory => Err(Failure::Error(Error::OutOfMemory)),
+        Err(_) => Err(Failure::Usage),
+    }
+}
+
+/// What the words after the program's name ask for.
+fn job<R: Env + AllocGlobal>(rt: &R) -> Result<Job, Failure>
+    ensures { IfErr result (λ e. (e ≡ Refused OutOfMemory) ⊎ (e ≡ Usage)) }
+{
+    let words = words(rt)?;
+    read_words(rt.alloc(), &words)
+}
+
+/// Does a job on files and the standard output. The output's file is made by its first write.
+fn perform<R: Files + Print + AllocGlobal>(rt: &R, job: &Job) -> Result<(), Failure>
+    ensures { IfErr result (λ e. e ≢ Usage) }
+{
     let mut input = fs::open(rt, job.input.as_str()).map_err(|_| Failure::Read)?;
-    let (font, mapper) = make(rt.alloc(), &mut input, job.index, &job.glyphs)?;
     let mut lines = BufWriter::new(rt.alloc(), io::writer(rt)).map_err(|_| Failure::Output)?;
-    let mut output = fs::create(rt, job.output.as_str()).map_err(|_| Failure::Write)?;
-    emit(&font, &job.glyphs, &mapper, &mut output, &mut lines)
+    let mut output = LateFile::new(rt, job.output.as_str());
+    carry_out(rt.alloc(), job, &mut input, &mut output, &mut lines)
 }
 
-/// Prints why a run failed, and answers the status.
-fn report<R: Eprint>(rt: &R, failure: &Failure, job: Option<&Job>) -> u8 {
-    // Nobody could be told of a failure here, so the status alone tells.
-    let _ = match (failure, job) {
-        (Failure::Read, Some(job)) => eprintln!(rt; "{failure} {}", job.input),
-        (Failure::Write, Some(job)) => eprintln!(rt; "{failure} {}", job.output),
-        _ => eprintln!(rt; "{failure}"),
-    };
-    failure.status()
+/// Prints why a run failed, if it did, and answers the status.
+fn report<R: Eprint>(rt: &R, ended: &Result<(), Failure>, job: Option<&Job>) -> u8
+    ensures { result ≡ status_of_end ended.now }
+{
+    if let Err(failure) = ended {
+        // Nobody could be told of a failure here, so the status alone tells.
+        let _ = eprintln!(rt; "{}", Told { failure, job });
+    }
+    status_of_run(ended)
 }
 
-/// Runs the program, and answers its status.
-pub fn run<R: Env + Files + Print + Eprint + AllocGlobal>(rt: &R) -> u8 {
-    let job = match words(rt).and_then(|words| read_words(rt.alloc(), &words)) {
-        Ok(job) => job,
-        Err(failure) => return report(rt, &failure, None),
-    };
-    match perform(rt, &job) {
-        Ok(()) => 0,
-        Err(failure) => report(rt, &failure, Some(&job)),
+/// Runs the program, and answers its status: 0 where all is done, else the failure's.
+pub fn run<R: Env + Files + Print + Eprint + AllocGlobal>(rt: &R) -> u8
+    ensures { result ≤ 3 }
+{
+    match job(rt) {
+        Ok(job) => report(rt, &perform(rt, &job), Some(&job)),
+        Err(failure) => report(rt, &Err(failure), None),
     }
 }

@@ -60,23 +60,23 @@ fn empty_glyphs(rt: &HostRuntime) -> Result<Vec<u8>, Fail> {
 
 // ---- readers and writers
 
-/// Gives a byte a call, and fails after so many.
+/// Gives a byte of a font a call, and fails after so many calls.
 #[derive(Drop)]
-struct FailingReader {
+struct FailingReader<'a> {
     left: usize,
+    font: &'a [u8],
 }
 
-impl Read for FailingReader {
+impl Read for FailingReader<'_> {
     fn read(&mut self, buf: &mut [u8]) -> io::Result<usize> {
         if self.left == 0 {
             return Err(io::Error::from(ErrorKind::Other));
         }
         self.left -= 1;
-        if buf.is_empty() {
-            return Ok(0);
-        }
-        buf[0] = 0;
-        Ok(1)
+        let mut front = &self.font[..self.font.len().min(1)];
+        let count = front.read(buf)?;
+        self.font = &self.font[count.min(self.font.len())..];
+        Ok(count)
     }
 }
 
@@ -129,6 +129,18 @@ fn words_of(rt: &HostRuntime, line: &str) -> Result<Vec<String>, Fail> {
 
 fn text_of<E: std::error::Error>(alloc: Global, error: E) -> Result<String, Fail> {
     Ok(format!(in alloc; "{error}")?)
+}
+
+fn job_of(rt: &HostRuntime, line: &str) -> Result<Job, Fail> {
+    Ok(read_words(rt.alloc(), &words_of(rt, line)?)?)
+}
+
+/// The line that the standard error is told, nothing where the run ends well.
+fn line_of(rt: &HostRuntime, ended: &Result<(), Failure>, job: &Job) -> Result<String, Fail> {
+    match ended {
+        Ok(()) => Ok(String::new(rt.alloc())),
+        Err(failure) => Ok(format!(in rt.alloc(); "{}", Told { failure, job: Some(job) })?),
+    }
 }
 
 /// The status of a run and its text, 0 and nothing where it ends well.
@@ -191,13 +203,14 @@ fn wrong_words_are_refused_with_the_usage(rt: HostRuntime) -> Result<(), Fail> {
 fn one_glyph_is_kept_and_told(rt: HostRuntime) -> Result<(), Fail> {
     let source = three_glyphs(&rt)?;
     assert_eq!(rt; source.len(), 156);
-    let mut reader = source.as_slice();
-    let (font, mapper) = make(rt.alloc(), &mut reader, 0, &[2])?;
     let want = two_glyphs(&rt)?;
     assert_eq!(rt; want.len(), 136);
+    let job = job_of(&rt, "in.ttf out.ttf 0 2")?;
+    let mut reader = source.as_slice();
     let mut output = Vec::new(rt.alloc());
     let mut lines = Vec::new(rt.alloc());
-    emit(&font, &[2], &mapper, &mut output, &mut lines)?;
+    let ended = carry_out(rt.alloc(), &job, &mut reader, &mut output, &mut lines);
+    assert_eq!(rt; status_of_run(&ended), 0);
     assert_eq!(rt; output.as_slice(), want.as_slice());
     assert_eq!(rt; lines.as_slice(), b"2 -> 1\n".as_slice());
     Ok(())
@@ -257,12 +270,78 @@ fn a_cut_font_is_refused(rt: HostRuntime) -> Result<(), Fail> {
 // ---- what fails
 
 #[test]
-fn a_reader_that_fails_is_told(rt: HostRuntime) -> Result<(), Fail> {
-    for left in [0, 1, 40] {
-        let mut reader = FailingReader { left };
-        let (status, text) = told(&rt, make(rt.alloc(), &mut reader, 0, &[2]))?;
-        assert_eq!(rt; (status, text.as_str()), (3, "cannot read"), "at {left}");
+fn each_read_that_fails_is_told(rt: HostRuntime) -> Result<(), Fail> {
+    let font = three_glyphs(&rt)?;
+    let job = job_of(&rt, "in.ttf out.ttf 0 2")?;
+    // A read for each byte, and one at the end. Writers that would fail at once are never used.
+    for left in 0..157usize {
+        let mut reader = FailingReader { left, font: &font };
+        let mut output = failing(rt.alloc(), 0);
+        let mut lines = failing(rt.alloc(), 0);
+        let ended = carry_out(rt.alloc(), &job, &mut reader, &mut output, &mut lines);
+        let told = line_of(&rt, &ended, &job)?;
+        assert_eq!(rt; (status_of_run(&ended), told.as_str()), (3, "cannot read in.ttf"), "at {left}");
     }
+    let mut reader = FailingReader { left: 157, font: &font };
+    let (status, _) = told(&rt, make(rt.alloc(), &mut reader, 0, &[2]))?;
+    assert_eq!(rt; status, 0);
+    Ok(())
+}
+
+#[test]
+fn each_write_that_fails_is_told(rt: HostRuntime) -> Result<(), Fail> {
+    let font = three_glyphs(&rt)?;
+    let want = two_glyphs(&rt)?;
+    let job = job_of(&rt, "in.ttf out.ttf 0 2")?;
+    // 46 writes and a flush take the font of 136 bytes. No line is written before it is whole.
+    for left in 0..47usize {
+        let mut output = failing(rt.alloc(), left);
+        let mut lines = failing(rt.alloc(), 0);
+        let ended = carry_out(rt.alloc(), &job, &mut font.as_slice(), &mut output, &mut lines);
+        let told = line_of(&rt, &ended, &job)?;
+        assert_eq!(rt; (status_of_run(&ended), told.as_str()), (3, "cannot write out.ttf"), "at {left}");
+        let taken = &want[..want.len().min(3 * left)];
+        assert_eq!(rt; output.taken.as_slice(), taken, "at {left}");
+    }
+    let mut output = failing(rt.alloc(), 47);
+    let mut lines = failing(rt.alloc(), 0);
+    let ended = carry_out(rt.alloc(), &job, &mut font.as_slice(), &mut output, &mut lines);
+    let told = line_of(&rt, &ended, &job)?;
+    assert_eq!(rt; (status_of_run(&ended), told.as_str()), (3, "cannot write standard output"));
+    assert_eq!(rt; output.taken.as_slice(), want.as_slice());
+    Ok(())
+}
+
+#[test]
+fn nothing_is_written_where_the_font_is_refused(rt: HostRuntime) -> Result<(), Fail> {
+    let font = three_glyphs(&rt)?;
+    for (line, len, want) in [
+        ("in out 0 2", 0, "unknown font kind"),
+        ("in out 0 2", 59, "malformed font"),
+        ("in out 0 2", 155, "malformed font"),
+        ("in out 0 9", 156, "malformed font"),
+    ] {
+        let job = job_of(&rt, line)?;
+        let mut reader = font.get(..len).ok_or("a front of the font")?;
+        // Either writer would fail at once.
+        let mut output = failing(rt.alloc(), 0);
+        let mut lines = failing(rt.alloc(), 0);
+        let ended = carry_out(rt.alloc(), &job, &mut reader, &mut output, &mut lines);
+        let told = line_of(&rt, &ended, &job)?;
+        assert_eq!(rt; (status_of_run(&ended), told.as_str()), (1, want), "at {len}");
+    }
+    Ok(())
+}
+
+#[test]
+fn a_file_is_made_by_its_first_write(rt: HostRuntime) -> Result<(), Fail> {
+    let mut file = LateFile::new(&rt, "no-such-folder/out.ttf");
+    assert!(rt; file.flush().is_ok());
+    assert!(rt; file.write(b"font").is_err());
+    let mut file = LateFile::new(&rt, "/dev/null");
+    assert!(rt; file.write_all(b"font").is_ok());
+    assert!(rt; file.write_all(b"font").is_ok());
+    assert!(rt; file.flush().is_ok());
     Ok(())
 }
 
@@ -327,19 +406,31 @@ fn each_failure_has_its_text_and_status(rt: HostRuntime) -> Result<(), Fail> {
         let text = text_of(rt.alloc(), failure)?;
         assert_eq!(rt; text.as_str(), want);
     }
-    for (failure, status, want) in [
+    let job = job_of(&rt, "a.ttf b/c.ttf 0 1")?;
+    for (failure, status, want, line) in [
         (
             Failure::Usage,
             2,
             "usage: subset_font IN OUT INDEX GID[,GID..]",
+            "usage: subset_font IN OUT INDEX GID[,GID..]",
         ),
-        (Failure::Read, 3, "cannot read"),
-        (Failure::Write, 3, "cannot write"),
-        (Failure::Output, 3, "cannot write standard output"),
+        (Failure::Read, 3, "cannot read", "cannot read a.ttf"),
+        (Failure::Write, 3, "cannot write", "cannot write b/c.ttf"),
+        (
+            Failure::Output,
+            3,
+            "cannot write standard output",
+            "cannot write standard output",
+        ),
     ] {
-        assert_eq!(rt; failure.status(), status);
-        let text = text_of(rt.alloc(), failure)?;
+        let ended = Err(failure);
+        assert_eq!(rt; status_of_run(&ended), status);
+        let full = line_of(&rt, &ended, &job)?;
+        assert_eq!(rt; full.as_str(), line);
+        let (again, text) = told(&rt, ended)?;
+        assert_eq!(rt; again, status);
         assert_eq!(rt; text.as_str(), want);
     }
+    assert_eq!(rt; status_of_run(&Ok(())), 0);
     Ok(())
 }

@@ -1,6 +1,13 @@
-use Rattle.std.proofs.Common.{◌≡◌, ℕ, Bool, true, false, List, [], ◌++◌, Option, Some, None, Result, Ok, Err, sym, ap, subst, ◌∙◌}
+use Rattle.std.proofs.Common.{◌≡◌, ◌⊎◌, inl, inr, ℕ, false, List, [], ◌∷◌, ◌++◌, Option, Some, None, Result, Ok, Err, refl, sym, ap, subst, ◌∙◌}
 use Rattle.std.specs.Prelude.{IfSome, OnOk, is_err}
+use Rattle.std.proofs.lemmas.Result.{err_from_is_err_and}
+use Rattle.subsetter_base.specs.declared.error.Error.{Error as Refusal}
+use Rattle.subsetter_base.specs.declared.error.Error.TheVariants.{OutOfMemory}
+use Rattle.subsetter_base.specs.Places.{with_glyphs}
+use Rattle.subsetter.specs.Fault.{HasFault}
 use Rattle.subsetter.specs.Subset.{IsSubset}
+use Rattle.subset_font.specs.Made.{IsFaultless, IsFailureToMake}
+use Rattle.subset_font.specs.declared.failure.Failure.TheVariants.{Error as Refused}
 use Rattle.subset_font.proofs.making.make.Goals as goal
 
 -- a fact of a call that succeeded
@@ -13,8 +20,34 @@ all_read : (o : Option (List ℕ)) (items front : List ℕ) (P : List ℕ → Ty
 all_read None items front P h e p = tt
 all_read (Some xs) items front P h e p = subst P (h ∙ ap (λ (l : List ℕ). l ++ xs) e) p
 
+-- there is a fault of this name
+IsFaulty : ℕ → List ℕ → Refusal → List ℕ → Type 0
+IsFaulty index mapper why bytes = (order : List ℕ) × HasFault (record { bytes = bytes; index = index }) mapper order why
+
+-- a font that was read is refused
+refused : (known : Option (List ℕ)) (index : ℕ) (glyphs mapper bytes items front : List ℕ) (why : Refusal) → IfSome known (λ xs. items ≡ front ++ xs) → front ≡ [] → bytes ≡ items → mapper ≡ with_glyphs (0 ∷ []) glyphs → (why ≡ OutOfMemory) ⊎ ((order : List ℕ) × HasFault (record { bytes = bytes; index = index }) mapper order why) → IsFailureToMake known index glyphs (Refused why)
+unfolding IsFaulty
+refused known index glyphs mapper bytes items front why h e b m (inl k) = inr (inl (ap Refused k))
+refused known index glyphs mapper bytes items front why h e b m (inr f) =
+    inr (inr (why, refl, inr (all_read known items front (IsFaulty index (with_glyphs (0 ∷ []) glyphs) why) h e (subst (λ (list : List ℕ). IsFaulty index list why items) m (subst (IsFaulty index mapper why) b f)))))
+
 pub returns-clause-font : goal.returns-clause-font
 returns-clause-font g c =
     let there = succeeded c.read_to_end.result _ (sym c.is_err.ensures.value ∙ c.if-is_err.false) c.read_to_end.ensures.bytes in
-    all_read (g.R.Read.remaining c.args.reader.now) c.read_to_end.new.buf.items c.new-font.result.items (λ (bytes : List ℕ). IsSubset (record { bytes = bytes; index = c.args.index }) c.in_ok-mapper.mapper c.in_ok-subset.subset.items) there c.new-font.ensures.items
-    (subst (λ (bytes : List ℕ). IsSubset (record { bytes = bytes; index = c.args.index }) c.in_ok-mapper.mapper c.in_ok-subset.subset.items) c.deref.ensures.value c.in_ok-subset.ensures.font)
+    let P : List ℕ → Type 0 = λ bytes. IsSubset (record { bytes = bytes; index = c.args.index }) c.in_ok-mapper.mapper c.in_ok-subset.subset.items in
+    all_read (g.R.Read.remaining c.args.reader.now) c.read_to_end.new.buf.items c.new-font.result.items P there c.new-font.ensures.items (subst P c.deref.ensures.value c.in_ok-subset.ensures.ok)
+
+pub returns-clause-clean : goal.returns-clause-clean
+returns-clause-clean g c =
+    let there = succeeded c.read_to_end.result _ (sym c.is_err.ensures.value ∙ c.if-is_err.false) c.read_to_end.ensures.bytes in
+    let P : List ℕ → Type 0 = λ bytes. IsFaultless (record { bytes = bytes; index = c.args.index }) c.in_ok-mapper.mapper c.in_ok-subset.subset.items in
+    all_read (g.R.Read.remaining c.args.reader.now) c.read_to_end.new.buf.items c.new-font.result.items P there c.new-font.ensures.items (subst P c.deref.ensures.value c.in_ok-subset.ensures.clean)
+
+pub returns-clause-end : goal.returns-clause-end
+returns-clause-end g c = succeeded c.read_to_end.result _ (sym c.is_err.ensures.value ∙ c.if-is_err.false) c.read_to_end.ensures.end
+
+pub returns-in_err-subset-clause-err : goal.returns-in_err-subset-clause-err
+returns-in_err-subset-clause-err g c =
+    let there = succeeded c.read_to_end.result _ (sym c.is_err.ensures.value ∙ c.if-is_err.false) c.read_to_end.ensures.bytes in
+    let p = err_from_is_err_and c.from_residual-in_err-subset.result c.from_residual-in_err-subset.ensures.1 in
+    rw (p.1, p.2) (refused (g.R.Read.remaining c.args.reader.now) c.args.index c.args.glyphs.now c.in_ok-mapper.mapper c.deref.result.now c.read_to_end.new.buf.items c.new-font.result.items c.in_err-subset.field-0.0 there c.new-font.ensures.items c.deref.ensures.value c.in_ok-mapper.ensures.ok c.in_err-subset.ensures.err)

@@ -1,0 +1,26 @@
+-- What a job that is carried out has written.
+use Rattle.std.specs.Prelude.{ℕ, List, [], ◌∷◌, Option, IfSome}
+use Rattle.std.specs.Io.KnownBytes.{Appends}
+use Rattle.subsetter.specs.Subset.{IsSubset}
+use Rattle.subsetter_base.specs.Places.{with_glyphs}
+use Rattle.subset_font.specs.declared.failure.Failure.{Failure}
+use Rattle.subset_font.specs.declared.failure.Failure.TheVariants.{Error, Usage, Read, Write, Output}
+use Rattle.subset_font.specs.declared.words.Job.{Job}
+
+-- the new numbers that a job asks for: 0, then its glyphs in order, each once
+abbrev pub numbering : Job → List ℕ
+numbering job = with_glyphs (0 ∷ []) job.glyphs.items
+
+-- a font was written, a subset of the bytes that were read where these are known
+pub record WritesSubset (job : Job) (source old new : Option (List ℕ)) : Type 0 where
+  pub font : List ℕ
+  pub is_subset : IfSome source (λ bytes. IsSubset (record { bytes = bytes; index = job.index }) (numbering job) font)
+  pub is_written : Appends old new font
+
+-- the failure comes before the first byte is written
+abbrev pub IsBeforeWriting : Failure → Type 0
+IsBeforeWriting (Error e) = Unit {0}
+IsBeforeWriting Usage = Unit {0}
+IsBeforeWriting Read = Unit {0}
+IsBeforeWriting Write = ⊥
+IsBeforeWriting Output = ⊥
