@@ -1,10 +1,8 @@
-//! Outlines: which glyphs are reached, and what is written of them.
+//! Outlines: which glyphs are reached, and `head`.
 
-use crate::glyf::{Table, closure, subset};
-use crate::outlines::OutlineList;
-use crate::{Error, GlyphRemapper, head, loca};
+use crate::glyf::{Table, closure};
+use crate::{Error, GlyphRemapper, head};
 use std::alloc::Global;
-use std::borrow::CowSlice;
 use std::test::Fail;
 
 /// `head` with the short format of `loca`.
@@ -50,24 +48,6 @@ fn the_last_component_comes_first_behind_the_given_glyphs(rt: HostRuntime) -> Re
 }
 
 #[test]
-fn components_get_their_new_numbers(rt: HostRuntime) -> Result<(), Fail> {
-    let table = short(&SEVEN_GLYPHS, &TWO_COMPONENTS);
-    let mapper = GlyphRemapper::new_from_glyphs(rt.alloc(), &[1])?;
-    let order = closure(rt.alloc(), &table, &mapper)?;
-    let outlines = subset(rt.alloc(), &table, &order)?;
-    let renumbered: [u8; 22] = [
-        0xFF, 0xFF, 0, 0, 0, 0, 0, 0, 0, 0, 0x00, 0x20, 0, 3, 0, 0, 0, 0, 0, 2, 0, 0,
-    ];
-    assert_eq!(rt; outlines.len(), 4);
-    assert_eq!(rt;
-        outlines.iter().nth(1),
-        Some(renumbered.as_slice())
-    );
-    assert_eq!(rt; outlines.iter().nth(2).map(|outline| outline.len()), Some(0));
-    Ok(())
-}
-
-#[test]
 fn components_in_a_circle_come_once(rt: HostRuntime) -> Result<(), Fail> {
     let glyf: [u8; 32] = [
         0xFF, 0xFF, 0, 0, 0, 0, 0, 0, 0, 0, 0, 0, 0, 2, 0, 0, 0xFF, 0xFF, 0, 0, 0, 0, 0, 0, 0, 0,
@@ -93,56 +73,6 @@ fn a_composite_of_itself_comes_once(rt: HostRuntime) -> Result<(), Fail> {
     let mapper = GlyphRemapper::new_from_glyphs(rt.alloc(), &[1])?;
     let order = closure(rt.alloc(), &table, &mapper)?;
     assert_eq!(rt; listed(rt.alloc(), &order)?.as_slice(), [0, 1].as_slice());
-    let outlines = subset(rt.alloc(), &table, &order)?;
-    assert_eq!(rt;
-        outlines.iter().nth(1),
-        Some(glyf.as_slice())
-    );
-    Ok(())
-}
-
-#[test]
-fn a_composite_without_components_is_malformed(rt: HostRuntime) -> Result<(), Fail> {
-    let glyf: [u8; 10] = [0xFF, 0xFF, 0, 0, 0, 0, 0, 0, 0, 0];
-    let table = short(&[0, 0, 0, 0, 0, 5], &glyf);
-    let mapper = GlyphRemapper::new_from_glyphs(rt.alloc(), &[1])?;
-    let order = closure(rt.alloc(), &table, &mapper)?;
-    assert_eq!(rt;
-        subset(rt.alloc(), &table, &order).err(),
-        Some(Error::MalformedFont)
-    );
-    Ok(())
-}
-
-#[test]
-fn offsets_are_halves_up_to_131070_bytes(rt: HostRuntime) -> Result<(), Fail> {
-    let bytes = [0u8; 65535];
-    let mut outlines = OutlineList::with_capacity(rt.alloc(), 3)?;
-    outlines.push(CowSlice::Borrowed(&[]))?;
-    outlines.push(CowSlice::Borrowed(&bytes))?;
-    outlines.push(CowSlice::Borrowed(&bytes[1..]))?;
-    assert!(rt; !loca::is_long(&outlines));
-    let places = loca::subset(rt.alloc(), &outlines, false)?;
-    assert_eq!(rt;
-        places.as_slice(),
-        [0, 0, 0, 0, 0x80, 0, 0xFF, 0xFF].as_slice()
-    );
-    Ok(())
-}
-
-#[test]
-fn offsets_are_whole_above_131070_bytes(rt: HostRuntime) -> Result<(), Fail> {
-    let bytes = [0u8; 65535];
-    let mut outlines = OutlineList::with_capacity(rt.alloc(), 3)?;
-    outlines.push(CowSlice::Borrowed(&[]))?;
-    outlines.push(CowSlice::Borrowed(&bytes))?;
-    outlines.push(CowSlice::Borrowed(&bytes))?;
-    assert!(rt; loca::is_long(&outlines));
-    let places = loca::subset(rt.alloc(), &outlines, true)?;
-    assert_eq!(rt;
-        places.as_slice(),
-        [0, 0, 0, 0, 0, 0, 0, 0, 0, 0, 0xFF, 0xFF, 0, 1, 0xFF, 0xFE].as_slice()
-    );
     Ok(())
 }
 

@@ -62,29 +62,6 @@ mod tests {
     use std::test::Fail;
 
     #[test]
-    fn the_count_is_new_and_the_fields_are_kept(rt: HostRuntime) -> Result<(), Fail> {
-        let full = subset(
-            rt.alloc(),
-            Some(&[0x00, 0x01, 0x00, 0x00, 0x00, 0x03, 0xAA, 0xBB]),
-            FontFlavor::TrueType,
-            2,
-        );
-        let full = full.ok().flatten().ok_or("a table")?;
-        let wanted = [0x00, 0x01, 0x00, 0x00, 0x00, 0x02, 0xAA, 0xBB];
-        assert_eq!(rt; full.as_slice(), wanted.as_slice());
-        let short = subset(
-            rt.alloc(),
-            Some(&[0x00, 0x00, 0x50, 0x00, 0x00, 0x03]),
-            FontFlavor::TrueType,
-            2,
-        );
-        let short = short.ok().flatten().ok_or("a table")?;
-        let wanted = [0x00, 0x01, 0x00, 0x00, 0x00, 0x02];
-        assert_eq!(rt; short.as_slice(), wanted.as_slice());
-        Ok(())
-    }
-
-    #[test]
     fn the_short_version_has_the_count_alone(rt: HostRuntime) -> Result<(), Fail> {
         let table = subset(
             rt.alloc(),
@@ -96,18 +73,5 @@ mod tests {
         let wanted = [0x00, 0x00, 0x50, 0x00, 0x00, 0x02];
         assert_eq!(rt; table.as_slice(), wanted.as_slice());
         Ok(())
-    }
-
-    #[test]
-    fn a_cut_table_is_malformed_and_none_stays_none(rt: HostRuntime) {
-        let cut = subset(
-            rt.alloc(),
-            Some(&[0x00, 0x01, 0x00, 0x00, 0x00]),
-            FontFlavor::TrueType,
-            2,
-        );
-        assert!(rt; matches!(cut, Err(Error::MalformedFont)));
-        let none = subset(rt.alloc(), None, FontFlavor::TrueType, 2);
-        assert!(rt; matches!(none, Ok(None)));
     }
 }

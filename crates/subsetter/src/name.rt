@@ -317,52 +317,6 @@ mod tests {
     }
 
     #[test]
-    fn storage_offset_is_respected(rt: HostRuntime) -> Result<(), Fail> {
-        let table = [
-            0, 0, 0, 1, 0, 0x16, 0, 3, 0, 1, 4, 9, 0, 0, 0, 4, 0, 0, b'B', b'A', b'D', b'!', 0,
-            0x4F, 0, 0x4B,
-        ];
-        let new = new_bytes(&rt, &table)?;
-        let expected = [
-            0, 0, 0, 1, 0, 0x12, 0, 3, 0, 1, 4, 9, 0, 0, 0, 4, 0, 0, 0, 0x4F, 0, 0x4B,
-        ];
-        assert_eq!(rt; new.as_slice(), expected.as_slice());
-        Ok(())
-    }
-
-    #[test]
-    fn equal_strings_are_stored_once(rt: HostRuntime) -> Result<(), Fail> {
-        let records = [
-            [0, 1, 0, 0, 0, 0, 0, 0, 0, 1, 0, 0],
-            [0, 3, 0, 1, 4, 9, 0, 1, 0, 2, 0, 0],
-            [0, 3, 0, 1, 4, 9, 0, 4, 0, 2, 0, 0],
-        ];
-        let table = table_of(&rt, 3, 42, &records, &[0, 0x41])?;
-        let new = new_bytes(&rt, &table)?;
-        let expected = [
-            0, 0, 0, 2, 0, 0x1E, 0, 3, 0, 1, 4, 9, 0, 1, 0, 2, 0, 0, 0, 3, 0, 1, 4, 9, 0, 4, 0, 2,
-            0, 0, 0, 0x41,
-        ];
-        assert_eq!(rt; new.as_slice(), expected.as_slice());
-        Ok(())
-    }
-
-    #[test]
-    fn dropped_records_need_no_string(rt: HostRuntime) -> Result<(), Fail> {
-        let records = [
-            [0, 1, 0, 0, 0, 0, 0, 1, 0, 9, 0, 9],
-            [0, 3, 0, 1, 4, 9, 0, 0, 0, 1, 0, 0],
-        ];
-        let table = table_of(&rt, 2, 30, &records, &[0x41])?;
-        let new = new_bytes(&rt, &table)?;
-        let expected = [
-            0, 0, 0, 1, 0, 0x12, 0, 3, 0, 1, 4, 9, 0, 0, 0, 1, 0, 0, 0x41,
-        ];
-        assert_eq!(rt; new.as_slice(), expected.as_slice());
-        Ok(())
-    }
-
-    #[test]
     fn kept_platforms_and_names(rt: HostRuntime) -> Result<(), Fail> {
         let records = [
             [0, 0, 0, 7, 0, 0, 0, 9, 0, 0, 0, 0],
@@ -383,48 +337,6 @@ mod tests {
         assert_eq!(rt; new.get(30..42).ok_or("a record")?, records[3].as_slice());
         assert_eq!(rt; new.get(42..54).ok_or("a record")?, records[5].as_slice());
         assert_eq!(rt; new.get(54..66).ok_or("a record")?, records[7].as_slice());
-        Ok(())
-    }
-
-    #[test]
-    fn far_strings(rt: HostRuntime) -> Result<(), Fail> {
-        let mut storage = vec![in rt.alloc(); 0; 79999]?;
-        storage.push(1)?;
-        let records = [
-            [0, 3, 0, 1, 4, 9, 0, 0, 0x9C, 0x40, 0, 0],
-            [0, 3, 0, 1, 4, 9, 0, 1, 0x9C, 0x40, 0x9C, 0x40],
-            [0, 3, 0, 1, 4, 9, 0, 2, 0x9C, 0x3F, 0, 0],
-        ];
-        let table = table_of(&rt, 3, 42, &records, &storage)?;
-        assert!(rt; fails(&rt, &table, Error::SubsetError));
-        let table = table_of(&rt, 2, 30, &records[..2], &storage)?;
-        let new = new_bytes(&rt, &table)?;
-        assert_eq!(rt; new.as_slice(), table.as_slice());
-        Ok(())
-    }
-
-    /// A table of so many records of one byte at the start of the table.
-    fn repeated(rt: &HostRuntime, count: u16) -> Result<Vec<u8>, Fail> {
-        let mut table = Vec::new(rt.alloc());
-        table.extend_from_slice(&[0, 0])?;
-        table.extend_from_slice(&count.to_be_bytes())?;
-        table.extend_from_slice(&[0, 0])?;
-        for _ in 0..count {
-            table.extend_from_slice(&[0, 3, 0, 1, 4, 9, 0, 0, 0, 1, 0, 0])?;
-        }
-        Ok(table)
-    }
-
-    #[test]
-    fn many_records(rt: HostRuntime) -> Result<(), Fail> {
-        let new = new_bytes(&rt, &repeated(&rt, 5460)?)?;
-        assert_eq!(rt; new.len(), 65527);
-        assert_eq!(rt;
-            new.get(2..6).ok_or("a header")?,
-            [0x15, 0x54, 0xFF, 0xF6].as_slice()
-        );
-        assert_eq!(rt; new.get(65526..).ok_or("a storage")?, [0].as_slice());
-        assert!(rt; fails(&rt, &repeated(&rt, 5461)?, Error::SubsetError));
         Ok(())
     }
 

@@ -324,31 +324,6 @@ mod tests {
     }
 
     #[test]
-    fn own_names_get_entries_of_their_own(rt: HostRuntime) -> Result<(), Fail> {
-        let mapper = glyphs(&rt, &[1, 2])?;
-        let table = table_of(&rt, &[0, 3, 1, 2, 1, 4, 1, 3, 1, 0x41, 1, 0x42])?;
-        let expected = [0, 3, 1, 2, 1, 3, 1, 4, 1, 0x41, 0, 1, 0x42];
-        let new = new_bytes(&rt, &table, &mapper)?;
-        assert_eq!(rt; new.get(..4).ok_or("a version")?, [0, 2, 0, 0].as_slice());
-        assert_eq!(rt; new.get(32..).ok_or("a rest")?, expected.as_slice());
-        let again = new_bytes(&rt, &new, &mapper)?;
-        assert_eq!(rt; again.as_slice(), new.as_slice());
-        Ok(())
-    }
-
-    #[test]
-    fn cut_names_are_empty(rt: HostRuntime) -> Result<(), Fail> {
-        let mapper = glyphs(&rt, &[1])?;
-        let table = table_of(&rt, &[0, 2, 0, 36, 1, 2, 2, 0x41])?;
-        let new = new_bytes(&rt, &table, &mapper)?;
-        assert_eq!(rt;
-            new.get(32..).ok_or("a rest")?,
-            [0, 2, 0, 36, 1, 2, 0].as_slice()
-        );
-        Ok(())
-    }
-
-    #[test]
     fn empty_names_are_names(rt: HostRuntime) -> Result<(), Fail> {
         let mapper = glyphs(&rt, &[])?;
         let table = table_of(&rt, &[0, 1, 1, 3, 0, 1, 0x42])?;

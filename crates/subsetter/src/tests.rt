@@ -2,6 +2,9 @@
 
 mod composites;
 mod containers;
+mod faults;
 mod fonts;
 mod hostile;
+mod metrics;
+mod names;
 mod simple;

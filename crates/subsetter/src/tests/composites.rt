@@ -41,6 +41,20 @@ fn bytes_behind_a_composite_without_instructions_go(rt: HostRuntime) -> Result<(
 }
 
 #[test]
+fn components_get_their_new_numbers(rt: HostRuntime) -> Result<(), Fail> {
+    let glyph: [u8; 22] = [
+        0xFF, 0xFF, 0, 0, 0, 0, 0, 0, 0, 0, 0, 0x20, 0, 5, 0, 0, 0, 0, 0, 6, 0, 0,
+    ];
+    let written: [u8; 22] = [
+        0xFF, 0xFF, 0, 0, 0, 0, 0, 0, 0, 0, 0, 0x20, 0, 3, 0, 0, 0, 0, 0, 2, 0, 0,
+    ];
+    let font = long_font(rt.alloc(), &glyph, &one_of_seven(rt.alloc(), 22)?)?;
+    let out = subset_of(rt.alloc(), &font, &[1])?;
+    assert_eq!(rt; table(&out, Tag::GLYF)?, written.as_slice());
+    Ok(())
+}
+
+#[test]
 fn a_scaled_component_keeps_its_scale(rt: HostRuntime) -> Result<(), Fail> {
     let glyph: [u8; 26] = [
         0xFF, 0xFF, 0, 0, 0, 0, 0, 0, 0, 0, 0, 0x29, 0, 5, 0, 1, 0, 2, 0x40, 0, 0, 0, 0, 6, 0, 0,
@@ -86,5 +100,21 @@ fn a_composite_of_itself_three_times_keeps_its_number(rt: HostRuntime) -> Result
     let out = subset_of(rt.alloc(), &font, &[1])?;
     assert_eq!(rt; table(&out, Tag::GLYF)?, glyph.as_slice());
     assert_eq!(rt; table(&out, Tag::LOCA)?, [0, 0, 0, 0, 0, 14].as_slice());
+    Ok(())
+}
+
+#[test]
+fn two_composites_of_each_other_are_both_kept(rt: HostRuntime) -> Result<(), Fail> {
+    let glyphs: [u8; 32] = [
+        0xFF, 0xFF, 0, 0, 0, 0, 0, 0, 0, 0, 0, 0, 0, 2, 0, 0, 0xFF, 0xFF, 0, 0, 0, 0, 0, 0, 0, 0,
+        0, 0, 0, 1, 0, 0,
+    ];
+    let font = outlines(rt.alloc(), &glyphs, &[0, 0, 16, 32])?;
+    let out = subset_of(rt.alloc(), &font, &[1])?;
+    assert_eq!(rt; table(&out, Tag::GLYF)?, glyphs.as_slice());
+    assert_eq!(rt;
+        table(&out, Tag::LOCA)?,
+        [0, 0, 0, 0, 0, 8, 0, 16].as_slice()
+    );
     Ok(())
 }

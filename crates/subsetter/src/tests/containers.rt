@@ -107,3 +107,52 @@ fn the_first_record_with_a_tag_decides(rt: HostRuntime) -> Result<(), Fail> {
     assert_eq!(rt; refusal(rt.alloc(), &file, 0, &[])?, Error::MalformedFont);
     Ok(())
 }
+
+/// The four bytes at a place.
+fn four_at(file: &[u8], at: usize) -> Option<&[u8]> {
+    file.get(at..)?.get(..4)
+}
+
+#[test]
+fn eleven_tables_stand_in_the_order_of_their_tags(rt: HostRuntime) -> Result<(), Fail> {
+    let mut hhea = [0; 36];
+    hhea[35] = 1;
+    let further = [
+        part(Tag::PREP, &[1]),
+        part(Tag::POST, &[0, 3, 0, 0]),
+        part(Tag::new(b"cmap"), &[0, 0, 0, 0]),
+        part(Tag::NAME, &[0, 1, 2]),
+        part(Tag::MAXP, &[0, 1, 0, 0, 0, 3]),
+        part(Tag::HMTX, &[0, 1, 0, 2]),
+        part(Tag::HHEA, &hhea),
+        part(Tag::FPGM, &[3, 4]),
+        part(Tag::CVT, &[5, 6, 7]),
+    ];
+    let file = three_empty(rt.alloc(), &further)?;
+    let out = subset_of(rt.alloc(), &file, &[])?;
+    assert_eq!(rt;
+        out.get(..12).ok_or("a header")?,
+        [0, 1, 0, 0, 0, 11, 0, 0x80, 0, 3, 0, 0x30].as_slice()
+    );
+    for (at, tag) in [
+        (12, Tag::CVT),
+        (28, Tag::FPGM),
+        (44, Tag::GLYF),
+        (60, Tag::HEAD),
+        (76, Tag::HHEA),
+        (92, Tag::HMTX),
+        (108, Tag::LOCA),
+        (124, Tag::MAXP),
+        (140, Tag::NAME),
+        (156, Tag::POST),
+        (172, Tag::PREP),
+    ] {
+        assert_eq!(rt; four_at(&out, at).ok_or("a record")?, tag.get().as_slice());
+    }
+    assert_eq!(rt; table(&out, Tag::CVT)?, [5, 6, 7].as_slice());
+    assert_eq!(rt; table(&out, Tag::FPGM)?, [3, 4].as_slice());
+    assert_eq!(rt; table(&out, Tag::NAME)?, [0, 1, 2].as_slice());
+    assert_eq!(rt; table(&out, Tag::POST)?, [0, 3, 0, 0].as_slice());
+    assert_eq!(rt; table(&out, Tag::PREP)?, [1].as_slice());
+    Ok(())
+}

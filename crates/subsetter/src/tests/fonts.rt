@@ -75,6 +75,18 @@ pub fn outlines(alloc: Global, glyf: &[u8], offsets: &[u32]) -> Result<Vec<u8>, 
     long_font(alloc, glyf, &loca)
 }
 
+/// A TrueType font of three empty glyphs, with further tables.
+pub fn three_empty(alloc: Global, further: &[SourceTable<'_>]) -> Result<Vec<u8>, Fail> {
+    let mut parts = Vec::new(alloc);
+    parts.extend_from_slice(&[
+        part(Tag::GLYF, &[]),
+        part(Tag::HEAD, &[0; 54]),
+        part(Tag::LOCA, &[0; 8]),
+    ])?;
+    parts.extend_from_slice(further)?;
+    font(alloc, &[0, 1, 0, 0], &parts)
+}
+
 /// A mapper of glyph 0 and these glyphs.
 pub fn mapper(alloc: Global, glyphs: &[u16]) -> Result<GlyphRemapper, Fail> {
     Ok(GlyphRemapper::new_from_glyphs(alloc, glyphs)?)
@@ -105,4 +117,17 @@ pub fn table<'a>(file: &'a [u8], tag: Tag) -> Result<&'a [u8], Fail> {
 /// `glyf` of 23 zero bytes with the offsets 0, 0, 12 and 23: glyph 0 is empty, 1 and 2 are simple.
 pub fn two_glyphs(alloc: Global) -> Result<Vec<u8>, Fail> {
     outlines(alloc, &[0; 23], &[0, 0, 12, 23])
+}
+
+/// What a table of three empty glyphs becomes for a mapper of these glyphs.
+pub fn rewritten(alloc: Global, tag: Tag, bytes: &[u8], glyphs: &[u16]) -> Result<Vec<u8>, Fail> {
+    let file = three_empty(alloc, &[part(tag, bytes)])?;
+    let out = subset_of(alloc, &file, glyphs)?;
+    Ok(Vec::from_slice(alloc, table(&out, tag)?)?)
+}
+
+/// The error of a font of three empty glyphs with this table, for a mapper of these glyphs.
+pub fn refused(alloc: Global, tag: Tag, bytes: &[u8], glyphs: &[u16]) -> Result<Error, Fail> {
+    let file = three_empty(alloc, &[part(tag, bytes)])?;
+    refusal(alloc, &file, 0, glyphs)
 }

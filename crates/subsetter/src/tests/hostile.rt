@@ -42,7 +42,12 @@ fn a_chain_of_composites_is_followed_to_its_end(rt: HostRuntime) -> Result<(), F
 #[test]
 fn all_numbers_reached_overflow(rt: HostRuntime) -> Result<(), Fail> {
     let glyf = chain_glyf(rt.alloc(), 65535)?;
-    let font = long_font(rt.alloc(), &glyf, &chain_loca(rt.alloc(), 65535)?)?;
+    let mut font = long_font(rt.alloc(), &glyf, &chain_loca(rt.alloc(), 65535)?)?;
+    assert_eq!(rt; refusal(rt.alloc(), &font, 0, &[])?, Error::OverflowError);
+    // The arguments of glyph 0 are now words, of which the second is cut off. That is seen later.
+    if let Some(flags) = font.get_mut(71) {
+        *flags = 1;
+    }
     assert_eq!(rt; refusal(rt.alloc(), &font, 0, &[])?, Error::OverflowError);
     Ok(())
 }
