@@ -1,4 +1,4 @@
 pub mod Digest
 pub mod Failure
 pub mod Lines
-pub mod Task
+pub mod Words

@@ -10,6 +10,7 @@ use crate::line::Done;
 use crate::task::{Task, read_task};
 use crate::times::{Times, times_of};
 use std::alloc::Global;
+use std::io::Read;
 use std::rt::{Clock, Env, Files};
 use std::time::Instant;
 use std::{env, fs, io};
@@ -53,13 +54,22 @@ fn measure<R: Clock>(
     Ok((times, last))
 }
 
+/// The bytes of a file. Room for as many as it has is taken at once.
+fn read_font<R: Files + AllocGlobal>(rt: &R, name: &str) -> Result<Vec<u8>, Failure> {
+    let mut file = fs::open(rt, name).map_err(|_| Failure::Read)?;
+    let about = file.metadata().map_err(|_| Failure::Read)?;
+    let room = usize::try_from(about.len()).unwrap_or(0);
+    let mut font = Vec::with_capacity(rt.alloc(), room).map_err(|_| Failure::Memory)?;
+    file.read_to_end(&mut font).map_err(|_| Failure::Read)?;
+    Ok(font)
+}
+
 /// Does one task, and answers its times and its output, which it writes where the task says.
 fn measure_file<R: Files + Clock + AllocGlobal>(
     rt: &R,
     task: &Task,
 ) -> Result<(Times, Vec<u8>), Failure> {
-    let mut font = fs::read(rt, task.font.as_str()).map_err(|_| Failure::Read)?;
-    font.shrink_to_fit();
+    let font = read_font(rt, task.font.as_str())?;
     let (times, output) = measure(rt, rt.alloc(), &font, task)?;
     if let Some(name) = &task.output {
         fs::write(rt, name.as_str(), output.as_slice()).map_err(|_| Failure::Write)?;

@@ -1,12 +1,13 @@
 //! What is to be measured.
 
-ghost use Rattle.std.specs.Prelude.{◌≡◌, ◌⊎◌, ◌<◌, IfOk, IfErr, OnOk, map, length, slice_get, string_bytes};
+ghost use Rattle.std.specs.Prelude.{◌≡◌, ◌⊎◌, ◌==◌, ◌++◌, ℕ, List, map, OnOk, IfOk, IfErr, Some, None, slice_index, string_bytes};
 ghost use Rattle.std.specs.Option.{option_map};
-ghost use Rattle.subset_bench.specs.Task.{SaysNumber};
+ghost use Rattle.std.specs.List.{slice_split};
+ghost use Rattle.subset_bench.specs.Words.{number_in_bits, numbers_between, part_glyphs, glyph_list, count_of, request};
 ghost use Rattle.subset_bench.specs.declared.failure.Failure.TheVariants.{Usage, Memory};
 
 use crate::failure::Failure;
-use std::alloc::Global;
+use std::alloc::{AllocError, Global};
 
 /// A subset to measure.
 #[derive(Debug, Drop)]
@@ -23,56 +24,122 @@ pub struct Task {
     pub output: Option<String>,
 }
 
-/// Adds what a part of the list names: a glyph, or the glyphs from one to another.
-fn add_part(glyphs: &mut Vec<u16>, part: &str) -> Result<(), Failure>
-    ensures { IfErr result (λ e. (e ≡ Usage) ⊎ (e ≡ Memory)) }
+/// Whether a plus stands first, which `parse` lets pass.
+fn begins_with_plus(word: &str) -> bool
+    ensures { result ≡ (slice_index word.now 0 == 43) }
 {
-    let (first, last) = part.split_once('-').unwrap_or((part, part));
-    let first: u16 = first.parse().map_err(|_| Failure::Usage)?;
-    let last: u16 = last.parse().map_err(|_| Failure::Usage)?;
+    matches!(word.as_bytes(), [b'+', ..])
+}
+
+/// The number that a word of one or more ASCII digits writes, if it fits.
+fn number_of(word: &str) -> Option<u32>
+    ensures { result ≡ number_in_bits 32 word.now }
+{
+    if begins_with_plus(word) {
+        return None;
+    }
+    word.parse().ok()
+}
+
+/// The number that a word of one or more ASCII digits writes, if it fits.
+fn glyph_of(word: &str) -> Option<u16>
+    ensures { result ≡ number_in_bits 16 word.now }
+{
+    if begins_with_plus(word) {
+        return None;
+    }
+    word.parse().ok()
+}
+
+/// The first and the last glyph that a part of the list names; both are the same where it is one number.
+fn ends_of(part: &str) -> Option<(u16, u16)>
+    ensures { option_map (λ ends. numbers_between ends.0 ends.1) result ≡ part_glyphs part.now }
+{
+    match part.split_once('-') {
+        Some((first, last)) => {
+            let first = glyph_of(first)?;
+            let last = glyph_of(last)?;
+            Some((first, last))
+        }
+        None => {
+            let glyph = glyph_of(part)?;
+            Some((glyph, glyph))
+        }
+    }
+}
+
+/// Adds the glyphs from one to another.
+fn add_glyphs(glyphs: &mut Vec<u16>, first: u16, last: u16) -> Result<(), AllocError>
+    ensures { OnOk result (glyphs.new.items ≡ glyphs.old.items ++ numbers_between first last) }
+{
     for glyph in first..=last {
         glyphs.push(glyph)?;
     }
     Ok(())
 }
 
+/// The parts of a list between its commas.
+fn parts_of(alloc: Global, list: &str) -> Result<Vec<&str>, AllocError>
+    ensures { IfOk result (λ v. map (λ part. part.now) v.items ≡ slice_split (λ b. b == 44) list.now) }
+{
+    list.split(',').collect(alloc)
+}
+
 /// The glyphs of a list of numbers and ranges, as `3,10-12`.
 fn glyphs_of(alloc: Global, list: &str) -> Result<Vec<u16>, Failure>
-    ensures { IfErr result (λ e. (e ≡ Usage) ⊎ (e ≡ Memory)) }
+    ensures ok { IfOk result (λ v. glyph_list list.now ≡ Some v.items) }
+    ensures err { IfErr result (λ e. (e ≡ Memory) ⊎ ((e ≡ Usage) × (glyph_list list.now ≡ None))) }
 {
+    let parts = parts_of(alloc, list).map_err(|_| Failure::Memory)?;
     let mut glyphs = Vec::new(alloc);
-    for part in list.split(',') {
-        add_part(&mut glyphs, part)?;
+    for part in &parts {
+        let (first, last) = ends_of(part).ok_or(Failure::Usage)?;
+        add_glyphs(&mut glyphs, first, last).map_err(|_| Failure::Memory)?;
     }
     Ok(glyphs)
 }
 
+/// A number of calls, which is at least 1.
+fn calls_of(word: &str) -> Option<u32>
+    ensures { result ≡ count_of word.now }
+{
+    let count = number_of(word)?;
+    if count == 0 {
+        return None;
+    }
+    Some(count)
+}
+
 /// Reads a task from its words: `FONT INDEX GLYPHS COUNT [OUT]`, with COUNT at least 1.
+///
+/// `Usage` where their number is another, where INDEX or COUNT isn't one or more ASCII digits whose value fits `u32`,
+/// where a number of GLYPHS isn't one whose value fits `u16`, or where COUNT is 0; `Memory` for want of memory.
 pub fn read_task(alloc: Global, words: &[&str]) -> Result<Task, Failure>
-    ensures font { IfOk result (λ task. slice_get (map (λ word. word.now) words.now) 0 ≡ Some (string_bytes task.font)) }
-    ensures index { IfOk result (λ task. SaysNumber (slice_get (map (λ word. word.now) words.now) 1) task.index) }
-    ensures times { IfOk result (λ task. SaysNumber (slice_get (map (λ word. word.now) words.now) 3) task.count) }
-    ensures count { IfOk result (λ task. 0 < task.count) }
-    ensures output { IfOk result (λ task. option_map (λ name. string_bytes name) task.output ≡ slice_get (map (λ word. word.now) words.now) 4) }
-    ensures words { OnOk result ((length words.now ≡ 4) ⊎ (length words.now ≡ 5)) }
-    ensures err { IfErr result (λ e. (e ≡ Usage) ⊎ (e ≡ Memory)) }
+    ensures ok { IfOk result (λ task. request (map (λ word. word.now) words.now) ≡ Some (record {
+      font = string_bytes task.font;
+      index = task.index;
+      glyphs = task.glyphs.items;
+      count = task.count;
+      output = option_map (λ name. string_bytes name) task.output;
+    })) }
+    ensures err { IfErr result (λ e. (e ≡ Memory) ⊎ ((e ≡ Usage) × (request (map (λ word. word.now) words.now) ≡ None))) }
 {
     let (font, index, glyphs, count, output) = match words {
         [font, index, glyphs, count] => (*font, *index, *glyphs, *count, None),
         [font, index, glyphs, count, output] => {
-            let output = String::from_str(alloc, output)?;
+            let output = String::from_str(alloc, output).map_err(|_| Failure::Memory)?;
             (*font, *index, *glyphs, *count, Some(output))
         }
         _ => return Err(Failure::Usage),
     };
-    let count: u32 = count.parse().map_err(|_| Failure::Usage)?;
-    if count == 0 {
-        return Err(Failure::Usage);
-    }
+    let index = number_of(index).ok_or(Failure::Usage)?;
+    let count = calls_of(count).ok_or(Failure::Usage)?;
+    let font = String::from_str(alloc, font).map_err(|_| Failure::Memory)?;
+    let glyphs = glyphs_of(alloc, glyphs)?;
     Ok(Task {
-        font: String::from_str(alloc, font)?,
-        index: index.parse().map_err(|_| Failure::Usage)?,
-        glyphs: glyphs_of(alloc, glyphs)?,
+        font,
+        index,
+        glyphs,
         count,
         output,
     })

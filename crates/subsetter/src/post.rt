@@ -183,9 +183,10 @@ fn count_custom(indexes: &[u16]) -> usize
     count
 }
 
-/// A number above those of all own names that the indexes name.
+/// The least number above those of all own names that the indexes name.
 fn own_limit(indexes: &[u16]) -> usize
-    ensures { (k : ℕ) → k < length indexes.now → slice_index indexes.now k < 258 + result }
+    ensures above { (k : ℕ) → k < length indexes.now → slice_index indexes.now k < 258 + result }
+    ensures least { (n : ℕ) → ((k : ℕ) → k < length indexes.now → slice_index indexes.now k < 258 + n) → result ≤ n }
 {
     let mut limit: usize = 0;
     for index in indexes {
