@@ -291,6 +291,7 @@ fn reals_have_at_most_64_characters(rt: HostRuntime) -> Result<(), Fail> {
     let real = RealNumber::parse(&mut Reader::new(&text)).ok_or("a real")?;
     let mut w = Writer::new(rt.alloc());
     assert!(rt; w.write(&real) == Err(Error::OverflowError));
+    assert!(rt; w.write(&[Number::zero(), Number::Real(real)]) == Err(Error::OverflowError));
     Ok(())
 }
 
