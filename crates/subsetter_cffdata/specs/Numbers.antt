@@ -1,5 +1,5 @@
 -- The numbers of a DICT and of a charstring.
-use Rattle.std.specs.Prelude.{ℕ, ◌+◌, ◌-◌, ◌*◌, ◌/◌, ◌%◌, ◌<◌, length, FitsSigned, ℤ, pos, negsuc, neg_ℤ, ◌-ℤ◌, ◌==◌, nat_lt, if◌then◌else◌, List, [], ◌∷◌, Option, Some, None}
+use Rattle.std.specs.Prelude.{ℕ, ◌+◌, ◌-◌, ◌*◌, ◌/◌, ◌%◌, Bool, false, length, FitsSigned, ℤ, pos, negsuc, neg_ℤ, ◌-ℤ◌, ◌==◌, nat_lt, if◌then◌else◌, List, [], ◌∷◌, Option, Some, None}
 use Rattle.std.specs.Int.{w16, w32, cast_signed, cast_unsigned, to_be_bytes}
 use Rattle.subsetter_cffdata.specs.Bytes.{◌>>=◌, byte, card}
 use Rattle.subsetter_cffdata.specs.Decimals.{Decimal, HasText, real_at, real_text, packed, whole, text_limit}
@@ -102,10 +102,10 @@ FitsDict (Real d) = HasText d
 FitsDict (Fixed k) = ⊥
 
 -- a real whose text is longer than the limit
-abbrev pub IsTooLong : Number → Type 0
-IsTooLong (Integer z) = ⊥
-IsTooLong (Real d) = text_limit < length (real_text d)
-IsTooLong (Fixed k) = ⊥
+abbrev pub is_too_long : Number → Bool
+is_too_long (Integer z) = false
+is_too_long (Real d) = nat_lt text_limit (length (real_text d))
+is_too_long (Fixed k) = false
 
 -- ---- the whole number that a number is
 -- the Fixed k / 65536, where it has no fraction

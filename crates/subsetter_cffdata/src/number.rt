@@ -1,10 +1,10 @@
 //! Numbers of a DICT and of a charstring (Technical Note 5176, section 4 "DICT Data").
 
-ghost use Rattle.std.specs.Prelude.{◌≡◌, ◌∷◌, ◌++◌, ◌⊎◌, ◌↔◌, IsTrue, map, pos, OnOk, IfErr};
+ghost use Rattle.std.specs.Prelude.{◌≡◌, ◌∷◌, ◌++◌, ◌↔◌, IsTrue, map, pos, if◌then◌else◌, Some, None, OnOk, IfErr};
 ghost use Rattle.std.specs.Option.{option_map};
 ghost use Rattle.std.specs.Int.{w32, cast_unsigned, to_be_bytes};
 ghost use Rattle.subsetter_base.specs.declared.error.Error.TheVariants.{OutOfMemory, OverflowError};
-ghost use Rattle.subsetter_cffdata.specs.Numbers.{Integer as StoredInteger, number as written, IsTooLong, integer, fixed, integer_at, integer_from, short_integer, fixed_number_at, dict_number_from, dict_number_at, charstring_number_from, charstring_number_at, fixed_as_i32, in_i32, as_i32, as_u32};
+ghost use Rattle.subsetter_cffdata.specs.Numbers.{Integer as StoredInteger, number as written, is_too_long, integer, fixed, integer_at, integer_from, short_integer, fixed_number_at, dict_number_from, dict_number_at, charstring_number_from, charstring_number_at, fixed_as_i32, in_i32, as_i32, as_u32};
 ghost use Rattle.subsetter_cffdata.specs.Reading.{Takes};
 ghost use Rattle.subsetter_cffdata.specs.Values.{value, thousand, by_1000};
 ghost use Rattle.subsetter_cffdata.specs.Views.{decimal_of, number_of};
@@ -299,15 +299,17 @@ impl Number {
     {
         same_reals(&self.to_real(), &other.to_real())
     }
+}
 
-    /// Writes the number in its own kind: an integer in the first form that holds it, a real as a plain decimal, a number of 65536ths in five bytes. `OverflowError` where the text of a real has more than 64 characters.
-    pub fn write(&self, w: &mut Writer) -> Result<(), Error>
-        ensures ok { OnOk result (w.new ≡ w.old ++ written (number_of self.now)) }
-        ensures err { IfErr result (λ e. (e ≡ OutOfMemory) ⊎ ((e ≡ OverflowError) × IsTooLong (number_of self.now))) }
-        ensures fits { OnOk result (IsTooLong (number_of self.now) → ⊥) }
-    {
+/// In its own kind: an integer in the first form that holds it, a real as a plain decimal, a number of 65536ths in five bytes. A real whose text has more than 64 characters is refused by `OverflowError`.
+impl Writeable for Number {
+    ghost bytes_of = { λ x. written (number_of x) };
+
+    ghost refusal = { λ x. if is_too_long (number_of x) then Some OverflowError else None };
+
+    fn write(&self, w: &mut Writer) -> Result<(), Error> {
         match self {
-            Number::Real(real) => real.write(w),
+            Number::Real(real) => w.write(real),
             Number::Integer(integer) => w.write(integer),
             Number::Fixed(fixed) => w.write(fixed),
         }

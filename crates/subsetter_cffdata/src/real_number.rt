@@ -11,7 +11,7 @@ use crate::text::Text;
 use crate::whole::whole_of;
 use subsetter_base::error::Error;
 use subsetter_base::read::Reader;
-use subsetter_base::write::Writer;
+use subsetter_base::write::{Writeable, Writer};
 
 /// An exact decimal: a sign, at most 64 digits without zeros in front and at the end, and the power of ten of the last digit.
 #[derive(Clone, Copy, Debug)]
@@ -25,12 +25,11 @@ pub struct RealNumber {
 }
 
 impl RealNumber {
-    ghost use Rattle.std.specs.Prelude.{◌≡◌, ◌<◌, ◌++◌, ◌∷◌, ◌⊎◌, length, OnOk, IfErr};
+    ghost use Rattle.std.specs.Prelude.{◌≡◌, ◌<◌, length};
     ghost use Rattle.std.specs.List.{AllByRecursion};
     ghost use Rattle.std.specs.Option.{option_map};
-    ghost use Rattle.subsetter_base.specs.declared.error.Error.TheVariants.{OutOfMemory, OverflowError};
     ghost use Rattle.subsetter_cffdata.specs.TextSteps.{shown, fitting};
-    ghost use Rattle.subsetter_cffdata.specs.Decimals.{HasText, packed, real_at, real_text};
+    ghost use Rattle.subsetter_cffdata.specs.Decimals.{real_at, real_text};
     ghost use Rattle.subsetter_cffdata.specs.Reading.{rest, Takes};
     ghost use Rattle.subsetter_cffdata.specs.Views.{decimal_of};
     ghost use Rattle.subsetter_cffdata.specs.Numbers.{real_number_at, real_as_i32};
@@ -83,13 +82,24 @@ impl RealNumber {
     {
         text_of_digits(self.negative, self.digits(), self.power)
     }
+}
 
-    /// Writes the real as a plain decimal without an exponent: `OverflowError` where its text has more than 64 characters.
-    pub fn write(&self, w: &mut Writer) -> Result<(), Error>
+/// As a plain decimal without an exponent. A real whose text has more than 64 characters is refused by `OverflowError`.
+impl Writeable for RealNumber {
+    ghost use Rattle.std.specs.Prelude.{◌≡◌, ◌<◌, ◌++◌, ◌∷◌, ◌⊎◌, length, nat_lt, if◌then◌else◌, Some, None, OnOk, IfErr};
+    ghost use Rattle.subsetter_base.specs.declared.error.Error.TheVariants.{OutOfMemory, OverflowError};
+    ghost use Rattle.subsetter_cffdata.specs.Decimals.{HasText, packed, real_text, text_limit};
+    ghost use Rattle.subsetter_cffdata.specs.Views.{decimal_of};
+
+    ghost bytes_of = { λ real. 30 ∷ packed (real_text (decimal_of real)) };
+
+    ghost refusal = { λ real. if nat_lt text_limit (length (real_text (decimal_of real))) then Some OverflowError else None };
+
+    fn write(&self, w: &mut Writer) -> Result<(), Error>
         ensures ok { OnOk result (w.new ≡ w.old ++ (30 ∷ packed (real_text (decimal_of self.now)))) }
         // So it is read again.
         ensures again { OnOk result (HasText (decimal_of self.now)) }
-        ensures err { IfErr result (λ e. (e ≡ OutOfMemory) ⊎ ((e ≡ OverflowError) × (64 < length (real_text (decimal_of self.now))))) }
+        ensures err { IfErr result (λ e. (e ≡ OutOfMemory) ⊎ ((e ≡ OverflowError) × (text_limit < length (real_text (decimal_of self.now))))) }
     {
         let Some(text) = self.text() else {
             return Err(Error::OverflowError);

@@ -15,7 +15,7 @@ fn rewritten(rt: &HostRuntime, bytes: &[u8]) -> Result<Vec<u8>, Error> {
     let mut w = Writer::new(rt.alloc());
     let mut r = Reader::new(bytes);
     if let Some(real) = RealNumber::parse(&mut r) {
-        real.write(&mut w)?;
+        w.write(&real)?;
     }
     Ok(w.finish())
 }
@@ -142,7 +142,7 @@ fn number(bytes: &[u8]) -> Option<Number> {
 // The number's bytes.
 fn written(rt: &HostRuntime, number: &Number) -> Result<Vec<u8>, Error> {
     let mut w = Writer::new(rt.alloc());
-    number.write(&mut w)?;
+    w.write(number)?;
     Ok(w.finish())
 }
 
@@ -220,7 +220,7 @@ fn a_matrix_after_a_scaling_by_1000(rt: HostRuntime) -> Result<(), Fail> {
     let scaled = Number::combine(&matrix).ok_or("fits")?;
     let mut w = Writer::new(rt.alloc());
     for entry in scaled.iter() {
-        entry.write(&mut w).ok().ok_or("fits")?;
+        w.write(entry).ok().ok_or("fits")?;
     }
     assert_eq!(rt;
         w.as_slice(),
@@ -269,7 +269,7 @@ fn exponents_past_999_are_unreadable(rt: HostRuntime) -> Result<(), Fail> {
     assert!(rt; RealNumber::parse(&mut Reader::new(&[0x1E, 0x1B, 0x10, 0x00, 0xFF])).is_none());
     let real = RealNumber::parse(&mut Reader::new(&[0x1E, 0x1B, 0x99, 0x9F])).ok_or("a real")?;
     let mut w = Writer::new(rt.alloc());
-    assert!(rt; real.write(&mut w) == Err(Error::OverflowError));
+    assert!(rt; w.write(&real) == Err(Error::OverflowError));
     assert!(rt; Number::Real(real).as_i32().is_none());
     Ok(())
 }
@@ -290,7 +290,8 @@ fn reals_have_at_most_64_characters(rt: HostRuntime) -> Result<(), Fail> {
     text[33] = 0xFF;
     let real = RealNumber::parse(&mut Reader::new(&text)).ok_or("a real")?;
     let mut w = Writer::new(rt.alloc());
-    assert!(rt; real.write(&mut w) == Err(Error::OverflowError));
+    assert!(rt; w.write(&real) == Err(Error::OverflowError));
+    assert!(rt; w.write(&[Number::zero(), Number::Real(real)]) == Err(Error::OverflowError));
     Ok(())
 }
 
@@ -342,11 +343,11 @@ fn integers_are_read_again(rt: HostRuntime) -> Result<(), Fail> {
 fn numbers_keep_their_kind(rt: HostRuntime) -> Result<(), Fail> {
     let real = Number::parse_cff_number(&mut Reader::new(&[0x1E, 0x1F])).ok_or("a real")?;
     let mut w = Writer::new(rt.alloc());
-    real.write(&mut w).ok().ok_or("fits")?;
-    Number::one().write(&mut w).ok().ok_or("fits")?;
-    Number::zero().write(&mut w).ok().ok_or("fits")?;
-    Number::from_i32(-1131).write(&mut w).ok().ok_or("fits")?;
-    Number::default().write(&mut w).ok().ok_or("fits")?;
+    w.write(&real).ok().ok_or("fits")?;
+    w.write(&Number::one()).ok().ok_or("fits")?;
+    w.write(&Number::zero()).ok().ok_or("fits")?;
+    w.write(&Number::from_i32(-1131)).ok().ok_or("fits")?;
+    w.write(&Number::default()).ok().ok_or("fits")?;
     assert_eq!(rt;
         w.as_slice(),
         [0x1E, 0x1F, 0x8C, 0x8B, 0xFE, 0xFF, 0x8B].as_slice()

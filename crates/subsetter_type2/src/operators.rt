@@ -1,90 +1,91 @@
 //! The operators of a charstring (Technical Note 5177, appendix A "Type 2 Charstring Command Codes").
 
-use subsetter_cffdata::operator::{Operator, OperatorType, TWO_BYTE_OPERATOR_MARK};
+use subsetter_cffdata::operator::OperatorType::{OneByteOperator, TwoByteOperator};
+use subsetter_cffdata::operator::{Operator, TWO_BYTE_OPERATOR_MARK};
 
 /// hstem (1): where horizontal stems lie.
-pub const HORIZONTAL_STEM: Operator = Operator(OperatorType::OneByteOperator([1]));
+pub const HORIZONTAL_STEM: Operator = Operator(OneByteOperator([1]));
 
 /// vstem (3): where vertical stems lie.
-pub const VERTICAL_STEM: Operator = Operator(OperatorType::OneByteOperator([3]));
+pub const VERTICAL_STEM: Operator = Operator(OneByteOperator([3]));
 
 /// vmoveto (4): the point moves vertically, and a subpath begins there.
-pub const VERTICAL_MOVE_TO: Operator = Operator(OperatorType::OneByteOperator([4]));
+pub const VERTICAL_MOVE_TO: Operator = Operator(OneByteOperator([4]));
 
 /// rlineto (5): lines.
-pub const LINE_TO: Operator = Operator(OperatorType::OneByteOperator([5]));
+pub const LINE_TO: Operator = Operator(OneByteOperator([5]));
 
 /// hlineto (6): lines, horizontal and vertical in turns, the first horizontal.
-pub const HORIZONTAL_LINE_TO: Operator = Operator(OperatorType::OneByteOperator([6]));
+pub const HORIZONTAL_LINE_TO: Operator = Operator(OneByteOperator([6]));
 
 /// vlineto (7): lines, vertical and horizontal in turns, the first vertical.
-pub const VERTICAL_LINE_TO: Operator = Operator(OperatorType::OneByteOperator([7]));
+pub const VERTICAL_LINE_TO: Operator = Operator(OneByteOperator([7]));
 
 /// rrcurveto (8): Bézier curves.
-pub const CURVE_TO: Operator = Operator(OperatorType::OneByteOperator([8]));
+pub const CURVE_TO: Operator = Operator(OneByteOperator([8]));
 
 /// callsubr (10): on in a local subroutine, whose number is on the stack.
-pub const CALL_LOCAL_SUBROUTINE: Operator = Operator(OperatorType::OneByteOperator([10]));
+pub const CALL_LOCAL_SUBROUTINE: Operator = Operator(OneByteOperator([10]));
 
 /// return (11): back to the caller.
-pub const RETURN: Operator = Operator(OperatorType::OneByteOperator([11]));
+pub const RETURN: Operator = Operator(OneByteOperator([11]));
 
 /// endchar (14): the glyph ends.
-pub const ENDCHAR: Operator = Operator(OperatorType::OneByteOperator([14]));
+pub const ENDCHAR: Operator = Operator(OneByteOperator([14]));
 
 /// hstemhm (18): where horizontal stems lie, in a glyph with hint masks.
-pub const HORIZONTAL_STEM_HINT_MASK: Operator = Operator(OperatorType::OneByteOperator([18]));
+pub const HORIZONTAL_STEM_HINT_MASK: Operator = Operator(OneByteOperator([18]));
 
 /// hintmask (19): which stems count from here on, by the bits of the bytes behind it.
-pub const HINT_MASK: Operator = Operator(OperatorType::OneByteOperator([19]));
+pub const HINT_MASK: Operator = Operator(OneByteOperator([19]));
 
 /// cntrmask (20): between which stems white space is controlled, by the bits of the bytes behind it.
-pub const COUNTER_MASK: Operator = Operator(OperatorType::OneByteOperator([20]));
+pub const COUNTER_MASK: Operator = Operator(OneByteOperator([20]));
 
 /// rmoveto (21): the point moves, and a subpath begins there.
-pub const MOVE_TO: Operator = Operator(OperatorType::OneByteOperator([21]));
+pub const MOVE_TO: Operator = Operator(OneByteOperator([21]));
 
 /// hmoveto (22): the point moves horizontally, and a subpath begins there.
-pub const HORIZONTAL_MOVE_TO: Operator = Operator(OperatorType::OneByteOperator([22]));
+pub const HORIZONTAL_MOVE_TO: Operator = Operator(OneByteOperator([22]));
 
 /// vstemhm (23): where vertical stems lie, in a glyph with hint masks.
-pub const VERTICAL_STEM_HINT_MASK: Operator = Operator(OperatorType::OneByteOperator([23]));
+pub const VERTICAL_STEM_HINT_MASK: Operator = Operator(OneByteOperator([23]));
 
 /// rcurveline (24): curves, and then a line.
-pub const CURVE_LINE: Operator = Operator(OperatorType::OneByteOperator([24]));
+pub const CURVE_LINE: Operator = Operator(OneByteOperator([24]));
 
 /// rlinecurve (25): lines, and then a curve.
-pub const LINE_CURVE: Operator = Operator(OperatorType::OneByteOperator([25]));
+pub const LINE_CURVE: Operator = Operator(OneByteOperator([25]));
 
 /// vvcurveto (26): curves that begin and end vertical.
-pub const VV_CURVE_TO: Operator = Operator(OperatorType::OneByteOperator([26]));
+pub const VV_CURVE_TO: Operator = Operator(OneByteOperator([26]));
 
 /// hhcurveto (27): curves that begin and end horizontal.
-pub const HH_CURVE_TO: Operator = Operator(OperatorType::OneByteOperator([27]));
+pub const HH_CURVE_TO: Operator = Operator(OneByteOperator([27]));
 
 /// shortint (28): no operator; a whole number of two bytes follows.
-pub const SHORT_INT: Operator = Operator(OperatorType::OneByteOperator([28]));
+pub const SHORT_INT: Operator = Operator(OneByteOperator([28]));
 
 /// callgsubr (29): on in a global subroutine, whose number is on the stack.
-pub const CALL_GLOBAL_SUBROUTINE: Operator = Operator(OperatorType::OneByteOperator([29]));
+pub const CALL_GLOBAL_SUBROUTINE: Operator = Operator(OneByteOperator([29]));
 
 /// vhcurveto (30): curves that begin vertical and horizontal in turns, the first vertical.
-pub const VH_CURVE_TO: Operator = Operator(OperatorType::OneByteOperator([30]));
+pub const VH_CURVE_TO: Operator = Operator(OneByteOperator([30]));
 
 /// hvcurveto (31): curves that begin horizontal and vertical in turns, the first horizontal.
-pub const HV_CURVE_TO: Operator = Operator(OperatorType::OneByteOperator([31]));
+pub const HV_CURVE_TO: Operator = Operator(OneByteOperator([31]));
 
 /// hflex (12 34): two curves that are drawn as one line where their depth is below half a pixel. The ends and the control points next to them have one height, the joint and its neighbours another.
-pub const HFLEX: Operator = Operator(OperatorType::TwoByteOperator([TWO_BYTE_OPERATOR_MARK, 34]));
+pub const HFLEX: Operator = Operator(TwoByteOperator([TWO_BYTE_OPERATOR_MARK, 34]));
 
 /// flex (12 35): such curves with any points, and the depth, in hundredths of a pixel, below which they are a line.
-pub const FLEX: Operator = Operator(OperatorType::TwoByteOperator([TWO_BYTE_OPERATOR_MARK, 35]));
+pub const FLEX: Operator = Operator(TwoByteOperator([TWO_BYTE_OPERATOR_MARK, 35]));
 
 /// hflex1 (12 36): such curves by half a pixel. The two ends have one height, the joint and its neighbours another.
-pub const HFLEX1: Operator = Operator(OperatorType::TwoByteOperator([TWO_BYTE_OPERATOR_MARK, 36]));
+pub const HFLEX1: Operator = Operator(TwoByteOperator([TWO_BYTE_OPERATOR_MARK, 36]));
 
 /// flex1 (12 37): such curves by half a pixel. The two ends have one height or one x.
-pub const FLEX1: Operator = Operator(OperatorType::TwoByteOperator([TWO_BYTE_OPERATOR_MARK, 37]));
+pub const FLEX1: Operator = Operator(TwoByteOperator([TWO_BYTE_OPERATOR_MARK, 37]));
 
 /// No operator (255): a number of 65536ths follows, of four bytes.
-pub const FIXED_16_16: Operator = Operator(OperatorType::OneByteOperator([255]));
+pub const FIXED_16_16: Operator = Operator(OneByteOperator([255]));

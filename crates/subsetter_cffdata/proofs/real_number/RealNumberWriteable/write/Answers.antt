@@ -1,6 +1,6 @@
 use Rattle.std.proofs.Common.{◌≤◌, arith, take, length, length-take}
 use Rattle.subsetter_cffdata.proofs.RealTexts.{has_text, fits_some, on_any}
-use Rattle.subsetter_cffdata.proofs.real_number.RealNumber.write.Goals as goal
+use Rattle.subsetter_cffdata.proofs.real_number.RealNumberWriteable.write.Goals as goal
 
 pub returns-clause-again : goal.returns-clause-again
 returns-clause-again c =
