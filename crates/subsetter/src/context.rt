@@ -116,7 +116,7 @@ mod tests {
 
     #[test]
     fn tables_are_held_in_order_whole_or_in_parts(rt: HostRuntime) -> Result<(), Fail> {
-        let mut outlines = Vec::new(rt.alloc());
+        let mut outlines = OutlineList::with_capacity(rt.alloc(), 2)?;
         outlines.push(CowSlice::Borrowed(&[1, 2, 3]))?;
         outlines.push(CowSlice::Borrowed(&[4]))?;
         let mut context = Context::new(rt.alloc());
