@@ -1,7 +1,6 @@
 -- The line that tells what a task took.
-use Rattle.std.specs.Prelude.{ℕ, List, ◌++◌, ◌-◌, ◌^◌, codes, decimal, length, false, []}
+use Rattle.std.specs.Prelude.{ℕ, List, ◌++◌, ◌-◌, ◌^◌, codes, decimal, false, []}
 use Rattle.std.specs.Fmt.{digits, padded_integral, format_spec}
-use Rattle.subset_bench.specs.Digest.{digest_from, start}
 use Rattle.subset_bench.specs.declared.times.Times.{Times}
 
 -- at least sixteen hexadecimal digits

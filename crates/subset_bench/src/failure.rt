@@ -79,11 +79,8 @@ impl Failure {
     {
         match self {
             Failure::Usage => 2,
-            Failure::Error(_)
-            | Failure::Read
-            | Failure::Write
-            | Failure::Clock
-            | Failure::Memory => 1,
+            Failure::Error(_) | Failure::Read | Failure::Write | Failure::Clock | Failure::Memory =>
+                1,
         }
     }
 }

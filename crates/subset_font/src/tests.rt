@@ -139,7 +139,13 @@ fn job_of(rt: &HostRuntime, line: &str) -> Result<Job, Fail> {
 fn line_of(rt: &HostRuntime, ended: &Result<(), Failure>, job: &Job) -> Result<String, Fail> {
     match ended {
         Ok(()) => Ok(String::new(rt.alloc())),
-        Err(failure) => Ok(format!(in rt.alloc(); "{}", Told { failure, job: Some(job) })?),
+        Err(failure) => Ok(format!(in rt.alloc();
+            "{}",
+            Told {
+                failure,
+                job: Some(job)
+            }
+        )?),
     }
 }
 
@@ -280,9 +286,16 @@ fn each_read_that_fails_is_told(rt: HostRuntime) -> Result<(), Fail> {
         let mut lines = failing(rt.alloc(), 0);
         let ended = carry_out(rt.alloc(), &job, &mut reader, &mut output, &mut lines);
         let told = line_of(&rt, &ended, &job)?;
-        assert_eq!(rt; (status_of_run(&ended), told.as_str()), (3, "cannot read in.ttf"), "at {left}");
+        assert_eq!(rt;
+            (status_of_run(&ended), told.as_str()),
+            (3, "cannot read in.ttf"),
+            "at {left}"
+        );
     }
-    let mut reader = FailingReader { left: 157, font: &font };
+    let mut reader = FailingReader {
+        left: 157,
+        font: &font,
+    };
     let (status, _) = told(&rt, make(rt.alloc(), &mut reader, 0, &[2]))?;
     assert_eq!(rt; status, 0);
     Ok(())
@@ -297,17 +310,36 @@ fn each_write_that_fails_is_told(rt: HostRuntime) -> Result<(), Fail> {
     for left in 0..47usize {
         let mut output = failing(rt.alloc(), left);
         let mut lines = failing(rt.alloc(), 0);
-        let ended = carry_out(rt.alloc(), &job, &mut font.as_slice(), &mut output, &mut lines);
+        let ended = carry_out(
+            rt.alloc(),
+            &job,
+            &mut font.as_slice(),
+            &mut output,
+            &mut lines,
+        );
         let told = line_of(&rt, &ended, &job)?;
-        assert_eq!(rt; (status_of_run(&ended), told.as_str()), (3, "cannot write out.ttf"), "at {left}");
+        assert_eq!(rt;
+            (status_of_run(&ended), told.as_str()),
+            (3, "cannot write out.ttf"),
+            "at {left}"
+        );
         let taken = &want[..want.len().min(3 * left)];
         assert_eq!(rt; output.taken.as_slice(), taken, "at {left}");
     }
     let mut output = failing(rt.alloc(), 47);
     let mut lines = failing(rt.alloc(), 0);
-    let ended = carry_out(rt.alloc(), &job, &mut font.as_slice(), &mut output, &mut lines);
+    let ended = carry_out(
+        rt.alloc(),
+        &job,
+        &mut font.as_slice(),
+        &mut output,
+        &mut lines,
+    );
     let told = line_of(&rt, &ended, &job)?;
-    assert_eq!(rt; (status_of_run(&ended), told.as_str()), (3, "cannot write standard output"));
+    assert_eq!(rt;
+        (status_of_run(&ended), told.as_str()),
+        (3, "cannot write standard output")
+    );
     assert_eq!(rt; output.taken.as_slice(), want.as_slice());
     Ok(())
 }
@@ -328,7 +360,11 @@ fn nothing_is_written_where_the_font_is_refused(rt: HostRuntime) -> Result<(), F
         let mut lines = failing(rt.alloc(), 0);
         let ended = carry_out(rt.alloc(), &job, &mut reader, &mut output, &mut lines);
         let told = line_of(&rt, &ended, &job)?;
-        assert_eq!(rt; (status_of_run(&ended), told.as_str()), (1, want), "at {len}");
+        assert_eq!(rt;
+            (status_of_run(&ended), told.as_str()),
+            (1, want),
+            "at {len}"
+        );
     }
     Ok(())
 }
