@@ -2,24 +2,28 @@
 
 ghost use Rattle.std.specs.Prelude.{◌≡◌, ◌≤◌};
 ghost use Rattle.subset_font.specs.Failure.{status_of, status_of_end};
-ghost use Rattle.subset_font.specs.declared.failure.Failure.TheVariants.{Error as Refused};
 
 use crate::words::Job;
 use std::fmt;
 use subsetter::Error;
 
 /// Why a run of the program ended without a subset.
-#[derive(Debug, Drop)]
+#[derive(Debug, Drop, thiserror::Error)]
 pub enum Failure {
     /// The font is refused, or memory ran out.
-    Error(Error),
+    #[error(transparent)]
+    Error(#[from] Error),
     /// The words after the program's name aren't as the usage says.
+    #[error("usage: subset_font IN OUT INDEX GID[,GID..]")]
     Usage,
     /// The source can't be read. The text wants the file's name after it.
+    #[error("cannot read")]
     Read,
     /// The output can't be written. The text wants the file's name after it.
+    #[error("cannot write")]
     Write,
     /// The lines can't be written.
+    #[error("cannot write standard output")]
     Output,
 }
 
@@ -37,33 +41,6 @@ impl Failure {
     }
 }
 
-impl fmt::Display for Failure {
-    ghost use Rattle.std.specs.Prelude.{Some};
-    ghost use Rattle.subset_font.specs.Failure.{text_of};
-
-    ghost output = { λ failure. Some (text_of failure) };
-
-    fn fmt<W: fmt::Write>(&self, f: &mut fmt::Formatter<W>) -> fmt::Result {
-        match self {
-            Failure::Error(error) => write!(f, "{error}"),
-            Failure::Usage => f.write_str("usage: subset_font IN OUT INDEX GID[,GID..]"),
-            Failure::Read => f.write_str("cannot read"),
-            Failure::Write => f.write_str("cannot write"),
-            Failure::Output => f.write_str("cannot write standard output"),
-        }
-    }
-}
-
-impl std::error::Error for Failure {}
-
-impl From<Error> for Failure {
-    ghost from_gives = { λ why failure. failure ≡ Refused why };
-
-    fn from(error: Error) -> Failure {
-        Failure::Error(error)
-    }
-}
-
 /// A failure as the standard error tells it: its text, and after it the name of the file that failed.
 #[derive(Drop)]
 pub struct Told<'a> {
@@ -74,19 +51,12 @@ pub struct Told<'a> {
 }
 
 impl fmt::Display for Told<'_> {
-    ghost use Rattle.std.specs.Prelude.{Some};
-    ghost use Rattle.subset_font.specs.Failure.{line_told};
-
-    ghost output = { λ told. Some (line_told told.failure.now told.job) };
-
     fn fmt<W: fmt::Write>(&self, f: &mut fmt::Formatter<W>) -> fmt::Result {
-        let Some(job) = self.job else {
-            return write!(f, "{}", self.failure);
-        };
-        match self.failure {
-            Failure::Read => write!(f, "cannot read {}", job.input),
-            Failure::Write => write!(f, "cannot write {}", job.output),
-            failure => write!(f, "{failure}"),
+        let failure = self.failure;
+        match (failure, self.job) {
+            (Failure::Read, Some(job)) => write!(f, "{failure} {}", job.input),
+            (Failure::Write, Some(job)) => write!(f, "{failure} {}", job.output),
+            _ => write!(f, "{failure}"),
         }
     }
 }

@@ -35,7 +35,7 @@ pub fn make<R: Read>(
     if reader.read_to_end(&mut font).is_err() {
         return Err(Failure::Read);
     }
-    let mapper = GlyphRemapper::new_from_glyphs(alloc, glyphs)?;
-    let subset = subset(alloc, &font, index, &mapper)?;
+    let mapper = GlyphRemapper::new_from_glyphs(alloc, glyphs).map_err(Failure::Error)?;
+    let subset = subset(alloc, &font, index, &mapper).map_err(Failure::Error)?;
     Ok((subset, mapper))
 }
