@@ -33,8 +33,6 @@ pub mod Whole
 pub mod FaultLaws
 pub mod Gave
 pub mod Headline
-pub mod FileLaws
-pub mod FontBytes
 pub mod NamesBack
 pub mod NamesKept
 pub mod GlyphNameLaws

@@ -5,6 +5,7 @@ mod checksum;
 mod component;
 mod construct;
 mod context;
+mod f2dot14;
 mod face;
 mod flavor;
 mod glyf;
@@ -21,7 +22,7 @@ mod subsetting;
 mod text;
 mod truetype;
 
-pub use subsetter_base::{Error, GlyphRemapper, Tag};
+pub use subsetter_base::{Error, GlyphRemapper, RemappedGids, Tag, TagLengthError};
 pub use subsetting::subset;
 
 #[cfg(test)]
