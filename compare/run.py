@@ -11,8 +11,10 @@ It builds both drivers, which have the same words, print the same lines and time
 Then it subsets each font of FONTS to 3, about 80, 2,000 and all glyphs by both, in three rounds that take turns, and
 last gives 2,000 damaged copies to both. It prints two tables and writes them to compare/build/report.md:
     bytes     `same`, or the first place where the outputs differ and the table that it is in
-    times     the least of all calls in nanoseconds, the port's as a part of the original's; the medians; the peak memory
-              of one call in KiB above that of a run without a font, and the source plus twice the output
+    times     the least of all calls in nanoseconds, the port's as a part of the original's; the medians; the most bytes
+              that a run with one call held of the allocator at a time, in KiB (counted by peak.c; the source, the mapper
+              and the driver's own are among them), and the source plus twice the output; the peak of the process in
+              KiB above that of a run without a font (so with its code and its stack)
     refusals  the answers of both on damaged copies, counted; for a pair that differs the intended difference that
               stands in the copy, or `not explained`, with examples
 --seconds S gives each driver about S seconds a case and round (0.3); --copies N takes N damaged copies (2000).
@@ -29,6 +31,7 @@ HERE = os.path.dirname(os.path.realpath(__file__))
 ROOT = os.path.dirname(HERE)
 BUILD = os.path.join(HERE, "build")
 ORIGINAL = os.path.join(HERE, "original", "target", "release", "original_bench")
+COUNTER = os.path.join(BUILD, "peak.so")
 PORT = os.path.join(ROOT, "crates", "subset_bench", "out", "subset_bench")
 TRUETYPE = "/usr/share/fonts/truetype"
 OPENTYPE = "/usr/share/fonts/opentype"
@@ -129,6 +132,14 @@ def run(program, *words):
         return line, int(peak.read().split()[-1])
 
 
+def asked(program, *words):
+    """The most bytes that a run of a driver has asked of the allocator and not yet given back."""
+    with tempfile.NamedTemporaryFile("r", prefix="compare-") as peak:
+        env = {**os.environ, "LD_PRELOAD": COUNTER, "PEAK": peak.name}
+        subprocess.run([program, *map(str, words)], stdout=subprocess.DEVNULL, env=env)
+        return int(peak.read().split()[-1])
+
+
 def answer(line):
     """('ok', median, least, length, hash) or (text,)."""
     words = line.split(" ")
@@ -160,7 +171,8 @@ def case(drivers, path, index, glyphs, seconds, room):
         if got[0] == "ok":
             with open(out, "rb") as file:
                 data = file.read()
-        found[name] = {"answer": got, "peak": peak, "bytes": data, "least": None, "median": None}
+        held = asked(program, path, index, glyphs, 1)
+        found[name] = {"answer": got, "peak": peak, "asked": held, "bytes": data, "least": None, "median": None}
     for _ in range(3):
         for name, program in drivers.items():
             it = found[name]
@@ -209,14 +221,19 @@ def bytes_row(path, index, count, name, found):
 
 def time_row(path, index, name, found, idle):
     row = [label(path, index), name]
-    bound = (os.path.getsize(path) + 2 * len(found["original"]["bytes"])) // 1024
+    bound = os.path.getsize(path) + 2 * len(found["original"]["bytes"])
     for it in found.values():
         row += [it["least"] or "", it["median"] or ""]
     if "port" in found:
         least = [found[it]["least"] for it in ("port", "original")]
         row.append(f"{least[0] / least[1]:.2f}" if all(least) else "")
-    row += [found[it]["peak"] - idle[it] for it in found] + [bound]
+    row += [kibibytes(found[it]["asked"]) for it in found] + [kibibytes(bound)]
+    row += [found[it]["peak"] - idle[it] for it in found]
     return row
+
+
+def kibibytes(count):
+    return f"{count / 1024:.1f}"
 
 
 # ---- damaged copies
@@ -321,6 +338,8 @@ def install(packages):
 
 def build(original_only):
     subprocess.run([os.path.join(HERE, "assemble.py")], check=True)
+    counter = os.path.join(HERE, "peak.c")
+    subprocess.run(["gcc", "-O2", "-shared", "-fPIC", "-o", COUNTER, counter], check=True)
     flags = {**os.environ, "RUSTFLAGS": "-C target-cpu=x86-64-v2"}
     subprocess.run(["cargo", "build", "--release", "--offline", "--quiet"], cwd=os.path.join(HERE, "original"), env=flags, check=True)
     if not original_only:
@@ -355,7 +374,8 @@ def main():
     text += table(["Font", "Glyphs", "Set", "Original", "Bytes"] + (["Port"] if both else []), bytes_rows)
     text += "\n## Times in nanoseconds and memory in KiB\n\n"
     head = ["Font", "Set", "Original, least", "median"] + (["Port, least", "median", "Ratio"] if both else [])
-    head += ["Original, peak"] + (["Port, peak"] if both else []) + ["Source and twice the output"]
+    head += ["Original, held"] + (["Port, held"] if both else []) + ["Source and twice the output"]
+    head += ["Original, process"] + (["Port, process"] if both else [])
     text += table(head, time_rows)
     text += "\n## Damaged copies\n\n"
     rows = refusals(drivers, DAMAGED + (DAMAGED_CFF if given.cff else []), given.copies)
