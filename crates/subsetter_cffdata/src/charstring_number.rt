@@ -1,6 +1,6 @@
 //! The numbers of a charstring (Technical Note 5177, section 3.2 "Charstring Number Encoding").
 
-ghost use Rattle.std.specs.Prelude.{◌≡◌, Some, None, ◌≤◌, ◌<◌, ℕ, List, MatchOption};
+ghost use Rattle.std.specs.Prelude.{◌≡◌, Some, None, pos, ◌≤◌, ◌<◌, ℕ, List, MatchOption};
 ghost use Rattle.subsetter_cffdata.specs.declared.charstring_number.CharStringNumber.{CharStringNumber};
 ghost use Rattle.subsetter_cffdata.specs.CharStringNumber.{number_at, short_number, middle_number, fixed_number, written, whole_of, NumberFits, FitsIn, IsReadAgain};
 
@@ -17,7 +17,10 @@ pub enum CharStringNumber {
     Fixed(i32),
 }
 
+/// The whole number 0.
 impl Default for CharStringNumber {
+    ghost is_default = { λ x. x ≡ CharStringNumber.Integer (pos 0) };
+
     fn default() -> Self {
         CharStringNumber::Integer(0)
     }

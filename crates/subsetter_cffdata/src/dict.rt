@@ -22,7 +22,7 @@ pub struct DictionaryParser<'a> {
 }
 
 impl<'a> DictionaryParser<'a> {
-    ghost use Rattle.std.specs.Prelude.{ℕ, List, ◌≡◌, take, drop, map};
+    ghost use Rattle.std.specs.Prelude.{ℕ, List, ◌≡◌, take, drop, map, IfNone};
     ghost use Rattle.std.specs.Option.{option_map};
     ghost use Rattle.subsetter_cffdata.specs.Dict.{entry_at};
     ghost use Rattle.subsetter_cffdata.specs.Operands.{operands_at};
@@ -47,9 +47,10 @@ impl<'a> DictionaryParser<'a> {
         }
     }
 
-    /// Goes to the next entry, and answers its operator; None where no entry can be read.
+    /// Goes to the next entry, and answers its operator; None where no entry can be read, and so again at each further call.
     pub fn parse_next(&mut self) -> Option<Operator>
         ensures value { operator_part (entry_at (left self.old)) ≡ option_map (λ x. (operator_of x, left self.new)) result }
+        ensures none { IfNone result (left self.new ≡ left self.old) }
         ensures entry { entry_of self.new ≡ left self.old }
         ensures same { self.new.data.now ≡ self.old.data.now }
         ensures room { length self.new.operands.now ≡ length self.old.operands.now }
@@ -83,6 +84,7 @@ impl<'a> DictionaryParser<'a> {
     /// The entry's one string number; None where it has other operands.
     pub fn parse_sid(&mut self) -> Option<StringId>
         ensures value { option_map (λ s. s.0) result ≡ string_in self.old }
+        ensures entry { entry_of self.new ≡ entry_of self.old }
         ensures left { left self.new ≡ left self.old }
         ensures same { self.new.data.now ≡ self.old.data.now }
         ensures room { length self.new.operands.now ≡ length self.old.operands.now }
@@ -94,6 +96,7 @@ impl<'a> DictionaryParser<'a> {
     /// The entry's one offset; None where it has other operands.
     pub fn parse_offset(&mut self) -> Option<usize>
         ensures value { result ≡ offset_in self.old }
+        ensures entry { entry_of self.new ≡ entry_of self.old }
         ensures left { left self.new ≡ left self.old }
         ensures same { self.new.data.now ≡ self.old.data.now }
         ensures room { length self.new.operands.now ≡ length self.old.operands.now }
@@ -105,6 +108,7 @@ impl<'a> DictionaryParser<'a> {
     /// The entry's four numbers; None where it has other operands.
     pub fn parse_font_bbox(&mut self) -> Option<[Number; 4]>
         ensures value { option_map (map number_of) result ≡ numbers_in 4 self.old }
+        ensures entry { entry_of self.new ≡ entry_of self.old }
         ensures left { left self.new ≡ left self.old }
         ensures same { self.new.data.now ≡ self.old.data.now }
         ensures room { length self.new.operands.now ≡ length self.old.operands.now }
@@ -116,6 +120,7 @@ impl<'a> DictionaryParser<'a> {
     /// The entry's six numbers; None where it has other operands.
     pub fn parse_font_matrix(&mut self) -> Option<[Number; 6]>
         ensures value { option_map (map number_of) result ≡ numbers_in 6 self.old }
+        ensures entry { entry_of self.new ≡ entry_of self.old }
         ensures left { left self.new ≡ left self.old }
         ensures same { self.new.data.now ≡ self.old.data.now }
         ensures room { length self.new.operands.now ≡ length self.old.operands.now }
@@ -127,6 +132,7 @@ impl<'a> DictionaryParser<'a> {
     /// The entry's length and offset, as a range; None where it has other operands.
     pub fn parse_range(&mut self) -> Option<Range<usize>>
         ensures value { option_map (λ r. (r.start, r.end)) result ≡ range_in self.old }
+        ensures entry { entry_of self.new ≡ entry_of self.old }
         ensures left { left self.new ≡ left self.old }
         ensures same { self.new.data.now ≡ self.old.data.now }
         ensures room { length self.new.operands.now ≡ length self.old.operands.now }
