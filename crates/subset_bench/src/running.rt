@@ -10,6 +10,7 @@ use crate::line::Done;
 use crate::task::{Task, read_task};
 use crate::times::{Times, times_of};
 use std::alloc::Global;
+use std::fs::OpenFile;
 use std::io::Read;
 use std::rt::{Clock, Env, Files};
 use std::time::Instant;
