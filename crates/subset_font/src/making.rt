@@ -35,7 +35,12 @@ pub fn make<R: Read>(
     if reader.read_to_end(&mut font).is_err() {
         return Err(Failure::Read);
     }
-    let mapper = GlyphRemapper::new_from_glyphs(alloc, glyphs).map_err(Failure::Error)?;
-    let subset = subset(alloc, &font, index, &mapper).map_err(Failure::Error)?;
-    Ok((subset, mapper))
+    let mapper = match GlyphRemapper::new_from_glyphs(alloc, glyphs) {
+        Ok(mapper) => mapper,
+        Err(error) => return Err(Failure::Error(error)),
+    };
+    match subset(alloc, &font, index, &mapper) {
+        Ok(subset) => Ok((subset, mapper)),
+        Err(error) => Err(Failure::Error(error)),
+    }
 }

@@ -1,17 +1,16 @@
 -- What subsetting refuses has a fault of that name, and where it answers no fault stands.
-use Rattle.std.proofs.Common.{◌≡◌, ℕ, ◌+◌, ◌^◌, ◌<◌, ◌≤◌, ltb, Bool, true, false, cond, List, [], ◌∷◌, length, Option, Some, None, Result, Ok, Err, refl, sym, ap, subst, ◌∙◌, ◌⊎◌, arith, inl, inr}
+use Rattle.std.proofs.Common.{◌≡◌, ℕ, ◌^◌, ◌≤◌, ltb, Bool, true, false, cond, List, [], ◌∷◌, length, Option, Some, None, Ok, Err, refl, sym, ap, subst, ◌∙◌, ◌⊎◌, arith, inl, inr}
 use Rattle.std.specs.Prelude.{codes, is_some, IsSome, Contains}
 use Rattle.std.specs.List.{AllByRecursion}
 use Rattle.std.proofs.lemmas.Bool.{ltb-true, ltb-false}
 use Rattle.subsetter_base.specs.Bytes.{◌>>=◌, IsBytes}
 use Rattle.subsetter_base.specs.declared.error.Error.{Error}
-use Rattle.subsetter_base.specs.declared.error.Error.TheVariants.{MalformedFont, OverflowError, OutOfMemory, Unimplemented}
-use Rattle.subsetter.specs.declared.flavor.FontFlavor.{FontFlavor}
+use Rattle.subsetter_base.specs.declared.error.Error.TheVariants.{MalformedFont, OverflowError, OutOfMemory}
 use Rattle.subsetter.specs.declared.flavor.FontFlavor.TheVariants.{TrueType, Cff}
 use Rattle.subsetter.specs.Answered.{IsAnswered, IsRefused, no_memory, unread, unclosed, unmade, unlaid}
 use Rattle.subsetter.specs.Fault as faults
 use Rattle.subsetter.specs.Fault.{HasFault}
-use Rattle.subsetter.specs.Font.{Font, table, flavor}
+use Rattle.subsetter.specs.Font.{Font, table}
 use Rattle.subsetter.specs.Glyph.{Outlines, outlines}
 use Rattle.subsetter.specs.GlyphNameFault as name_faults
 use Rattle.subsetter.specs.GlyphNameFault.{HasOwnName, HasGlyphNameFault}
@@ -22,7 +21,6 @@ use Rattle.subsetter.specs.Metrics as metric_faults
 use Rattle.subsetter.specs.Metrics.{HasMetricsFault}
 use Rattle.subsetter.specs.MetricsWritten.{MetricBytes, metrics_of}
 use Rattle.subsetter.specs.NamesPlain.{name_of}
-use Rattle.subsetter.specs.OutlineFault.{HasOutlineFault}
 use Rattle.subsetter.specs.OpeningFault.{HasOpeningFault}
 use Rattle.subsetter.specs.Plain.{Made, located, made_of, laid, truetype_tables}
 use Rattle.subsetter.specs.PlainFile.{file_of}

@@ -1,24 +1,22 @@
 -- What the plain way to `post` answers keeps the names of the glyphs; what it refuses has a fault, and where it answers none stands.
-use Rattle.std.proofs.Common.{◌≡◌, ℕ, zero, suc, ◌+◌, ◌-◌, ◌*◌, ◌^◌, ◌<◌, ◌≤◌, Bool, true, false, cond, ltb, leb, eqb, List, [], ◌∷◌, ◌++◌, length, get_or, take, drop, Option, Some, None, Result, Ok, Err, refl, sym, ap, subst, ◌∙◌, ◌⊎◌, inl, inr, arith}
-use Rattle.std.specs.Prelude.{codes, map, Contains, nat_eq, slice_index, ◌≢◌}
+use Rattle.std.proofs.Common.{◌≡◌, ℕ, zero, suc, ◌+◌, ◌-◌, ◌*◌, ◌<◌, ◌≤◌, Bool, true, false, cond, ltb, leb, eqb, List, [], ◌∷◌, length, get_or, take, drop, Option, Some, None, Ok, Err, refl, sym, ap, subst, ◌∙◌, ◌⊎◌, inl, inr, arith}
+use Rattle.std.specs.Prelude.{codes, map, Contains, nat_eq, ◌≢◌}
 use Rattle.std.specs.Option.{option_and_then, option_map, ok_or}
 use Rattle.std.specs.List.{AllByRecursion, IsDistinct}
-use Rattle.std.specs.Set.{is_member}
-use Rattle.std.proofs.lemmas.Bool.{ltb-true, ltb-false, leb-true, leb-false, le-leb, lt-ltb, eqb-true}
+use Rattle.std.proofs.lemmas.Bool.{ltb-true, ltb-false, leb-true, leb-false, le-leb, eqb-true}
 use Rattle.std.proofs.lemmas.Bool.Decides.{Decides-eqb}
 use Rattle.std.proofs.lemmas.List.Recursion.{is_count_by}
 use Rattle.std.proofs.lemmas.Cmp.{nat_eq_equiv}
 use Rattle.std.proofs.lemmas.Map.Made.{length-le_from_is_member, is_member-Decides}
-use Rattle.std.proofs.lemmas.List.{length-map, get_or_default}
-use Rattle.subsetter_base.specs.Bytes.{be, range, number, IsBytes, ◌>>=◌}
-use Rattle.subsetter_base.specs.Items.{item}
+use Rattle.std.proofs.lemmas.List.{get_or_default}
+use Rattle.subsetter_base.specs.Bytes.{be, range, number, ◌>>=◌}
 use Rattle.subsetter_base.specs.Places.{IsWithoutRepeats}
 use Rattle.subsetter_base.specs.declared.error.Error.{Error}
 use Rattle.subsetter_base.specs.declared.error.Error.TheVariants.{MalformedFont, OverflowError}
 use Rattle.subsetter_base.proofs.GlyphLemmas.{IsDistinct-places}
 use Rattle.subsetter_base.proofs.ByteLemmas.{range-fits, range-length, range-take_drop}
 use Rattle.subsetter.specs.Names.{bytes_from}
-use Rattle.subsetter.specs.GlyphNames.{GlyphName, Standard, Custom, PostTable, names_in, post_parts, post_table, glyph_index, name_of_index, glyph_name, post_bytes, HasGlyphNames, KeepsGlyphNames, rewritten, copied}
+use Rattle.subsetter.specs.GlyphNames.{GlyphName, Standard, Custom, PostTable, names_in, post_parts, post_table, glyph_index, name_of_index, glyph_name, post_bytes}
 use Rattle.subsetter.specs.GlyphNamesPlain.{indexes_of, custom_count, post_of_indexes, subset_glyph_names, post_of_table, new_post, post_of}
 use Rattle.subsetter.specs.GlyphNameFault as faults
 use Rattle.subsetter.specs.GlyphNameFault.{HasOwnName, HasGlyphNameFault}

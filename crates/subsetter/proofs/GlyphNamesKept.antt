@@ -1,20 +1,19 @@
 -- A subset of `post` has the names of its glyphs.
-use Rattle.std.proofs.Common.{◌≡◌, ◌≢◌, ℕ, zero, suc, ◌+◌, ◌-◌, ◌*◌, ◌%◌, ◌<◌, ◌≤◌, Bool, true, false, cond, leb, ltb, eqb, List, [], ◌∷◌, ◌++◌, length, get_or, take, drop, Option, Some, None, Result, Ok, Err, refl, sym, ap, subst, ◌∙◌, append_assoc, arith}
+use Rattle.std.proofs.Common.{◌≡◌, ℕ, zero, suc, ◌+◌, ◌-◌, ◌*◌, ◌%◌, ◌<◌, ◌≤◌, Bool, true, false, cond, leb, ltb, eqb, List, [], ◌∷◌, ◌++◌, length, get_or, take, drop, Option, Some, None, Ok, Err, refl, sym, ap, subst, ◌∙◌, append_assoc, arith}
 use Rattle.std.specs.Prelude.{map, filter, flat_map, codes, slice_index}
 use Rattle.std.specs.Option.{option_and_then, option_map, ok_or}
 use Rattle.std.specs.List.{AllByRecursion}
 use Rattle.std.specs.Int.{w16, to_be_bytes}
 use Rattle.std.proofs.lemmas.Bool.{le-leb, leb-true, lt-ltb, le-ltb, ltb-true, ltb-false, leb-false, eqb-true, false≢true}
-use Rattle.std.proofs.lemmas.List.{append-nil, length-append, length-map, length-take, length-drop, take_at, drop_at, take-take, take-append-drop, take_rest}
+use Rattle.std.proofs.lemmas.List.{length-append, length-map, length-take, take_at, drop_at, take-take, take-append-drop, take_rest}
 use Rattle.std.proofs.lemmas.List.Sums.{length-filter}
 use Rattle.subsetter_base.specs.Bytes.{IsBytes, be, range, number, ◌>>=◌}
-use Rattle.subsetter_base.specs.Items.{Items, item}
-use Rattle.subsetter_base.specs.declared.error.Error.{Error}
+use Rattle.subsetter_base.specs.Items.{item}
 use Rattle.subsetter_base.specs.declared.error.Error.TheVariants.{MalformedFont, OverflowError}
 use Rattle.subsetter.specs.Names.{bytes_from}
-use Rattle.subsetter.specs.GlyphNames.{GlyphName, Standard, Custom, PostTable, pascal_strings, names_in, post_parts, post_table, glyph_index, name_of_index, glyph_name, pascal_bytes, index_bytes, entry_bytes, post_bytes, HasGlyphNames, KeepsGlyphNames, rewritten, copied}
+use Rattle.subsetter.specs.GlyphNames.{GlyphName, Standard, Custom, PostTable, pascal_strings, names_in, post_parts, post_table, glyph_index, name_of_index, index_bytes, entry_bytes, post_bytes, HasGlyphNames, KeepsGlyphNames, rewritten, copied}
 use Rattle.subsetter.specs.GlyphNamesPlain.{indexes_of, custom_count, post_of_indexes, subset_glyph_names, post_of_table, new_post, post_of}
-use Rattle.subsetter.proofs.NamesBack.{AllBytes, all_bytes, all_drop, be_u16, part_at, tail_at, There, there}
+use Rattle.subsetter.proofs.NamesBack.{AllBytes, all_bytes, all_drop, be_u16, part_at, tail_at, there}
 use Rattle.subsetter.proofs.NamesKept.{bind_ok, named, ok_is, found}
 use Rattle.subsetter.proofs.IndexLemmas.{first_name}
 

@@ -1,16 +1,16 @@
 -- The promises of `subset`: what is answered is a subset, what is refused has a fault, and a fault that is found before memory is taken is never answered by want of memory.
-use Rattle.std.proofs.Common.{◌≡◌, ℕ, ◌<◌, Bool, true, false, cond, List, [], ◌∷◌, length, Option, Some, None, Result, Ok, Err, refl, sym, ap, subst, ◌∙◌, ◌⊎◌, inl, inr, arith}
+use Rattle.std.proofs.Common.{◌≡◌, ℕ, ◌<◌, cond, List, [], ◌∷◌, length, Option, Some, None, Ok, Err, refl, sym, ap, subst, ◌∙◌, ◌⊎◌, inr, arith}
 use Rattle.std.specs.Prelude.{codes, is_some, IsSome, slice_get}
 use Rattle.std.specs.Option.{option_and_then}
 use Rattle.subsetter_base.specs.Bytes.{IsBytes}
 use Rattle.subsetter_base.specs.declared.error.Error.{Error}
-use Rattle.subsetter_base.specs.declared.error.Error.TheVariants.{UnknownKind, MalformedFont, Unimplemented, OutOfMemory}
+use Rattle.subsetter_base.specs.declared.error.Error.TheVariants.{UnknownKind, Unimplemented, OutOfMemory}
 use Rattle.subsetter.specs.declared.flavor.FontFlavor.{FontFlavor}
 use Rattle.subsetter.specs.declared.flavor.FontFlavor.TheVariants.{TrueType, Cff}
 use Rattle.subsetter.specs.Answered.{IsAnswered, IsRefused}
 use Rattle.subsetter.specs.Fault as faults
 use Rattle.subsetter.specs.Fault.{HasFault}
-use Rattle.subsetter.specs.Font.{Font, table, table_in, flavor, records}
+use Rattle.subsetter.specs.Font.{Font, table, table_in, flavor}
 use Rattle.subsetter.specs.Opened.{opened, flavored}
 use Rattle.subsetter.specs.OpeningFault.{HasOpeningFault, no_kind, no_entry, entry_outside, no_face, nested, cut_directory, no_outlines, lone_cff2}
 use Rattle.subsetter.proofs.FaultLaws.{Stands, has_fault, no_fault}

@@ -1,5 +1,5 @@
 -- Names and indexes of `post`.
-use Rattle.std.proofs.Common.{◌≡◌, ℕ, zero, suc, ◌+◌, ◌-◌, ◌<◌, ◌≤◌, Bool, true, false, cond, leb, ltb, List, [], ◌∷◌, ◌++◌, length, get_or, take, drop, Result, Ok, Err, refl, sym, ap, ◌∙◌, append_assoc, arith}
+use Rattle.std.proofs.Common.{◌≡◌, ℕ, zero, suc, ◌+◌, ◌-◌, ◌≤◌, Bool, true, false, cond, leb, ltb, List, [], ◌∷◌, ◌++◌, length, get_or, take, drop, Result, Ok, Err, refl, sym, ap, ◌∙◌, append_assoc, arith}
 use Rattle.std.specs.Prelude.{map, flat_map}
 use Rattle.std.specs.Int.{w16, to_be_bytes}
 use Rattle.std.proofs.lemmas.List.{length-drop, length-map, take_rest}
@@ -8,7 +8,7 @@ use Rattle.std.proofs.lemmas.Bool.{le-leb}
 use Rattle.subsetter_base.specs.Bytes.{◌>>=◌}
 use Rattle.subsetter_base.specs.declared.error.Error.{Error}
 use Rattle.subsetter_base.specs.declared.error.Error.TheVariants.{OverflowError}
-use Rattle.subsetter.specs.GlyphNames.{GlyphName, Standard, Custom, PostTable, pascal_strings, names_in, name_of_index, pascal_bytes, index_bytes, entry_bytes, post_bytes}
+use Rattle.subsetter.specs.GlyphNames.{Standard, Custom, PostTable, pascal_strings, names_in, name_of_index, pascal_bytes, index_bytes, entry_bytes, post_bytes}
 use Rattle.subsetter.specs.GlyphNamesPlain.{custom_count, new_indexes, entry_of, post_of_indexes}
 
 -- members in front of a list that is read

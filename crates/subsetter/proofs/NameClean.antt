@@ -1,19 +1,19 @@
 -- Where a subset of `name` is answered no fault stands.
-use Rattle.std.proofs.Common.{◌≡◌, ℕ, zero, suc, ◌+◌, ◌*◌, ◌<◌, ◌≤◌, Bool, true, false, cond, eqb, leb, drop, List, [], ◌∷◌, length, Option, Some, None, Result, Ok, Err, refl, sym, ap, subst, ◌∙◌, arith}
-use Rattle.std.specs.Prelude.{map, filter, filter_map, codes, Contains, slice_index_or}
+use Rattle.std.proofs.Common.{◌≡◌, ℕ, zero, suc, ◌+◌, ◌*◌, ◌<◌, ◌≤◌, Bool, true, false, cond, eqb, leb, drop, List, [], ◌∷◌, length, Option, Some, None, Ok, refl, sym, ap, subst, ◌∙◌, arith}
+use Rattle.std.specs.Prelude.{map, filter, codes, Contains, slice_index_or}
 use Rattle.std.specs.Option.{option_and_then, option_map, ok_or}
 use Rattle.std.specs.List.{AllByRecursion, cons_option}
-use Rattle.std.proofs.lemmas.Bool.{leb-true, eqb-true, false≢true}
+use Rattle.std.proofs.lemmas.Bool.{leb-true, eqb-true}
 use Rattle.std.proofs.lemmas.List.{length-map}
 use Rattle.subsetter_base.specs.Bytes.{IsBytes, be, range, number, ◌>>=◌}
 use Rattle.subsetter_base.specs.declared.error.Error.{Error}
 use Rattle.subsetter_base.specs.declared.error.Error.TheVariants.{MalformedFont}
 use Rattle.subsetter.specs.declared.name.NameRecord.{NameRecord}
-use Rattle.subsetter.specs.Names.{Name, NameTable, name_records_in, bytes_from, name_parts, name_table, name_records, string_of, name_bytes, is_kept_record, is_kept_name, with_strings, distinct, string_place}
-use Rattle.subsetter.specs.NamesPlain.{Placed, subset_names, name_of_table, new_name, name_of}
+use Rattle.subsetter.specs.Names.{Name, NameTable, name_records_in, bytes_from, name_parts, name_table, name_records, string_of, name_bytes, is_kept_record, is_kept_name, distinct, string_place}
+use Rattle.subsetter.specs.NamesPlain.{subset_names, name_of_table, new_name, name_of}
 use Rattle.subsetter.specs.NameFaults.{HasNameFault, kept_strings, name_without_version, name_header_cut, name_records_cut, name_storage_outside, name_string_outside, too_many_names, name_string_too_far}
-use Rattle.subsetter.proofs.NamesBack.{There, there, all_bytes, fits_kept}
-use Rattle.subsetter.proofs.NamesKept.{bind_ok, named, ok_is, found, kept_alike, Subsetted, subsetted, PlacedAs, placed_as, fit_table, has_kept_names, read_by_version}
+use Rattle.subsetter.proofs.NamesBack.{there, all_bytes, fits_kept}
+use Rattle.subsetter.proofs.NamesKept.{bind_ok, named, found, kept_alike, subsetted, placed_as, fit_table, has_kept_names, read_by_version}
 use Rattle.subsetter.proofs.NameRefusals.{names_of, records_are, readable, kept_strings_are, placed_length}
 
 number_there : (bytes : List ℕ) (at size n : ℕ) → number bytes at size ≡ Some n → at + size ≤ length bytes

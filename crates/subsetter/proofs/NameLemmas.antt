@@ -1,20 +1,18 @@
 -- Records and strings of `name`.
-use Rattle.std.proofs.Common.{◌≡◌, ℕ, zero, suc, ◌+◌, ◌-◌, ◌*◌, ◌/◌, ◌%◌, ◌^◌, ◌<◌, ◌≤◌, Bool, true, false, cond, leb, ltb, ◌||◌, List, [], ◌∷◌, ◌++◌, length, take, drop, Option, Some, None, Result, Ok, Err, refl, sym, ap, subst, ◌∙◌, append_assoc, arith}
-use Rattle.std.specs.Prelude.{map, flat_map}
+use Rattle.std.proofs.Common.{◌≡◌, ℕ, zero, suc, ◌+◌, ◌*◌, ◌/◌, ◌%◌, ◌<◌, ◌≤◌, Bool, true, false, cond, leb, ◌||◌, List, [], ◌∷◌, ◌++◌, length, take, drop, Option, Some, None, Ok, Err, refl, sym, ap, ◌∙◌, append_assoc, arith}
+use Rattle.std.specs.Prelude.{flat_map}
 use Rattle.std.specs.Option.{option_and_then, ok_or}
 use Rattle.std.specs.Int.{w16, to_be_bytes}
 use Rattle.std.specs.Str.{bytes_eq}
 use Rattle.std.specs.Borrow.{Bor}
-use Rattle.std.specs.HashMap.{HashMap, get_by, Updates}
-use Rattle.std.proofs.lemmas.Bool.{le-leb, leb-true, ltb-true, lt-ltb, le-ltb, false≢true}
+use Rattle.std.proofs.lemmas.Bool.{le-leb, lt-ltb, le-ltb, false≢true}
 use Rattle.std.proofs.lemmas.Slice.Eq.{bytes_eq-Decides}
-use Rattle.std.proofs.lemmas.Map.Text.{hash_map_updates_str}
 use Rattle.std.proofs.lemmas.List.{append-nil, length-append, length-drop, map-append, take-take, drop-take}
 use Rattle.std.proofs.lemmas.Grind.{flat_map-append}
 use Rattle.subsetter_base.specs.Items.{values_of}
 use Rattle.subsetter_base.specs.declared.error.Error.TheVariants.{SubsetError, MalformedFont}
 use Rattle.subsetter.specs.declared.name.NameRecord.{NameRecord}
-use Rattle.subsetter.specs.Names.{NameTable, name_parts, name_record_of, name_records_in, name_record_bytes, name_bytes, among, with_string, with_strings, string_place, joined}
+use Rattle.subsetter.specs.Names.{NameTable, name_parts, name_record_of, name_records_in, name_record_bytes, name_bytes, among, string_place, joined}
 use Rattle.subsetter.specs.NamesPlain.{placed_string}
 use Rattle.subsetter.specs.NamesSeen.{nows}
 

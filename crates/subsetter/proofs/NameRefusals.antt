@@ -1,11 +1,11 @@
 -- What a subset of `name` refuses has a fault of that name, and where it answers none stands.
-use Rattle.std.proofs.Common.{◌≡◌, ℕ, zero, suc, ◌+◌, ◌*◌, ◌<◌, ◌≤◌, Bool, true, false, cond, leb, ltb, eqb, List, [], ◌∷◌, ◌++◌, length, Option, Some, None, Result, Ok, Err, refl, sym, ap, subst, ◌∙◌, ◌⊎◌, inl, inr, arith}
+use Rattle.std.proofs.Common.{◌≡◌, ℕ, zero, suc, ◌+◌, ◌*◌, ◌<◌, ◌≤◌, Bool, true, false, cond, leb, ltb, eqb, List, [], ◌∷◌, length, Option, Some, None, Result, Ok, Err, refl, sym, ap, subst, ◌∙◌, ◌⊎◌, inl, inr, arith}
 use Rattle.std.specs.Prelude.{map, drop, filter, filter_map, slice_index_or, codes, Contains}
 use Rattle.std.specs.Option.{option_and_then, option_map, ok_or}
-use Rattle.std.specs.List.{AllByRecursion, cons_option}
-use Rattle.std.proofs.lemmas.Bool.{leb-true, leb-false, ltb-true, ltb-false, eqb-true, false≢true}
+use Rattle.std.specs.List.{cons_option}
+use Rattle.std.proofs.lemmas.Bool.{leb-false, ltb-false, eqb-true}
 use Rattle.std.proofs.lemmas.List.{length-map}
-use Rattle.subsetter_base.specs.Bytes.{IsBytes, be, range, number, ◌>>=◌}
+use Rattle.subsetter_base.specs.Bytes.{be, range, number, ◌>>=◌}
 use Rattle.subsetter_base.specs.declared.error.Error.{Error}
 use Rattle.subsetter_base.specs.declared.error.Error.TheVariants.{MalformedFont, SubsetError}
 use Rattle.subsetter.specs.declared.name.NameRecord.{NameRecord}

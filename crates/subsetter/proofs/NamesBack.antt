@@ -1,20 +1,15 @@
 -- Names that were written are read back.
-use Rattle.std.proofs.Common.{◌≡◌, ℕ, zero, suc, ◌+◌, ◌-◌, ◌*◌, ◌/◌, ◌%◌, ◌^◌, ◌<◌, ◌≤◌, Bool, true, false, cond, leb, ltb, ◌||◌, List, [], ◌∷◌, ◌++◌, length, take, drop, Option, Some, None, Result, Ok, Err, refl, sym, ap, subst, ◌∙◌, ◌⊎◌, inl, inr, append_assoc, arith}
-use Rattle.std.specs.Prelude.{map, filter, flat_map, slice_index}
-use Rattle.std.specs.Option.{option_and_then, option_map, ok_or}
+use Rattle.std.proofs.Common.{◌≡◌, ℕ, zero, suc, ◌+◌, ◌*◌, ◌<◌, ◌≤◌, Bool, true, false, cond, leb, List, [], ◌∷◌, ◌++◌, length, take, drop, Some, None, refl, sym, ap, ◌∙◌, arith}
+use Rattle.std.specs.Prelude.{filter, flat_map}
+use Rattle.std.specs.Option.{option_map}
 use Rattle.std.specs.List.{AllByRecursion}
-use Rattle.std.specs.Str.{bytes_eq}
 use Rattle.std.specs.Int.{w16, to_be_bytes}
-use Rattle.std.proofs.lemmas.Bool.{le-leb, leb-true, ltb-true, ltb-false, leb-false, false≢true}
+use Rattle.std.proofs.lemmas.Bool.{le-leb, leb-true, leb-false}
 use Rattle.std.proofs.lemmas.Nat.{from_be_bytes-to_be_bytes_2}
-use Rattle.std.proofs.lemmas.List.{append-nil, take_at, drop_at, length-append, length-take, length-drop}
-use Rattle.subsetter_base.specs.Bytes.{IsBytes, be, range, number, ◌>>=◌}
-use Rattle.subsetter_base.specs.declared.error.Error.{Error}
-use Rattle.subsetter_base.specs.declared.error.Error.TheVariants.{SubsetError}
+use Rattle.std.proofs.lemmas.List.{take_at, drop_at, length-append, length-take, length-drop}
+use Rattle.subsetter_base.specs.Bytes.{IsBytes, be, range, number}
 use Rattle.subsetter.specs.declared.name.NameRecord.{NameRecord}
-use Rattle.subsetter.specs.Names.{Name, NameTable, name_record_of, name_records_in, name_parts, name_table, bytes_from, string_of, name_of_record, name_record_bytes, name_bytes, is_kept_record, is_kept_name, among, with_string, with_strings, string_place, joined}
-use Rattle.subsetter.specs.NamesPlain.{Placed, placed, placed_string, with_name}
-use Rattle.subsetter.proofs.NameLemmas.{same_bytes, eq_self, among-append, place_before, place_behind, place_new}
+use Rattle.subsetter.specs.Names.{name_record_of, name_records_in, name_table, bytes_from, name_record_bytes, name_bytes, is_kept_record}
 
 -- ---- bytes, numbers and ranges
 

@@ -1,19 +1,19 @@
 -- A subset of `name` has the kept names.
-use Rattle.std.proofs.Common.{◌≡◌, ◌≢◌, ℕ, zero, suc, ◌+◌, ◌*◌, ◌<◌, ◌≤◌, Bool, true, false, cond, leb, ltb, eqb, ◌||◌, List, [], ◌∷◌, ◌++◌, length, take, drop, Option, Some, None, Result, Ok, Err, refl, sym, ap, subst, ◌∙◌, append_assoc, arith}
+use Rattle.std.proofs.Common.{◌≡◌, ℕ, suc, ◌+◌, ◌*◌, ◌<◌, ◌≤◌, Bool, true, false, cond, leb, ltb, eqb, ◌||◌, List, [], ◌∷◌, ◌++◌, length, drop, Option, Some, None, Result, Ok, Err, refl, sym, ap, subst, ◌∙◌, append_assoc, arith}
 use Rattle.std.specs.Prelude.{map, filter, codes}
 use Rattle.std.specs.Option.{option_and_then, option_map, ok_or}
 use Rattle.std.specs.List.{AllByRecursion}
 use Rattle.std.specs.Str.{bytes_eq}
-use Rattle.std.proofs.lemmas.Bool.{leb-true, ltb-true, eqb-true, false≢true}
-use Rattle.std.proofs.lemmas.List.{append-nil, length-append, length-map}
+use Rattle.std.proofs.lemmas.Bool.{leb-true, ltb-true, false≢true}
+use Rattle.std.proofs.lemmas.List.{append-nil, length-append}
 use Rattle.subsetter_base.specs.Bytes.{IsBytes, range, number, ◌>>=◌}
 use Rattle.subsetter_base.specs.declared.error.Error.{Error}
 use Rattle.subsetter_base.specs.declared.error.Error.TheVariants.{MalformedFont, SubsetError}
 use Rattle.subsetter.specs.declared.name.NameRecord.{NameRecord}
-use Rattle.subsetter.specs.Names.{Name, NameTable, name_records_in, bytes_from, name_parts, name_table, name_records, name_storage, string_of, name_of_record, name_bytes, is_kept_record, is_kept_name, among, with_string, with_strings, distinct, string_place, joined, HasKeptNames, KeepsNames, rewritten, copied}
+use Rattle.subsetter.specs.Names.{Name, NameTable, name_records_in, bytes_from, name_parts, name_table, name_records, name_storage, string_of, name_of_record, name_bytes, is_kept_record, is_kept_name, among, with_string, with_strings, string_place, joined, HasKeptNames, KeepsNames, rewritten, copied}
 use Rattle.subsetter.specs.NamesPlain.{Placed, placed, placed_string, with_name, few_names, subset_names, name_of_table, new_name, name_of}
 use Rattle.subsetter.proofs.NameLemmas.{same_bytes, eq_self, among-append, place_before, place_behind, place_new}
-use Rattle.subsetter.proofs.NamesBack.{AllBytes, all_bytes, all_drop, all_take, part_at, There, there, FitsRecord, fit_records, fits_kept, IsBack, table_back}
+use Rattle.subsetter.proofs.NamesBack.{AllBytes, all_bytes, all_drop, all_take, part_at, there, FitsRecord, fit_records, fits_kept, table_back}
 
 -- ---- steps that answered
 

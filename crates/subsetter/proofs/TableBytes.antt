@@ -1,5 +1,5 @@
 -- The tables of a file of bytes are bytes.
-use Rattle.std.proofs.Common.{◌≡◌, ℕ, ◌*◌, List, length, Option, Some, None, ◌/◌}
+use Rattle.std.proofs.Common.{◌≡◌, ℕ, List, length, Option, Some, None, ◌/◌}
 use Rattle.std.specs.Option.{option_and_then}
 use Rattle.subsetter_base.specs.Bytes.{range, IsBytes}
 use Rattle.subsetter.specs.declared.face.TableRecord.{TableRecord}

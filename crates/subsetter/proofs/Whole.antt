@@ -1,7 +1,7 @@
 -- What subsetting answers is a subset.
-use Rattle.std.proofs.Common.{◌≡◌, ℕ, ◌+◌, ◌*◌, ◌^◌, ◌<◌, ◌≤◌, Bool, true, false, cond, List, [], ◌∷◌, ◌++◌, length, get_or, take, drop, Option, Some, None, Result, Ok, Err, refl, sym, ap, subst, ◌∙◌, arith, inl, inr, lit≤}
-use Rattle.std.specs.Prelude.{codes, is_some, IsSome, map, slice_range}
-use Rattle.std.specs.Option.{option_and_then, option_map}
+use Rattle.std.proofs.Common.{◌≡◌, ℕ, ◌+◌, ◌*◌, ◌^◌, ◌<◌, ◌≤◌, true, false, cond, List, [], ◌∷◌, ◌++◌, length, get_or, Option, Some, None, Ok, refl, sym, ap, subst, ◌∙◌, arith, inl}
+use Rattle.std.specs.Prelude.{codes, is_some, IsSome}
+use Rattle.std.specs.Option.{option_map}
 use Rattle.std.specs.List.{AllByRecursion}
 use Rattle.std.specs.Str.{bytes_eq}
 use Rattle.subsetter_base.specs.Bytes.{IsBytes}
@@ -9,7 +9,7 @@ use Rattle.subsetter_base.specs.declared.error.Error.{Error}
 use Rattle.subsetter_base.specs.declared.error.Error.TheVariants.{MalformedFont}
 use Rattle.subsetter.specs.declared.flavor.FontFlavor.TheVariants.{TrueType}
 use Rattle.subsetter.specs.Answered.{IsAnswered}
-use Rattle.subsetter.specs.Container.{AscendFrom, IsSoundContainer}
+use Rattle.subsetter.specs.Container.{IsSoundContainer}
 use Rattle.subsetter.specs.Fault.{HasFault}
 use Rattle.subsetter.specs.Font.{Font, as_font, table}
 use Rattle.subsetter.specs.Glyph.{Outlines, outlines}
@@ -17,15 +17,14 @@ use Rattle.subsetter.specs.GlyphNames.{KeepsGlyphNames}
 use Rattle.subsetter.specs.Layout.{Table, IsTable, with_adjustment, fits, file, start_of}
 use Rattle.subsetter.specs.MaxProfile.{IsMaxProfile}
 use Rattle.subsetter.specs.Metrics.{KeepsMetrics}
-use Rattle.subsetter.specs.MetricsWritten.{MetricBytes, metrics_of}
+use Rattle.subsetter.specs.MetricsWritten.{MetricBytes}
 use Rattle.subsetter.specs.Names.{KeepsNames}
-use Rattle.subsetter.specs.Plain.{Made, made_of, laid, truetype_tables}
-use Rattle.subsetter.specs.PlainGlyph.{kept_all}
+use Rattle.subsetter.specs.Plain.{Made, laid}
 use Rattle.subsetter.specs.Reach.{IsGlyphOrder}
-use Rattle.subsetter.specs.Subset.{HasGlyphCount, KeepsHead, KeepsPrograms, KeepsTable, IsLaidOut, if_there, tags_of, IsSubset}
+use Rattle.subsetter.specs.Subset.{HasGlyphCount, KeepsHead, KeepsPrograms, KeepsTable, if_there, tags_of, IsSubset}
 use Rattle.subsetter.specs.Tables.{opt, lookup, tags}
 use Rattle.subsetter.specs.Unfold.{UnfoldAlike}
-use Rattle.subsetter.specs.Written.{is_long, glyf_bytes, loca_bytes, head_bytes}
+use Rattle.subsetter.specs.Written.{is_long, glyf_bytes, head_bytes}
 use Rattle.subsetter.proofs.ContainerLaws.{sound, table_of, head_of}
 use Rattle.subsetter.proofs.GlyphNamesKept.{keeps_post}
 use Rattle.subsetter.proofs.HeadLaws.{head_length, head_front, head_middle, head_end, outlines_afresh, head_room, head_zeros}
@@ -35,9 +34,9 @@ use Rattle.subsetter.proofs.LaidLaws
 use Rattle.subsetter.proofs.MaxProfileLaws.{is_max_profile}
 use Rattle.subsetter.proofs.MetricsLaws.{keeps_metrics}
 use Rattle.subsetter.proofs.NamesKept.{keeps_table}
-use Rattle.subsetter.proofs.OutlineFaults.{HasTables, has_tables, order_in}
+use Rattle.subsetter.proofs.OutlineFaults.{has_tables, order_in}
 use Rattle.subsetter.proofs.OutlinesBack.{AreWritten, entry_count}
-use Rattle.subsetter.proofs.ReadBack.{IsKind, word_of}
+use Rattle.subsetter.proofs.ReadBack.{word_of}
 use Rattle.subsetter.proofs.Steps.{MadeSteps, made_steps, tables_steps, file_steps, maxp_there, metrics_there, name_there, post_there, name_tables, glyph_name_tables}
 use Rattle.subsetter.proofs.TableBytes.{table_bytes}
 use Rattle.subsetter.proofs.UnfoldLaw.{unfolds_alike}

@@ -1,5 +1,5 @@
 -- A list of outlines of which some are borrowed and the others stand one after another, and one more behind them.
-use Rattle.std.proofs.Common.{◌≡◌, ◌≤◌, ◌+◌, ℕ, List, [], ◌∷◌, ◌++◌, length, take, drop, refl, sym, ap, ◌∙◌, arith}
+use Rattle.std.proofs.Common.{◌≡◌, ◌≤◌, ℕ, List, [], ◌∷◌, ◌++◌, length, take, drop, refl, ap, ◌∙◌, arith}
 use Rattle.std.proofs.lemmas.List.{take-append-le, drop-append-le, length-append, take_all}
 use Rattle.std.specs.Borrow.{Bor}
 use Rattle.subsetter.specs.NamesSeen.{nows}
@@ -55,7 +55,6 @@ length-woven ((y ∷ ys) ∷ kept) sizes bytes h = omega (arith, length-woven ke
 -- ---- the same over the lists after a call
 
 module _ (kept : List (Bor (List ℕ))) (sizes bytes : List ℕ) (before : AreWoven (nows kept) sizes bytes) (b : Bor (List ℕ)) where
-
   -- a borrowed one is put last
   pub kept_last : (after : List (Bor (List ℕ))) → IsFilled b.now → after ≡ kept ++ b ∷ [] → (AreWoven (nows after) sizes bytes) × (woven (nows after) sizes bytes ≡ woven (nows kept) sizes bytes ++ b.now ∷ [])
   kept_last after filled is = by b.now filled (ap nows is ∙ nows-push kept b)

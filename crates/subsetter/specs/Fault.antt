@@ -1,5 +1,5 @@
 -- What can stand against a subset, under the name of the error that it is answered by.
-use Rattle.std.specs.Prelude.{◌≡◌, ◌≤◌, ◌^◌, ℕ, List, length, codes, false, Some, Ok}
+use Rattle.std.specs.Prelude.{◌≡◌, ◌≤◌, ◌^◌, ℕ, List, length, false, Some, Ok}
 use Rattle.subsetter_base.specs.declared.error.Error.{Error}
 use Rattle.subsetter_base.specs.declared.error.Error.TheVariants.{OverflowError, Unimplemented}
 use Rattle.subsetter.specs.declared.flavor.FontFlavor.TheVariants.{Cff}

@@ -1,5 +1,4 @@
 -- What the code's parts of a new font stand for.
-use Rattle.std.specs.Prelude.{ℕ, List}
 use Rattle.std.specs.Option.{option_map}
 use Rattle.std.specs.Cow.{cow_slice_items}
 use Rattle.subsetter.specs.declared.truetype.Made.{Made as MadeTables}

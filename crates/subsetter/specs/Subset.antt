@@ -1,5 +1,5 @@
 -- What a subset of a font is.
-use Rattle.std.specs.Prelude.{◌≡◌, ℕ, ◌+◌, ◌*◌, ◌<◌, List, [], ◌∷◌, ◌++◌, length, take, drop, slice_range, slice_index, codes, Option, Some, None, Ok, IsSome, is_some, if◌then◌else◌}
+use Rattle.std.specs.Prelude.{◌≡◌, ℕ, ◌+◌, ◌*◌, ◌<◌, List, [], ◌∷◌, ◌++◌, length, take, drop, slice_range, slice_index, codes, Option, Some, Ok, IsSome, is_some, if◌then◌else◌}
 use Rattle.subsetter.specs.declared.flavor.FontFlavor.TheVariants.{TrueType}
 use Rattle.subsetter.specs.Container.{IsSoundContainer}
 use Rattle.subsetter.specs.Font.{Font, as_font, table}

@@ -3,7 +3,7 @@ use Rattle.std.specs.Prelude.{◌≡◌, ℕ, zero, suc, Bool, List, [], ◌∷�
 use Rattle.subsetter_base.specs.Bytes.{aligned}
 use Rattle.subsetter.specs.Font.{Font}
 use Rattle.subsetter.specs.Glyph.{Outlines, outlines}
-use Rattle.subsetter.specs.Parts.{Component, Chain, Parts, Empty, Simple, Composite, glyph_parts}
+use Rattle.subsetter.specs.Parts.{Component, Parts, Empty, Simple, Composite, glyph_parts}
 
 -- in the short format of loca an outline has even length: one zero byte goes behind an odd one
 abbrev pub padded : Bool → List ℕ → List ℕ

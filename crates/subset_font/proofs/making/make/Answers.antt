@@ -1,6 +1,5 @@
 use Rattle.std.proofs.Common.{◌≡◌, ◌⊎◌, inl, inr, ℕ, false, List, [], ◌∷◌, ◌++◌, Option, Some, None, Result, Ok, Err, refl, sym, ap, subst, ◌∙◌}
 use Rattle.std.specs.Prelude.{IfSome, OnOk, is_err}
-use Rattle.std.proofs.lemmas.Result.{err_from_is_err_and}
 use Rattle.subsetter_base.specs.declared.error.Error.{Error as Refusal}
 use Rattle.subsetter_base.specs.declared.error.Error.TheVariants.{OutOfMemory}
 use Rattle.subsetter_base.specs.Places.{with_glyphs}
@@ -31,23 +30,22 @@ refused known index glyphs mapper bytes items front why h e b m (inl k) = inr (i
 refused known index glyphs mapper bytes items front why h e b m (inr f) =
     inr (inr (why, refl, inr (all_read known items front (IsFaulty index (with_glyphs (0 ∷ []) glyphs) why) h e (subst (λ (list : List ℕ). IsFaulty index list why items) m (subst (IsFaulty index mapper why) b f)))))
 
-pub returns-clause-font : goal.returns-clause-font
-returns-clause-font g c =
+pub returns-in-Ok-subset-clause-font : goal.returns-in-Ok-subset-clause-font
+returns-in-Ok-subset-clause-font g c =
     let there = succeeded c.read_to_end.result _ (sym c.is_err.ensures.value ∙ c.if-is_err.false) c.read_to_end.ensures.bytes in
-    let P : List ℕ → Type 0 = λ bytes. IsSubset (record { bytes = bytes; index = c.args.index }) c.in_ok-mapper.mapper c.in_ok-subset.subset.items in
-    all_read (g.R.Read.remaining c.args.reader.now) c.read_to_end.new.buf.items c.new-font.result.items P there c.new-font.ensures.items (subst P c.deref.ensures.value c.in_ok-subset.ensures.ok)
+    let P : List ℕ → Type 0 = λ bytes. IsSubset (record { bytes = bytes; index = c.args.index }) c.in-Ok.mapper c.in-Ok-subset.subset.items in
+    all_read (g.R.Read.remaining c.args.reader.now) c.read_to_end.new.buf.items c.new-font.result.items P there c.new-font.ensures.items (subst P c.deref.ensures.value c.in-Ok-subset.ensures.ok)
 
-pub returns-clause-clean : goal.returns-clause-clean
-returns-clause-clean g c =
+pub returns-in-Ok-subset-clause-clean : goal.returns-in-Ok-subset-clause-clean
+returns-in-Ok-subset-clause-clean g c =
     let there = succeeded c.read_to_end.result _ (sym c.is_err.ensures.value ∙ c.if-is_err.false) c.read_to_end.ensures.bytes in
-    let P : List ℕ → Type 0 = λ bytes. IsFaultless (record { bytes = bytes; index = c.args.index }) c.in_ok-mapper.mapper c.in_ok-subset.subset.items in
-    all_read (g.R.Read.remaining c.args.reader.now) c.read_to_end.new.buf.items c.new-font.result.items P there c.new-font.ensures.items (subst P c.deref.ensures.value c.in_ok-subset.ensures.clean)
+    let P : List ℕ → Type 0 = λ bytes. IsFaultless (record { bytes = bytes; index = c.args.index }) c.in-Ok.mapper c.in-Ok-subset.subset.items in
+    all_read (g.R.Read.remaining c.args.reader.now) c.read_to_end.new.buf.items c.new-font.result.items P there c.new-font.ensures.items (subst P c.deref.ensures.value c.in-Ok-subset.ensures.clean)
 
-pub returns-clause-end : goal.returns-clause-end
-returns-clause-end g c = succeeded c.read_to_end.result _ (sym c.is_err.ensures.value ∙ c.if-is_err.false) c.read_to_end.ensures.end
+pub returns-in-Ok-subset-clause-end : goal.returns-in-Ok-subset-clause-end
+returns-in-Ok-subset-clause-end g c = succeeded c.read_to_end.result _ (sym c.is_err.ensures.value ∙ c.if-is_err.false) c.read_to_end.ensures.end
 
-pub returns-in_err-subset-clause-err : goal.returns-in_err-subset-clause-err
-returns-in_err-subset-clause-err g c =
+pub returns-clause-err : goal.returns-clause-err
+returns-clause-err g c =
     let there = succeeded c.read_to_end.result _ (sym c.is_err.ensures.value ∙ c.if-is_err.false) c.read_to_end.ensures.bytes in
-    let p = err_from_is_err_and c.from_residual-in_err-subset.result c.from_residual-in_err-subset.ensures.1 in
-    rw (p.1, p.2) (refused (g.R.Read.remaining c.args.reader.now) c.args.index c.args.glyphs.now c.in_ok-mapper.mapper c.deref.result.now c.read_to_end.new.buf.items c.new-font.result.items c.in_err-subset.field-0.0 there c.new-font.ensures.items c.deref.ensures.value c.in_ok-mapper.ensures.ok c.in_err-subset.ensures.err)
+    refused (g.R.Read.remaining c.args.reader.now) c.args.index c.args.glyphs.now c.in-Ok.mapper c.deref.result.now c.read_to_end.new.buf.items c.new-font.result.items c.in-Err-subset.error there c.new-font.ensures.items c.deref.ensures.value c.in-Ok.ensures.ok c.in-Err-subset.ensures.err

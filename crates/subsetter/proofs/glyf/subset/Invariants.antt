@@ -1,4 +1,4 @@
-use Rattle.std.proofs.Common.{◌≡◌, map}
+use Rattle.std.proofs.Common.{◌≡◌}
 use Rattle.subsetter.specs.Outlines.{seen}
 use Rattle.subsetter.specs.PlainGlyph.{kept_all}
 use Rattle.subsetter.proofs.KeptLemmas.{with_front}

@@ -1,4 +1,4 @@
-use Rattle.std.proofs.Common.{◌≡◌, ◌+◌, ◌≤◌, drop, map}
+use Rattle.std.proofs.Common.{◌≡◌, ◌+◌, ◌≤◌}
 use Rattle.subsetter.specs.Written.{even_size}
 use Rattle.subsetter.proofs.loca.is_long.Given as goal
 

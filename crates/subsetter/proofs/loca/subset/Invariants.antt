@@ -1,4 +1,4 @@
-use Rattle.std.proofs.Common.{◌≡◌, ◌+◌, ◌++◌, length, drop, map}
+use Rattle.std.proofs.Common.{◌≡◌, ◌+◌, ◌++◌, length}
 use Rattle.subsetter.specs.Written.{glyf_bytes, loca_bytes}
 use Rattle.subsetter.proofs.loca.subset.Given as goal
 

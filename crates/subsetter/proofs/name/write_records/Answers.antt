@@ -1,7 +1,6 @@
-use Rattle.std.proofs.Common.{◌+◌, ◌∷◌, ◌++◌, List, get_or, ap, ◌∙◌, sym, drop}
+use Rattle.std.proofs.Common.{◌+◌, ◌++◌, List, get_or, ap, ◌∙◌, sym, drop}
 use Rattle.std.specs.Prelude.{flat_map}
 use Rattle.std.proofs.lemmas.List.{drop_more}
-use Rattle.std.proofs.lemmas.List.Concat.{flat_map-cons}
 use Rattle.subsetter.specs.declared.name.NameRecord.{NameRecord}
 use Rattle.subsetter.specs.Names.{name_record_bytes}
 use Rattle.subsetter.proofs.NameLemmas.{one_more_record}

@@ -1,4 +1,4 @@
-use Rattle.std.proofs.Common.{◌≡◌, ◌+◌, ◌<◌, ◌%◌, ◌^◌, drop, map}
+use Rattle.std.proofs.Common.{◌≡◌, ◌+◌, ◌<◌, ◌%◌, ◌^◌}
 use Rattle.subsetter.specs.Weights.{weighed}
 use Rattle.subsetter.specs.Written.{glyf_bytes}
 use Rattle.subsetter.proofs.outlines.outlines_checksum.Given as goal

@@ -1,4 +1,4 @@
-use Rattle.std.proofs.Common.{◌≡◌, ◌+◌, drop, length, map}
+use Rattle.std.proofs.Common.{◌≡◌, ◌+◌, length}
 use Rattle.subsetter.specs.Written.{glyf_bytes}
 use Rattle.subsetter.proofs.outlines.outlines_len.Given as goal
 

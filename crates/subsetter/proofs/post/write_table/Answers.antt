@@ -1,4 +1,4 @@
-use Rattle.std.proofs.Common.{List, ℕ, ◌++◌, refl, ap, ◌∙◌, arith}
+use Rattle.std.proofs.Common.{List, ℕ, ◌++◌, ap, ◌∙◌, arith}
 use Rattle.subsetter.specs.GlyphNamesPlain.{seen_post}
 use Rattle.subsetter.proofs.IndexLemmas.{written}
 use Rattle.subsetter.proofs.post.write_table.Goals as goal

@@ -1,8 +1,7 @@
-use Rattle.std.proofs.Common.{◌≡◌, ℕ, List, Option, length, ap, sym, ◌∙◌, arith}
+use Rattle.std.proofs.Common.{ℕ, List, Option, ap, ◌∙◌, arith}
 use Rattle.std.proofs.lemmas.Result.{err_from_is_err_and}
 use Rattle.subsetter.specs.Answered.{IsAnswered, IsRefused, no_memory, unread, unclosed}
 use Rattle.subsetter.specs.Font.{table_in}
-use Rattle.subsetter.specs.Layout.{Table}
 use Rattle.subsetter.specs.Outlines.{seen}
 use Rattle.subsetter.specs.PlainFile.{file_of}
 use Rattle.subsetter.specs.PlainSeen.{made_seen}

@@ -1,4 +1,4 @@
-use Rattle.std.proofs.Common.{arith, map, length, ◌^◌, ◌<◌, inl, inr}
+use Rattle.std.proofs.Common.{arith, length, ◌^◌, ◌<◌, inl, inr}
 use Rattle.std.proofs.lemmas.Bool.{cases_lt}
 use Rattle.subsetter.specs.Written.{glyf_bytes}
 use Rattle.subsetter.proofs.OutlinesBack.{loca_room}

@@ -1,9 +1,8 @@
-use Rattle.std.proofs.Common.{◌≡◌, ◌+◌, [], ◌∷◌, ◌++◌, cond, false, length, ap, sym, ◌∙◌, Some, None, Ok, Err, List, ℕ, arith}
+use Rattle.std.proofs.Common.{◌≡◌, ◌+◌, [], ◌∷◌, ◌++◌, cond, false, length, ap, sym, ◌∙◌, Some, List, ℕ, arith}
 use Rattle.std.specs.HashMap.{get}
 use Rattle.std.specs.Str.{bytes_eq}
 use Rattle.std.proofs.lemmas.Slice.{pushed}
-use Rattle.subsetter_base.specs.declared.error.Error.TheVariants.{SubsetError}
-use Rattle.subsetter.specs.Names.{among, string_place, joined}
+use Rattle.subsetter.specs.Names.{among}
 use Rattle.subsetter.specs.NamesSeen.{nows}
 use Rattle.subsetter.proofs.NameLemmas.{is_new, place_new, places_more, nows-push, joined-push, fits_16, too_far}
 use Rattle.subsetter.proofs.name.Strings.place.Goals as goal

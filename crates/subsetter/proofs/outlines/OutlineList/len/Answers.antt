@@ -1,5 +1,4 @@
 use Rattle.std.proofs.Common.{length, ap, sym, ◌∙◌}
-use Rattle.std.specs.Borrow.{Bor}
 use Rattle.std.proofs.lemmas.List.{length-map}
 use Rattle.subsetter.specs.NamesSeen.{nows}
 use Rattle.subsetter.proofs.WovenLemmas.{length-woven}

@@ -7,16 +7,16 @@ pub invariant_of-self-2 : goal.invariant_of-self-2
 invariant_of-self-2 c =
     let o = c.args.outline.now in
     let all = made_last c.self.inside.kept.items c.self.inside.sizes.items c.self.inside.made.items c.self.invariant _ c.push.new.self.items c.push-2.new.self.items c.extend_from_slice.new.self.items o refl
-        (pushed (_ ∷ []) c.reserve.ensures.items c.unwrap.ensures c.push.ensures.items)
-        (pushed (length o ∷ []) c.reserve-2.ensures.items c.unwrap-2.ensures c.push-2.ensures.items)
-        (pushed o c.reserve-3.ensures.items c.unwrap-3.ensures c.extend_from_slice.ensures.items) in
+    (pushed (_ ∷ []) c.reserve.ensures.items c.unwrap.ensures c.push.ensures.items)
+    (pushed (length o ∷ []) c.reserve-2.ensures.items c.unwrap-2.ensures c.push-2.ensures.items)
+    (pushed o c.reserve-3.ensures.items c.unwrap-3.ensures c.extend_from_slice.ensures.items) in
     all.0
 
 pub returns-clause-ok : goal.returns-clause-ok
 returns-clause-ok c =
     let o = c.args.outline.now in
     let all = made_last c.self.inside.kept.items c.self.inside.sizes.items c.self.inside.made.items c.self.invariant _ c.push.new.self.items c.push-2.new.self.items c.extend_from_slice.new.self.items o refl
-        (pushed (_ ∷ []) c.reserve.ensures.items c.unwrap.ensures c.push.ensures.items)
-        (pushed (length o ∷ []) c.reserve-2.ensures.items c.unwrap-2.ensures c.push-2.ensures.items)
-        (pushed o c.reserve-3.ensures.items c.unwrap-3.ensures c.extend_from_slice.ensures.items) in
+    (pushed (_ ∷ []) c.reserve.ensures.items c.unwrap.ensures c.push.ensures.items)
+    (pushed (length o ∷ []) c.reserve-2.ensures.items c.unwrap-2.ensures c.push-2.ensures.items)
+    (pushed o c.reserve-3.ensures.items c.unwrap-3.ensures c.extend_from_slice.ensures.items) in
     all.1 ∙ ap (λ (l : List (List ℕ)). l ++ o ∷ []) c.self.view_is

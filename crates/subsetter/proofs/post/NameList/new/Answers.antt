@@ -1,4 +1,4 @@
-use Rattle.std.proofs.Common.{ap, sym, ◌∙◌}
+use Rattle.std.proofs.Common.{ap, ◌∙◌}
 use Rattle.subsetter.specs.GlyphNames.{names_in}
 use Rattle.subsetter.proofs.NameMarkLemmas.{mark_last, mark_more}
 use Rattle.subsetter.proofs.post.NameList.new.Goals as goal
