@@ -55,11 +55,11 @@ fn measure<R: Clock>(
     Ok((times, last))
 }
 
-/// The bytes of a file. Room for as many as it has is taken at once.
+/// The bytes of a file. Room for them is taken at once, and for one more, so that the end is seen without a growth.
 fn read_font<R: Files + AllocGlobal>(rt: &R, name: &str) -> Result<Vec<u8>, Failure> {
     let mut file = fs::open(rt, name).map_err(|_| Failure::Read)?;
     let about = file.metadata().map_err(|_| Failure::Read)?;
-    let room = usize::try_from(about.len()).unwrap_or(0);
+    let room = usize::try_from(about.len()).unwrap_or(0).saturating_add(1);
     let mut font = Vec::with_capacity(rt.alloc(), room).map_err(|_| Failure::Memory)?;
     file.read_to_end(&mut font).map_err(|_| Failure::Read)?;
     Ok(font)
