@@ -133,7 +133,7 @@ def run(program, *words):
 
 
 def asked(program, *words):
-    """The most bytes that a run of a driver has asked of the allocator and not yet given back."""
+    """The most bytes in blocks of the allocator that a run of a driver holds at a time."""
     with tempfile.NamedTemporaryFile("r", prefix="compare-") as peak:
         env = {**os.environ, "LD_PRELOAD": COUNTER, "PEAK": peak.name}
         subprocess.run([program, *map(str, words)], stdout=subprocess.DEVNULL, env=env)
