@@ -19,7 +19,7 @@ kind_word Cff = 0x4F54544F
 -- the bytes of a table, which is whole or a list of outlines
 abbrev pub table_bytes : TableData → List ℕ
 table_bytes (Whole bytes) = cow_slice_items bytes
-table_bytes (Outlines outlines long) = glyf_bytes long outlines
+table_bytes (Outlines outlines long) = glyf_bytes long outlines.value
 
 -- a table by its tag and its bytes
 abbrev pub view : NewTable → Table

@@ -199,7 +199,7 @@ mod tests {
             NewTable {
                 tag: Tag::GLYF,
                 data: TableData::Outlines {
-                    outlines,
+                    outlines: Box::new(rt.alloc(), outlines)?,
                     long: false,
                 },
             },

@@ -20,7 +20,7 @@ pub enum TableData<'a> {
     Whole(CowSlice<'a, u8>),
     /// `glyf` as its outlines, in the long or the short format of `loca`.
     Outlines {
-        outlines: OutlineList<'a>,
+        outlines: Box<OutlineList<'a>>,
         long: bool,
     },
 }
@@ -97,7 +97,8 @@ impl<'a> Context<'a> {
         ensures ok { OnOk result (self.new ≡ self.old ++ record { tag = tag; «data» = «data».entry } ∷ []) }
         ensures err { IfErr result (λ e. e ≡ OutOfMemory) }
     {
-        self.tables.push(NewTable { tag, data })?;
+        self.tables.reserve_exact(1)?;
+        self.tables.push(NewTable { tag, data }).unwrap();
         Ok(())
     }
 
@@ -122,7 +123,7 @@ mod tests {
         let mut context = Context::new(rt.alloc());
         assert!(rt; context.tables().is_empty());
         let glyf = TableData::Outlines {
-            outlines,
+            outlines: Box::new(rt.alloc(), outlines)?,
             long: false,
         };
         context.push(Tag::GLYF, glyf)?;

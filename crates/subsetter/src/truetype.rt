@@ -141,7 +141,7 @@ pub fn fill<'a>(alloc: Global, face: &Face<'a>, made: Made<'a>) -> Result<Contex
     let (hhea, hmtx) = apart(made.metrics);
     push_kept(&mut context, Tag::CVT, face.table(Tag::CVT))?;
     push_kept(&mut context, Tag::FPGM, face.table(Tag::FPGM))?;
-    push_outlines(&mut context, made.outlines, made.long)?;
+    push_outlines(alloc, &mut context, made.outlines, made.long)?;
     push_made(&mut context, Tag::HEAD, Some(made.head))?;
     push_made(&mut context, Tag::HHEA, hhea)?;
     push_made(&mut context, Tag::HMTX, hmtx)?;
@@ -155,6 +155,7 @@ pub fn fill<'a>(alloc: Global, face: &Face<'a>, made: Made<'a>) -> Result<Contex
 
 /// Puts `glyf` last, as its outlines.
 fn push_outlines<'a>(
+    alloc: Global,
     context: &mut Context<'a>,
     outlines: OutlineList<'a>,
     long: bool,
@@ -163,5 +164,6 @@ fn push_outlines<'a>(
     ensures ok { OnOk result (views context.new ≡ views context.old ++ one (codes "glyf") (glyf_bytes (is_long outlines.entry) outlines.entry)) }
     ensures err { IfErr result (λ e. e ≡ OutOfMemory) }
 {
+    let outlines = Box::new(alloc, outlines)?;
     context.push(Tag::GLYF, TableData::Outlines { outlines, long })
 }
