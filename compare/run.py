@@ -12,9 +12,9 @@ Then it subsets each font of FONTS to 3, about 80, 2,000 and all glyphs by both,
 last gives 2,000 damaged copies to both. It prints two tables and writes them to compare/build/report.md:
     bytes     `same`, or the first place where the outputs differ and the table that it is in
     times     the least of all calls in nanoseconds, the port's as a part of the original's; the medians; the most bytes
-              that a run with one call held of the allocator at a time, in KiB (counted by peak.c; the source, the mapper
-              and the driver's own are among them), and the source plus twice the output; the peak of the process in
-              KiB above that of a run without a font (so with its code and its stack)
+              that a run with one call has asked of the allocator and not given back, in KiB above those of a run with
+              a font of no bytes (so without the driver's words and the mapper; counted by peak.c), and the source plus
+              twice the output; the peak of the process in KiB above that of a run without a font (so with its code)
     refusals  the answers of both on damaged copies, counted; for a pair that differs the intended difference that
               stands in the copy, or `not explained`, with examples
 --seconds S gives each driver about S seconds a case and round (0.3); --copies N takes N damaged copies (2000).
@@ -133,11 +133,20 @@ def run(program, *words):
 
 
 def asked(program, *words):
-    """The most bytes in blocks of the allocator that a run of a driver holds at a time."""
+    """The most bytes that a run of a driver has asked of the allocator and not given back."""
     with tempfile.NamedTemporaryFile("r", prefix="compare-") as peak:
         env = {**os.environ, "LD_PRELOAD": COUNTER, "PEAK": peak.name}
         subprocess.run([program, *map(str, words)], stdout=subprocess.DEVNULL, env=env)
         return int(peak.read().split()[-1])
+
+
+def asked_for_font(program, path, *words):
+    """The same, above those of a run with a font of no bytes, whose name is as long."""
+    with tempfile.TemporaryDirectory(prefix="c") as room:
+        empty = os.path.join(room, "x" * (len(path) - len(room) - 1))
+        with open(empty, "wb"):
+            pass
+        return asked(program, path, *words) - asked(program, empty, *words)
 
 
 def answer(line):
@@ -171,7 +180,7 @@ def case(drivers, path, index, glyphs, seconds, room):
         if got[0] == "ok":
             with open(out, "rb") as file:
                 data = file.read()
-        held = asked(program, path, index, glyphs, 1)
+        held = asked_for_font(program, path, index, glyphs, 1)
         found[name] = {"answer": got, "peak": peak, "asked": held, "bytes": data, "least": None, "median": None}
     for _ in range(3):
         for name, program in drivers.items():

@@ -135,7 +135,8 @@ pub fn read_task(alloc: Global, words: &[&str]) -> Result<Task, Failure>
     let index = number_of(index).ok_or(Failure::Usage)?;
     let count = calls_of(count).ok_or(Failure::Usage)?;
     let font = String::from_str(alloc, font).map_err(|_| Failure::Memory)?;
-    let glyphs = glyphs_of(alloc, glyphs)?;
+    let mut glyphs = glyphs_of(alloc, glyphs)?;
+    glyphs.shrink_to_fit();
     Ok(Task {
         font,
         index,

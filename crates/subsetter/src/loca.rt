@@ -46,7 +46,9 @@ pub fn subset(alloc: Global, outlines: &OutlineList<'_>, long: bool) -> Result<V
     ensures ok { IfOk result (λ v. v.items ≡ loca_bytes long 0 outlines.now) }
     ensures err { IfErr result (λ e. e ≡ OutOfMemory) }
 {
-    let mut w = Writer::with_capacity(alloc, outlines.len().saturating_add(1).saturating_mul(4))?;
+    let entry = if long { 4 } else { 2 };
+    let room = outlines.len().saturating_add(1).saturating_mul(entry);
+    let mut w = Writer::with_capacity(alloc, room)?;
     let mut offset: usize = 0;
     for outline in outlines.iter() {
         write_offset(&mut w, long, offset)?;
