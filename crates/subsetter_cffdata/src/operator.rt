@@ -35,7 +35,8 @@ impl Operator {
     pub const fn from_two_byte(b: u8) -> Self
         ensures { operator_of result ≡ 12 ∷ b ∷ [] }
     {
-        Self(OperatorType::TwoByteOperator([TWO_BYTE_OPERATOR_MARK, b]))
+        let bytes = [TWO_BYTE_OPERATOR_MARK, b];
+        Self(OperatorType::TwoByteOperator(bytes))
     }
 }
 
