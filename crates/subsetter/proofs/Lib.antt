@@ -17,7 +17,9 @@ pub mod OpeningLaws
 pub mod Lookups
 pub mod ContainerLaws
 pub mod IndexLemmas
+pub mod CountedLemmas
 pub mod NameMarkLemmas
+pub mod NameSteps
 pub mod MaxProfileLaws
 pub mod TableBytes
 pub mod LaidLaws

@@ -2,7 +2,7 @@
 use Rattle.std.specs.Prelude.{◌≡◌, ℕ, List, [], ◌∷◌, drop}
 use Rattle.subsetter.specs.GlyphNames.{names_in}
 
--- the bytes from every fourth name on
+-- the bytes from every eighth name on
 abbrev pub AreMarks : List (List ℕ) → List (List ℕ) → Type 0
 AreMarks names [] = Unit {0}
-AreMarks names (m ∷ marks) = (names_in m ≡ names) × AreMarks (drop 4 names) marks
+AreMarks names (m ∷ marks) = (names_in m ≡ names) × AreMarks (drop 8 names) marks

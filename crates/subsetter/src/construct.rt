@@ -6,6 +6,7 @@ ghost use Rattle.std.specs.List.{AllByRecursion};
 ghost use Rattle.subsetter_base.specs.Bytes.{aligned};
 ghost use Rattle.subsetter_base.specs.Gives.{Gives};
 ghost use Rattle.subsetter.specs.Layout.{selector, header_bytes, directory_bytes, record_bytes, body, adjusted, fits, file, start_of, IsTable};
+ghost use Rattle.subsetter.specs.Checksum.{checksum};
 ghost use Rattle.subsetter.specs.PlainFile.{file_of};
 ghost use Rattle.subsetter.specs.Tables.{view, views, kind_word};
 
@@ -79,33 +80,45 @@ fn write_header(out: &mut Vec<u8>, kind: u32, count: u16)
 }
 
 /// Writes the record of a table that stands at a place.
-fn write_record(out: &mut Vec<u8>, at: usize, len: usize, table: &NewTable<'_>)
+fn write_record(out: &mut Vec<u8>, at: usize, len: usize, sum: u32, table: &NewTable<'_>)
     requires at { at < 2 ^ 32 }
     requires len { (len ≡ length (view table.now).bytes) × (len < 2 ^ 32) }
+    requires sum { sum ≡ checksum (view table.now).bytes }
     requires room { length out.old.items + 16 ≤ vec_capacity out.old }
     ensures items { out.new.items ≡ out.old.items ++ record_bytes at (view table.now) }
     ensures capacity { vec_capacity out.old ≤ vec_capacity out.new }
 {
     put(out, table.tag.get());
-    put(out, &table.data.checksum().to_be_bytes());
+    put(out, &sum.to_be_bytes());
     put(out, &(at as u32).to_be_bytes());
     put(out, &(len as u32).to_be_bytes());
 }
 
-/// Writes the records of tables that stand from a place on.
-fn write_directory(out: &mut Vec<u8>, start: usize, tables: &[NewTable<'_>])
+/// Writes the records of tables that stand from a place on, and answers the checksum of all the tables.
+/// The checksums are taken of the tables as they were laid out.
+fn write_directory(out: &mut Vec<u8>, start: usize, tables: &[NewTable<'_>], laid: &[u8]) -> u32
     requires tables { AllByRecursion IsTable (views tables.now) }
     requires fit { fits start (views tables.now) ≡ true }
+    requires laid { laid.now ≡ body (views tables.now) }
     requires room { length out.old.items + 16 * length tables.now ≤ vec_capacity out.old }
     ensures items { out.new.items ≡ out.old.items ++ directory_bytes start (views tables.now) }
     ensures capacity { vec_capacity out.old ≤ vec_capacity out.new }
+    ensures sum { result ≡ checksum (body (views tables.now)) }
 {
     let mut at = start;
+    let mut sum: u32 = 0;
+    let mut rest = laid;
     for table in tables {
         let len = table.data.len();
-        write_record(out, at, len, table);
-        at += (len + 3) / 4 * 4;
+        let size = (len + 3) / 4 * 4;
+        let (bytes, behind) = rest.split_at(size);
+        let table_sum = checksum(bytes);
+        write_record(out, at, len, table_sum, table);
+        sum = sum.wrapping_add(table_sum);
+        rest = behind;
+        at += size;
     }
+    sum
 }
 
 /// Writes the tables, each with zeros up to a multiple of four.
@@ -147,21 +160,50 @@ fn adjust(out: &mut Vec<u8>, start: usize, word: u32, tables: &[NewTable<'_>])
     }
 }
 
-/// Lays out a file in room that its caller reserved. No memory is taken.
-pub fn construct(out: Vec<u8>, flavor: FontFlavor, tables: &[NewTable<'_>]) -> Vec<u8>
+/// Keeps room for what stands before the tables.
+fn skip_front(out: &mut Vec<u8>, count: usize)
+    requires few { count ≤ 252 }
+    requires room { length out.old.items + count ≤ vec_capacity out.old }
+    ensures count { length out.new.items ≡ length out.old.items + count }
+    ensures capacity { vec_capacity out.old ≤ vec_capacity out.new }
+{
+    put(out, &[0; 252][..count]);
+}
+
+/// Puts bytes in the place of as many from a place on.
+fn patch_bytes(out: &mut Vec<u8>, at: usize, bytes: &[u8])
+    requires { at + length bytes.now ≤ length out.old.items }
+    ensures { out.new.items ≡ take at out.old.items ++ bytes.now ++ drop (at + length bytes.now) out.old.items }
+{
+    out[at..at + bytes.len()].copy_from_slice(bytes);
+}
+
+/// Lays out a file in room that its caller reserved, also for what stands before the tables. No memory is taken.
+/// The tables are written first, so that their checksums are taken of one piece.
+pub fn construct(
+    out: Vec<u8>,
+    front: Vec<u8>,
+    flavor: FontFlavor,
+    tables: &[NewTable<'_>],
+) -> Vec<u8>
     requires few { length tables.now < 16 }
     requires tables { AllByRecursion IsTable (views tables.now) }
     requires fit { fits (start_of (views tables.now)) (views tables.now) ≡ true }
-    requires empty { out.items ≡ [] }
+    requires empty { (out.items ≡ []) × (front.items ≡ []) }
     requires room { length (file (kind_word flavor) (views tables.now)) ≤ vec_capacity out }
+    requires front_room { start_of (views tables.now) ≤ vec_capacity front }
     ensures { result.items ≡ file (kind_word flavor) (views tables.now) }
 {
     let mut out = out;
+    let mut front = front;
     let start = 12 + 16 * tables.len();
-    write_header(&mut out, flavor.kind(), tables.len() as u16);
-    write_directory(&mut out, start, tables);
+    skip_front(&mut out, start);
     write_body(&mut out, tables);
-    let sum = checksum(&out);
+    write_header(&mut front, flavor.kind(), tables.len() as u16);
+    let tables_sum = write_directory(&mut front, start, tables, &out[start..]);
+    patch_bytes(&mut out, 0, &front);
+    // Each table begins at a multiple of four, so the sum of the file is that of its parts.
+    let sum = checksum(&front).wrapping_add(tables_sum);
     adjust(&mut out, start, 0xB1B0AFBAu32.wrapping_sub(sum), tables);
     out
 }
@@ -176,8 +218,9 @@ pub fn finish(alloc: Global, flavor: FontFlavor, tables: &[NewTable<'_>]) -> Res
     match measured(tables) {
         None => Err(Error::OverflowError),
         Some(size) => {
+            let front = Vec::with_capacity(alloc, 12 + 16 * tables.len())?;
             let out = Vec::with_capacity(alloc, size)?;
-            Ok(construct(out, flavor, tables))
+            Ok(construct(out, front, flavor, tables))
         }
     }
 }

@@ -4,7 +4,7 @@ ghost use Rattle.std.specs.Prelude.{◌≡◌, ◌<◌, ◌^◌, ◌++◌, lengt
 ghost use Rattle.subsetter_base.specs.declared.error.Error.TheVariants.{OutOfMemory};
 ghost use Rattle.subsetter.specs.Written.{is_long, glyf_bytes, offset_bytes, loca_bytes};
 
-use crate::outlines::OutlineList;
+use crate::outlines::{OutlineList, outlines_len};
 use std::alloc::Global;
 use subsetter_base::Error;
 use subsetter_base::write::Writer;
@@ -13,18 +13,7 @@ use subsetter_base::write::Writer;
 pub fn is_long(outlines: &OutlineList<'_>) -> bool
     ensures { result ≡ is_long outlines.now }
 {
-    let mut size: usize = 0;
-    for outline in outlines.iter() {
-        let len = outline.len();
-        if len > 131_070 {
-            return true;
-        }
-        size += len + len % 2;
-        if size > 131_070 {
-            return true;
-        }
-    }
-    false
+    outlines_len(outlines, false) > 131_070
 }
 
 /// Writes an offset, or half of it.

@@ -25,18 +25,28 @@ pub struct OutlineList<'a> {
     sizes: Vec<usize>,
     /// The bytes of the outlines that were made.
     made: Vec<u8>,
+    /// How many bytes all outlines have.
+    size: usize,
+    /// How many bytes they have with each outline rounded up to even.
+    even_size: usize,
 }
 
 impl<'a> Model for OutlineList<'a> {
     ghost use Rattle.std.specs.Prelude.{ℕ, List};
     ghost use Rattle.subsetter.specs.NamesSeen.{nows};
-    ghost use Rattle.subsetter.specs.Woven.{woven, AreWoven};
+    ghost use Rattle.std.specs.Prelude.{true, false, length};
+    ghost use Rattle.subsetter.specs.Woven.{woven, AreWoven, IsCounted};
+    ghost use Rattle.subsetter.specs.Written.{glyf_bytes};
 
     ghost Value = { List (List ℕ) };
 
     ghost view = { λ o. woven (nows o.kept.items) o.sizes.items o.made.items };
 
-    ghost invariant = { λ o. AreWoven (nows o.kept.items) o.sizes.items o.made.items };
+    ghost invariant = { λ o. record {
+      parts : AreWoven (nows o.kept.items) o.sizes.items o.made.items;
+      counted : IsCounted o.size (length (glyf_bytes true (woven (nows o.kept.items) o.sizes.items o.made.items)));
+      even : IsCounted o.even_size (length (glyf_bytes false (woven (nows o.kept.items) o.sizes.items o.made.items)));
+    } };
 }
 
 impl<'a> OutlineList<'a> {
@@ -49,6 +59,8 @@ impl<'a> OutlineList<'a> {
             kept: Vec::with_capacity(alloc, count)?,
             sizes: Vec::new(alloc),
             made: Vec::new(alloc),
+            size: 0,
+            even_size: 0,
         })
     }
 
@@ -72,6 +84,8 @@ impl<'a> OutlineList<'a> {
             [] => self.push_made(outline),
             [_, ..] => {
                 self.kept.push(outline)?;
+                self.size = self.size.saturating_add(padded_len(outline, true));
+                self.even_size = self.even_size.saturating_add(padded_len(outline, false));
                 Ok(())
             }
         }
@@ -88,6 +102,8 @@ impl<'a> OutlineList<'a> {
         self.kept.push(&[]).unwrap();
         self.sizes.push(outline.len()).unwrap();
         self.made.extend_from_slice(outline).unwrap();
+        self.size = self.size.saturating_add(padded_len(outline, true));
+        self.even_size = self.even_size.saturating_add(padded_len(outline, false));
         Ok(())
     }
 
@@ -178,14 +194,11 @@ pub fn outlines_len(outlines: &OutlineList<'_>, long: bool) -> usize
     ensures exact { length (glyf_bytes long outlines.now) < 2 ^ 32 → result ≡ length (glyf_bytes long outlines.now) }
     ensures past { 2 ^ 32 ≤ length (glyf_bytes long outlines.now) → 2 ^ 32 ≤ result }
 {
-    let mut at = 0;
-    for outline in outlines.iter() {
-        if at > 0xffff_ffff {
-            return at;
-        }
-        at += padded_len(outline, long);
+    if long {
+        outlines.size
+    } else {
+        outlines.even_size
     }
-    at
 }
 
 /// The checksum of the outlines one after another.

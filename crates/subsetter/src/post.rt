@@ -1,6 +1,6 @@
 //! The names of glyphs.
 
-ghost use Rattle.std.specs.Prelude.{◌≡◌, ◌≤◌, ◌<◌, ◌+◌, ◌++◌, ℕ, [], length, drop, slice_index, get_or, flat_map, OnOk, IfOk, IfErr};
+ghost use Rattle.std.specs.Prelude.{◌≡◌, ◌≤◌, ◌<◌, ◌+◌, ◌++◌, ℕ, [], length, drop, slice_index, get_or, flat_map, OnOk, IfOk, IfErr, IfSome};
 ghost use Rattle.std.specs.Option.{option_copied, option_map};
 ghost use Rattle.std.specs.Cow.{cow_slice_items};
 ghost use Rattle.std.specs.Iterator.{YieldsFirstRef, item_count};
@@ -111,11 +111,42 @@ fn pass(names: &mut Names<'_>, count: usize)
     }
 }
 
+/// The bytes behind so many of eight names, where the eight have one length, so that one look at each length byte finds it out.
+fn behind_alike(bytes: &[u8], count: usize) -> Option<&[u8]>
+    requires { count ≤ 8 }
+    ensures { IfSome result (λ rest. names_in rest.now ≡ drop count (names_in bytes.now)) }
+{
+    let len = *bytes.first()?;
+    let step = usize::from(len) + 1;
+    if bytes.len() < 8 * step {
+        return None;
+    }
+    for place in 0..8 {
+        if bytes[place * step] != len {
+            return None;
+        }
+    }
+    Some(&bytes[count * step..])
+}
+
+/// Passes over names, soon where eight names are alike.
+fn skip(names: &mut Names<'_>, count: usize)
+    ensures { names_in names.new ≡ drop count (names_in names.old) }
+{
+    if count > 8 {
+        return pass(names, count);
+    }
+    match behind_alike(names.rest, count) {
+        Some(rest) => names.rest = rest,
+        None => pass(names, count),
+    }
+}
+
 /// Names by their numbers. They stand one behind another, so the places of some are kept.
 #[derive(Drop)]
 struct NameList<'a> {
     all: &'a [u8],
-    /// The bytes from every fourth name on, up to some number.
+    /// The bytes from every eighth name on, up to some number.
     marks: Vec<&'a [u8]>,
 }
 
@@ -138,11 +169,12 @@ impl<'a> NameList<'a> {
         ensures ok { IfOk result (λ list. list ≡ names_in all.now) }
         ensures err { IfErr result (λ e. e ≡ OutOfMemory) }
     {
-        let mut marks = Vec::with_capacity(alloc, limit / 4)?;
+        let count = limit / 8 + 1;
+        let mut marks = Vec::with_capacity(alloc, count)?;
         let mut names = Names { rest: all };
-        for _ in 0..limit / 4 {
+        for _ in 0..count {
             marks.push(names.rest)?;
-            pass(&mut names, 4);
+            skip(&mut names, 8);
         }
         Ok(Self { all, marks })
     }
@@ -151,8 +183,8 @@ impl<'a> NameList<'a> {
     fn from_mark(&self, number: usize) -> (Names<'a>, usize)
         ensures { drop result.1 (names_in result.0) ≡ drop number self.now }
     {
-        match self.marks.get(number / 4) {
-            Some(mark) => (Names { rest: *mark }, number % 4),
+        match self.marks.get(number / 8) {
+            Some(mark) => (Names { rest: *mark }, number % 8),
             None => (Names { rest: self.all }, number),
         }
     }
@@ -162,7 +194,7 @@ impl<'a> NameList<'a> {
         ensures { result.now ≡ get_or self.now number [] }
     {
         let (mut names, count) = self.from_mark(number);
-        pass(&mut names, count);
+        skip(&mut names, count);
         match names.next() {
             Some(name) => name,
             None => &[],

@@ -1,9 +1,10 @@
 //! The numbers of a charstring (Technical Note 5177, section 3.2 "Charstring Number Encoding").
 
-ghost use Rattle.std.specs.Prelude.{◌≡◌, Some, None, pos, ◌≤◌, ◌<◌, ℕ, List, MatchOption};
+ghost use Rattle.std.specs.Prelude.{◌≡◌, ◌++◌, ◌∷◌, [], OnOk, OnErr, Some, None, pos, ◌≤◌, ◌<◌, ℕ, List, MatchOption};
 ghost use Rattle.subsetter_cffdata.specs.declared.charstring_number.CharStringNumber.{CharStringNumber};
 ghost use Rattle.subsetter_cffdata.specs.CharStringNumber.{number_at, short_number, middle_number, fixed_number, written, whole_of, NumberFits, FitsIn, IsReadAgain};
 
+use std::alloc::AllocError;
 use std::marker::Model;
 use subsetter_base::error::Error;
 use subsetter_base::write::{Writeable, Writer};
@@ -45,6 +46,7 @@ impl Model for NumberBytes {
 
 impl NumberBytes {
     /// The bytes.
+    #[inline(always)]
     pub fn as_slice(&self) -> &[u8]
         ensures { result.now ≡ self.now }
     {
@@ -53,6 +55,7 @@ impl NumberBytes {
 }
 
 /// The number at the front, and the bytes after it; None where no number stands there or it is cut short.
+#[inline(always)]
 #[tactic(auto, unfolding(crate::specs::CharStringNumber::number_at))]
 pub fn read_number(bytes: &[u8]) -> Option<(CharStringNumber, &[u8])>
     ensures { MatchOption result (number_at bytes.now ≡ None) (λ r. number_at bytes.now ≡ Some (r.0, r.1.now)) }
@@ -70,6 +73,7 @@ pub fn read_number(bytes: &[u8]) -> Option<(CharStringNumber, &[u8])>
 }
 
 /// A whole number of two bytes.
+#[inline(always)]
 fn read_short(bytes: &[u8]) -> Option<(CharStringNumber, &[u8])>
     ensures { MatchOption result (short_number bytes.now ≡ None) (λ r. short_number bytes.now ≡ Some (r.0, r.1.now)) }
 {
@@ -83,6 +87,7 @@ fn read_short(bytes: &[u8]) -> Option<(CharStringNumber, &[u8])>
 }
 
 /// A whole number of the first byte and one more.
+#[inline(always)]
 fn read_middle(first: u8, bytes: &[u8]) -> Option<(CharStringNumber, &[u8])>
     requires low { 247 ≤ first }
     requires high { first < 255 }
@@ -102,6 +107,7 @@ fn read_middle(first: u8, bytes: &[u8]) -> Option<(CharStringNumber, &[u8])>
 }
 
 /// A number of 65536ths.
+#[inline(always)]
 fn read_fixed(bytes: &[u8]) -> Option<(CharStringNumber, &[u8])>
     ensures { MatchOption result (fixed_number bytes.now ≡ None) (λ r. fixed_number bytes.now ≡ Some (r.0, r.1.now)) }
 {
@@ -115,6 +121,7 @@ fn read_fixed(bytes: &[u8]) -> Option<(CharStringNumber, &[u8])>
 }
 
 /// The bytes of a whole number, in the shortest form.
+#[inline(always)]
 #[tactic(auto, unfolding(crate::specs::CharStringNumber::written))]
 fn integer_bytes(value: i16) -> NumberBytes
     ensures { result ≡ written (CharStringNumber.Integer value) }
@@ -142,6 +149,7 @@ fn integer_bytes(value: i16) -> NumberBytes
 }
 
 /// The bytes of a number of 65536ths.
+#[inline(always)]
 #[tactic(auto, unfolding(crate::specs::CharStringNumber::written))]
 fn fixed_bytes(value: i32) -> NumberBytes
     ensures { result ≡ written (CharStringNumber.Fixed value) }
@@ -159,8 +167,42 @@ fn fixed_bytes(value: i32) -> NumberBytes
     }
 }
 
+/// Writes a whole number behind these bytes, in the shortest form.
+#[inline(always)]
+#[tactic(auto, unfolding(crate::specs::CharStringNumber::written))]
+fn append_integer(bytes: &mut Vec<u8>, value: i16) -> Result<(), AllocError>
+    ensures ok { OnOk result (bytes.new.items ≡ bytes.old.items ++ written (CharStringNumber.Integer value)) }
+    ensures unchanged { OnErr result (bytes.new.items ≡ bytes.old.items) }
+{
+    if value >= -107 && value <= 107 {
+        bytes.push((value + 139) as u8)?;
+        return Ok(());
+    }
+    let size = value.unsigned_abs();
+    if size <= 1131 {
+        let above = size - 108;
+        let first = if value < 0 { 251 } else { 247 };
+        return bytes.extend_from_slice(&[(above / 256) as u8 + first, (above % 256) as u8]);
+    }
+    let bits = value.cast_unsigned();
+    bytes.extend_from_slice(&[28, (bits / 256) as u8, (bits % 256) as u8])
+}
+
 impl CharStringNumber {
+    /// Writes the number behind these bytes, in the shortest form.
+    #[inline(always)]
+    pub fn append(&self, bytes: &mut Vec<u8>) -> Result<(), AllocError>
+        ensures ok { OnOk result (bytes.new.items ≡ bytes.old.items ++ written self.now) }
+        ensures unchanged { OnErr result (bytes.new.items ≡ bytes.old.items) }
+    {
+        match *self {
+            CharStringNumber::Integer(value) => append_integer(bytes, value),
+            CharStringNumber::Fixed(value) => bytes.extend_from_slice(fixed_bytes(value).as_slice()),
+        }
+    }
+
     /// The number's bytes, in the shortest form.
+    #[inline(always)]
     pub fn bytes(&self) -> NumberBytes
         ensures { result ≡ written self.now }
     {

@@ -32,6 +32,16 @@ said_bytes_more : (said : List Event) (event : Option Event) → flat_events sai
 said_bytes_more said None = append-nil (flat_events said)
 said_bytes_more said (Some event) = ap (λ b. flat_events said ++ b) (sym (append-nil (flat_event event))) ∙ sym (flat_map-append flat_event said (event ∷ []))
 
+-- a run goes by what is left of the charstrings that are not at their ends
+pub run_same : (library : Library) (depth tokens : ℕ) (said : List Event) (registers : Registers) (a b : List (List ℕ)) → unended a ≡ unended b → run library depth tokens said (record { rests = a; registers = registers }) ≡ run library depth tokens said (record { rests = b; registers = registers })
+unfolding run
+run_same library depth zero said registers a b e = rw e refl
+run_same library depth (suc tokens) said registers a b e = rw e refl
+
+pub reached_same : (o : Outcome) (library : Library) (depth tokens : ℕ) (registers : Registers) (a b : List (List ℕ)) (settled : List ℕ) → Reached o library depth tokens (record { rests = a; registers = registers }) settled → unended a ≡ unended b → Reached o library depth tokens (record { rests = b; registers = registers }) settled
+reached_same o library depth tokens registers a b settled h e =
+    record { said = h.said; settled_is = h.settled_is; same = h.same ∙ run_same library depth tokens h.said registers a b e }
+
 pub reached_start : (library : Library) (limit depth : ℕ) (charstring : List ℕ) (rests : List (List ℕ)) (registers : Registers) (settled : List ℕ) → rests ≡ charstring ∷ [] → registers ≡ record { operands = []; stems = 0; mask_len = 0 } → settled ≡ [] → Reached (outcome library limit depth charstring) library depth limit (record { rests = rests; registers = registers }) settled
 unfolding outcome
 reached_start library limit depth charstring rests registers settled e d f =

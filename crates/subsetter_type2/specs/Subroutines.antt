@@ -1,11 +1,6 @@
 -- How an operand names a subroutine (Technical Note 5177, section 4.7 "Subroutine Operators").
-use Rattle.std.specs.Prelude.{ℕ, ℤ, pos, negsuc, ◌+ℤ◌, List, Option, Some, None, nat_lt, if◌then◌else◌, length, slice_get, map}
-use Rattle.std.specs.Borrow.{Bor}
-use Rattle.std.specs.Option.{option_and_then, option_copied}
-
--- the entries as lists of bytes
-abbrev pub entries_of : List (Option (Bor (List ℕ))) → List (Option (List ℕ))
-entries_of entries = map option_copied entries
+use Rattle.std.specs.Prelude.{ℕ, ℤ, pos, negsuc, ◌+ℤ◌, List, Option, Some, None, nat_lt, if◌then◌else◌, length, slice_get}
+use Rattle.std.specs.Option.{option_and_then}
 
 -- what is added to an operand, by how many subroutines the INDEX holds, readable or not
 abbrev pub bias_of : ℕ → ℕ

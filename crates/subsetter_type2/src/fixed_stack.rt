@@ -23,6 +23,7 @@ impl<T, const N: usize> Model for FixedStack<T, N> {
 
 impl<T: Copy, const N: usize> FixedStack<T, N> {
     /// An empty stack, whose room is filled with an item that is never read.
+    #[inline(always)]
     pub fn new(filler: T) -> Self
         ensures { result ≡ [] }
     {
@@ -33,6 +34,7 @@ impl<T: Copy, const N: usize> FixedStack<T, N> {
     }
 
     /// How many items there are.
+    #[inline(always)]
     pub fn len(&self) -> usize
         ensures len { result ≡ length self.now }
         ensures room { length self.now ≤ N }
@@ -41,6 +43,7 @@ impl<T: Copy, const N: usize> FixedStack<T, N> {
     }
 
     /// Puts an item on the top.
+    #[inline(always)]
     pub fn push(&mut self, item: T)
         requires { length self.old < N }
         ensures { self.new ≡ self.old ++ item ∷ [] }
@@ -50,6 +53,7 @@ impl<T: Copy, const N: usize> FixedStack<T, N> {
     }
 
     /// Takes the item at the top.
+    #[inline(always)]
     pub fn pop(&mut self) -> Option<T>
         ensures { MatchOption result ((self.old ≡ []) × (self.new ≡ [])) (λ item. self.old ≡ self.new ++ item ∷ []) }
     {

@@ -1,6 +1,6 @@
 //! The run of a charstring with a stack of its callers' rests, which writes bytes.
 
-ghost use Rattle.std.specs.Prelude.{◌≡◌, ◌∷◌, ◌<◌, ◌≤◌, [], length, OnOk, OnSome, IfErr, MatchOption};
+ghost use Rattle.std.specs.Prelude.{◌≡◌, ◌∷◌, ◌<◌, ◌≤◌, [], length, OnOk, OnSome, IfOk, IfErr, MatchOption};
 ghost use Rattle.subsetter_type2.specs.Machine.{unended, rests_after};
 ghost use Rattle.subsetter_type2.specs.View.{rests_of};
 ghost use Rattle.subsetter_type2.specs.MachineView.{library_of, lead_of};
@@ -16,7 +16,8 @@ use std::alloc::Global;
 use subsetter_base::error::Error;
 
 /// What is left of the innermost charstring that is not at its end, taken off the stack.
-fn next_rest<'a>(rests: &mut FixedStack<&'a [u8], 255>) -> Option<&'a [u8]>
+#[inline(always)]
+fn next_rest<'a, const N: usize>(rests: &mut FixedStack<&'a [u8], N>) -> Option<&'a [u8]>
     ensures rest { MatchOption result (unended (rests_of rests.old) ≡ []) (λ bytes. unended (rests_of rests.old) ≡ bytes.now ∷ rests_of rests.new) }
     ensures room { OnSome result (length rests.new < length rests.old) }
 {
@@ -28,26 +29,77 @@ fn next_rest<'a>(rests: &mut FixedStack<&'a [u8], 255>) -> Option<&'a [u8]>
     None
 }
 
-/// What is left to run after a token that leads there.
-fn follow<'a>(rests: &mut FixedStack<&'a [u8], 255>, flow: Flow<'a>, depth: u8) -> Result<(), Error>
-    requires { length rests.old < depth }
-    ensures ok { OnOk result (rests_of rests.new ≡ rests_after (lead_of flow.entry) (rests_of rests.old)) }
-    ensures room { OnOk result (length rests.new ≤ depth) }
+/// The innermost charstring that is not at its end: the running one, or else one of its callers.
+#[inline(always)]
+fn innermost<'a, const N: usize>(
+    running: &'a [u8],
+    rests: &mut FixedStack<&'a [u8], N>,
+) -> Option<&'a [u8]>
+    ensures rest { MatchOption result (unended (running.now ∷ rests_of rests.old) ≡ []) (λ bytes. unended (running.now ∷ rests_of rests.old) ≡ bytes.now ∷ rests_of rests.new) }
+    ensures room { OnSome result (length rests.new ≤ length rests.old) }
+{
+    if !running.is_empty() {
+        return Some(running);
+    }
+    next_rest(rests)
+}
+
+/// What runs after a token that leads there; nothing, where a charstring is at its end.
+#[inline(always)]
+fn follow<'a, const N: usize>(
+    rests: &mut FixedStack<&'a [u8], N>,
+    flow: Flow<'a>,
+    depth: u8,
+) -> Result<&'a [u8], Error>
+    requires room { depth ≤ N }
+    requires fits { length rests.old < depth }
+    ensures ok { IfOk result (λ running. unended (running.now ∷ rests_of rests.new) ≡ unended (rests_after (lead_of flow.entry) (rests_of rests.old))) }
+    ensures deep { OnOk result (length (rests_after (lead_of flow.entry) (rests_of rests.old)) ≤ depth) }
+    ensures room { OnOk result (length rests.new < depth) }
     ensures err { IfErr result (λ e. (e ≡ CFFError) × (depth < length (rests_after (lead_of flow.entry) (rests_of rests.old)))) }
 {
     match flow {
-        Flow::GoesOn(rest) => rests.push(rest),
+        Flow::GoesOn(rest) => Ok(rest),
         Flow::Calls(body, rest) => {
-            rests.push(rest);
-            if rests.len() >= depth as usize {
+            if rests.len() + 1 >= depth as usize {
                 return Err(Error::CFFError);
             }
-            rests.push(body);
+            rests.push(rest);
+            Ok(body)
         }
-        Flow::Returns => {}
-        Flow::Ends => rests.clear(),
+        Flow::Returns => Ok(&[]),
+        Flow::Ends => {
+            rests.clear();
+            Ok(&[])
+        }
     }
-    Ok(())
+}
+
+/// The flat form of a charstring, with room for so many rests.
+fn flatten_within<'a, const N: usize>(
+    alloc: Global,
+    subroutines: &Subroutines<'a>,
+    limits: &Limits,
+    charstring: &'a [u8],
+) -> Result<Vec<u8>, Error>
+    requires few { N ≤ 255 }
+    requires room { limits.now.depth ≤ N }
+    ensures { Gives (λ bytes. bytes.items) result (flat_form (library_of subroutines.now) limits.now.tokens limits.now.depth charstring.now) }
+{
+    let output = Output::with_capacity(alloc, charstring.len())?;
+    let mut machine = Machine::new(output);
+    let mut rests: FixedStack<&'a [u8], N> = FixedStack::new(charstring);
+    let mut running = charstring;
+    let mut tokens = limits.tokens;
+    while let Some(bytes) = innermost(running, &mut rests) {
+        if tokens == 0 {
+            return Err(Error::CFFError);
+        }
+        tokens -= 1;
+        let flow = machine.act_at(subroutines, bytes)?;
+        running = follow(&mut rests, flow, limits.depth)?;
+    }
+    Ok(machine.output.finish())
 }
 
 /// The flat form of a charstring.
@@ -59,18 +111,8 @@ pub fn flatten<'a>(
 ) -> Result<Vec<u8>, Error>
     ensures { Gives (λ bytes. bytes.items) result (flat_form (library_of subroutines.now) limits.now.tokens limits.now.depth charstring.now) }
 {
-    let output = Output::with_capacity(alloc, charstring.len())?;
-    let mut machine = Machine::new(output);
-    let mut rests = FixedStack::new(charstring);
-    rests.push(charstring);
-    let mut tokens = limits.tokens;
-    while let Some(bytes) = next_rest(&mut rests) {
-        if tokens == 0 {
-            return Err(Error::CFFError);
-        }
-        tokens -= 1;
-        let flow = machine.act_at(subroutines, bytes)?;
-        follow(&mut rests, flow, limits.depth)?;
+    if limits.depth() <= 64 {
+        return flatten_within::<64>(alloc, subroutines, limits, charstring);
     }
-    Ok(machine.output.finish())
+    flatten_within::<255>(alloc, subroutines, limits, charstring)
 }

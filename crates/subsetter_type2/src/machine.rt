@@ -62,6 +62,7 @@ impl<'a, S: Sink<'a>> Machine<S> {
     }
 
     /// A number goes onto the stack.
+    #[inline(always)]
     fn push(&mut self, number: CharStringNumber, rest: &'a [u8]) -> Result<Flow<'a>, Error>
         ensures { Performs (push number rest.now (registers_of S.written self.old)) S.written self.old self.new result }
     {
@@ -73,6 +74,7 @@ impl<'a, S: Sink<'a>> Machine<S> {
     }
 
     /// An operator that takes all operands.
+    #[inline(always)]
     fn draw(&mut self, operator: Operator, rest: &'a [u8]) -> Result<Flow<'a>, Error>
         ensures { Performs (draw operator [] (On rest.now) (registers_of S.written self.old)) S.written self.old self.new result }
     {
@@ -141,6 +143,7 @@ impl<'a, S: Sink<'a>> Machine<S> {
     }
 
     /// One token, with what stands after it in its charstring.
+    #[inline(always)]
     fn act(
         &mut self,
         subroutines: &Subroutines<'a>,
@@ -166,6 +169,7 @@ impl<'a, S: Sink<'a>> Machine<S> {
     }
 
     /// The token at the front of these bytes.
+    #[inline(always)]
     #[tactic(auto, unfolding(crate::specs::Machine::act_at))]
     pub fn act_at(
         &mut self,

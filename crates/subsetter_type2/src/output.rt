@@ -42,14 +42,15 @@ impl Model for Output {
 impl<'a> Sink<'a> for Output {
     ghost written = { λ o. o };
 
+    #[inline(always)]
     fn count(&self) -> usize {
         self.operands.len()
     }
 
+    #[inline(always)]
     fn push(&mut self, value: CharStringNumber) -> Result<(), Error> {
         let place = self.bytes.len();
-        let number = value.bytes();
-        self.bytes.extend_from_slice(number.as_slice())?;
+        value.append(&mut self.bytes)?;
         self.operands.push(Operand { value, place });
         Ok(())
     }
@@ -60,6 +61,7 @@ impl<'a> Sink<'a> for Output {
         Some(operand.value)
     }
 
+    #[inline(always)]
     fn draw(&mut self, operator: Operator, mask: &'a [u8]) -> Result<(), Error> {
         self.operands.clear();
         append_operator(&mut self.bytes, operator)?;
@@ -89,6 +91,7 @@ impl Output {
 }
 
 /// Writes the bytes of an operator behind these.
+#[inline(always)]
 pub fn append_operator(bytes: &mut Vec<u8>, operator: Operator) -> Result<(), Error>
     ensures ok { OnOk result (bytes.new.items ≡ bytes.old.items ++ operator_of operator) }
     ensures err { IfErr result (λ e. e ≡ OutOfMemory) }

@@ -1,11 +1,13 @@
 //! Subroutines, and how a charstring names them (Technical Note 5177, section 4.7 "Subroutine Operators").
 
-ghost use Rattle.std.specs.Prelude.{◌≡◌, ◌+ℤ◌, pos, map, length, slice_get};
+ghost use Rattle.std.specs.Prelude.{◌≡◌, ◌+ℤ◌, pos, length, slice_get};
 ghost use Rattle.std.specs.Option.{option_copied};
-ghost use Rattle.subsetter_type2.specs.Subroutines.{bias_of, natural_of, entry_at, biased_entry, entries_of};
+ghost use Rattle.subsetter_cffdata.specs.IndexView.{items};
+ghost use Rattle.subsetter_type2.specs.Subroutines.{bias_of, natural_of, entry_at, biased_entry};
 
 use crate::charstring::CharString;
 use std::marker::Model;
+use subsetter_cffdata::index::Index;
 
 /// The local subroutines of each font dict.
 #[derive(Drop)]
@@ -43,55 +45,55 @@ impl<'a> SubroutineCollection<'a> {
 /// The entries of one subroutine INDEX, with `None` for one that cannot be read.
 #[derive(Drop)]
 pub struct SubroutineContainer<'a> {
-    entries: Vec<Option<CharString<'a>>>,
+    index: Index<'a>,
 }
 
 impl<'a> Model for SubroutineContainer<'a> {
     ghost use Rattle.std.specs.Prelude.{ℕ, List, Option};
-    ghost use Rattle.subsetter_type2.specs.Subroutines.{entries_of};
+    ghost use Rattle.subsetter_cffdata.specs.IndexView.{items};
 
     ghost Value = { List (Option (List ℕ)) };
 
-    ghost view = { λ c. entries_of c.entries.items };
+    ghost view = { λ c. items c.index };
 }
 
 impl<'a> SubroutineContainer<'a> {
-    /// These entries, in their order.
-    pub fn new(entries: Vec<Option<CharString<'a>>>) -> Self
-        ensures { result ≡ entries_of entries.entry.items }
+    /// The entries of this INDEX. None is read before it is asked for.
+    pub fn new(index: Index<'a>) -> Self
+        ensures { result ≡ items index.entry }
     {
-        SubroutineContainer { entries }
+        SubroutineContainer { index }
     }
 
     /// Access to the subroutines.
-    pub fn get_handler(&self) -> SubroutineHandler<'_>
+    pub fn get_handler(&self) -> SubroutineHandler<'a>
         ensures { result ≡ self.now }
     {
-        SubroutineHandler::new(self.entries.as_slice())
+        SubroutineHandler::new(self.index)
     }
 }
 
 /// Access to the subroutines of one INDEX by their numbers.
 #[derive(Drop)]
 pub struct SubroutineHandler<'a> {
-    entries: &'a [Option<CharString<'a>>],
+    index: Index<'a>,
 }
 
 impl<'a> Model for SubroutineHandler<'a> {
     ghost use Rattle.std.specs.Prelude.{ℕ, List, Option};
-    ghost use Rattle.subsetter_type2.specs.Subroutines.{entries_of};
+    ghost use Rattle.subsetter_cffdata.specs.IndexView.{items};
 
     ghost Value = { List (Option (List ℕ)) };
 
-    ghost view = { λ h. entries_of h.entries.now };
+    ghost view = { λ h. items h.index };
 }
 
 impl<'a> SubroutineHandler<'a> {
-    /// The entries, with `None` for one that cannot be read: it counts for the bias all the same.
-    pub fn new(entries: &'a [Option<CharString<'a>>]) -> Self
-        ensures { result ≡ entries_of entries.now }
+    /// The entries of this INDEX. One that cannot be read counts for the bias all the same.
+    pub fn new(index: Index<'a>) -> Self
+        ensures { result ≡ items index.entry }
     {
-        SubroutineHandler { entries }
+        SubroutineHandler { index }
     }
 
     /// The subroutine that an operand names; none where there is none, or it cannot be read.
@@ -99,7 +101,7 @@ impl<'a> SubroutineHandler<'a> {
     pub fn get_with_biased(&self, index: i32) -> Option<CharString<'a>>
         ensures { option_copied result ≡ biased_entry self.now index }
     {
-        let unbiased = unapply_bias(index, bias(self.entries.len()))?;
+        let unbiased = unapply_bias(index, bias(self.index.len()))?;
         self.get_with_unbiased(unbiased)
     }
 
@@ -107,15 +109,12 @@ impl<'a> SubroutineHandler<'a> {
     pub fn get_with_unbiased(&self, index: u32) -> Option<CharString<'a>>
         ensures { option_copied result ≡ entry_at self.now index }
     {
-        match self.entries.get(index as usize) {
-            Some(entry) => *entry,
-            None => None,
-        }
+        self.index.get(index)
     }
 }
 
 /// What is added to an operand, by how many subroutines there are.
-fn bias(count: usize) -> u16
+fn bias(count: u32) -> u16
     ensures { result ≡ bias_of count }
 {
     if count < 1240 {

@@ -11,7 +11,9 @@ use std::alloc::Global;
 use std::process::Abort;
 use std::test::*;
 use subsetter_base::error::Error;
+use subsetter_base::read::Reader;
 use subsetter_cffdata::charstring_number::CharStringNumber;
+use subsetter_cffdata::index::{Index, parse_index};
 
 /// The subroutines that a charstring may call.
 #[derive(Clone, Copy)]
@@ -26,12 +28,40 @@ impl<'a> Lists<'a> {
         Lists { global: &[], local }
     }
 
-    fn decompiler(&self, limits: Limits) -> Decompiler<'a> {
-        Decompiler::with_limits(
-            SubroutineHandler::new(self.global),
-            SubroutineHandler::new(self.local),
-            limits,
-        )
+}
+
+/// The bytes of an INDEX with these entries, of which the first alone may be unreadable.
+fn index_bytes(alloc: Global, entries: &[Option<CharString<'_>>]) -> Result<Vec<u8>, Error> {
+    let mut bytes = Vec::new(alloc);
+    let count = u16::try_from(entries.len()).ok().ok_or(Error::OverflowError)?;
+    bytes.extend_from_slice(&count.to_be_bytes())?;
+    if entries.is_empty() {
+        return Ok(bytes);
+    }
+    bytes.push(4)?;
+    let first: u32 = if entries[0].is_none() { 0 } else { 1 };
+    bytes.extend_from_slice(&first.to_be_bytes())?;
+    let mut end: u32 = 1;
+    for entry in entries {
+        if let Some(body) = entry {
+            let len = u32::try_from(body.len()).ok().ok_or(Error::OverflowError)?;
+            end = end.wrapping_add(len);
+        }
+        bytes.extend_from_slice(&end.to_be_bytes())?;
+    }
+    for entry in entries {
+        if let Some(body) = entry {
+            bytes.extend_from_slice(body)?;
+        }
+    }
+    Ok(bytes)
+}
+
+/// The INDEX that these bytes hold.
+fn index_of(bytes: &[u8]) -> Index<'_> {
+    match parse_index::<u16>(&mut Reader::new(bytes)) {
+        Some(index) => index,
+        None => Index::default(),
     }
 }
 
@@ -42,8 +72,32 @@ fn compiled<'a>(
     limits: Limits,
     charstring: &'a [u8],
 ) -> Result<Vec<u8>, Error> {
-    let program = lists.decompiler(limits).decompile(alloc, charstring)?;
+    let global = index_bytes(alloc, lists.global)?;
+    let local = index_bytes(alloc, lists.local)?;
+    let decompiler = Decompiler::with_limits(
+        SubroutineHandler::new(index_of(&global)),
+        SubroutineHandler::new(index_of(&local)),
+        limits,
+    );
+    let program = decompiler.decompile(alloc, charstring)?;
     program.compile(alloc)
+}
+
+/// The flat form by the stack of rests.
+fn flattened<'a>(
+    alloc: Global,
+    lists: &Lists<'a>,
+    limits: Limits,
+    charstring: &'a [u8],
+) -> Result<Vec<u8>, Error> {
+    let global = index_bytes(alloc, lists.global)?;
+    let local = index_bytes(alloc, lists.local)?;
+    let decompiler = Decompiler::with_limits(
+        SubroutineHandler::new(index_of(&global)),
+        SubroutineHandler::new(index_of(&local)),
+        limits,
+    );
+    decompiler.flatten(alloc, charstring)
 }
 
 /// The flat form by both ways, whose bytes and errors agree.
@@ -54,7 +108,7 @@ fn flat<'a>(
     limits: Limits,
     charstring: &'a [u8],
 ) -> Result<Vec<u8>, Error> {
-    let by_rests = lists.decompiler(limits).flatten(alloc, charstring);
+    let by_rests = flattened(alloc, lists, limits, charstring);
     match (&by_rests, &compiled(alloc, lists, limits, charstring)) {
         (Ok(bytes), Ok(others)) => assert!(rt; bytes.as_slice() == others.as_slice()),
         (Err(error), Err(other)) => assert!(rt; error == other),
@@ -101,10 +155,7 @@ fn gives_or_wants_memory(
     charstring: &[u8],
     want: &[u8],
 ) {
-    match lists
-        .decompiler(Limits::default())
-        .flatten(alloc, charstring)
-    {
+    match flattened(alloc, lists, Limits::default(), charstring) {
         Ok(bytes) => assert!(rt; bytes.as_slice() == want),
         Err(error) => assert!(rt; error == Error::OutOfMemory),
     }
@@ -584,27 +635,19 @@ fn both_ways_agree_on_drawn_charstrings(rt: HostRuntime) -> Result<(), Fail> {
     Ok(())
 }
 
-/// Two font dicts, the first of which has these two subroutines and an unreadable one.
-fn two_font_dicts<'a>(
-    alloc: Global,
-    ends: &'a [u8],
-    moves: &'a [u8],
-) -> Result<SubroutineCollection<'a>, Error> {
-    let mut first = Vec::new(alloc);
-    first.push(Some(ends))?;
-    first.push(Some(moves))?;
-    first.push(None)?;
+/// Two font dicts, the first of which has the subroutines of this INDEX.
+fn two_font_dicts(alloc: Global, first: &[u8]) -> Result<SubroutineCollection<'_>, Error> {
     let mut containers = Vec::new(alloc);
-    containers.push(SubroutineContainer::new(first))?;
-    containers.push(SubroutineContainer::new(Vec::new(alloc)))?;
+    containers.push(SubroutineContainer::new(index_of(first)))?;
+    containers.push(SubroutineContainer::new(Index::default()))?;
     Ok(SubroutineCollection::new(containers))
 }
 
 fn finds_subroutines(rt: &impl Abort, handler: &SubroutineHandler) {
-    assert!(rt; handler.get_with_biased(-107) == Some([14].as_slice()));
-    assert!(rt; handler.get_with_unbiased(0) == Some([14].as_slice()));
-    assert!(rt; handler.get_with_biased(-106) == Some([22, 14].as_slice()));
-    assert!(rt; handler.get_with_biased(-105).is_none());
+    assert!(rt; handler.get_with_biased(-107).is_none());
+    assert!(rt; handler.get_with_biased(-106) == Some([14].as_slice()));
+    assert!(rt; handler.get_with_unbiased(1) == Some([14].as_slice()));
+    assert!(rt; handler.get_with_biased(-105) == Some([22, 14].as_slice()));
     assert!(rt; handler.get_with_biased(-104).is_none());
     assert!(rt; handler.get_with_biased(-108).is_none());
     assert!(rt; handler.get_with_biased(i32::MAX).is_none());
@@ -637,25 +680,28 @@ fn flatten_in(
 #[test]
 fn local_subroutines_are_those_of_the_font_dict(rt: HostRuntime) -> Result<(), Fail> {
     let alloc = rt.alloc();
-    let local = two_font_dicts(alloc, &[14], &[22, 14])
+    let first = index_bytes(alloc, &[None, Some(&[14]), Some(&[22, 14])])
         .ok()
         .ok_or("memory")?;
-    let mut moves = Vec::new(alloc);
-    moves.push(Some([149, 22, 11].as_slice()))?;
-    let global = SubroutineContainer::new(moves);
-    let bytes = flatten_in(alloc, &global, &local, 0, &[32, 29, 32, 10])
+    let local = two_font_dicts(alloc, &first).ok().ok_or("memory")?;
+    let moves = index_bytes(alloc, &[Some(&[149, 22, 11])])
+        .ok()
+        .ok_or("memory")?;
+    let global = SubroutineContainer::new(index_of(&moves));
+    let bytes = flatten_in(alloc, &global, &local, 0, &[32, 29, 33, 10])
         .ok()
         .ok_or("memory")?;
     assert_eq!(rt; bytes.as_slice(), [149, 22, 14].as_slice());
-    assert!(rt; flatten_in(alloc, &global, &local, 1, &[32, 29, 32, 10]).is_err());
+    assert!(rt; flatten_in(alloc, &global, &local, 1, &[32, 29, 33, 10]).is_err());
     Ok(())
 }
 
 #[test]
 fn subroutines_by_number(rt: HostRuntime) -> Result<(), Fail> {
-    let collection = two_font_dicts(rt.alloc(), &[14], &[22, 14])
+    let first = index_bytes(rt.alloc(), &[None, Some(&[14]), Some(&[22, 14])])
         .ok()
         .ok_or("memory")?;
+    let collection = two_font_dicts(rt.alloc(), &first).ok().ok_or("memory")?;
     finds_font_dicts(&rt, &collection);
     assert!(rt; unapply_bias(-107, 107) == Some(0));
     assert!(rt; unapply_bias(-108, 107).is_none());

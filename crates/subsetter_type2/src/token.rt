@@ -26,6 +26,7 @@ pub enum Effect {
 }
 
 /// The token at the front, and the bytes after it.
+#[inline(always)]
 #[tactic(auto, unfolding(crate::specs::Token::token_of))]
 pub fn read_token(bytes: &[u8]) -> Option<(Token, &[u8])>
     ensures { MatchOption result (token_of bytes.now ≡ None) (λ r. token_of bytes.now ≡ Some (r.0, r.1.now)) }
@@ -42,6 +43,7 @@ pub fn read_token(bytes: &[u8]) -> Option<(Token, &[u8])>
 }
 
 /// What an operator does, if it is a known one.
+#[inline(always)]
 #[tactic(auto, unfolding(crate::specs::Token::effect_of))]
 pub fn find_effect(operator: Operator) -> Option<Effect>
     ensures { result ≡ effect_of operator }
@@ -57,6 +59,7 @@ pub fn find_effect(operator: Operator) -> Option<Effect>
 }
 
 /// What the operator of this byte does.
+#[inline(always)]
 fn one_byte_effect(first: u8) -> Option<Effect>
     ensures { result ≡ one_byte_effect first }
 {
@@ -79,6 +82,7 @@ fn one_byte_effect(first: u8) -> Option<Effect>
 }
 
 /// What the operator of these two bytes does.
+#[inline(always)]
 fn two_byte_effect(mark: u8, second: u8) -> Option<Effect>
     ensures { result ≡ two_byte_effect mark second }
 {

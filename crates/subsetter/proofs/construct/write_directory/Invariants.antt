@@ -1,6 +1,7 @@
-use Rattle.std.proofs.Common.{◌≡◌, ◌+◌, ◌*◌, ◌≤◌, ◌++◌, drop, length, true}
+use Rattle.std.proofs.Common.{◌≡◌, ◌+◌, ◌*◌, ◌≤◌, ◌++◌, ◌<◌, ◌%◌, ◌^◌, drop, length, true}
 use Rattle.std.specs.Prelude.{vec_capacity}
-use Rattle.subsetter.specs.Layout.{fits, directory_bytes}
+use Rattle.subsetter.specs.Layout.{fits, directory_bytes, body}
+use Rattle.subsetter.specs.Checksum.{checksum}
 use Rattle.subsetter.specs.Tables.{views}
 use Rattle.subsetter.proofs.construct.write_directory.Given as goal
 
@@ -10,4 +11,7 @@ invariant-loop-table l = record {
   fit : fits l.at (views (drop l.table-index l.tables)) ≡ true;
   room : length l.out.items + 16 * length (drop l.table-index l.tables) ≤ vec_capacity l.out;
   capacity : vec_capacity l.fn.out ≤ vec_capacity l.out;
+  laid : l.rest ≡ body (views (drop l.table-index l.tables));
+  small : l.sum < 2 ^ 32;
+  summed : (l.sum + checksum (body (views (drop l.table-index l.tables)))) % 2 ^ 32 ≡ checksum (body (views l.tables));
 }

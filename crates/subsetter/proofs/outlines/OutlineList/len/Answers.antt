@@ -5,4 +5,4 @@ use Rattle.subsetter.proofs.WovenLemmas.{length-woven}
 use Rattle.subsetter.proofs.outlines.OutlineList.len.Goals as goal
 
 pub returns : goal.returns
-returns c = ap length c.as_slice.ensures.value ∙ sym (length-map c.self.inside.kept.items (λ b. b.now)) ∙ sym (length-woven (nows c.self.inside.kept.items) c.self.inside.sizes.items c.self.inside.made.items c.self.invariant) ∙ ap length c.self.view_is
+returns c = ap length c.as_slice.ensures.value ∙ sym (length-map c.self.inside.kept.items (λ b. b.now)) ∙ sym (length-woven (nows c.self.inside.kept.items) c.self.inside.sizes.items c.self.inside.made.items c.self.invariant.parts) ∙ ap length c.self.view_is

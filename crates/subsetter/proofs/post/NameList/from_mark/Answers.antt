@@ -8,5 +8,5 @@ use Rattle.subsetter.proofs.post.NameList.from_mark.Goals as goal
 
 pub returns-in-Some : goal.returns-in-Some
 returns-in-Some c =
-    let here = slice_get_read c.deref.result.now (length c.deref.result.now) (c.args.number / 4) c.in-Some.mark.now refl (ltb-true _ _ (sym c.in-Some.ensures.lookup.0)) c.in-Some.ensures.lookup.1 in
-    from_mark (names_in c.self.inside.all.now) c.self.inside.marks.items c.args.number c.in-Some.mark.now c.self.invariant (ap (λ l. slice_get l (c.args.number / 4)) (sym c.deref.ensures.value) ∙ here) ∙ ap (drop c.args.number) c.self.view_is
+    let here = slice_get_read c.deref.result.now (length c.deref.result.now) (c.args.number / 8) c.in-Some.mark.now refl (ltb-true _ _ (sym c.in-Some.ensures.lookup.0)) c.in-Some.ensures.lookup.1 in
+    from_mark (names_in c.self.inside.all.now) c.self.inside.marks.items c.args.number c.in-Some.mark.now c.self.invariant (ap (λ l. slice_get l (c.args.number / 8)) (sym c.deref.ensures.value) ∙ here) ∙ ap (drop c.args.number) c.self.view_is

@@ -7,6 +7,6 @@ pub loop-preserved : goal.loop-preserved
 loop-preserved c =
     let all = names_in c.args.all.now in
     record {
-      at = mark_more all c.loop.marks.items c.push.new.self.items c.names.inside.rest c.loop.names c.pass.new.names c.in_ok-push.ensures.items c.loop.invariant.at c.pass.ensures;
+      at = mark_more all c.loop.marks.items c.push.new.self.items c.names.inside.rest c.loop.names c.skip.new.names c.in_ok-push.ensures.items c.loop.invariant.at c.skip.ensures;
       marks = mark_last all c.loop.marks.items c.push.new.self.items c.names.inside.rest c.in_ok-push.ensures.items c.loop.invariant.marks (ap names_in c.names.view_is ∙ c.loop.invariant.at);
     }

@@ -1,0 +1,5 @@
+use Rattle.subsetter.proofs.CountedLemmas.{long_by_count}
+use Rattle.subsetter.proofs.loca.is_long.Goals as goal
+
+pub returns : goal.returns
+returns c = long_by_count c.args.outlines.now c.outlines_len.result c.outlines_len.ensures.exact c.outlines_len.ensures.past
