@@ -11,13 +11,13 @@ pub data Number : Type 0 where
   Fixed : ℤ → Number
 
 -- ---- reading: the number whose first byte is b
--- 32 to 246 stand for themselves less 139; 247 to 250 and 251 to 254 have one more byte
+-- 32 to 246 stand for themselves less 139; 247 to 250 and 251 to 254 have one more byte, and no byte is 256 or more
 unfoldable pub short_integer : ℕ → List ℕ → Option (ℤ × List ℕ)
 short_integer b bytes =
     if nat_lt b 32 then None else
     (if nat_lt b 247 then Some (pos b -ℤ pos 139, bytes) else
-    (if nat_lt b 251 then (byte bytes >>= λ low. Some (pos ((b - 247) * 256 + low.0 + 108), low.1)) else
-    (if nat_lt b 255 then (byte bytes >>= λ low. Some (neg_ℤ (pos ((b - 251) * 256 + low.0 + 108)), low.1)) else None)))
+    (if nat_lt b 251 then (byte bytes >>= λ low. if nat_lt low.0 256 then Some (pos ((b - 247) * 256 + low.0 + 108), low.1) else None) else
+    (if nat_lt b 255 then (byte bytes >>= λ low. if nat_lt low.0 256 then Some (neg_ℤ (pos ((b - 251) * 256 + low.0 + 108)), low.1) else None) else None)))
 
 -- two and four bytes in two's complement
 unfoldable pub signed16 : List ℕ → Option (ℤ × List ℕ)
