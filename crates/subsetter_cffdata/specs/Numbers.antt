@@ -36,13 +36,6 @@ unfoldable pub dict_number_from : ℕ → List ℕ → Option (Number × List �
 dict_number_from b bytes =
     if b == 30 then (real_at bytes >>= λ d. Some (Real d.0, d.1)) else (integer_from b bytes >>= λ z. Some (Integer z.0, z.1))
 
--- in a charstring 29 and 30 are operators, and 255 has the four bytes of a Fixed
-unfoldable pub charstring_number_from : ℕ → List ℕ → Option (Number × List ℕ)
-charstring_number_from b bytes =
-    if b == 255 then (signed32 bytes >>= λ n. Some (Fixed n.0, n.1)) else
-    (if b == 28 then (signed16 bytes >>= λ n. Some (Integer n.0, n.1)) else
-    (short_integer b bytes >>= λ z. Some (Integer z.0, z.1)))
-
 abbrev pub at_front : {X : Type 0} → (ℕ → List ℕ → Option (X × List ℕ)) → List ℕ → Option (X × List ℕ)
 at_front from bytes = byte bytes >>= λ b. from b.0 b.1
 
@@ -65,9 +58,6 @@ fixed_number_at bytes = at_front fixed_from bytes
 
 abbrev pub dict_number_at : List ℕ → Option (Number × List ℕ)
 dict_number_at bytes = at_front dict_number_from bytes
-
-abbrev pub charstring_number_at : List ℕ → Option (Number × List ℕ)
-charstring_number_at bytes = at_front charstring_number_from bytes
 
 -- ---- writing
 -- an integer in the first form that holds it: of one byte, of two, of three, of five
