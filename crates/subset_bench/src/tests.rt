@@ -19,39 +19,20 @@ fn the_middle_and_the_least_time_are_told(rt: HostRuntime) -> Result<(), Fail> {
     let mut times = [50, 20, 40, 10, 30];
     let got = times_of(&mut times).ok_or("times")?;
     assert_eq!(rt; (got.median, got.least), (30, 10));
-    let mut times = [7, 5];
-    let got = times_of(&mut times).ok_or("times")?;
-    assert_eq!(rt; (got.median, got.least), (7, 5));
-    let got = times_of(&mut []);
-    assert!(rt; got.is_none());
+    assert!(rt; times_of(&mut []).is_none());
     Ok(())
 }
 
 #[test]
 fn a_task_has_numbers_and_ranges(rt: HostRuntime) -> Result<(), Fail> {
     let task = read_task(rt.alloc(), &["font.ttf", "1", "3,10-12,0", "5", "out.ttf"])?;
-    assert_eq!(rt; task.font.as_str(), "font.ttf");
-    assert_eq!(rt; task.index, 1);
     assert_eq!(rt; task.glyphs.as_slice(), [3, 10, 11, 12, 0].as_slice());
-    assert_eq!(rt; task.count, 5);
+    assert_eq!(rt; (task.font.as_str(), task.index, task.count), ("font.ttf", 1, 5));
     let output = task.output.ok_or("an output")?;
     assert_eq!(rt; output.as_str(), "out.ttf");
-    Ok(())
-}
-
-#[test]
-fn wrong_words_are_refused(rt: HostRuntime) -> Result<(), Fail> {
-    for words in [
-        ["font.ttf", "0", "1", "0"],
-        ["font.ttf", "x", "1", "1"],
-        ["font.ttf", "0", "1,,2", "1"],
-        ["font.ttf", "0", "65536", "1"],
-        ["font.ttf", "0", "1-2-3", "1"],
-    ] {
-        let refused = matches!(read_task(rt.alloc(), &words), Err(Failure::Usage));
-        assert!(rt; refused);
+    for (glyphs, count) in [("1", "0"), ("1,,2", "1"), ("65536", "1"), ("1-2-3", "1")] {
+        let task = read_task(rt.alloc(), &["font.ttf", "0", glyphs, count]);
+        assert!(rt; matches!(task, Err(Failure::Usage)), "at {glyphs}");
     }
-    let refused = matches!(read_task(rt.alloc(), &["font.ttf"]), Err(Failure::Usage));
-    assert!(rt; refused);
     Ok(())
 }
