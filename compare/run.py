@@ -12,13 +12,14 @@ It builds both drivers, which have the same words, print the same lines and time
     original  cargo build --release in compare/original, for x86-64-v2 too
 Then it subsets each font to 3, 80, 2,000 and all glyphs by both, once with low numbers in order and once with numbers
 that are spread over the whole face and jumbled, in three rounds that take turns, and last gives damaged copies to both.
-It prints three tables and writes them to compare/build/report.md:
+It prints four tables and writes them to compare/build/report.md:
     bytes     `same`, or the first place where the outputs differ and the table that it is in
-    times     the least of all calls in nanoseconds, the port's as a part of the original's; the medians; the most bytes
-              that a run with one call has asked of the allocator and not given back, in KiB above those of a run with
-              a font of no bytes (so without the driver's words and the mapper; counted by peak.c), and the source plus
-              twice the output; the peak of the process in KiB above that of a run with a font of no bytes (so with the
-              pages of the code that runs)
+    times     the least of all calls in nanoseconds, and the port's as a part of the original's; the most bytes that a
+              run with one call has asked of the allocator and not given back, in KiB above those of a run with a font
+              of no bytes (so without the driver's words and the mapper; counted by peak.c), and the source plus twice
+              the output
+    further   the least of the rounds' median times; the peak of the process in KiB above that of a run with a font of
+              no bytes (so with the pages of the code that runs)
     refusals  the answers of both on damaged copies, counted; for a pair that differs the intended difference that
               stands in the copy, or `not explained`, with examples
 
@@ -113,8 +114,8 @@ def case(drivers, task, seconds, room):
 
 
 def measure(drivers, taken, seconds):
-    """The rows of the first two tables."""
-    bytes_rows, time_rows = [], []
+    """The rows of the first three tables."""
+    bytes_rows, time_rows, further_rows = [], [], []
     with tempfile.TemporaryDirectory(prefix="c") as room:
         for _, path, index in taken:
             count = glyph_count(path, index)
@@ -122,8 +123,9 @@ def measure(drivers, taken, seconds):
                 found = case(drivers, [path, index, glyphs], seconds, room)
                 bytes_rows.append([label(path, index), count, name, *bytes_cells(found)])
                 time_rows.append([label(path, index), name, *time_cells(path, found)])
+                further_rows.append([label(path, index), name, *further_cells(found)])
                 print(*bytes_rows[-1], *time_rows[-1][2:], file=sys.stderr, flush=True)
-    return bytes_rows, time_rows
+    return bytes_rows, time_rows, further_rows
 
 
 def bytes_cells(found):
@@ -139,15 +141,16 @@ def bytes_cells(found):
 
 
 def time_cells(path, found):
-    cells = []
-    for it in found.values():
-        cells += [it["least"] or "", it["median"] or ""]
+    cells = [it["least"] or "" for it in found.values()]
     if "port" in found:
         least = [found[it]["least"] for it in ("port", "original")]
         cells.append(f"{least[0] / least[1]:.2f}" if all(least) else "")
     bound = os.path.getsize(path) + 2 * len(found["original"]["bytes"])
-    cells += [kibibytes(it["asked"]) for it in found.values()] + [kibibytes(bound)]
-    return cells + [it["peak"] for it in found.values()]
+    return cells + [kibibytes(it["asked"]) for it in found.values()] + [kibibytes(bound)]
+
+
+def further_cells(found):
+    return [it["median"] or "" for it in found.values()] + [it["peak"] for it in found.values()]
 
 
 def kibibytes(count):
@@ -170,20 +173,22 @@ def table(head, rows):
     return "".join(f"| {' | '.join(map(str, row))} |\n" for row in lines)
 
 
-def report(bytes_rows, time_rows, refusal_rows, both):
+def report(rows, refusal_rows, both):
     """The tables, and under the first two what stands out in them."""
+    bytes_rows, time_rows, further_rows = rows
     port = ["Port"] if both else []
-    text = "## Bytes\n\n" + table(["Font", "Glyphs", "Set", "Original", "Bytes", *port], bytes_rows)
+    text = "## Bytes\n\n" + table(["Font", "Glyphs", "Kept", "Original", "Bytes", *port], bytes_rows)
     if both:
         same = sum(row[-1] == "same" for row in bytes_rows)
         text += f"\nThe same bytes in {same} of {len(bytes_rows)} cases.\n"
-    head = ["Font", "Set", "Original, least", "median"] + (["Port, least", "median", "Ratio"] if both else [])
+    head = ["Font", "Kept", "Original, ns"] + (["Port, ns", "Ratio"] if both else [])
     head += ["Original, held"] + (["Port, held"] if both else []) + ["Source and twice the output"]
-    head += ["Original, process"] + (["Port, process"] if both else [])
-    text += "\n## Times in nanoseconds and memory in KiB\n\n" + table(head, time_rows)
+    text += "\n## Least times in nanoseconds, and memory in KiB\n\n" + table(head, time_rows)
     if both:
-        worst = sorted((row for row in time_rows if row[6]), key=lambda row: -float(row[6]))[:5]
-        text += "\nThe greatest ratios: " + "; ".join(f"{row[0]}, {row[1]}: {row[6]}" for row in worst) + ".\n"
+        worst = sorted((row for row in time_rows if row[4]), key=lambda row: -float(row[4]))[:5]
+        text += "\nThe greatest ratios: " + "; ".join(f"{row[0]}, {row[1]}: {row[4]}" for row in worst) + ".\n"
+    head = ["Font", "Kept"] + [f"{it}, {what}" for what in ("median", "process") for it in ["Original", *port]]
+    text += "\n## Median times in nanoseconds, and the process in KiB\n\n" + table(head, further_rows)
     text += "\n## Damaged copies\n\n"
     return text + table(["Copies", "Original", *port, "Why they differ", "Examples"], refusal_rows)
 
@@ -214,9 +219,9 @@ def main():
     for needed in [*drivers.values(), *(it[1] for it in taken + damaged)]:
         if not os.path.exists(needed):
             sys.exit(f"run.py: no {needed}")
-    bytes_rows, time_rows = measure(drivers, taken, given.seconds)
+    rows = measure(drivers, taken, given.seconds)
     refusal_rows = refusals(drivers, [path for _, path in damaged], given.copies, os.path.join(BUILD, "damaged"))
-    text = report(bytes_rows, time_rows, refusal_rows, len(drivers) == 2)
+    text = report(rows, refusal_rows, len(drivers) == 2)
     os.makedirs(os.path.dirname(os.path.abspath(given.to)), exist_ok=True)
     with open(given.to, "w") as file:
         file.write(text)
