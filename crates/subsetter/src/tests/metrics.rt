@@ -1,7 +1,7 @@
 //! Metrics and the number of glyphs.
 
 use super::fonts::*;
-use crate::parse::parse;
+use crate::sfnt::parse::parse;
 use crate::{Error, Tag};
 use std::alloc::Global;
 use std::test::*;
