@@ -1,18 +1,20 @@
 #!/usr/bin/python3
 """Lays the original crate out for Cargo, without a network: assemble.py
 
-Reads the environment variable ORIGINAL, a folder with either the crate as published (its src/) or its sources in one
-flat folder, where src/cff/index.rs is src--src--cff--index.rs.txt. Writes compare/build/subsetter with the features
-off, and compare/build/rustc-hash from Debian's librust-rustc-hash-dev (or the folder RUSTC_HASH). Nothing of what it
-writes belongs to the repository.
+Reads the environment variable ORIGINAL, the folder of the crate as published (or of its files alone, a file src/a.rs
+as src--src--a.rs.txt). Writes compare/build/subsetter with the features off, and compare/build/rustc-hash from Debian's
+librust-rustc-hash-dev (or the folder RUSTC_HASH). Nothing of what it writes belongs to the repository.
 """
 import glob
 import os
+import re
 import shutil
 import sys
 
 HERE = os.path.dirname(os.path.realpath(__file__))
 BUILD = os.path.join(HERE, "build")
+VERSION = "0.2.6"
+HOW = "compare/README.md says how to get it"
 
 MANIFEST = """[package]
 name = "subsetter"
@@ -45,20 +47,44 @@ def stop(why):
     sys.exit(f"assemble.py: {why}")
 
 
+def original_folder():
+    """The folder that ORIGINAL names, where the original crate is in it; else it stops and says why not."""
+    folder = os.environ.get("ORIGINAL")
+    if not folder:
+        stop(f"ORIGINAL isn't set: it names the folder of the crate subsetter {VERSION} ({HOW})")
+    if not os.path.isdir(folder):
+        stop(f"ORIGINAL is {folder}, and there is no such folder ({HOW})")
+    if not os.path.isfile(os.path.join(folder, "src", "lib.rs")) and not flat_files(folder):
+        stop(f"ORIGINAL is {folder}, which has no src/lib.rs, so it isn't the crate as published ({HOW})")
+    manifest = os.path.join(folder, "Cargo.toml")
+    if os.path.isfile(manifest):
+        check_manifest(manifest)
+    return folder
+
+
+def check_manifest(path):
+    """Stops where a crate has another name or version."""
+    with open(path) as file:
+        package = file.read().partition("[package]")[2].partition("\n[")[0]
+    said = dict(re.findall(r'^(name|version) *= *"(.*)"', package, re.MULTILINE))
+    if said != {"name": "subsetter", "version": VERSION}:
+        stop(f"{path} is of {said.get('name')} {said.get('version')}, and the comparison is with subsetter {VERSION} ({HOW})")
+
+
+def flat_files(folder):
+    return glob.glob(os.path.join(folder, "src--src--*.rs.txt"))
+
+
 def lay_crate(source):
-    """The crate's src/, from a published crate or from a flat folder."""
+    """The crate's src/."""
     to = os.path.join(BUILD, "subsetter")
     shutil.rmtree(to, ignore_errors=True)
-    if os.path.isdir(os.path.join(source, "src")):
+    for text in flat_files(source):
+        path = os.path.join(to, os.path.basename(text)[len("src--"):-len(".txt")].replace("--", "/"))
+        os.makedirs(os.path.dirname(path), exist_ok=True)
+        shutil.copyfile(text, path)
+    if not os.path.isdir(os.path.join(to, "src")):
         shutil.copytree(os.path.join(source, "src"), os.path.join(to, "src"))
-    else:
-        texts = glob.glob(os.path.join(source, "src--src--*.rs.txt"))
-        if not texts:
-            stop(f"neither src/ nor src--src--*.rs.txt in {source}")
-        for text in texts:
-            path = os.path.basename(text)[len("src--"):-len(".txt")].replace("--", "/")
-            os.makedirs(os.path.dirname(os.path.join(to, path)), exist_ok=True)
-            shutil.copyfile(text, os.path.join(to, path))
     with open(os.path.join(to, "Cargo.toml"), "w") as manifest:
         manifest.write(MANIFEST)
 
@@ -81,9 +107,7 @@ def lay_hash():
 
 
 def main():
-    source = os.environ.get("ORIGINAL")
-    if not source or not os.path.isdir(source):
-        stop("name the folder of the original crate by the environment variable ORIGINAL")
+    source = original_folder()
     os.makedirs(BUILD, exist_ok=True)
     lay_crate(source)
     print(f"laid out {BUILD}/subsetter and rustc-hash {lay_hash()}")
