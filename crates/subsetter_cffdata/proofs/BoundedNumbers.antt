@@ -1,5 +1,5 @@
 -- Each number of a DICT is bounded, and a thousand times it is a number.
-use Rattle.std.proofs.Common.{◌≡◌, ◌≢◌, ℕ, zero, suc, ◌+◌, ◌-◌, ◌*◌, ◌^◌, ◌<◌, eqb, ltb, cond, true, false, Bool, List, [], ◌∷◌, length, Option, Some, None, refl, arith, inl, inr, sym, subst}
+use Rattle.std.proofs.Common.{◌≡◌, ◌≢◌, ℕ, zero, suc, ◌+◌, ◌-◌, ◌*◌, ◌^◌, ◌<◌, eqb, ltb, cond, List, [], ◌∷◌, length, Option, Some, None, refl, arith, inl, inr, sym, subst}
 use Rattle.std.specs.Prelude.{ℤ, pos, neg_ℤ, ◌-ℤ◌, FitsSigned, unsigned_abs}
 use Rattle.std.specs.Option.{option_map, option_map_or, option_and_then}
 use Rattle.std.specs.Int.{w16, w32, cast_signed, is_negative}

@@ -1,5 +1,5 @@
 -- What holds of each number that was read of a DICT, whatever its bytes.
-use Rattle.std.specs.Prelude.{◌≤◌, ℕ, ℤ, FitsSigned, unsigned_abs, List}
+use Rattle.std.specs.Prelude.{◌≤◌, ℕ, ℤ, FitsSigned, unsigned_abs}
 use Rattle.std.specs.Int.{w32}
 use Rattle.std.specs.List.{AllByRecursion}
 use Rattle.subsetter_cffdata.specs.Numbers.{Number, Integer, Real, Fixed}

@@ -27,13 +27,14 @@ impl<'a> Lists<'a> {
     fn local(local: &'a [Option<CharString<'a>>]) -> Self {
         Lists { global: &[], local }
     }
-
 }
 
 /// The bytes of an INDEX with these entries, of which the first alone may be unreadable.
 fn index_bytes(alloc: Global, entries: &[Option<CharString<'_>>]) -> Result<Vec<u8>, Error> {
     let mut bytes = Vec::new(alloc);
-    let count = u16::try_from(entries.len()).ok().ok_or(Error::OverflowError)?;
+    let count = u16::try_from(entries.len())
+        .ok()
+        .ok_or(Error::OverflowError)?;
     bytes.extend_from_slice(&count.to_be_bytes())?;
     if entries.is_empty() {
         return Ok(bytes);
@@ -385,7 +386,14 @@ fn charstrings_become_flat(rt: HostRuntime) {
     };
     gives(&rt, alloc, &global, usual, &[32, 29, 14], &[149, 22, 14]);
     let moves = Lists::local(&[Some(&[21, 14])]);
-    gives(&rt, alloc, &moves, usual, &[139, 140, 32, 10], &[139, 140, 21, 14]);
+    gives(
+        &rt,
+        alloc,
+        &moves,
+        usual,
+        &[139, 140, 32, 10],
+        &[139, 140, 21, 14],
+    );
     let two = Lists::local(&[Some(&[33, 11]), Some(&[22])]);
     gives(&rt, alloc, &two, usual, &[32, 10, 10, 14], &[22, 14]);
     let ends = Lists::local(&[Some(&[14])]);
@@ -459,7 +467,14 @@ fn doubled(rt: &impl Abort, alloc: Global, count: u8, tokens: u32) -> Result<(),
     if tokens <= 1_000_000 {
         gives(rt, alloc, &lists, Limits::default(), &[32, 10, 14], &[14]);
     } else {
-        fails(rt, alloc, &lists, Limits::default(), &[32, 10, 14], Error::CFFError);
+        fails(
+            rt,
+            alloc,
+            &lists,
+            Limits::default(),
+            &[32, 10, 14],
+            Error::CFFError,
+        );
     }
     Ok(())
 }
@@ -477,7 +492,14 @@ fn is_longest(rt: &impl Abort, alloc: Global, count: u8, limits: Limits) -> Resu
     gives(rt, alloc, &Lists::local(&list), limits, &[32, 10], &[14]);
     let longer = chain(alloc, count.saturating_add(1))?;
     let list = entries(alloc, &longer)?;
-    fails(rt, alloc, &Lists::local(&list), limits, &[32, 10], Error::CFFError);
+    fails(
+        rt,
+        alloc,
+        &Lists::local(&list),
+        limits,
+        &[32, 10],
+        Error::CFFError,
+    );
     Ok(())
 }
 
