@@ -27,7 +27,10 @@ fn the_middle_and_the_least_time_are_told(rt: HostRuntime) -> Result<(), Fail> {
 fn a_task_has_numbers_and_ranges(rt: HostRuntime) -> Result<(), Fail> {
     let task = read_task(rt.alloc(), &["font.ttf", "1", "3,10-12,0", "5", "out.ttf"])?;
     assert_eq!(rt; task.glyphs.as_slice(), [3, 10, 11, 12, 0].as_slice());
-    assert_eq!(rt; (task.font.as_str(), task.index, task.count), ("font.ttf", 1, 5));
+    assert_eq!(rt;
+        (task.font.as_str(), task.index, task.count),
+        ("font.ttf", 1, 5)
+    );
     let output = task.output.ok_or("an output")?;
     assert_eq!(rt; output.as_str(), "out.ttf");
     for (glyphs, count) in [("1", "0"), ("1,,2", "1"), ("65536", "1"), ("1-2-3", "1")] {

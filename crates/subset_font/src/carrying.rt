@@ -9,12 +9,13 @@ ghost use Rattle.subset_font.specs.declared.failure.Failure.TheVariants.{Write a
 
 use crate::emitting::emit;
 use crate::failure::Failure;
-use crate::making::make;
+use crate::making::make_in_room;
 use crate::words::Job;
 use std::alloc::Global;
 use std::io::{Read, Write};
 
-/// Reads the font from the reader, writes its subset to one writer, and the lines to the other.
+/// Reads the font from the reader, writes its subset to one writer, and the lines to the other. Room for so many bytes
+/// of the font is taken at once.
 ///
 /// `Read` where the reader fails, `Error` where the glyphs or the font are refused, `Write` and `Output` where a
 /// writer fails. A writer is first used when the subset is made.
@@ -22,6 +23,7 @@ pub fn carry_out<R: Read, W: Write, L: Write>(
     alloc: Global,
     job: &Job,
     reader: &mut R,
+    room: usize,
     output: &mut W,
     lines: &mut L,
 ) -> Result<(), Failure>
@@ -36,6 +38,6 @@ pub fn carry_out<R: Read, W: Write, L: Write>(
     // Why nothing is written.
     ensures err { IfErr result (λ e. IsFailureToMake (R.remaining reader.old) job.now.index job.now.glyphs.items e ⊎ ((e ≡ CannotWrite) ⊎ (e ≡ Output))) }
 {
-    let (font, mapper) = make(alloc, reader, job.index, &job.glyphs)?;
+    let (font, mapper) = make_in_room(alloc, reader, room, job.index, &job.glyphs)?;
     emit(&font, &job.glyphs, &mapper, output, lines)
 }

@@ -13,14 +13,14 @@ pub use carrying::carry_out;
 pub use emitting::emit;
 pub use failure::{Failure, Told, status_of_run};
 pub use late::LateFile;
-pub use making::make;
+pub use making::{make, make_in_room};
 pub use words::{Job, read_words};
 
 #[cfg(test)]
 mod tests;
 
-use std::process::ExitCode;
+use running::Ended;
 
-fn main(rt: HostRuntime) -> ExitCode {
-    ExitCode::from(running::run(&rt))
+fn main(rt: HostRuntime) -> Ended {
+    running::run(&rt)
 }

@@ -9,7 +9,7 @@ ghost use Rattle.subset_font.specs.Made.{IsFaultless, IsFailureToMake};
 use crate::failure::Failure;
 use std::alloc::Global;
 use std::io::Read;
-use subsetter::{GlyphRemapper, subset};
+use subsetter::{Error, GlyphRemapper, subset};
 
 /// Reads a font to its end, and answers its subset and the new numbers of the glyphs.
 ///
@@ -31,7 +31,33 @@ pub fn make<R: Read>(
     // What is refused has a fault of that name, where the reader's bytes are known.
     ensures err { IfErr result (IsFailureToMake (R.remaining reader.old) index glyphs.now) }
 {
-    let mut font = Vec::new(alloc);
+    make_in_room(alloc, reader, 0, index, glyphs)
+}
+
+/// As `make`, with room for so many bytes of the font taken at once. A font that is longer, or one that fills the room,
+/// is copied into more.
+pub fn make_in_room<R: Read>(
+    alloc: Global,
+    reader: &mut R,
+    room: usize,
+    index: u32,
+    glyphs: &[u16],
+) -> Result<(Vec<u8>, GlyphRemapper), Failure>
+    ensures mapper { IfOk result (λ made. made.1 ≡ with_glyphs (0 ∷ []) glyphs.now) }
+    // The font is read whole.
+    ensures end { OnOk result (IsAtEnd (R.remaining reader.new)) }
+    // Where the reader's bytes are known, the font is the subset of them.
+    ensures font { IfOk result (λ made. IfSome (R.remaining reader.old) (λ bytes. IsSubset (record { bytes = bytes; index = index }) made.1 made.0.items)) }
+    // And then no fault stands in them, and the glyphs leave a number for glyph 0.
+    ensures clean { IfOk result (λ made. IfSome (R.remaining reader.old) (λ bytes. IsFaultless (record { bytes = bytes; index = index }) made.1 made.0.items)) }
+    ensures room { OnOk result (HasAllAboveZero glyphs.now → ⊥) }
+    // What is refused has a fault of that name, where the reader's bytes are known.
+    ensures err { IfErr result (IsFailureToMake (R.remaining reader.old) index glyphs.now) }
+{
+    let mut font = match Vec::with_capacity(alloc, room) {
+        Ok(font) => font,
+        Err(_) => return Err(Failure::Error(Error::OutOfMemory)),
+    };
     if reader.read_to_end(&mut font).is_err() {
         return Err(Failure::Read);
     }

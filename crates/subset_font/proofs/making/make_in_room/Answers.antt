@@ -7,7 +7,7 @@ use Rattle.subsetter.specs.Fault.{HasFault}
 use Rattle.subsetter.specs.Subset.{IsSubset}
 use Rattle.subset_font.specs.Made.{IsFaultless, IsFailureToMake}
 use Rattle.subset_font.specs.declared.failure.Failure.TheVariants.{Error as Refused}
-use Rattle.subset_font.proofs.making.make.Goals as goal
+use Rattle.subset_font.proofs.making.make_in_room.Goals as goal
 
 -- a fact of a call that succeeded
 succeeded : {A E : Type 0} (r : Result A E) (X : Type 0) → is_err r ≡ false → OnOk r X → X
@@ -33,14 +33,14 @@ refused known index glyphs mapper bytes items front why h e b m (inr f) =
 pub returns-in-Ok-subset-clause-font : goal.returns-in-Ok-subset-clause-font
 returns-in-Ok-subset-clause-font g c =
     let there = succeeded c.read_to_end.result _ (sym c.is_err.ensures.value ∙ c.if-is_err.false) c.read_to_end.ensures.bytes in
-    let P : List ℕ → Type 0 = λ bytes. IsSubset (record { bytes = bytes; index = c.args.index }) c.in-Ok.mapper c.in-Ok-subset.subset.items in
-    all_read (g.R.Read.remaining c.args.reader.now) c.read_to_end.new.buf.items c.new-font.result.items P there c.new-font.ensures.items (subst P c.deref.ensures.value c.in-Ok-subset.ensures.ok)
+    let P : List ℕ → Type 0 = λ bytes. IsSubset (record { bytes = bytes; index = c.args.index }) c.in-Ok-new_from_glyphs.mapper c.in-Ok-subset.subset.items in
+    all_read (g.R.Read.remaining c.args.reader.now) c.read_to_end.new.buf.items c.in-Ok.font.items P there c.in-Ok.ensures.items (subst P c.deref.ensures.value c.in-Ok-subset.ensures.ok)
 
 pub returns-in-Ok-subset-clause-clean : goal.returns-in-Ok-subset-clause-clean
 returns-in-Ok-subset-clause-clean g c =
     let there = succeeded c.read_to_end.result _ (sym c.is_err.ensures.value ∙ c.if-is_err.false) c.read_to_end.ensures.bytes in
-    let P : List ℕ → Type 0 = λ bytes. IsFaultless (record { bytes = bytes; index = c.args.index }) c.in-Ok.mapper c.in-Ok-subset.subset.items in
-    all_read (g.R.Read.remaining c.args.reader.now) c.read_to_end.new.buf.items c.new-font.result.items P there c.new-font.ensures.items (subst P c.deref.ensures.value c.in-Ok-subset.ensures.clean)
+    let P : List ℕ → Type 0 = λ bytes. IsFaultless (record { bytes = bytes; index = c.args.index }) c.in-Ok-new_from_glyphs.mapper c.in-Ok-subset.subset.items in
+    all_read (g.R.Read.remaining c.args.reader.now) c.read_to_end.new.buf.items c.in-Ok.font.items P there c.in-Ok.ensures.items (subst P c.deref.ensures.value c.in-Ok-subset.ensures.clean)
 
 pub returns-in-Ok-subset-clause-end : goal.returns-in-Ok-subset-clause-end
 returns-in-Ok-subset-clause-end g c = succeeded c.read_to_end.result _ (sym c.is_err.ensures.value ∙ c.if-is_err.false) c.read_to_end.ensures.end
@@ -48,4 +48,4 @@ returns-in-Ok-subset-clause-end g c = succeeded c.read_to_end.result _ (sym c.is
 pub returns-clause-err : goal.returns-clause-err
 returns-clause-err g c =
     let there = succeeded c.read_to_end.result _ (sym c.is_err.ensures.value ∙ c.if-is_err.false) c.read_to_end.ensures.bytes in
-    refused (g.R.Read.remaining c.args.reader.now) c.args.index c.args.glyphs.now c.in-Ok.mapper c.deref.result.now c.read_to_end.new.buf.items c.new-font.result.items c.in-Err-subset.error there c.new-font.ensures.items c.deref.ensures.value c.in-Ok.ensures.ok c.in-Err-subset.ensures.err
+    refused (g.R.Read.remaining c.args.reader.now) c.args.index c.args.glyphs.now c.in-Ok-new_from_glyphs.mapper c.deref.result.now c.read_to_end.new.buf.items c.in-Ok.font.items c.in-Err-subset.error there c.in-Ok.ensures.items c.deref.ensures.value c.in-Ok-new_from_glyphs.ensures.ok c.in-Err-subset.ensures.err
