@@ -27,32 +27,33 @@ fn the_first_table_with_a_fault_names_the_error(rt: HostRuntime) -> Result<(), F
     let alloc = rt.alloc();
     let mut one_pair = [0; 36];
     one_pair[35] = 1;
-    // Each table with a fault, its error, and the table without.
-    let rows: [(Tag, &[u8], Error, &[u8]); 4] = [
-        (Tag::HHEA, &[0; 36], Error::OverflowError, &one_pair),
-        (
-            Tag::MAXP,
-            &[0, 1, 0, 0, 0],
-            Error::MalformedFont,
-            &[0, 1, 0, 0, 0, 3],
-        ),
-        // The string of its record lies outside of the storage.
-        (
-            Tag::NAME,
-            &[0, 0, 0, 1, 0, 18, 0, 3, 0, 1, 4, 9, 0, 0, 0, 1, 0, 0],
-            Error::SubsetError,
-            &[0, 0, 0, 0, 0, 6],
-        ),
-        (Tag::POST, &[0, 3, 0], Error::MalformedFont, &[0, 3, 0, 0]),
+    // The string of its record lies outside of the storage.
+    let far_string = [0, 0, 0, 1, 0, 18, 0, 3, 0, 1, 4, 9, 0, 0, 0, 1, 0, 0];
+    let bad = [
+        part(Tag::HHEA, &[0; 36]),
+        part(Tag::MAXP, &[0, 1, 0, 0, 0]),
+        part(Tag::NAME, &far_string),
+        part(Tag::POST, &[0, 3, 0]),
+    ];
+    let sound = [
+        part(Tag::HHEA, &one_pair),
+        part(Tag::MAXP, &[0, 1, 0, 0, 0, 3]),
+        part(Tag::NAME, &[0, 0, 0, 0, 0, 6]),
+        part(Tag::POST, &[0, 3, 0, 0]),
+    ];
+    let errors = [
+        Error::OverflowError,
+        Error::MalformedFont,
+        Error::SubsetError,
+        Error::MalformedFont,
     ];
     for first in 0..4 {
         let mut parts = Vec::new(alloc);
         parts.push(part(Tag::HMTX, &[0, 1, 0, 2]))?;
-        for (at, (tag, bad, _, sound)) in rows.iter().enumerate() {
-            parts.push(part(*tag, if at < first { *sound } else { *bad }))?;
-        }
+        parts.extend_from_slice(&sound[..first])?;
+        parts.extend_from_slice(&bad[first..])?;
         let file = three_empty(alloc, &parts)?;
-        assert_eq!(rt; refusal(alloc, &file, 0, &[])?, rows[first].2);
+        assert_eq!(rt; refusal(alloc, &file, 0, &[])?, errors[first]);
     }
     Ok(())
 }
