@@ -1,7 +1,7 @@
 -- What is made of a font that is read, and why it isn't.
 use Rattle.std.specs.Prelude.{◌≡◌, ◌⊎◌, ℕ, List, [], ◌∷◌, Option, IfSome}
 use Rattle.subsetter.specs.Fault.{HasFault}
-use Rattle.subsetter.specs.Font.{Font}
+use Rattle.subsetter.specs.Sfnt.Read.{Font}
 use Rattle.subsetter.specs.Subset.{IsSubset}
 use Rattle.subsetter_base.specs.Places.{with_glyphs, HasAllAboveZero}
 use Rattle.subsetter_base.specs.declared.error.Error.{Error as Refusal}

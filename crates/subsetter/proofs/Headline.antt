@@ -5,17 +5,17 @@ use Rattle.std.specs.Option.{option_and_then}
 use Rattle.subsetter_base.specs.Bytes.{IsBytes}
 use Rattle.subsetter_base.specs.declared.error.Error.{Error}
 use Rattle.subsetter_base.specs.declared.error.Error.TheVariants.{UnknownKind, Unimplemented, OutOfMemory}
-use Rattle.subsetter.specs.declared.flavor.FontFlavor.{FontFlavor}
-use Rattle.subsetter.specs.declared.flavor.FontFlavor.TheVariants.{TrueType, Cff}
-use Rattle.subsetter.specs.Answered.{IsAnswered, IsRefused}
+use Rattle.subsetter.specs.declared.sfnt.flavor.FontFlavor.{FontFlavor}
+use Rattle.subsetter.specs.declared.sfnt.flavor.FontFlavor.TheVariants.{TrueType, Cff}
+use Rattle.subsetter.specs.Truetype.Answered.{IsAnswered, IsRefused}
 use Rattle.subsetter.specs.Fault as faults
 use Rattle.subsetter.specs.Fault.{HasFault}
-use Rattle.subsetter.specs.Font.{Font, table, table_in, flavor}
-use Rattle.subsetter.specs.Opened.{opened, flavored}
-use Rattle.subsetter.specs.OpeningFault.{HasOpeningFault, no_kind, no_entry, entry_outside, no_face, nested, cut_directory, no_outlines, lone_cff2}
-use Rattle.subsetter.proofs.FaultLaws.{Stands, has_fault, no_fault}
-use Rattle.subsetter.proofs.OpeningLaws.{opened_refused, opened_records, flavored_refused, opened_clean}
-use Rattle.subsetter.proofs.Whole.{IsClean, is_subset}
+use Rattle.subsetter.specs.Sfnt.Read.{Font, table, table_in, flavor}
+use Rattle.subsetter.specs.Sfnt.Plain.{opened, flavored}
+use Rattle.subsetter.specs.Sfnt.Fault.{HasOpeningFault, no_kind, no_entry, entry_outside, no_face, nested, cut_directory, no_outlines, lone_cff2}
+use Rattle.subsetter.proofs.TruetypeLaws.Fault.{Stands, has_fault, no_fault}
+use Rattle.subsetter.proofs.SfntLaws.Fault.{opened_refused, opened_records, flavored_refused, opened_clean}
+use Rattle.subsetter.proofs.TruetypeLaws.Subset.{IsClean, is_subset}
 
 -- the tables of a font that was opened
 find_is : (font : Font) (d : List ℕ) → opened font ≡ Ok d → table_in font.bytes d ≡ table font

@@ -2,20 +2,20 @@
 use Rattle.std.specs.Prelude.{◌≡◌, ◌≤◌, ◌^◌, ℕ, List, length, false, Some, Ok}
 use Rattle.subsetter_base.specs.declared.error.Error.{Error}
 use Rattle.subsetter_base.specs.declared.error.Error.TheVariants.{OverflowError, Unimplemented}
-use Rattle.subsetter.specs.declared.flavor.FontFlavor.TheVariants.{Cff}
-use Rattle.subsetter.specs.Font.{Font, flavor, table}
-use Rattle.subsetter.specs.Glyph.{Outlines, outlines}
-use Rattle.subsetter.specs.GlyphNameFault.{HasGlyphNameFault}
-use Rattle.subsetter.specs.Layout.{Table, fits, start_of}
-use Rattle.subsetter.specs.MaxProfile.{HasMaxProfileFault}
-use Rattle.subsetter.specs.Metrics.{HasMetricsFault}
-use Rattle.subsetter.specs.NameFaults.{HasNameFault}
-use Rattle.subsetter.specs.OpeningFault.{HasOpeningFault}
-use Rattle.subsetter.specs.OutlineFault.{HasOutlineFault}
-use Rattle.subsetter.specs.Plain.{truetype_tables}
-use Rattle.subsetter.specs.PlainGlyph.{kept_all}
-use Rattle.subsetter.specs.Reach.{IsReachable, IsGlyphOrder}
-use Rattle.subsetter.specs.Written.{is_long, glyf_bytes}
+use Rattle.subsetter.specs.declared.sfnt.flavor.FontFlavor.TheVariants.{Cff}
+use Rattle.subsetter.specs.Sfnt.Read.{Font, flavor, table}
+use Rattle.subsetter.specs.Glyf.Read.{Outlines, outlines}
+use Rattle.subsetter.specs.Post.Fault.{HasGlyphNameFault}
+use Rattle.subsetter.specs.Sfnt.Written.{Table, fits, start_of}
+use Rattle.subsetter.specs.Maxp.Read.{HasMaxProfileFault}
+use Rattle.subsetter.specs.Hmtx.Read.{HasMetricsFault}
+use Rattle.subsetter.specs.Name.Fault.{HasNameFault}
+use Rattle.subsetter.specs.Sfnt.Fault.{HasOpeningFault}
+use Rattle.subsetter.specs.Glyf.Fault.{HasOutlineFault}
+use Rattle.subsetter.specs.Truetype.Plain.{truetype_tables}
+use Rattle.subsetter.specs.Glyf.Plain.{kept_all}
+use Rattle.subsetter.specs.Glyf.Reach.{IsReachable, IsGlyphOrder}
+use Rattle.subsetter.specs.Glyf.Written.{is_long, glyf_bytes}
 
 -- a fault stands in a font, for a list of glyphs; the size limits are judged for an order of the new font's glyphs
 pub data HasFault (font : Font) (glyphs order : List ℕ) : Error → Type 0 where

@@ -1,17 +1,17 @@
 -- What a subset of a font is.
 use Rattle.std.specs.Prelude.{◌≡◌, ℕ, ◌+◌, ◌*◌, ◌<◌, List, [], ◌∷◌, ◌++◌, length, take, drop, slice_range, slice_index, codes, Option, Some, Ok, IsSome, is_some, if◌then◌else◌}
-use Rattle.subsetter.specs.declared.flavor.FontFlavor.TheVariants.{TrueType}
-use Rattle.subsetter.specs.Container.{IsSoundContainer}
-use Rattle.subsetter.specs.Font.{Font, as_font, table}
-use Rattle.subsetter.specs.Glyph.{Outlines, outlines, entry_size}
-use Rattle.subsetter.specs.GlyphNames.{KeepsGlyphNames}
-use Rattle.subsetter.specs.Layout.{Table, file}
-use Rattle.subsetter.specs.MaxProfile.{IsMaxProfile}
-use Rattle.subsetter.specs.Metrics.{KeepsMetrics}
-use Rattle.subsetter.specs.Names.{KeepsNames}
-use Rattle.subsetter.specs.Plain.{truetype_tables}
-use Rattle.subsetter.specs.Reach.{IsGlyphOrder}
-use Rattle.subsetter.specs.Unfold.{UnfoldAlike}
+use Rattle.subsetter.specs.declared.sfnt.flavor.FontFlavor.TheVariants.{TrueType}
+use Rattle.subsetter.specs.Sfnt.Container.{IsSoundContainer}
+use Rattle.subsetter.specs.Sfnt.Read.{Font, as_font, table}
+use Rattle.subsetter.specs.Glyf.Read.{Outlines, outlines, entry_size}
+use Rattle.subsetter.specs.Post.Read.{KeepsGlyphNames}
+use Rattle.subsetter.specs.Sfnt.Written.{Table, file}
+use Rattle.subsetter.specs.Maxp.Read.{IsMaxProfile}
+use Rattle.subsetter.specs.Hmtx.Read.{KeepsMetrics}
+use Rattle.subsetter.specs.Name.Read.{KeepsNames}
+use Rattle.subsetter.specs.Truetype.Plain.{truetype_tables}
+use Rattle.subsetter.specs.Glyf.Reach.{IsGlyphOrder}
+use Rattle.subsetter.specs.Glyf.Unfold.{UnfoldAlike}
 
 -- loca has one entry more than there are glyphs
 pub record HasGlyphCount (out : Font) (n : ℕ) : Type 0 where

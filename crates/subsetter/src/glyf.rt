@@ -5,17 +5,23 @@ ghost use Rattle.std.specs.Cow.{cow_slice_items};
 ghost use Rattle.std.specs.Option.{option_copied};
 ghost use Rattle.subsetter_base.specs.Gives.{Gives};
 ghost use Rattle.subsetter_base.specs.Places.{IsWithoutRepeats};
-ghost use Rattle.subsetter.specs.Closure.{components_in, others_in, lacks_head, IsFaulty, IsFull, IsVisited, StopsClosure};
-ghost use Rattle.subsetter.specs.Font.{table_in};
-ghost use Rattle.subsetter.specs.Glyph.{offset, outline_in};
-ghost use Rattle.subsetter.specs.Outlines.{seen};
-ghost use Rattle.subsetter.specs.PlainGlyph.{outlines_read, kept, kept_all};
-ghost use Rattle.subsetter.specs.Reach.{IsGlyphOrderBy};
+ghost use Rattle.subsetter.specs.Glyf.Closure.{components_in, others_in, lacks_head, IsFaulty, IsFull, IsVisited, StopsClosure};
+ghost use Rattle.subsetter.specs.Sfnt.Read.{table_in};
+ghost use Rattle.subsetter.specs.Glyf.Read.{offset, outline_in};
+ghost use Rattle.subsetter.specs.Glyf.View.{seen};
+ghost use Rattle.subsetter.specs.Glyf.Plain.{outlines_read, kept, kept_all};
+ghost use Rattle.subsetter.specs.Glyf.Reach.{IsGlyphOrderBy};
 ghost use Rattle.subsetter_base.specs.declared.error.Error.TheVariants.{OutOfMemory, MalformedFont, OverflowError};
 
-use crate::component::{Components, rewrite};
-use crate::face::Face;
-use crate::outlines::OutlineList;
+mod component;
+pub mod f2dot14;
+pub mod outlines;
+#[cfg(test)]
+mod tests;
+
+use crate::glyf::component::{Components, rewrite};
+use crate::glyf::outlines::OutlineList;
+use crate::sfnt::face::Face;
 use std::alloc::Global;
 use std::borrow::CowSlice;
 use subsetter_base::read::Reader;
@@ -32,7 +38,7 @@ pub struct Table<'a> {
 
 impl<'a> Table<'a> {
     /// The tables of a font. `MalformedFont` where one is missing, or `head` has fewer than 52 bytes.
-    #[tactic(auto, unfolding(crate::specs::Glyph::outlines_in))]
+    #[tactic(auto, unfolding(crate::specs::Glyf::Read::outlines_in))]
     pub fn new(face: &Face<'a>) -> Result<Self, Error>
         ensures ok { IfOk result (λ t. outlines_read (table_in face.now.«data».now face.now.records.now) ≡ Ok (seen t)) }
         ensures err { IfErr result (λ e. outlines_read (table_in face.now.«data».now face.now.records.now) ≡ Err e) }
@@ -68,7 +74,7 @@ impl<'a> Table<'a> {
     }
 
     /// The outline of a glyph.
-    #[tactic(auto, unfolding(crate::specs::Glyph::outline_in))]
+    #[tactic(auto, unfolding(crate::specs::Glyf::Read::outline_in))]
     pub fn glyph_data(&self, id: u16) -> Option<&'a [u8]>
         ensures exact { option_copied result ≡ outline_in (seen self.now) id }
         ensures small { IfSome result (λ b. length b.now < 2 ^ 32) }
@@ -83,7 +89,7 @@ impl<'a> Table<'a> {
 
     /// The outline of a kept glyph, with its components under their new numbers.
     /// `MalformedFont` where it can't be read, has one byte or is a composite that is cut.
-    #[tactic(auto, unfolding(crate::specs::PlainGlyph::kept))]
+    #[tactic(auto, unfolding(crate::specs::Glyf::Plain::kept))]
     fn kept(&self, alloc: Global, id: u16, order: &GlyphRemapper) -> Result<CowSlice<'a, u8>, Error>
         ensures { Gives cow_slice_items result (kept (seen self.now) order.now id) }
     {
@@ -109,7 +115,7 @@ pub fn subset<'a>(
 }
 
 /// Whether an outline has one byte, or is a composite that is shorter than its head.
-#[tactic(auto, unfolding(crate::specs::Closure::lacks_head))]
+#[tactic(auto, unfolding(crate::specs::Glyf::Closure::lacks_head))]
 fn lacks_head(outline: &[u8]) -> bool
     ensures { result ≡ lacks_head outline.now }
 {

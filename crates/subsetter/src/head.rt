@@ -3,8 +3,8 @@
 ghost use Rattle.std.specs.Prelude.{◌≡◌, ◌≤◌, [], ◌∷◌, ◌++◌, length, OnOk, IfErr};
 ghost use Rattle.subsetter_base.specs.Gives.{Gives};
 ghost use Rattle.subsetter_base.specs.declared.error.Error.TheVariants.{OutOfMemory};
-ghost use Rattle.subsetter.specs.PlainGlyph.{head_kept};
-ghost use Rattle.subsetter.specs.Written.{format_bytes};
+ghost use Rattle.subsetter.specs.Glyf.Plain.{head_kept};
+ghost use Rattle.subsetter.specs.Glyf.Written.{format_bytes};
 
 use std::alloc::Global;
 use subsetter_base::Error;

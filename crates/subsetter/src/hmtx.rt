@@ -5,8 +5,8 @@ ghost use Rattle.std.specs.Option.{option_copied, option_map};
 ghost use Rattle.std.specs.List.{flat_map};
 ghost use Rattle.subsetter_base.specs.Gives.{Gives};
 ghost use Rattle.subsetter_base.specs.declared.error.Error.TheVariants.{OutOfMemory};
-ghost use Rattle.subsetter.specs.Metrics.{metric_at, metric_in};
-ghost use Rattle.subsetter.specs.MetricsWritten.{least_count, pair_bytes, bearing_bytes, hmtx_bytes, hhea_bytes, metrics_all, source_count, tables_of, metrics_in, seen};
+ghost use Rattle.subsetter.specs.Hmtx.Read.{metric_at, metric_in};
+ghost use Rattle.subsetter.specs.Hmtx.Written.{least_count, pair_bytes, bearing_bytes, hmtx_bytes, hhea_bytes, metrics_all, source_count, tables_of, metrics_in, seen};
 
 use std::alloc::Global;
 use subsetter_base::read::Reader;
@@ -39,7 +39,7 @@ fn metric_at(hmtx: &[u8], advance_at: usize, bearing_at: usize) -> Option<Metric
 }
 
 /// The metric of a glyph: among the first `count` a pair of its own, after them the last advance with a bearing of its own.
-#[tactic(auto, unfolding(crate::specs::Metrics::metric_in))]
+#[tactic(auto, unfolding(crate::specs::Hmtx::Read::metric_in))]
 fn glyph_metric(hmtx: &[u8], count: u16, glyph: u16) -> Option<Metric>
     ensures { result ≡ metric_in hmtx.now count glyph }
 {
@@ -55,7 +55,7 @@ fn glyph_metric(hmtx: &[u8], count: u16, glyph: u16) -> Option<Metric>
 }
 
 /// numberOfHMetrics of the source, whose last pair has its advance. No pairs are `OverflowError`; a cut table is `MalformedFont`.
-#[tactic(auto, unfolding(crate::specs::MetricsWritten::source_count))]
+#[tactic(auto, unfolding(crate::specs::Hmtx::Written::source_count))]
 fn source_count(hhea: &[u8], hmtx: &[u8]) -> Result<u16, Error>
     ensures exact { result ≡ source_count hhea.now hmtx.now }
     ensures header { OnOk result (36 ≤ length hhea.now) }
@@ -134,7 +134,7 @@ fn write_bearings(w: &mut Writer, metrics: &[Metric]) -> Result<(), Error>
 }
 
 /// Writes `hmtx` with a number of pairs, and bearings alone after them.
-#[tactic(auto, unfolding(crate::specs::MetricsWritten::hmtx_bytes))]
+#[tactic(auto, unfolding(crate::specs::Hmtx::Written::hmtx_bytes))]
 fn write_hmtx(alloc: Global, metrics: &[Metric], count: usize) -> Result<Vec<u8>, Error>
     requires { count ≤ length metrics.now }
     ensures ok { IfOk result (λ v. v.items ≡ hmtx_bytes count metrics.now) }
@@ -147,7 +147,7 @@ fn write_hmtx(alloc: Global, metrics: &[Metric], count: usize) -> Result<Vec<u8>
 }
 
 /// Writes `hhea` with its numberOfHMetrics.
-#[tactic(auto, unfolding(crate::specs::MetricsWritten::hhea_bytes))]
+#[tactic(auto, unfolding(crate::specs::Hmtx::Written::hhea_bytes))]
 fn write_hhea(alloc: Global, hhea: &[u8], count: u16) -> Result<Vec<u8>, Error>
     requires { 36 ≤ length hhea.now }
     ensures ok { IfOk result (λ v. v.items ≡ hhea_bytes count hhea.now) }
@@ -163,7 +163,7 @@ fn write_hhea(alloc: Global, hhea: &[u8], count: u16) -> Result<Vec<u8>, Error>
 }
 
 /// The tables from the source's `hmtx`. A missing or cut `hhea`, and a metric that isn't there, are `MalformedFont`; no pairs are `OverflowError`.
-#[tactic(auto, unfolding(crate::specs::MetricsWritten::tables_of))]
+#[tactic(auto, unfolding(crate::specs::Hmtx::Written::tables_of))]
 fn tables(
     alloc: Global,
     hhea: Option<&[u8]>,
@@ -184,7 +184,7 @@ fn tables(
 
 /// `hhea` and `hmtx` of a subset, where the source has `hmtx`: each glyph of the list has the metric of its source, by the least number of pairs.
 /// A missing or cut `hhea`, and a last advance or a metric outside of `hmtx`, are `MalformedFont`; no pairs are `OverflowError`.
-#[tactic(auto, unfolding(crate::specs::MetricsWritten::metrics_in))]
+#[tactic(auto, unfolding(crate::specs::Hmtx::Written::metrics_in))]
 pub fn subset(
     alloc: Global,
     hhea: Option<&[u8]>,

@@ -2,9 +2,9 @@
 
 ghost use Rattle.std.specs.Prelude.{◌≡◌, ◌<◌, ◌^◌, ◌++◌, length, if◌then◌else◌, IfOk, IfErr, OnOk};
 ghost use Rattle.subsetter_base.specs.declared.error.Error.TheVariants.{OutOfMemory};
-ghost use Rattle.subsetter.specs.Written.{is_long, glyf_bytes, offset_bytes, loca_bytes};
+ghost use Rattle.subsetter.specs.Glyf.Written.{is_long, glyf_bytes, offset_bytes, loca_bytes};
 
-use crate::outlines::{OutlineList, outlines_len};
+use crate::glyf::outlines::{OutlineList, outlines_len};
 use std::alloc::Global;
 use subsetter_base::Error;
 use subsetter_base::write::Writer;

@@ -3,10 +3,10 @@
 ghost use Rattle.std.specs.Prelude.{◌≡◌, ◌≤◌, length};
 ghost use Rattle.std.specs.Option.{option_copied, option_map};
 ghost use Rattle.subsetter_base.specs.Gives.{Gives};
-ghost use Rattle.subsetter.specs.MaxProfile.{version_of, further_fields};
-ghost use Rattle.subsetter.specs.MaxProfileWritten.{maxp_in};
+ghost use Rattle.subsetter.specs.Maxp.Read.{version_of, further_fields};
+ghost use Rattle.subsetter.specs.Maxp.Written.{maxp_in};
 
-use crate::flavor::FontFlavor;
+use crate::sfnt::flavor::FontFlavor;
 use std::alloc::Global;
 use subsetter_base::Error;
 use subsetter_base::write::Writer;
@@ -33,7 +33,7 @@ fn further_fields(maxp: &[u8], flavor: FontFlavor) -> &[u8]
 }
 
 /// `maxp` of a subset of `count` glyphs, where the source has it. One under six bytes is `MalformedFont`.
-#[tactic(auto, unfolding(crate::specs::MaxProfileWritten::maxp_bytes))]
+#[tactic(auto, unfolding(crate::specs::Maxp::Written::maxp_bytes))]
 pub fn subset(
     alloc: Global,
     maxp: Option<&[u8]>,

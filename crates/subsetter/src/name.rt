@@ -5,11 +5,13 @@ ghost use Rattle.std.specs.Option.{option_copied, option_map, ok_or};
 ghost use Rattle.std.specs.Cow.{cow_slice_items};
 ghost use Rattle.subsetter_base.specs.Gives.{Gives};
 ghost use Rattle.subsetter_base.specs.declared.error.Error.TheVariants.{OutOfMemory, MalformedFont};
-ghost use Rattle.subsetter.specs.Names.{name_record_bytes, name_parts, is_unicode, is_kept_record, string_of, with_string, string_place, joined, name_bytes};
-ghost use Rattle.subsetter.specs.NamesPlain.{Placed, placed_string, subset_names, name_of_table, new_name};
-ghost use Rattle.subsetter.specs.NamesSeen.{seen_parts, seen_table};
+ghost use Rattle.subsetter.specs.Name.Read.{name_record_bytes, name_parts, is_unicode, is_kept_record, string_of, with_string, string_place, joined, name_bytes};
+ghost use Rattle.subsetter.specs.Name.Plain.{Placed, placed_string, subset_names, name_of_table, new_name};
+ghost use Rattle.subsetter.specs.Name.View.{seen_parts, seen_table};
 
-use crate::text::Text;
+mod text;
+
+use crate::name::text::Text;
 use std::alloc::Global;
 use std::borrow::CowSlice;
 use std::collections::HashMap;
@@ -56,7 +58,7 @@ impl NameRecord {
 
 impl Readable<'_> for NameRecord {
     ghost use Rattle.std.specs.Prelude.{Some};
-    ghost use Rattle.subsetter.specs.Names.{name_record_of};
+    ghost use Rattle.subsetter.specs.Name.Read.{name_record_of};
 
     const SIZE: usize = 12;
 
@@ -78,7 +80,7 @@ impl Readable<'_> for NameRecord {
 }
 
 impl Writeable for NameRecord {
-    ghost use Rattle.subsetter.specs.Names.{name_record_bytes};
+    ghost use Rattle.subsetter.specs.Name.Read.{name_record_bytes};
 
     ghost bytes_of = { λ r. name_record_bytes r };
 
@@ -105,8 +107,8 @@ impl<'a> Model for Strings<'a> {
     ghost use Rattle.std.specs.Prelude.{◌≡◌, ℕ, List, length, Some, None, if◌then◌else◌};
     ghost use Rattle.std.specs.HashMap.{get};
     ghost use Rattle.std.specs.Str.{bytes_eq};
-    ghost use Rattle.subsetter.specs.Names.{among, string_place, joined};
-    ghost use Rattle.subsetter.specs.NamesSeen.{nows};
+    ghost use Rattle.subsetter.specs.Name.Read.{among, string_place, joined};
+    ghost use Rattle.subsetter.specs.Name.View.{nows};
 
     ghost Value = { List (List ℕ) };
 
@@ -219,7 +221,7 @@ fn write_records(w: &mut Writer, names: &[NameRecord]) -> Result<(), Error>
 
 impl Writeable for Table<'_> {
     ghost use Rattle.std.specs.Cow.{cow_slice_items};
-    ghost use Rattle.subsetter.specs.Names.{name_bytes};
+    ghost use Rattle.subsetter.specs.Name.Read.{name_bytes};
 
     ghost bytes_of = { λ t. name_bytes t.names.items (cow_slice_items t.storage) };
 
@@ -237,7 +239,7 @@ impl Writeable for Table<'_> {
 }
 
 /// The records that a subset keeps, and their strings, each once in the order of first use. `SubsetError` where a string is not inside the storage or begins past 65535 in the new one, and for more than 5460 records.
-#[tactic(auto, unfolding(crate::specs::NamesPlain::subset_names))]
+#[tactic(auto, unfolding(crate::specs::Name::Plain::subset_names))]
 pub fn subset_table<'a>(alloc: Global, table: &Table<'a>) -> Result<Table<'a>, Error>
     ensures { Gives seen_table result (subset_names (seen_table table.now)) }
 {
@@ -263,7 +265,7 @@ pub fn subset_table<'a>(alloc: Global, table: &Table<'a>) -> Result<Table<'a>, E
 }
 
 /// The names of a subset. A table of another version than 0 is copied whole; `MalformedFont` where the version, the header, a record or the start of the storage is cut, and the errors of `subset_table`.
-#[tactic(auto, unfolding(crate::specs::NamesPlain::new_name, crate::specs::NamesPlain::name_of_table))]
+#[tactic(auto, unfolding(crate::specs::Name::Plain::new_name, crate::specs::Name::Plain::name_of_table))]
 pub fn subset<'a>(alloc: Global, name: Option<&'a [u8]>) -> Result<Option<CowSlice<'a, u8>>, Error>
     ensures { Gives (option_map cow_slice_items) result (new_name (option_copied name.entry)) }
 {

@@ -6,8 +6,8 @@ ghost use Rattle.std.specs.Cow.{cow_slice_items};
 ghost use Rattle.std.specs.Iterator.{YieldsFirstRef, item_count};
 ghost use Rattle.subsetter_base.specs.Gives.{Gives};
 ghost use Rattle.subsetter_base.specs.declared.error.Error.TheVariants.{OutOfMemory};
-ghost use Rattle.subsetter.specs.GlyphNames.{names_in, post_table, pascal_bytes};
-ghost use Rattle.subsetter.specs.GlyphNamesPlain.{seen_post, indexes_of, custom_count, new_indexes, entry_of, post_of_indexes, subset_glyph_names, new_post};
+ghost use Rattle.subsetter.specs.Post.Read.{names_in, post_table, pascal_bytes};
+ghost use Rattle.subsetter.specs.Post.Plain.{seen_post, indexes_of, custom_count, new_indexes, entry_of, post_of_indexes, subset_glyph_names, new_post};
 
 use std::alloc::Global;
 use std::borrow::CowSlice;
@@ -60,7 +60,7 @@ pub struct Version2Table<'a> {
 
 impl<'a> Version2Table<'a> {
     /// Parses a table, if it is one of version 2.0 and its header and its indexes are there.
-    #[tactic(auto, unfolding(crate::specs::GlyphNames::post_table))]
+    #[tactic(auto, unfolding(crate::specs::Post::Read::post_table))]
     pub fn parse(data: &'a [u8]) -> Option<Self>
         ensures { option_map seen_post result ≡ post_table «data».now }
     {
@@ -152,9 +152,9 @@ struct NameList<'a> {
 
 impl<'a> Model for NameList<'a> {
     ghost use Rattle.std.specs.Prelude.{ℕ, List};
-    ghost use Rattle.subsetter.specs.GlyphNames.{names_in};
-    ghost use Rattle.subsetter.specs.NameMarks.{AreMarks};
-    ghost use Rattle.subsetter.specs.NamesSeen.{nows};
+    ghost use Rattle.subsetter.specs.Post.Read.{names_in};
+    ghost use Rattle.subsetter.specs.Post.Marks.{AreMarks};
+    ghost use Rattle.subsetter.specs.Name.View.{nows};
 
     ghost Value = { List (List ℕ) };
 
@@ -272,7 +272,7 @@ fn write_names(w: &mut Writer, indexes: &[u16], names: &NameList<'_>) -> Result<
 }
 
 /// Writes a table of version 2.0.
-#[tactic(auto, unfolding(crate::specs::GlyphNamesPlain::post_of_indexes))]
+#[tactic(auto, unfolding(crate::specs::Post::Plain::post_of_indexes))]
 fn write_table(
     alloc: Global,
     table: &Version2Table<'_>,
@@ -298,7 +298,7 @@ fn write_table(
 }
 
 /// The glyph names of a subset. A table of another version than 2.0 is copied whole. `MalformedFont` where the version, the header, the count or an index is cut or the index of a glyph is missing; `OverflowError` for more than 65278 glyphs with names of the font's own.
-#[tactic(auto, unfolding(crate::specs::GlyphNamesPlain::new_post, crate::specs::GlyphNamesPlain::post_of_table, crate::specs::GlyphNamesPlain::subset_glyph_names))]
+#[tactic(auto, unfolding(crate::specs::Post::Plain::new_post, crate::specs::Post::Plain::post_of_table, crate::specs::Post::Plain::subset_glyph_names))]
 pub fn subset<'a>(
     alloc: Global,
     post: Option<&'a [u8]>,

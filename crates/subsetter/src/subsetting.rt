@@ -3,17 +3,17 @@
 ghost use Rattle.std.specs.Prelude.{◌≡◌, ◌≢◌, ◌⊎◌, ℕ, List, IfOk, IfErr, Err};
 ghost use Rattle.subsetter_base.specs.declared.error.Error.TheVariants.{OutOfMemory};
 ghost use Rattle.subsetter_base.specs.declared.error.Error.{Error as SpecError};
-ghost use Rattle.subsetter.specs.Font.{table_in};
-ghost use Rattle.subsetter.specs.Answered.{IsAnswered, IsRefused};
+ghost use Rattle.subsetter.specs.Sfnt.Read.{table_in};
+ghost use Rattle.subsetter.specs.Truetype.Answered.{IsAnswered, IsRefused};
 ghost use Rattle.subsetter.specs.Fault.{HasFault};
-ghost use Rattle.subsetter.specs.OpeningFault.{HasOpeningFault};
+ghost use Rattle.subsetter.specs.Sfnt.Fault.{HasOpeningFault};
 ghost use Rattle.subsetter.specs.Subset.{IsSubset};
 
-use crate::construct::finish;
-use crate::face::Face;
-use crate::flavor::{FontFlavor, flavor};
 use crate::glyf::{self, Table};
-use crate::parse::parse;
+use crate::sfnt::construct::finish;
+use crate::sfnt::face::Face;
+use crate::sfnt::flavor::{FontFlavor, flavor};
+use crate::sfnt::parse::parse;
 use crate::truetype::{fill, make};
 use std::alloc::Global;
 use subsetter_base::{Error, GlyphRemapper};

@@ -5,20 +5,20 @@ ghost use Rattle.std.specs.Option.{option_map, option_copied};
 ghost use Rattle.std.specs.Cow.{cow_slice_items};
 ghost use Rattle.subsetter_base.specs.Gives.{Gives};
 ghost use Rattle.subsetter_base.specs.declared.error.Error.TheVariants.{OutOfMemory};
-ghost use Rattle.subsetter.specs.Font.{table_in};
-ghost use Rattle.subsetter.specs.Outlines.{seen};
-ghost use Rattle.subsetter.specs.PlainGlyph.{kept_all};
-ghost use Rattle.subsetter.specs.Plain.{located, made_of, laid, one};
-ghost use Rattle.subsetter.specs.PlainSeen.{made_seen};
-ghost use Rattle.subsetter.specs.Tables.{opt, views};
-ghost use Rattle.subsetter.specs.Written.{is_long, glyf_bytes};
+ghost use Rattle.subsetter.specs.Sfnt.Read.{table_in};
+ghost use Rattle.subsetter.specs.Glyf.View.{seen};
+ghost use Rattle.subsetter.specs.Glyf.Plain.{kept_all};
+ghost use Rattle.subsetter.specs.Truetype.Plain.{located, made_of, laid, one};
+ghost use Rattle.subsetter.specs.Truetype.View.{made_seen};
+ghost use Rattle.subsetter.specs.Sfnt.View.{opt, views};
+ghost use Rattle.subsetter.specs.Glyf.Written.{is_long, glyf_bytes};
 
-use crate::context::{Context, TableData};
-use crate::face::Face;
-use crate::flavor::FontFlavor;
+use crate::glyf::outlines::{OutlineList, outlines_len};
 use crate::glyf::{self, Table};
 use crate::hmtx::{self, MetricTables};
-use crate::outlines::{OutlineList, outlines_len};
+use crate::sfnt::context::{Context, TableData};
+use crate::sfnt::face::Face;
+use crate::sfnt::flavor::FontFlavor;
 use crate::{head, loca, maxp, name, post};
 use std::alloc::Global;
 use std::borrow::CowSlice;
@@ -39,7 +39,7 @@ pub struct Made<'a> {
 }
 
 /// `loca` of outlines. `OverflowError` where `glyf` has 2^32 bytes or more.
-#[tactic(auto, unfolding(crate::specs::Plain::located))]
+#[tactic(auto, unfolding(crate::specs::Truetype::Plain::located))]
 fn locate(alloc: Global, outlines: &OutlineList<'_>, long: bool) -> Result<Vec<u8>, Error>
     requires { long ≡ is_long outlines.now }
     ensures { Gives (λ v. v.items) result (located outlines.now) }
@@ -51,7 +51,7 @@ fn locate(alloc: Global, outlines: &OutlineList<'_>, long: bool) -> Result<Vec<u
 }
 
 /// Makes the tables that depend on the glyphs of the new font.
-#[tactic(auto, unfolding(crate::specs::Plain::made_of))]
+#[tactic(auto, unfolding(crate::specs::Truetype::Plain::made_of))]
 pub fn make<'a>(
     alloc: Global,
     face: &Face<'a>,
@@ -131,7 +131,7 @@ fn apart(metrics: Option<MetricTables>) -> (Option<Vec<u8>>, Option<Vec<u8>>)
 }
 
 /// The tables of the new font, in ascending order of their tags.
-#[tactic(auto, unfolding(crate::specs::Plain::laid))]
+#[tactic(auto, unfolding(crate::specs::Truetype::Plain::laid))]
 pub fn fill<'a>(alloc: Global, face: &Face<'a>, made: Made<'a>) -> Result<Context<'a>, Error>
     requires { made.long ≡ is_long made.outlines }
     ensures ok { IfOk result (λ context. views context ≡ laid (table_in face.now.«data».now face.now.records.now) (made_seen made.entry)) }

@@ -1,6 +1,6 @@
 //! Building fonts and looking into them.
 
-use crate::parse::parse;
+use crate::sfnt::parse::parse;
 use crate::{Error, GlyphRemapper, Tag, subset};
 use std::alloc::Global;
 use std::test::*;

@@ -1,7 +1,7 @@
 //! Metrics.
 
 use super::fonts::*;
-use crate::parse::parse;
+use crate::sfnt::parse::parse;
 use crate::{Error, Tag};
 use std::alloc::Global;
 use std::test::*;

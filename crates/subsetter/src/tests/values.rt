@@ -1,8 +1,8 @@
 //! Values that no font of these tests holds.
 
-use crate::f2dot14::F2Dot14;
-use crate::face::TableRecord;
-use crate::flavor::FontFlavor;
+use crate::glyf::f2dot14::F2Dot14;
+use crate::sfnt::face::TableRecord;
+use crate::sfnt::flavor::FontFlavor;
 use crate::{Tag, maxp};
 use std::test::*;
 use subsetter_base::write::Writer;

@@ -1,7 +1,7 @@
 use Rattle.std.proofs.Common.{◌≡◌, ℕ, ◌-◌, List, [], ◌++◌, take, ap, ◌∙◌}
 use Rattle.std.proofs.lemmas.Result.{err_from_is_err_and}
-use Rattle.subsetter.specs.Outlines.{seen}
-use Rattle.subsetter.proofs.ClosureLemmas.{start, followed, visited_next, finished, stops_memory, stops_given, stops_visit}
+use Rattle.subsetter.specs.Glyf.View.{seen}
+use Rattle.subsetter.proofs.GlyfLaws.Closure.{start, followed, visited_next, finished, stops_memory, stops_given, stops_visit}
 use Rattle.subsetter.proofs.glyf.closure.Goals as goal
 
 pub returns-in_err-order-clause-err : goal.returns-in_err-order-clause-err

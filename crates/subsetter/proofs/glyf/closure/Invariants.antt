@@ -1,6 +1,6 @@
 use Rattle.std.proofs.Common.{◌≡◌, ◌+◌, ◌-◌, ◌*◌, ◌^◌, [], length}
-use Rattle.subsetter.specs.Outlines.{seen}
-use Rattle.subsetter.proofs.ClosureLemmas.{Follows}
+use Rattle.subsetter.specs.Glyf.View.{seen}
+use Rattle.subsetter.proofs.GlyfLaws.Closure.{Follows}
 use Rattle.subsetter.proofs.glyf.closure.Given as goal
 
 abbrev pub invariant-loop-glyph : goal.invariant-loop-glyph

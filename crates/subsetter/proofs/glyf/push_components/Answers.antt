@@ -1,8 +1,8 @@
 use Rattle.std.proofs.Common.{refl, sym, inr}
-use Rattle.subsetter.specs.Glyph.{outline_in}
-use Rattle.subsetter.specs.Outlines.{seen}
-use Rattle.subsetter.specs.Closure.{others_in}
-use Rattle.subsetter.proofs.ClosureLemmas.{headless, few_more}
+use Rattle.subsetter.specs.Glyf.Read.{outline_in}
+use Rattle.subsetter.specs.Glyf.View.{seen}
+use Rattle.subsetter.specs.Glyf.Closure.{others_in}
+use Rattle.subsetter.proofs.GlyfLaws.Closure.{headless, few_more}
 use Rattle.subsetter.proofs.glyf.push_components.Goals as goal
 
 pub returns-then-lacks_head-clause-err : goal.returns-then-lacks_head-clause-err

@@ -1,7 +1,7 @@
 use Rattle.std.proofs.Common.{◌≡◌, ◌++◌}
-use Rattle.subsetter.specs.Closure.{components_in, others_in}
-use Rattle.subsetter.specs.Glyph.{outline_in}
-use Rattle.subsetter.specs.Outlines.{seen}
+use Rattle.subsetter.specs.Glyf.Closure.{components_in, others_in}
+use Rattle.subsetter.specs.Glyf.Read.{outline_in}
+use Rattle.subsetter.specs.Glyf.View.{seen}
 use Rattle.subsetter.proofs.glyf.push_components.Given as goal
 
 abbrev pub invariant-loop-component : goal.invariant-loop-component

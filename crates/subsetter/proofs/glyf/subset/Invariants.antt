@@ -1,7 +1,7 @@
 use Rattle.std.proofs.Common.{◌≡◌}
-use Rattle.subsetter.specs.Outlines.{seen}
-use Rattle.subsetter.specs.PlainGlyph.{kept_all}
-use Rattle.subsetter.proofs.KeptLemmas.{with_front}
+use Rattle.subsetter.specs.Glyf.View.{seen}
+use Rattle.subsetter.specs.Glyf.Plain.{kept_all}
+use Rattle.subsetter.proofs.GlyfLaws.KeptList.{with_front}
 use Rattle.subsetter.proofs.glyf.subset.Given as goal
 
 abbrev pub invariant-loop-old : goal.invariant-loop-old

@@ -2,8 +2,8 @@ use Rattle.std.proofs.Common.{◌∷◌, [], ◌++◌, ℕ, List, take, drop, ap
 use Rattle.std.proofs.lemmas.Grind.{common_steps}
 use Rattle.std.proofs.lemmas.List.{take_rest}
 use Rattle.std.specs.Prelude.{slice_range}
-use Rattle.subsetter.specs.Written.{format_bytes}
-use Rattle.subsetter.proofs.HeadLemmas.{five, head_is_kept}
+use Rattle.subsetter.specs.Glyf.Written.{format_bytes}
+use Rattle.subsetter.proofs.HeadLaws.Written.{five, head_is_kept}
 use Rattle.subsetter.proofs.head.subset.Goals as goal
 
 pub returns : goal.returns

@@ -1,5 +1,5 @@
 use Rattle.std.proofs.Common.{◌≡◌, ◌+◌, ◌≤◌, drop, cond}
-use Rattle.subsetter.specs.MetricsWritten.{all_advance, least_count}
+use Rattle.subsetter.specs.Hmtx.Written.{all_advance, least_count}
 use Rattle.subsetter.proofs.hmtx.least_count.Given as goal
 
 -- where a metric to come has another advance, the last such decides

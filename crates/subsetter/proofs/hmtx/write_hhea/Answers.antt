@@ -1,6 +1,6 @@
 use Rattle.std.proofs.Common.{ℕ, List, ◌++◌, ◌≤◌, length, sym, ap, ◌∙◌, arith}
 use Rattle.std.proofs.lemmas.List.{length-take-le, take_rest}
-use Rattle.subsetter.proofs.MetricsLemmas.{header_written}
+use Rattle.subsetter.proofs.HmtxLaws.Written.{header_written}
 use Rattle.subsetter.proofs.hmtx.write_hhea.Goals as goal
 
 pub slice_bounds-before-end : goal.slice_bounds-before-end

@@ -1,6 +1,6 @@
 use Rattle.std.proofs.Common.{◌≡◌, ◌++◌, drop}
 use Rattle.std.specs.List.{flat_map}
-use Rattle.subsetter.specs.MetricsWritten.{pair_bytes}
+use Rattle.subsetter.specs.Hmtx.Written.{pair_bytes}
 use Rattle.subsetter.proofs.hmtx.write_pairs.Given as goal
 
 abbrev pub invariant-loop-metric : goal.invariant-loop-metric

@@ -1,5 +1,5 @@
 use Rattle.std.proofs.Common.{◌≡◌, ◌+◌, ◌++◌, length}
-use Rattle.subsetter.specs.Written.{glyf_bytes, loca_bytes}
+use Rattle.subsetter.specs.Glyf.Written.{glyf_bytes, loca_bytes}
 use Rattle.subsetter.proofs.loca.subset.Given as goal
 
 abbrev pub invariant-loop-outline : goal.invariant-loop-outline

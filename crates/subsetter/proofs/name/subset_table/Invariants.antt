@@ -1,9 +1,9 @@
 use Rattle.std.proofs.Common.{◌≡◌, [], drop}
 use Rattle.std.specs.Prelude.{filter}
 use Rattle.std.specs.Cow.{cow_slice_items}
-use Rattle.subsetter.specs.Names.{is_kept_record}
-use Rattle.subsetter.specs.NamesPlain.{placed}
-use Rattle.subsetter.proofs.PlacedLemmas.{with_names}
+use Rattle.subsetter.specs.Name.Read.{is_kept_record}
+use Rattle.subsetter.specs.Name.Plain.{placed}
+use Rattle.subsetter.proofs.NameLaws.Placed.{with_names}
 use Rattle.subsetter.proofs.name.subset_table.Given as goal
 
 abbrev pub invariant-loop-record : goal.invariant-loop-record

@@ -2,8 +2,8 @@ use Rattle.std.proofs.Common.{◌+◌, ◌++◌, List, get_or, ap, ◌∙◌, sy
 use Rattle.std.specs.Prelude.{flat_map}
 use Rattle.std.proofs.lemmas.List.{drop_more}
 use Rattle.subsetter.specs.declared.name.NameRecord.{NameRecord}
-use Rattle.subsetter.specs.Names.{name_record_bytes}
-use Rattle.subsetter.proofs.NameLemmas.{one_more_record}
+use Rattle.subsetter.specs.Name.Read.{name_record_bytes}
+use Rattle.subsetter.proofs.NameLaws.Written.{one_more_record}
 use Rattle.subsetter.proofs.name.write_records.Goals as goal
 
 pub loop-name-preserved : goal.loop-name-preserved

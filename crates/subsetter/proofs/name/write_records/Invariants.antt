@@ -1,6 +1,6 @@
 use Rattle.std.proofs.Common.{◌≡◌, ◌++◌, drop}
 use Rattle.std.specs.Prelude.{flat_map}
-use Rattle.subsetter.specs.Names.{name_record_bytes}
+use Rattle.subsetter.specs.Name.Read.{name_record_bytes}
 use Rattle.subsetter.proofs.name.write_records.Given as goal
 
 abbrev pub invariant-loop-name : goal.invariant-loop-name

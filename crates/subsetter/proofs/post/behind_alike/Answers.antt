@@ -1,5 +1,5 @@
 use Rattle.std.proofs.Common.{◌+◌, arith}
-use Rattle.subsetter.proofs.NameSteps.{one_more_upto}
+use Rattle.subsetter.proofs.PostLaws.Steps.{one_more_upto}
 use Rattle.subsetter.proofs.post.behind_alike.Goals as goal
 
 pub loop-place-preserved : goal.loop-place-preserved

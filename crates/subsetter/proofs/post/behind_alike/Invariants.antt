@@ -1,6 +1,6 @@
 use Rattle.std.proofs.Common.{◌≡◌, ◌*◌, drop}
 use Rattle.std.specs.Prelude.{min}
-use Rattle.subsetter.specs.GlyphNames.{names_in}
+use Rattle.subsetter.specs.Post.Read.{names_in}
 use Rattle.subsetter.proofs.post.behind_alike.Given as goal
 
 abbrev pub invariant-loop-place : goal.invariant-loop-place

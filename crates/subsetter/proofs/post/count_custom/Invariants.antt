@@ -1,5 +1,5 @@
 use Rattle.std.proofs.Common.{◌≡◌, ◌≤◌, take}
-use Rattle.subsetter.specs.GlyphNamesPlain.{custom_count}
+use Rattle.subsetter.specs.Post.Plain.{custom_count}
 use Rattle.subsetter.proofs.post.count_custom.Given as goal
 
 abbrev pub invariant-loop-index : goal.invariant-loop-index

@@ -1,4 +1,4 @@
-use Rattle.subsetter.proofs.NameMarkLemmas.{passed}
+use Rattle.subsetter.proofs.PostLaws.Marks.{passed}
 use Rattle.subsetter.proofs.post.pass.Goals as goal
 
 pub loop-preserved : goal.loop-preserved

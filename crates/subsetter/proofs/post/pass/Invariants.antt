@@ -1,5 +1,5 @@
 use Rattle.std.proofs.Common.{◌≡◌, drop}
-use Rattle.subsetter.specs.GlyphNames.{names_in}
+use Rattle.subsetter.specs.Post.Read.{names_in}
 use Rattle.subsetter.proofs.post.pass.Given as goal
 
 abbrev pub invariant-loop : goal.invariant-loop

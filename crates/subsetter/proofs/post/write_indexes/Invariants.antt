@@ -1,5 +1,5 @@
 use Rattle.std.proofs.Common.{◌≡◌, ◌+◌, ◌++◌, drop}
-use Rattle.subsetter.specs.GlyphNamesPlain.{custom_count, new_indexes}
+use Rattle.subsetter.specs.Post.Plain.{custom_count, new_indexes}
 use Rattle.subsetter.proofs.post.write_indexes.Given as goal
 
 abbrev pub invariant-loop-index : goal.invariant-loop-index

@@ -1,6 +1,6 @@
 use Rattle.std.proofs.Common.{◌≡◌, ◌++◌, drop}
 use Rattle.std.specs.Prelude.{flat_map}
-use Rattle.subsetter.specs.GlyphNamesPlain.{entry_of}
+use Rattle.subsetter.specs.Post.Plain.{entry_of}
 use Rattle.subsetter.proofs.post.write_names.Given as goal
 
 abbrev pub invariant-loop-index : goal.invariant-loop-index

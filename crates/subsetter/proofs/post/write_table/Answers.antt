@@ -1,6 +1,6 @@
 use Rattle.std.proofs.Common.{List, ℕ, ◌++◌, ap, ◌∙◌, arith}
-use Rattle.subsetter.specs.GlyphNamesPlain.{seen_post}
-use Rattle.subsetter.proofs.IndexLemmas.{written}
+use Rattle.subsetter.specs.Post.Plain.{seen_post}
+use Rattle.subsetter.proofs.PostLaws.Indexes.{written}
 use Rattle.subsetter.proofs.post.write_table.Goals as goal
 
 pub returns : goal.returns

@@ -3,15 +3,15 @@ use Rattle.std.specs.Prelude.{IfOk, IfErr}
 use Rattle.std.proofs.lemmas.Result.{err_from_is_err_and}
 use Rattle.subsetter_base.specs.declared.error.Error.{Error}
 use Rattle.subsetter_base.specs.declared.error.Error.TheVariants.{OutOfMemory}
-use Rattle.subsetter.specs.Answered.{IsAnswered, IsRefused}
-use Rattle.subsetter.specs.declared.flavor.FontFlavor.{FontFlavor}
-use Rattle.subsetter.specs.Font.{Font, table_in}
-use Rattle.subsetter.specs.Opened.{flavored}
+use Rattle.subsetter.specs.Truetype.Answered.{IsAnswered, IsRefused}
+use Rattle.subsetter.specs.declared.sfnt.flavor.FontFlavor.{FontFlavor}
+use Rattle.subsetter.specs.Sfnt.Read.{Font, table_in}
+use Rattle.subsetter.specs.Sfnt.Plain.{flavored}
 use Rattle.subsetter.specs.Subset.{IsSubset}
-use Rattle.subsetter.proofs.FaultLaws.{Stands}
-use Rattle.subsetter.proofs.OpeningLaws.{opened_refused, flavored_refused}
+use Rattle.subsetter.proofs.TruetypeLaws.Fault.{Stands}
+use Rattle.subsetter.proofs.SfntLaws.Fault.{opened_refused, flavored_refused}
 use Rattle.subsetter.proofs.Headline.{not_memory, unopened, unflavored, cff_refused, truetype_subset, truetype_refused, opening_clean}
-use Rattle.subsetter.proofs.Whole.{IsClean}
+use Rattle.subsetter.proofs.TruetypeLaws.Subset.{IsClean}
 use Rattle.subsetter.proofs.subsetting.subset.Goals as goal
 
 -- another answer than want of memory

@@ -1,12 +1,12 @@
 use Rattle.std.proofs.Common.{ℕ, List, Option, ap, ◌∙◌, arith}
 use Rattle.std.proofs.lemmas.Result.{err_from_is_err_and}
-use Rattle.subsetter.specs.Answered.{IsAnswered, IsRefused, no_memory, unread, unclosed}
-use Rattle.subsetter.specs.Font.{table_in}
-use Rattle.subsetter.specs.Outlines.{seen}
-use Rattle.subsetter.specs.PlainFile.{file_of}
-use Rattle.subsetter.specs.PlainSeen.{made_seen}
-use Rattle.subsetter.specs.Tables.{views}
-use Rattle.subsetter.proofs.Gave.{gave_ok, gave_err, refused_made, few_tables, all_tables, answered, refused_file}
+use Rattle.subsetter.specs.Truetype.Answered.{IsAnswered, IsRefused, no_memory, unread, unclosed}
+use Rattle.subsetter.specs.Sfnt.Read.{table_in}
+use Rattle.subsetter.specs.Glyf.View.{seen}
+use Rattle.subsetter.specs.Sfnt.PlainFile.{file_of}
+use Rattle.subsetter.specs.Truetype.View.{made_seen}
+use Rattle.subsetter.specs.Sfnt.View.{views}
+use Rattle.subsetter.proofs.TruetypeLaws.Gave.{gave_ok, gave_err, refused_made, few_tables, all_tables, answered, refused_file}
 use Rattle.subsetter.proofs.subsetting.truetype.Goals as goal
 
 pub returns-in_err-table-clause-err : goal.returns-in_err-table-clause-err

@@ -1,7 +1,7 @@
 use Rattle.std.proofs.Common.{arith, length, ◌^◌, ◌<◌, inl, inr}
 use Rattle.std.proofs.lemmas.Bool.{cases_lt}
-use Rattle.subsetter.specs.Written.{glyf_bytes}
-use Rattle.subsetter.proofs.OutlinesBack.{loca_room}
+use Rattle.subsetter.specs.Glyf.Written.{glyf_bytes}
+use Rattle.subsetter.proofs.GlyfLaws.Back.{loca_room}
 use Rattle.subsetter.proofs.truetype.locate.Goals as goal
 
 pub subset-requires : goal.subset-requires

@@ -1,5 +1,5 @@
 use Rattle.std.specs.Int.{w16, to_be_bytes}
-use Rattle.subsetter.proofs.NameLemmas.{six}
+use Rattle.subsetter.proofs.NameLaws.Written.{six}
 use Rattle.subsetter.proofs.name.NameRecordWriteable.write.Goals as goal
 
 pub returns-clause-ok : goal.returns-clause-ok

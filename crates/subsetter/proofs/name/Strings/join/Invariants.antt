@@ -1,6 +1,6 @@
 use Rattle.std.proofs.Common.{◌≡◌, ◌++◌, drop}
-use Rattle.subsetter.specs.Names.{joined}
-use Rattle.subsetter.specs.NamesSeen.{nows}
+use Rattle.subsetter.specs.Name.Read.{joined}
+use Rattle.subsetter.specs.Name.View.{nows}
 use Rattle.subsetter.proofs.name.Strings.join.Given as goal
 
 abbrev pub invariant-loop-string : goal.invariant-loop-string

@@ -2,9 +2,9 @@ use Rattle.std.proofs.Common.{◌≡◌, ◌+◌, [], ◌∷◌, ◌++◌, cond,
 use Rattle.std.specs.HashMap.{get}
 use Rattle.std.specs.Str.{bytes_eq}
 use Rattle.std.proofs.lemmas.Slice.{pushed}
-use Rattle.subsetter.specs.Names.{among}
-use Rattle.subsetter.specs.NamesSeen.{nows}
-use Rattle.subsetter.proofs.NameLemmas.{is_new, place_new, places_more, nows-push, joined-push, fits_16, too_far}
+use Rattle.subsetter.specs.Name.Read.{among}
+use Rattle.subsetter.specs.Name.View.{nows}
+use Rattle.subsetter.proofs.NameLaws.Written.{is_new, place_new, places_more, nows-push, joined-push, fits_16, too_far}
 use Rattle.subsetter.proofs.name.Strings.place.Goals as goal
 
 pub invariant_of-self-2 : goal.invariant_of-self-2

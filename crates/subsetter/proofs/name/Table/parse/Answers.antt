@@ -3,9 +3,9 @@ use Rattle.std.specs.Option.{option_map}
 use Rattle.std.proofs.lemmas.List.{append-nil}
 use Rattle.subsetter_base.specs.Items.{Items, values}
 use Rattle.subsetter.specs.declared.name.NameRecord.{NameRecord}
-use Rattle.subsetter.specs.Names.{name_record_of, name_parts}
-use Rattle.subsetter.specs.NamesSeen.{seen_parts}
-use Rattle.subsetter.proofs.NameLemmas.{record_values, parsed}
+use Rattle.subsetter.specs.Name.Read.{name_record_of, name_parts}
+use Rattle.subsetter.specs.Name.View.{seen_parts}
+use Rattle.subsetter.proofs.NameLaws.Written.{record_values, parsed}
 use Rattle.subsetter.proofs.name.Table.parse.Goals as goal
 
 pub returns : goal.returns

@@ -1,6 +1,6 @@
 use Rattle.std.proofs.Common.{◌≡◌, ◌++◌, Some}
 use Rattle.subsetter_base.specs.Items.{values}
-use Rattle.subsetter.specs.Names.{name_record_of}
+use Rattle.subsetter.specs.Name.Read.{name_record_of}
 use Rattle.subsetter.proofs.name.Table.parse.Given as goal
 
 abbrev pub invariant-loop-record : goal.invariant-loop-record

@@ -3,8 +3,8 @@ use Rattle.std.specs.Prelude.{flat_map}
 use Rattle.std.specs.Int.{w16, to_be_bytes}
 use Rattle.subsetter.specs.declared.name.NameRecord.{NameRecord}
 use Rattle.std.specs.Cow.{cow_slice_items}
-use Rattle.subsetter.specs.Names.{name_record_bytes}
-use Rattle.subsetter.proofs.NameLemmas.{table_written}
+use Rattle.subsetter.specs.Name.Read.{name_record_bytes}
+use Rattle.subsetter.proofs.NameLaws.Written.{table_written}
 use Rattle.subsetter.proofs.name.TableWriteable.write.Goals as goal
 
 pub returns-clause-ok : goal.returns-clause-ok

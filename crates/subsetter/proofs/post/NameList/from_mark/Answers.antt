@@ -2,8 +2,8 @@ use Rattle.std.proofs.Common.{◌/◌, drop, length, refl, ap, sym, ◌∙◌}
 use Rattle.std.proofs.lemmas.Bool.{ltb-true}
 use Rattle.std.proofs.lemmas.Option.{slice_get_read}
 use Rattle.std.specs.Prelude.{slice_get}
-use Rattle.subsetter.proofs.NameMarkLemmas.{from_mark}
-use Rattle.subsetter.specs.GlyphNames.{names_in}
+use Rattle.subsetter.proofs.PostLaws.Marks.{from_mark}
+use Rattle.subsetter.specs.Post.Read.{names_in}
 use Rattle.subsetter.proofs.post.NameList.from_mark.Goals as goal
 
 pub returns-in-Some : goal.returns-in-Some

@@ -1,6 +1,6 @@
 use Rattle.std.proofs.Common.{ap, ◌∙◌}
-use Rattle.subsetter.specs.GlyphNames.{names_in}
-use Rattle.subsetter.proofs.NameMarkLemmas.{mark_last, mark_more}
+use Rattle.subsetter.specs.Post.Read.{names_in}
+use Rattle.subsetter.proofs.PostLaws.Marks.{mark_last, mark_more}
 use Rattle.subsetter.proofs.post.NameList.new.Goals as goal
 
 pub loop-preserved : goal.loop-preserved

@@ -1,7 +1,7 @@
 use Rattle.std.proofs.Common.{◌≡◌, ◌*◌, drop, length}
-use Rattle.subsetter.specs.GlyphNames.{names_in}
-use Rattle.subsetter.specs.NameMarks.{AreMarks}
-use Rattle.subsetter.specs.NamesSeen.{nows}
+use Rattle.subsetter.specs.Post.Read.{names_in}
+use Rattle.subsetter.specs.Post.Marks.{AreMarks}
+use Rattle.subsetter.specs.Name.View.{nows}
 use Rattle.subsetter.proofs.post.NameList.new.Given as goal
 
 abbrev pub invariant-loop : goal.invariant-loop

@@ -1,6 +1,6 @@
 use Rattle.std.proofs.Common.{length, ap, sym, ◌∙◌, ◌∷◌, arith, ℕ}
-use Rattle.subsetter.specs.GlyphNames.{names_in}
-use Rattle.subsetter.proofs.IndexLemmas.{first_name}
+use Rattle.subsetter.specs.Post.Read.{names_in}
+use Rattle.subsetter.proofs.PostLaws.Indexes.{first_name}
 use Rattle.subsetter.proofs.post.NamesIterator.next.Goals as goal
 
 pub returns-clause-steps : goal.returns-clause-steps

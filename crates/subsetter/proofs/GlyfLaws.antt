@@ -1,0 +1,12 @@
+-- Outlines: `glyf` and `loca`.
+pub mod Components
+pub mod Chains
+pub mod Back
+pub mod Counted
+pub mod Closure
+pub mod KeptList
+pub mod Woven
+pub mod Kept
+pub mod Fault
+pub mod Parts
+pub mod Unfold

@@ -1,0 +1,162 @@
+-- The components of a composite, read in full and written under new numbers.
+use Rattle.std.proofs.Common.{◌≡◌, ℕ, zero, suc, ◌+◌, ◌-◌, ◌<◌, ◌≤◌, Bool, true, false, cond, leb, List, [], ◌∷◌, ◌++◌, length, get_or, take, drop, Option, Some, None, Err, refl, sym, ap, ◌∙◌, append_assoc, arith}
+use Rattle.std.specs.Option.{option_and_then, option_map, ok_or}
+use Rattle.std.specs.List.{flat_map}
+use Rattle.std.proofs.lemmas.Bool.{le-leb, lt-leb, leb-true, le-ltb}
+use Rattle.std.proofs.lemmas.List.{append-nil, length-drop, length-take}
+use Rattle.subsetter_base.specs.Bytes.{range, number}
+use Rattle.subsetter_base.specs.declared.error.Error.TheVariants.{MalformedFont}
+use Rattle.subsetter.specs.Glyf.Parts.{Component, Chain, Composite, Simple, rest_size, has_more, has_instructions, component_at, with_component, last_component, chain_at, composite_parts, outline_parts, spelled, parts_bytes}
+use Rattle.subsetter.specs.Glyf.Plain.{renumbered_component, renumbered_chain, renumbered, rewritten_composite, rewritten}
+
+-- the first of two steps that gave something
+pub bind_some : {A B : Type 0} (o : Option A) (f : A → Option B) (y : B) → option_and_then f o ≡ Some y → (x : A) × (o ≡ Some x) × (f x ≡ Some y)
+bind_some None f y h = absurd cc
+bind_some (Some x) f y h = (x, refl, h)
+
+-- a component that is whole
+pub record IsComponent (bytes : List ℕ) (c : Component) : Type 0 where
+  pub flags_is : number bytes 0 2 ≡ Some c.flags
+  pub glyph_is : number bytes 2 2 ≡ Some c.glyph
+  pub rest_is : range bytes 4 (rest_size c.flags) ≡ Some c.rest
+  pub within : 4 + rest_size c.flags ≤ length bytes
+  pub size : length c.rest ≡ rest_size c.flags
+
+range_is : (bytes : List ℕ) (at size : ℕ) (part : List ℕ) → range bytes at size ≡ Some part → (at + size ≤ length bytes) × (length part ≡ size)
+range_is bytes at size part h = by (leb (at + size) (length bytes)) refl h
+  where
+    by : (b : Bool) → leb (at + size) (length bytes) ≡ b → cond b (Some (take size (drop at bytes))) None ≡ Some part → (at + size ≤ length bytes) × (length part ≡ size)
+    by true t k =
+        let le : at + size ≤ length bytes = leb-true _ _ t in
+        let same : take size (drop at bytes) ≡ part = cc in
+        (le, omega (arith, ap length same, length-take size (drop at bytes), length-drop at bytes))
+    by false t k = absurd cc
+
+abbrev made : ℕ → ℕ → List ℕ → Option Component
+made flags glyph rest = Some (record { flags = flags; glyph = glyph; rest = rest })
+
+pub is_component : (bytes : List ℕ) (c : Component) → component_at bytes ≡ Some c → IsComponent bytes c
+is_component bytes c h =
+    let a = bind_some (number bytes 0 2) (λ flags. option_and_then (λ glyph. option_and_then (λ rest. made flags glyph rest) (range bytes 4 (rest_size flags))) (number bytes 2 2)) c h in
+    let b = bind_some (number bytes 2 2) (λ glyph. option_and_then (λ rest. made a.0 glyph rest) (range bytes 4 (rest_size a.0))) c a.2 in
+    let d = bind_some (range bytes 4 (rest_size a.0)) (λ rest. made a.0 b.0 rest) c b.2 in
+    let f : a.0 ≡ c.flags = ap (λ (o : Option Component). elim o as (λ _. ℕ) [ None ↦ 0 | Some k ↦ k.flags ]) d.2 in
+    let g : b.0 ≡ c.glyph = ap (λ (o : Option Component). elim o as (λ _. ℕ) [ None ↦ 0 | Some k ↦ k.glyph ]) d.2 in
+    let r : d.0 ≡ c.rest = ap (λ (o : Option Component). elim o as (λ _. List ℕ) [ None ↦ [] | Some k ↦ k.rest ]) d.2 in
+    let there : range bytes 4 (rest_size c.flags) ≡ Some c.rest = ap (λ n. range bytes 4 (rest_size n)) (sym f) ∙ d.1 ∙ ap Some r in
+    let bounds = range_is bytes 4 (rest_size c.flags) c.rest there in
+    record { flags_is = a.1 ∙ ap Some f; glyph_is = b.1 ∙ ap Some g; rest_is = there; within = bounds.0; size = bounds.1 }
+
+-- ---- the chain
+
+pub chain_none : (n : ℕ) (bytes : List ℕ) → component_at bytes ≡ None → chain_at n bytes ≡ None
+unfolding chain_at
+chain_none zero bytes h = refl
+chain_none (suc n) bytes h = ap (λ (o : Option Component). option_and_then (λ c. cond (has_more c.flags) (option_and_then (λ chain. Some (with_component c chain)) (chain_at n (drop (4 + rest_size c.flags) bytes))) (Some (last_component c (drop (4 + rest_size c.flags) bytes)))) o) h
+
+pub chain_more : (n : ℕ) (bytes : List ℕ) (c : Component) → component_at bytes ≡ Some c
+    → chain_at (suc n) bytes ≡ cond (has_more c.flags) (option_and_then (λ chain. Some (with_component c chain)) (chain_at n (drop (4 + rest_size c.flags) bytes))) (Some (last_component c (drop (4 + rest_size c.flags) bytes)))
+unfolding chain_at
+chain_more n bytes k h = ap (λ (o : Option Component). option_and_then (λ c. cond (has_more c.flags) (option_and_then (λ chain. Some (with_component c chain)) (chain_at n (drop (4 + rest_size c.flags) bytes))) (Some (last_component c (drop (4 + rest_size c.flags) bytes)))) o) h
+
+no_bytes : (o : Option Component) → component_at [] ≡ o → o ≡ None
+no_bytes None h = refl
+no_bytes (Some c) h = absurd (let k = is_component [] c h in omega (arith, k.within))
+
+-- the chain is the same for each count that is at least the count of the bytes
+pub chain_enough : (n m : ℕ) (bytes : List ℕ) → length bytes ≤ n → length bytes ≤ m → chain_at n bytes ≡ chain_at m bytes
+chain_enough n m [] a b = let none = no_bytes (component_at []) refl in chain_none n [] none ∙ sym (chain_none m [] none)
+chain_enough zero m (x ∷ bytes) a b = absurd (omega arith)
+chain_enough (suc n) zero (x ∷ bytes) a b = absurd (omega arith)
+chain_enough (suc n) (suc m) (x ∷ bytes) a b = by (λ l p q. chain_enough n m l p q) (component_at (x ∷ bytes)) refl
+  where
+    by : ((l : List ℕ) → length l ≤ n → length l ≤ m → chain_at n l ≡ chain_at m l) → (o : Option Component) → component_at (x ∷ bytes) ≡ o → chain_at (suc n) (x ∷ bytes) ≡ chain_at (suc m) (x ∷ bytes)
+    by again None h = chain_none (suc n) (x ∷ bytes) h ∙ sym (chain_none (suc m) (x ∷ bytes) h)
+    by again (Some c) h =
+        let after = drop (4 + rest_size c.flags) (x ∷ bytes) in
+        let len : length after ≡ length (x ∷ bytes) - (4 + rest_size c.flags) = length-drop (4 + rest_size c.flags) (x ∷ bytes) in
+        let below = again after (omega arith) (omega arith) in
+        chain_more n (x ∷ bytes) c h ∙ ap (λ (o : Option Chain). cond (has_more c.flags) (option_and_then (λ chain. Some (with_component c chain)) o) (Some (last_component c after))) below ∙ sym (chain_more m (x ∷ bytes) c h)
+
+-- ---- written under new numbers
+
+abbrev pub with_front : List ℕ → Option (List ℕ) → Option (List ℕ)
+with_front front o = option_map (λ text. front ++ text) o
+
+abbrev pub chain_bytes : List ℕ → Chain → List ℕ
+chain_bytes order chain = flat_map spelled (renumbered_chain order chain).components ++ chain.tail
+
+-- what is written of the components at the front
+abbrev pub chain_text : List ℕ → List ℕ → Option (List ℕ)
+chain_text order bytes = option_map (chain_bytes order) (chain_at (length bytes) bytes)
+
+later_text : (order : List ℕ) (c : Component) (o : Option Chain) → option_map (chain_bytes order) (option_and_then (λ chain. Some (with_component c chain)) o) ≡ with_front (spelled (renumbered_component order c)) (option_map (chain_bytes order) o)
+later_text order c None = refl
+later_text order c (Some chain) = ap Some (append_assoc (spelled (renumbered_component order c)) (flat_map spelled (renumbered_chain order chain).components) chain.tail)
+
+step_by : (order : List ℕ) (c : Component) (o : Option Chain) (after : List ℕ) (b : Bool) → option_map (chain_bytes order) (cond b (option_and_then (λ chain. Some (with_component c chain)) o) (Some (last_component c after)))
+    ≡ cond b (with_front (spelled (renumbered_component order c)) (option_map (chain_bytes order) o)) (Some (spelled (renumbered_component order c) ++ cond (has_instructions c.flags) after []))
+step_by order c o after true = later_text order c o
+step_by order c o after false = ap (λ (l : List ℕ). Some (l ++ cond (has_instructions c.flags) after [])) (append-nil (spelled (renumbered_component order c)))
+
+pub text_step : (order bytes : List ℕ) (c : Component) → component_at bytes ≡ Some c → chain_text order bytes
+    ≡ cond (has_more c.flags) (with_front (spelled (renumbered_component order c)) (chain_text order (drop (4 + rest_size c.flags) bytes))) (Some (spelled (renumbered_component order c) ++ cond (has_instructions c.flags) (drop (4 + rest_size c.flags) bytes) []))
+text_step order [] c h = absurd (let k = is_component [] c h in omega (arith, k.within))
+text_step order (x ∷ bytes) c h =
+    let after = drop (4 + rest_size c.flags) (x ∷ bytes) in
+    let len : length after ≡ length (x ∷ bytes) - (4 + rest_size c.flags) = length-drop (4 + rest_size c.flags) (x ∷ bytes) in
+    let same = chain_enough (length bytes) (length after) after (omega arith) (omega arith) in
+    ap (option_map (chain_bytes order)) (chain_more (length bytes) (x ∷ bytes) c h) ∙ step_by order c (chain_at (length bytes) after) after (has_more c.flags)
+    ∙ ap (λ (o : Option Chain). cond (has_more c.flags) (with_front (spelled (renumbered_component order c)) (option_map (chain_bytes order) o)) (Some (spelled (renumbered_component order c) ++ cond (has_instructions c.flags) after []))) same
+
+regroup : (a b : List ℕ) (o : Option (List ℕ)) → with_front a (with_front b o) ≡ with_front (a ++ b) o
+regroup a b None = refl
+regroup a b (Some text) = ap Some (sym (append_assoc a b text))
+
+pub text_goes_on : (order w rest : List ℕ) (c : Component) (w1 after : List ℕ) (total : Option (List ℕ)) → component_at rest ≡ Some c → has_more c.flags ≡ true → w1 ≡ w ++ spelled (renumbered_component order c) → after ≡ drop (4 + rest_size c.flags) rest
+    → with_front w (chain_text order rest) ≡ total → with_front w1 (chain_text order after) ≡ total
+text_goes_on order w rest c w1 after total h more e1 e2 so_far =
+    let s = spelled (renumbered_component order c) in
+    let all = drop (4 + rest_size c.flags) rest in
+    let now : chain_text order rest ≡ with_front s (chain_text order all) = text_step order rest c h ∙ ap (λ b. cond b (with_front s (chain_text order all)) (Some (s ++ cond (has_instructions c.flags) all []))) more in
+    ap (λ (l : List ℕ). with_front l (chain_text order after)) e1 ∙ ap (λ (l : List ℕ). with_front (w ++ s) (chain_text order l)) e2 ∙ sym (regroup w s (chain_text order all)) ∙ ap (with_front w) (sym now) ∙ so_far
+
+pub text_ends : (order w rest : List ℕ) (c : Component) (w1 w2 after : List ℕ) (total : Option (List ℕ)) → component_at rest ≡ Some c → has_more c.flags ≡ false → w1 ≡ w ++ spelled (renumbered_component order c) → after ≡ drop (4 + rest_size c.flags) rest
+    → w2 ≡ w1 ++ cond (has_instructions c.flags) after [] → with_front w (chain_text order rest) ≡ total → total ≡ Some w2
+text_ends order w rest c w1 w2 after total h last e1 e2 e3 so_far =
+    let s = spelled (renumbered_component order c) in
+    let all = drop (4 + rest_size c.flags) rest in
+    let tail = cond (has_instructions c.flags) all [] in
+    let now : chain_text order rest ≡ Some (s ++ tail) = text_step order rest c h ∙ ap (λ b. cond b (with_front s (chain_text order all)) (Some (s ++ tail))) last in
+    let whole : w2 ≡ w ++ (s ++ tail) = e3 ∙ ap (λ (l : List ℕ). l ++ cond (has_instructions c.flags) after []) e1 ∙ ap (λ (l : List ℕ). (w ++ s) ++ cond (has_instructions c.flags) l []) e2 ∙ append_assoc w s tail in
+    sym so_far ∙ ap (with_front w) now ∙ ap Some (sym whole)
+
+pub text_fails : (order w rest : List ℕ) (total : Option (List ℕ)) → component_at rest ≡ None → with_front w (chain_text order rest) ≡ total → total ≡ None
+text_fails order w rest total h so_far = sym so_far ∙ ap (λ (o : Option Chain). with_front w (option_map (chain_bytes order) o)) (chain_none (length rest) rest h)
+
+-- ---- the whole composite
+
+composite_by : (order head : List ℕ) (o : Option Chain) → option_map (λ p. parts_bytes (renumbered order p)) (option_and_then (λ chain. Some (Composite head chain)) o) ≡ with_front head (option_map (chain_bytes order) o)
+composite_by order head None = refl
+composite_by order head (Some chain) = ap Some (append_assoc head (flat_map spelled (renumbered_chain order chain).components) chain.tail)
+
+pub composite_short : (order bytes : List ℕ) → length bytes < 10 → rewritten_composite order bytes ≡ Err MalformedFont
+unfolding rewritten_composite
+composite_short order bytes lt =
+    ap (λ b. ok_or (option_map (λ p. parts_bytes (renumbered order p)) (option_and_then (λ head. option_and_then (λ chain. Some (Composite head chain)) (chain_at (length bytes) (drop 10 bytes))) (cond b (Some (take 10 (drop 0 bytes))) None))) MalformedFont) (lt-leb 10 (length bytes) lt)
+
+pub composite_is : (order bytes : List ℕ) → 10 ≤ length bytes → rewritten_composite order bytes ≡ ok_or (with_front (take 10 bytes) (chain_text order (drop 10 bytes))) MalformedFont
+unfolding rewritten_composite
+composite_is order bytes le =
+    let rest = drop 10 bytes in
+    let len : length rest ≡ length bytes - 10 = length-drop 10 bytes in
+    let same = chain_enough (length bytes) (length rest) rest (omega arith) (omega arith) in
+    ap (λ b. ok_or (option_map (λ p. parts_bytes (renumbered order p)) (option_and_then (λ head. option_and_then (λ chain. Some (Composite head chain)) (chain_at (length bytes) rest)) (cond b (Some (take 10 (drop 0 bytes))) None))) MalformedFont) (le-leb 10 (length bytes) le)
+    ∙ ap (λ (o : Option (List ℕ)). ok_or o MalformedFont) (composite_by order (take 10 bytes) (chain_at (length bytes) rest) ∙ ap (λ (o : Option Chain). with_front (take 10 bytes) (option_map (chain_bytes order) o)) same)
+
+-- an outline that is a composite
+pub rewritten_high : (order bytes : List ℕ) → 2 ≤ length bytes → 128 ≤ get_or bytes 0 0 → rewritten order bytes ≡ rewritten_composite order bytes
+unfolding rewritten rewritten_composite outline_parts
+rewritten_high order [] le high = absurd (omega arith)
+rewritten_high order (a ∷ []) le high = absurd (omega arith)
+rewritten_high order (a ∷ b ∷ bytes) le high = ap (λ q. ok_or (option_map (λ p. parts_bytes (renumbered order p)) (cond q (Some (Simple (a ∷ b ∷ bytes))) (composite_parts (a ∷ b ∷ bytes)))) MalformedFont) (le-ltb a 128 high)

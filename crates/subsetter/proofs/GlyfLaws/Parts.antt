@@ -1,0 +1,182 @@
+-- An outline that was written under new numbers has the same parts under new numbers.
+use Rattle.std.proofs.Common.{◌≡◌, ℕ, zero, suc, ◌+◌, ◌-◌, ◌%◌, ◌^◌, ◌<◌, ◌≤◌, Bool, true, false, cond, leb, List, [], ◌∷◌, ◌++◌, length, take, drop, Option, Some, None, refl, sym, ap, subst, ◌∙◌, inl, inr, append_assoc, arith}
+use Rattle.std.specs.Prelude.{map, replicate}
+use Rattle.std.specs.Option.{option_and_then, option_map}
+use Rattle.std.specs.List.{flat_map}
+use Rattle.std.specs.Int.{w16, to_be_bytes}
+use Rattle.std.proofs.lemmas.Bool.{cases_lt}
+use Rattle.std.proofs.lemmas.List.{append-nil, drop_at, get_or-drop, get_or-take, length-append, length-take, get_or_past}
+use Rattle.subsetter_base.specs.Bytes.{be, range, number, IsBytes}
+use Rattle.subsetter_base.proofs.ByteLemmas.{be-u16, be-fits, range-middle, range-length, number_at}
+use Rattle.subsetter.specs.Glyf.Unfold.{padded}
+use Rattle.subsetter.specs.Glyf.Parts.{Component, Chain, has, rest_size, has_more, has_instructions, component_at, with_component, last_component, chain_at, spelled}
+use Rattle.subsetter.specs.Glyf.Plain.{new_number, renumbered_component}
+use Rattle.subsetter.proofs.GlyfLaws.Chains.{bind_some, IsComponent, is_component, chain_none, chain_more}
+
+-- ---- bytes
+
+pub IsBytes-drop : (n : ℕ) (bytes : List ℕ) → IsBytes bytes → IsBytes (drop n bytes)
+IsBytes-drop n bytes h i = omega (arith, get_or-drop n bytes i 0, h (n + i))
+
+pub IsBytes-take : (n : ℕ) (bytes : List ℕ) → IsBytes bytes → IsBytes (take n bytes)
+IsBytes-take n bytes h i = elim (cases_lt i n) [
+  | inl lt ↦ omega (arith, get_or-take n bytes i 0 lt, h i)
+  | inr le ↦ omega (arith, get_or_past (take n bytes) i 0 (omega (arith, length-take n bytes)))
+]
+
+pub IsBytes-range : (bytes part : List ℕ) (at size : ℕ) → IsBytes bytes → range bytes at size ≡ Some part → IsBytes part
+IsBytes-range bytes part at size h is = by (leb (at + size) (length bytes)) is
+  where
+    by : (b : Bool) → cond b (Some (take size (drop at bytes))) None ≡ Some part → IsBytes part
+    by true e = let same : take size (drop at bytes) ≡ part = cc in subst IsBytes same (IsBytes-take size (drop at bytes) (IsBytes-drop at bytes h))
+    by false e = absurd cc
+
+-- a number of two bytes
+pub fits_word : (bytes : List ℕ) (at n : ℕ) → IsBytes bytes → number bytes at 2 ≡ Some n → n < 2 ^ 16
+fits_word bytes at n h is = by (range bytes at 2) refl is
+  where
+    by : (o : Option (List ℕ)) → range bytes at 2 ≡ o → option_map be o ≡ Some n → n < 2 ^ 16
+    by None r e = absurd cc
+    by (Some part) r e =
+        let same : be part ≡ n = cc in
+        let len : length part ≡ 2 = range-length bytes part at 2 r in
+        let fits : be part < 256 ^ 2 = subst (λ k. be part < 256 ^ k) len (be-fits part (IsBytes-range bytes part at 2 h r)) in
+        omega (arith, same, fits)
+
+-- ---- padding
+
+-- a front of even length is left as it is
+pub padded-append : (long : Bool) (a b : List ℕ) → length a % 2 ≡ 0 → padded long (a ++ b) ≡ a ++ padded long b
+padded-append true a b even = refl
+padded-append false a b even =
+    let same : (2 - length (a ++ b) % 2) % 2 ≡ (2 - length b % 2) % 2 = omega (arith, length-append a b) in
+    ap (λ n. (a ++ b) ++ replicate n 0) same ∙ append_assoc a b (replicate ((2 - length b % 2) % 2) 0)
+
+pub padded-nil : (long : Bool) → padded long [] ≡ []
+padded-nil true = refl
+padded-nil false = refl
+
+-- the length of arguments and transform is even
+even_sizes : (a b c d : Bool) → (cond a 4 2 + cond b 2 (cond c 4 (cond d 8 0))) % 2 ≡ 0
+even_sizes true true c d = refl
+even_sizes true false true d = refl
+even_sizes true false false true = refl
+even_sizes true false false false = refl
+even_sizes false true c d = refl
+even_sizes false false true d = refl
+even_sizes false false false true = refl
+even_sizes false false false false = refl
+
+pub rest-even : (flags : ℕ) → rest_size flags % 2 ≡ 0
+rest-even flags = even_sizes (has flags 0x0001) (has flags 0x0008) (has flags 0x0040) (has flags 0x0080)
+
+-- ---- components that were read
+
+pub data IsChain (tail : List ℕ) : List Component → Type 0 where
+  last : (c : Component) → length c.rest ≡ rest_size c.flags → c.flags < 2 ^ 16 → has_more c.flags ≡ false → (has_instructions c.flags ≡ false → tail ≡ []) → IsChain tail (c ∷ [])
+  more : (c : Component) (cs : List Component) → length c.rest ≡ rest_size c.flags → c.flags < 2 ^ 16 → has_more c.flags ≡ true → IsChain tail cs → IsChain tail (c ∷ cs)
+
+abbrev chain_there : Chain → Option Chain
+chain_there chain = Some chain
+
+same_chain : (a b : Chain) → chain_there a ≡ chain_there b → a ≡ b
+same_chain a b h = cc
+
+abbrev ChainOf : Chain → Type 0
+ChainOf chain = IsChain chain.tail chain.components
+
+no_tail : (b : Bool) (after : List ℕ) → b ≡ false → cond b after [] ≡ []
+no_tail true after h = absurd cc
+no_tail false after h = refl
+
+pub chain_is : (n : ℕ) (bytes : List ℕ) (chain : Chain) → IsBytes bytes → chain_at n bytes ≡ Some chain → IsChain chain.tail chain.components
+unfolding chain_at
+chain_is zero bytes chain fit h = absurd cc
+chain_is (suc n) bytes chain fit h = by (λ rest whole r e. chain_is n rest whole r e) (component_at bytes) refl
+  where
+    into : ((rest : List ℕ) (whole : Chain) → IsBytes rest → chain_at n rest ≡ Some whole → IsChain whole.tail whole.components) → (c : Component) → IsComponent bytes c → (b : Bool) → has_more c.flags ≡ b
+        → cond b (option_and_then (λ rest. Some (with_component c rest)) (chain_at n (drop (4 + rest_size c.flags) bytes))) (Some (last_component c (drop (4 + rest_size c.flags) bytes))) ≡ Some chain → IsChain chain.tail chain.components
+    into again c is true m e =
+        let k = bind_some (chain_at n (drop (4 + rest_size c.flags) bytes)) (λ rest. chain_there (with_component c rest)) chain e in
+        let same : with_component c k.0 ≡ chain = same_chain (with_component c k.0) chain k.2 in
+        subst ChainOf same (more c k.0.components is.size (fits_word bytes 0 c.flags fit is.flags_is) m (again (drop (4 + rest_size c.flags) bytes) k.0 (IsBytes-drop (4 + rest_size c.flags) bytes fit) k.1))
+    into again c is false m e =
+        let same : last_component c (drop (4 + rest_size c.flags) bytes) ≡ chain = same_chain (last_component c (drop (4 + rest_size c.flags) bytes)) chain e in
+        subst ChainOf same (last c is.size (fits_word bytes 0 c.flags fit is.flags_is) m (λ none. no_tail (has_instructions c.flags) (drop (4 + rest_size c.flags) bytes) none))
+
+    by : ((rest : List ℕ) (whole : Chain) → IsBytes rest → chain_at n rest ≡ Some whole → IsChain whole.tail whole.components) → (o : Option Component) → component_at bytes ≡ o → IsChain chain.tail chain.components
+    by again None k = let e = sym (chain_none (suc n) bytes k) ∙ h in absurd cc
+    by again (Some c) k = into again c (is_component bytes c k) (has_more c.flags) refl (sym (chain_more n bytes c k) ∙ h)
+
+-- ---- components that were written
+
+abbrev made : ℕ → ℕ → List ℕ → Option Component
+made flags glyph rest = Some (record { flags = flags; glyph = glyph; rest = rest })
+
+pub length-spelled : (c : Component) → length (spelled c) ≡ 4 + length c.rest
+length-spelled c = omega (arith, length-append (to_be_bytes w16 c.flags ++ to_be_bytes w16 c.glyph) c.rest)
+
+pub component_back : (c : Component) (others : List ℕ) → c.flags < 2 ^ 16 → c.glyph < 2 ^ 16 → length c.rest ≡ rest_size c.flags → component_at (spelled c ++ others) ≡ Some c
+component_back c others f g len =
+    let F = to_be_bytes w16 c.flags in
+    let G = to_be_bytes w16 c.glyph in
+    let X = spelled c ++ others in
+    let x : X ≡ F ++ (G ++ (c.rest ++ others)) = append_assoc (F ++ G) c.rest others ∙ append_assoc F G (c.rest ++ others) in
+    let a : number X 0 2 ≡ Some c.flags = number_at X [] F (G ++ (c.rest ++ others)) 0 2 c.flags x refl refl (be-u16 c.flags f) in
+    let b : number X 2 2 ≡ Some c.glyph = number_at X F G (c.rest ++ others) 2 2 c.glyph x refl refl (be-u16 c.glyph g) in
+    let d : range X 4 (rest_size c.flags) ≡ Some c.rest = range-middle X (F ++ G) c.rest others 4 (rest_size c.flags) (append_assoc (F ++ G) c.rest others) refl (sym len) in
+    ap (λ (o : Option ℕ). option_and_then (λ flags. option_and_then (λ glyph. option_and_then (λ rest. made flags glyph rest) (range X 4 (rest_size flags))) (number X 2 2)) o) a
+    ∙ ap (λ (o : Option ℕ). option_and_then (λ glyph. option_and_then (λ rest. made c.flags glyph rest) (range X 4 (rest_size c.flags))) o) b
+    ∙ ap (λ (o : Option (List ℕ)). option_and_then (λ rest. made c.flags c.glyph rest) o) d
+
+behind : (c : Component) (others : List ℕ) → length c.rest ≡ rest_size c.flags → drop (4 + rest_size c.flags) (spelled c ++ others) ≡ others
+behind c others len = drop_at (spelled c) others (4 + rest_size c.flags) (omega (arith, length-spelled c, len))
+
+kept_tail : (b long : Bool) (tail : List ℕ) → (b ≡ false → tail ≡ []) → cond b (padded long tail) [] ≡ padded long tail
+kept_tail true long tail h = refl
+kept_tail false long tail h = sym (ap (padded long) (h refl) ∙ padded-nil long)
+
+module _ (order : List ℕ) (small : (g : ℕ) → new_number order g < 2 ^ 16) where
+  abbrev again : Component → Component
+  again c = renumbered_component order c
+
+  pub chain_back : (n : ℕ) (long : Bool) (tail : List ℕ) (cs : List Component) → IsChain tail cs → length cs ≤ n
+      → chain_at n (flat_map spelled (map again cs) ++ padded long tail) ≡ Some (record { components = map again cs; tail = padded long tail })
+  chain_back zero long tail [] h le = elim h [ ]
+  chain_back (suc n) long tail [] h le = elim h [ ]
+  chain_back zero long tail (c ∷ []) (last _ len fit stop none) le = absurd (omega arith)
+  chain_back zero long tail (c ∷ cs) (more _ _ len fit go h) le = absurd (omega arith)
+  chain_back (suc n) long tail (c ∷ []) (last _ len fit stop none) le =
+      let T = padded long tail in
+      let X = spelled (again c) ++ T in
+      let whole : flat_map spelled (map again (c ∷ [])) ++ T ≡ X = ap (λ (l : List ℕ). l ++ T) (append-nil (spelled (again c))) in
+      let read = component_back (again c) T fit (small c.glyph) len in
+      let rest : drop (4 + rest_size c.flags) X ≡ T = behind (again c) T len in
+      let kept : last_component (again c) (drop (4 + rest_size c.flags) X) ≡ record { components = again c ∷ []; tail = T } =
+      ap (λ (l : List ℕ). last_component (again c) l) rest ∙ ap (λ (l : List ℕ). record { components = again c ∷ []; tail = l }) (kept_tail (has_instructions c.flags) long tail none) in
+      ap (chain_at (suc n)) whole ∙ chain_more n X (again c) read
+      ∙ ap (λ b. cond b (option_and_then (λ chain. chain_there (with_component (again c) chain)) (chain_at n (drop (4 + rest_size c.flags) X))) (Some (last_component (again c) (drop (4 + rest_size c.flags) X)))) stop
+      ∙ ap chain_there kept
+  chain_back (suc n) long tail (c ∷ cs) (more _ _ len fit go h) le =
+      let T = padded long tail in
+      let R = flat_map spelled (map again cs) ++ T in
+      let X = spelled (again c) ++ R in
+      let whole : flat_map spelled (map again (c ∷ cs)) ++ T ≡ X = append_assoc (spelled (again c)) (flat_map spelled (map again cs)) T in
+      let read = component_back (again c) R fit (small c.glyph) len in
+      let rest : drop (4 + rest_size c.flags) X ≡ R = behind (again c) R len in
+      let below = chain_back n long tail cs h (omega arith) in
+      ap (chain_at (suc n)) whole ∙ chain_more n X (again c) read
+      ∙ ap (λ b. cond b (option_and_then (λ chain. chain_there (with_component (again c) chain)) (chain_at n (drop (4 + rest_size c.flags) X))) (Some (last_component (again c) (drop (4 + rest_size c.flags) X)))) go
+      ∙ ap (λ (l : List ℕ). option_and_then (λ chain. chain_there (with_component (again c) chain)) (chain_at n l)) rest
+      ∙ ap (λ (o : Option Chain). option_and_then (λ chain. chain_there (with_component (again c) chain)) o) below
+
+  pub chain-even : (tail : List ℕ) (cs : List Component) → IsChain tail cs → length (flat_map spelled (map again cs)) % 2 ≡ 0
+  chain-even tail [] h = elim h [ ]
+  chain-even tail (c ∷ []) (last _ len fit stop none) = omega (arith, length-append (spelled (again c)) [], length-spelled (again c), rest-even c.flags, len)
+  chain-even tail (c ∷ cs) (more _ _ len fit go h) = omega (arith, length-append (spelled (again c)) (flat_map spelled (map again cs)), length-spelled (again c), rest-even c.flags, len, chain-even tail cs h)
+
+  -- each component takes bytes
+  pub chain-length : (tail : List ℕ) (cs : List Component) → IsChain tail cs → length cs ≤ length (flat_map spelled (map again cs))
+  chain-length tail [] h = elim h [ ]
+  chain-length tail (c ∷ []) (last _ len fit stop none) = omega (arith, length-append (spelled (again c)) [], length-spelled (again c))
+  chain-length tail (c ∷ cs) (more _ _ len fit go h) = omega (arith, length-append (spelled (again c)) (flat_map spelled (map again cs)), length-spelled (again c), chain-length tail cs h)

@@ -1,0 +1,4 @@
+-- Metrics: `hhea` and `hmtx`.
+pub mod Written
+pub mod Back
+pub mod Kept

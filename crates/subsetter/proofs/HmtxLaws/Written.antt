@@ -1,0 +1,148 @@
+-- Metrics of a list of glyphs: read in turn, and the least number of pairs.
+use Rattle.std.proofs.Common.{◌≡◌, ℕ, zero, suc, ◌+◌, ◌<◌, ◌≤◌, Bool, true, false, cond, List, [], ◌∷◌, ◌++◌, length, get_or, take, drop, Option, Some, None, Result, Ok, Err, refl, sym, ap, ◌∙◌, inl, inr, ◌⊎◌, arith}
+use Rattle.std.specs.Prelude.{Contains, ◌&&◌, ◌==◌}
+use Rattle.std.specs.Option.{ok_or}
+use Rattle.std.specs.Int.{w16, to_be_bytes}
+use Rattle.subsetter_base.specs.Bytes.{◌>>=◌}
+use Rattle.subsetter_base.specs.declared.error.Error.{Error}
+use Rattle.subsetter_base.specs.declared.error.Error.TheVariants.{MalformedFont}
+use Rattle.subsetter.specs.declared.hmtx.Metric.{Metric}
+use Rattle.subsetter.specs.Hmtx.Read.{metric_in}
+use Rattle.subsetter.specs.Hmtx.Written.{hhea_bytes, all_advance, least_count, metrics_all}
+
+-- a list in front of what is answered
+abbrev pub with_front : {A : Type 0} → List A → Result (List A) Error → Result (List A) Error
+with_front front read = read >>= λ xs. Ok (front ++ xs)
+
+-- `hhea`, written in three parts
+pub header_written : (count : ℕ) (hhea w w1 w2 w3 out : List ℕ) → w ≡ [] → w1 ≡ w ++ take 34 hhea → w2 ≡ w1 ++ to_be_bytes w16 count → w3 ≡ w2 ++ drop 36 hhea → out ≡ w3 → out ≡ hhea_bytes count hhea
+unfolding hhea_bytes
+header_written count hhea w w1 w2 w3 out h0 h1 h2 h3 h = rw (h, h3, h2, h1, h0) refl
+
+-- ---- steps that answer, and the one that failed
+
+abbrev pub done : {A : Type 0} → A → Result A Error
+done x = Ok x
+
+pub done_is : {A : Type 0} (x y : A) → done x ≡ done y → x ≡ y
+done_is x y e = cc
+
+abbrev pub failed : {A : Type 0} → Error → Result A Error
+failed e = Err e
+
+pub failed_is : {A : Type 0} (d e : Error) → failed {A = A} d ≡ failed {A = A} e → d ≡ e
+failed_is d e h = cc
+
+pub bind_ok : {A B : Type 0} (r : Result A Error) (f : A → Result B Error) (y : B) → (r >>= f) ≡ Ok y → (x : A) × (r ≡ Ok x) × (f x ≡ Ok y)
+bind_ok (Ok x) f y e = (x, refl, e)
+bind_ok (Err d) f y e = absurd cc
+
+pub bind_err : {A B : Type 0} (r : Result A Error) (f : A → Result B Error) (e : Error) → (r >>= f) ≡ Err e → (r ≡ Err e) ⊎ ((x : A) × (r ≡ Ok x) × (f x ≡ Err e))
+bind_err (Ok x) f e h = inr (x, refl, h)
+bind_err (Err d) f e h = inl cc
+
+pub named_ok : {A : Type 0} (o : Option A) (e : Error) (x : A) → ok_or o e ≡ Ok x → o ≡ Some x
+named_ok None e x h = absurd cc
+named_ok (Some y) e x h = cc
+
+pub named_err : {A : Type 0} (o : Option A) (d e : Error) → ok_or o d ≡ Err e → (o ≡ None) × (d ≡ e)
+named_err None d e h = (refl, cc)
+named_err (Some x) d e h = absurd cc
+
+-- ---- each glyph's metric
+
+abbrev more : Metric → List Metric → Result (List Metric) Error
+more m ms = Ok (m ∷ ms)
+
+pub metrics-length : (hmtx : List ℕ) (count : ℕ) (gs : List ℕ) (ms : List Metric) → metrics_all hmtx count gs ≡ Ok ms → length ms ≡ length gs
+metrics-length hmtx count [] ms h = ap length (sym (done_is [] ms h))
+metrics-length hmtx count (g ∷ gs) ms h =
+    let a = bind_ok (ok_or (metric_in hmtx count g) MalformedFont) (λ m. metrics_all hmtx count gs >>= λ xs. Ok (m ∷ xs)) ms h in
+    let b = bind_ok (metrics_all hmtx count gs) (more a.0) ms a.2 in
+    ap length (sym (done_is (a.0 ∷ b.0) ms b.2)) ∙ ap suc (metrics-length hmtx count gs b.0 b.1)
+
+pub metrics_at : (hmtx : List ℕ) (count : ℕ) (gs : List ℕ) (ms : List Metric) (i : ℕ) (d : Metric) → metrics_all hmtx count gs ≡ Ok ms → i < length gs → metric_in hmtx count (get_or gs i 0) ≡ Some (get_or ms i d)
+metrics_at hmtx count [] ms i d h lt = absurd (omega arith)
+metrics_at hmtx count (g ∷ gs) ms zero d h lt =
+    let a = bind_ok (ok_or (metric_in hmtx count g) MalformedFont) (λ m. metrics_all hmtx count gs >>= λ xs. Ok (m ∷ xs)) ms h in
+    let b = bind_ok (metrics_all hmtx count gs) (more a.0) ms a.2 in
+    named_ok (metric_in hmtx count g) MalformedFont a.0 a.1 ∙ ap (λ (l : List Metric). Some (get_or l 0 d)) (done_is (a.0 ∷ b.0) ms b.2)
+metrics_at hmtx count (g ∷ gs) ms (suc i) d h lt =
+    let a = bind_ok (ok_or (metric_in hmtx count g) MalformedFont) (λ m. metrics_all hmtx count gs >>= λ xs. Ok (m ∷ xs)) ms h in
+    let b = bind_ok (metrics_all hmtx count gs) (more a.0) ms a.2 in
+    metrics_at hmtx count gs b.0 i d b.1 (omega arith) ∙ ap (λ (l : List Metric). Some (get_or l (suc i) d)) (done_is (a.0 ∷ b.0) ms b.2)
+
+-- the glyph whose metric isn't there
+pub metrics_missing : (hmtx : List ℕ) (count : ℕ) (gs : List ℕ) (e : Error) → metrics_all hmtx count gs ≡ Err e → (MalformedFont ≡ e) × ((g : ℕ) × Contains gs g × (metric_in hmtx count g ≡ None))
+metrics_missing hmtx count [] e h = absurd cc
+metrics_missing hmtx count (g ∷ gs) e h =
+    elim (bind_err (ok_or (metric_in hmtx count g) MalformedFont) (λ m. metrics_all hmtx count gs >>= λ xs. Ok (m ∷ xs)) e h) [
+      | inl k ↦ let n = named_err (metric_in hmtx count g) MalformedFont e k in (n.1, (g, (0, omega arith, refl), n.0))
+      | inr k ↦ later (λ x. metrics_missing hmtx count gs e x) k.0 (bind_err (metrics_all hmtx count gs) (more k.0) e k.2)
+    ]
+  where
+    later : (metrics_all hmtx count gs ≡ Err e → (MalformedFont ≡ e) × ((q : ℕ) × Contains gs q × (metric_in hmtx count q ≡ None))) → (m : Metric) → (metrics_all hmtx count gs ≡ Err e) ⊎ ((x : List Metric) × (metrics_all hmtx count gs ≡ Ok x) × (more m x ≡ Err e))
+        → (MalformedFont ≡ e) × ((q : ℕ) × Contains (g ∷ gs) q × (metric_in hmtx count q ≡ None))
+    later rest m (inl k) = let n = rest k in (n.0, (n.1.0, (suc n.1.1.0, omega (arith, n.1.1.1), n.1.1.2), n.1.2))
+    later rest m (inr k) = absurd cc
+
+-- ---- the least number of pairs
+
+and_true : (p q : Bool) → (p && q) ≡ true → (p ≡ true) × (q ≡ true)
+and_true true true h = (refl, refl)
+and_true true false h = absurd cc
+and_true false q h = absurd cc
+
+-- each has the advance
+pub all_advance_at : (a : ℕ) (ms : List Metric) (i : ℕ) (d : Metric) → all_advance a ms ≡ true → i < length ms → (get_or ms i d).advance ≡ a
+all_advance_at a [] i d h lt = absurd (omega arith)
+all_advance_at a (m ∷ ms) zero d h lt = let t = (and_true (m.advance == a) (all_advance a ms) h).0 in grind arith
+all_advance_at a (m ∷ ms) (suc i) d h lt = all_advance_at a ms i d (and_true (m.advance == a) (all_advance a ms) h).1 (omega arith)
+
+pub all_advance_from : (a : ℕ) (ms : List Metric) (d : Metric) → ((i : ℕ) → i < length ms → (get_or ms i d).advance ≡ a) → all_advance a ms ≡ true
+all_advance_from a [] d h = refl
+all_advance_from a (m ∷ ms) d h =
+    let first : m.advance ≡ a = h 0 (omega arith) in
+    let rest : all_advance a ms ≡ true = all_advance_from a ms d (λ i lt. h (suc i) (omega arith)) in
+    grind arith
+
+pub least_count-le : (ms : List Metric) → least_count ms ≤ length ms
+least_count-le [] = omega arith
+least_count-le (m ∷ ms) = by (all_advance m.advance ms) (least_count-le ms)
+  where
+    by : (b : Bool) → least_count ms ≤ length ms → cond b 1 (1 + least_count ms) ≤ length (m ∷ ms)
+    by true h = omega arith
+    by false h = omega arith
+
+pub least_count_pos : (ms : List Metric) → 0 < length ms → 1 ≤ least_count ms
+least_count_pos [] lt = absurd (omega arith)
+least_count_pos (m ∷ ms) lt = by (all_advance m.advance ms)
+  where
+    by : (b : Bool) → 1 ≤ cond b 1 (1 + least_count ms)
+    by true = omega arith
+    by false = omega arith
+
+-- from there on all share the last pair's advance
+pub advances_agree : (ms : List Metric) (k i : ℕ) (d : Metric) → least_count ms ≡ suc k → suc k ≤ i → i < length ms → (get_or ms i d).advance ≡ (get_or ms k d).advance
+advances_agree [] k i d h le lt = absurd (omega arith)
+advances_agree (m ∷ ms) k zero d h le lt = absurd (omega arith)
+advances_agree (m ∷ ms) k (suc i) d h le lt = by (λ k h le. advances_agree ms k i d h le (omega arith)) (all_advance m.advance ms) k refl h le
+  where
+    by : ((k : ℕ) → least_count ms ≡ suc k → suc k ≤ i → (get_or ms i d).advance ≡ (get_or ms k d).advance) → (b : Bool) (k : ℕ) → all_advance m.advance ms ≡ b → cond b 1 (1 + least_count ms) ≡ suc k → suc k ≤ suc i → (get_or ms i d).advance ≡ (get_or (m ∷ ms) k d).advance
+    by rest true zero t e le = all_advance_at m.advance ms i d t (omega arith)
+    by rest true (suc k) t e le = absurd (omega arith)
+    by rest false zero t e le = absurd (omega (arith, least_count_pos ms (omega arith)))
+    by rest false (suc k) t e le = rest k (omega arith) (omega arith)
+
+-- a lesser number would not do
+pub least_count_least : (ms : List Metric) (k : ℕ) (d : Metric) → ((i : ℕ) → suc k ≤ i → i < length ms → (get_or ms i d).advance ≡ (get_or ms k d).advance) → least_count ms ≤ suc k
+least_count_least [] k d h = omega arith
+least_count_least (m ∷ ms) zero d h =
+    let t : all_advance m.advance ms ≡ true = all_advance_from m.advance ms d (λ i lt. h (suc i) (omega arith) (omega arith)) in
+    let n : least_count (m ∷ ms) ≡ 1 = ap (λ b. cond b 1 (1 + least_count ms)) t in
+    omega arith
+least_count_least (m ∷ ms) (suc k) d h = by (all_advance m.advance ms) (least_count_least ms k d (λ i le lt. h (suc i) (omega arith) (omega arith)))
+  where
+    by : (b : Bool) → least_count ms ≤ suc k → cond b 1 (1 + least_count ms) ≤ suc (suc k)
+    by true h = omega arith
+    by false h = omega arith

@@ -1,0 +1,2 @@
+-- The number of glyphs: `maxp`.
+pub mod Kept

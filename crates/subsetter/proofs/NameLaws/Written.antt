@@ -1,0 +1,154 @@
+-- Records and strings of `name`.
+use Rattle.std.proofs.Common.{◌≡◌, ℕ, zero, suc, ◌+◌, ◌*◌, ◌/◌, ◌%◌, ◌<◌, ◌≤◌, Bool, true, false, cond, leb, ◌||◌, List, [], ◌∷◌, ◌++◌, length, take, drop, Option, Some, None, Ok, Err, refl, sym, ap, ◌∙◌, append_assoc, arith}
+use Rattle.std.specs.Prelude.{flat_map}
+use Rattle.std.specs.Option.{option_and_then, ok_or}
+use Rattle.std.specs.Int.{w16, to_be_bytes}
+use Rattle.std.specs.Str.{bytes_eq}
+use Rattle.std.specs.Borrow.{Bor}
+use Rattle.std.proofs.lemmas.Bool.{le-leb, lt-ltb, le-ltb, false≢true}
+use Rattle.std.proofs.lemmas.Slice.Eq.{bytes_eq-Decides}
+use Rattle.std.proofs.lemmas.List.{append-nil, length-append, length-drop, map-append, take-take, drop-take}
+use Rattle.std.proofs.lemmas.Grind.{flat_map-append}
+use Rattle.subsetter_base.specs.Items.{values_of}
+use Rattle.subsetter_base.specs.declared.error.Error.TheVariants.{SubsetError, MalformedFont}
+use Rattle.subsetter.specs.declared.name.NameRecord.{NameRecord}
+use Rattle.subsetter.specs.Name.Read.{NameTable, name_parts, name_record_of, name_records_in, name_record_bytes, name_bytes, among, string_place, joined}
+use Rattle.subsetter.specs.Name.Plain.{placed_string}
+use Rattle.subsetter.specs.Name.View.{nows}
+
+-- six writes in turn
+pub six : (w a b c d e f w1 w2 w3 w4 w5 w6 : List ℕ) → w1 ≡ w ++ a → w2 ≡ w1 ++ b → w3 ≡ w2 ++ c → w4 ≡ w3 ++ d → w5 ≡ w4 ++ e → w6 ≡ w5 ++ f → w6 ≡ w ++ (a ++ b ++ c ++ d ++ e ++ f)
+six w a b c d e f w1 w2 w3 w4 w5 w6 h1 h2 h3 h4 h5 h6 = rw (h6, h5, h4, h3, h2, h1) (simp append_assoc)
+
+pub five_parts : (w a b c d e w1 w2 w3 w4 w5 : List ℕ) → w1 ≡ w ++ a → w2 ≡ w1 ++ b → w3 ≡ w2 ++ c → w4 ≡ w3 ++ d → w5 ≡ w4 ++ e → w5 ≡ w ++ (a ++ b ++ c ++ d ++ e)
+five_parts w a b c d e w1 w2 w3 w4 w5 h1 h2 h3 h4 h5 = rw (h5, h4, h3, h2, h1) (simp append_assoc)
+
+-- ---- strings among others
+
+pub same_bytes : (a b : List ℕ) → bytes_eq a b ≡ true → a ≡ b
+same_bytes a b e = (bytes_eq-Decides a b).0 e
+
+pub eq_self : (a : List ℕ) → bytes_eq a a ≡ true
+eq_self a = (bytes_eq-Decides a a).1 refl
+
+eq_turned : (a b : List ℕ) (r : Bool) → bytes_eq a b ≡ r → r ≡ false → bytes_eq b a ≡ false
+eq_turned a b r e f = by (bytes_eq b a) refl
+  where
+    by : (q : Bool) → bytes_eq b a ≡ q → bytes_eq b a ≡ false
+    by true t = absurd (false≢true (sym f ∙ sym e ∙ ap (bytes_eq a) (same_bytes b a t) ∙ eq_self a))
+    by false t = t
+
+pub among-append : (ts us : List (List ℕ)) (q : List ℕ) → among (ts ++ us) q ≡ (among ts q || among us q)
+among-append [] us q = refl
+among-append (t ∷ ts) us q = by (bytes_eq q t) (among-append ts us q)
+  where
+    by : (b : Bool) → among (ts ++ us) q ≡ (among ts q || among us q) → (b || among (ts ++ us) q) ≡ ((b || among ts q) || among us q)
+    by true e = refl
+    by false e = e
+
+-- a string that is there keeps its place
+pub place_before : (ts us : List (List ℕ)) (q : List ℕ) → among ts q ≡ true → string_place (ts ++ us) q ≡ string_place ts q
+place_before [] us q h = absurd (false≢true h)
+place_before (t ∷ ts) us q h = by (bytes_eq q t) (λ k. place_before ts us q k) h
+  where
+    by : (b : Bool) → (among ts q ≡ true → string_place (ts ++ us) q ≡ string_place ts q) → (b || among ts q) ≡ true → cond b 0 (length t + string_place (ts ++ us) q) ≡ cond b 0 (length t + string_place ts q)
+    by true e k = refl
+    by false e k = ap (λ n. length t + n) (e k)
+
+-- one that isn't comes behind them
+pub place_behind : (ts us : List (List ℕ)) (q : List ℕ) → among ts q ≡ false → string_place (ts ++ us) q ≡ length (joined ts) + string_place us q
+place_behind [] us q h = omega arith
+place_behind (t ∷ ts) us q h = by (bytes_eq q t) (λ k. place_behind ts us q k) h
+  where
+    by : (b : Bool) → (among ts q ≡ false → string_place (ts ++ us) q ≡ length (joined ts) + string_place us q) → (b || among ts q) ≡ false → cond b 0 (length t + string_place (ts ++ us) q) ≡ length (joined (t ∷ ts)) + string_place us q
+    by true e k = absurd (false≢true (sym k))
+    by false e k = omega (arith, e k, length-append t (joined ts))
+
+pub place_new : (ts : List (List ℕ)) (q : List ℕ) → among ts q ≡ false → string_place ts q ≡ length (joined ts)
+place_new ts q h = ap (λ l. string_place l q) (sym (append-nil ts)) ∙ place_behind ts [] q h ∙ omega arith
+
+-- the places after a string was put at the end
+pub places_more : (ts : List (List ℕ)) (s q : List ℕ) (n : ℕ) → among ts s ≡ false → n ≡ length (joined ts)
+    → cond (bytes_eq s q) (Some n) (cond (among ts q) (Some (string_place ts q)) None) ≡ cond (among (ts ++ s ∷ []) q) (Some (string_place (ts ++ s ∷ []) q)) None
+places_more ts s q n absent is = by (bytes_eq s q) refl
+  where
+    known : (a : Bool) → among ts q ≡ a → bytes_eq q s ≡ false → cond a (Some (string_place ts q)) None ≡ cond (a || (bytes_eq q s || false)) (Some (string_place (ts ++ s ∷ []) q)) None
+    known true a d = ap Some (sym (place_before ts (s ∷ []) q a))
+    known false a d = ap (λ b. cond (b || false) (Some (string_place (ts ++ s ∷ []) q)) None) (sym d)
+
+    by : (b : Bool) → bytes_eq s q ≡ b → cond b (Some n) (cond (among ts q) (Some (string_place ts q)) None) ≡ cond (among (ts ++ s ∷ []) q) (Some (string_place (ts ++ s ∷ []) q)) None
+    by true t =
+        let e : s ≡ q = same_bytes s q t in
+        let none : among ts q ≡ false = ap (among ts) (sym e) ∙ absent in
+        let self : bytes_eq q s ≡ true = ap (λ x. bytes_eq x s) (sym e) ∙ eq_self s in
+        let there : among (ts ++ s ∷ []) q ≡ true = among-append ts (s ∷ []) q ∙ ap (λ b. b || (bytes_eq q s || false)) none ∙ ap (λ b. b || false) self in
+        let at : string_place (ts ++ s ∷ []) q ≡ length (joined ts) = place_behind ts (s ∷ []) q none ∙ ap (λ b. length (joined ts) + cond b 0 (length s + 0)) self ∙ omega arith in
+        ap Some (is ∙ sym at) ∙ ap (λ b. cond b (Some (string_place (ts ++ s ∷ []) q)) None) (sym there)
+    by false t =
+        known (among ts q) refl (eq_turned s q false t refl) ∙ ap (λ b. cond b (Some (string_place (ts ++ s ∷ []) q)) None) (sym (among-append ts (s ∷ []) q))
+
+pub nows-push : (bs : List (Bor (List ℕ))) (b : Bor (List ℕ)) → nows (bs ++ b ∷ []) ≡ nows bs ++ b.now ∷ []
+nows-push bs b = map-append (λ (x : Bor (List ℕ)). x.now) bs (b ∷ [])
+
+pub joined-push : (ts : List (List ℕ)) (s : List ℕ) → length (joined (ts ++ s ∷ [])) ≡ length (joined ts) + length s
+joined-push ts s = ap length (flat_map-append (λ (t : List ℕ). t) ts (s ∷ [])) ∙ length-append (joined ts) (s ++ []) ∙ ap (λ l. length (joined ts) + length l) (append-nil s)
+
+-- where the map has nothing the string is new
+pub is_new : (b : Bool) (n : ℕ) → cond b (Some n) None ≡ None → b ≡ false
+is_new true n h = absurd cc
+is_new false n h = refl
+
+-- a string's place fits 16 bits, or not
+pub fits_16 : (ts : List (List ℕ)) (s : List ℕ) (n : ℕ) → string_place ts s ≡ n → n < 65536 → placed_string ts s ≡ Ok n
+fits_16 ts s n is lt = ap (λ b. cond b (Ok (string_place ts s)) (Err SubsetError)) (lt-ltb _ _ (omega arith)) ∙ ap Ok is
+
+pub too_far : (ts : List (List ℕ)) (s : List ℕ) (n : ℕ) → string_place ts s ≡ n → 65535 < n → placed_string ts s ≡ Err SubsetError
+too_far ts s n is lt = ap (λ b. cond b (Ok (string_place ts s)) (Err SubsetError)) (le-ltb _ _ (omega arith))
+
+-- one more record was written
+pub one_more_record : (w b rest total after : List ℕ) → after ≡ w ++ b → w ++ (b ++ rest) ≡ total → after ++ rest ≡ total
+one_more_record w b rest total after is so_far = ap (λ (l : List ℕ). l ++ rest) is ∙ append_assoc w b rest ∙ so_far
+
+-- the records that an array of bytes gives
+pub field_of : (x : List ℕ) (k m : ℕ) → 2 ≤ m → take 2 (drop k (take (k + m) x)) ≡ take 2 (drop k x)
+field_of x k m h = ap (take 2) (drop-take k m x) ∙ take-take 2 m (drop k x) h
+
+pub name_record_of-take : (x : List ℕ) → name_record_of (take 12 x) ≡ name_record_of x
+name_record_of-take x =
+    let a : take 2 (take 12 x) ≡ take 2 x = take-take 2 12 x (omega arith) in
+    let b = field_of x 2 10 (omega arith) in
+    let c = field_of x 4 8 (omega arith) in
+    let d = field_of x 6 6 (omega arith) in
+    let e = field_of x 8 4 (omega arith) in
+    let f = field_of x 10 2 (omega arith) in
+    cc
+
+pub record_values : (n : ℕ) (bytes : List ℕ) → n * 12 ≤ length bytes → values_of 12 (λ (b : List ℕ). Some (name_record_of b)) n bytes ≡ name_records_in n bytes
+record_values zero bytes h = refl
+record_values (suc n) bytes h =
+    by (leb 12 (length bytes)) (le-leb _ _ (omega arith)) (record_values n (drop 12 bytes) (omega (arith, length-drop 12 bytes)))
+  where
+    by : (q : Bool) → q ≡ true → values_of 12 (λ (b : List ℕ). Some (name_record_of b)) n (drop 12 bytes) ≡ name_records_in n (drop 12 bytes)
+        → elim (option_and_then (λ (b : List ℕ). Some (name_record_of b)) (cond q (Some (take 12 bytes)) None)) [ None ↦ [] | Some x ↦ x ∷ values_of 12 (λ (b : List ℕ). Some (name_record_of b)) n (drop 12 bytes) ] ≡ name_record_of bytes ∷ name_records_in n (drop 12 bytes)
+    by true t more = let one = name_record_of-take bytes in cc
+    by false t more = absurd (false≢true t)
+
+-- the parts of a table with its records in a list
+pub parsed : (bytes : List ℕ) (t : NameTable) (records : List NameRecord) → name_parts bytes ≡ Some t → records ≡ t.records → ok_or (name_parts bytes) MalformedFont ≡ Ok (record { records = records; storage = t.storage })
+parsed bytes t records h e = ap (λ (o : Option NameTable). ok_or o MalformedFont) h ∙ ap (λ (rs : List NameRecord). Ok (record { records = rs; storage = t.storage })) (sym e)
+
+-- version, count, the storage's offset, the records and the storage, in turn
+pub table_written : (w : List ℕ) (records : List NameRecord) (storage w1 w2 w3 w4 w5 : List ℕ) → w1 ≡ w ++ to_be_bytes w16 0 → w2 ≡ w1 ++ to_be_bytes w16 (length records % 65536) → w3 ≡ w2 ++ to_be_bytes w16 ((6 + 12 * (length records % 65536)) % 65536)
+    → w4 ≡ w3 ++ flat_map name_record_bytes records → w5 ≡ w4 ++ storage → w5 ≡ w ++ name_bytes records storage
+unfolding name_bytes
+table_written w records storage w1 w2 w3 w4 w5 h1 h2 h3 h4 h5 =
+    let n = length records in
+    let count : to_be_bytes w16 (n % 65536) ≡ to_be_bytes w16 n = low_16 (n % 65536) n (omega arith) in
+    let place : to_be_bytes w16 ((6 + 12 * (n % 65536)) % 65536) ≡ to_be_bytes w16 (6 + 12 * n) = low_16 ((6 + 12 * (n % 65536)) % 65536) (6 + 12 * n) (omega arith) in
+    five_parts w (to_be_bytes w16 0) (to_be_bytes w16 n) (to_be_bytes w16 (6 + 12 * n)) (flat_map name_record_bytes records) storage w1 w2 w3 w4 w5 h1 (h2 ∙ ap (λ (l : List ℕ). w1 ++ l) count) (h3 ∙ ap (λ (l : List ℕ). w2 ++ l) place) h4 h5
+  where
+    low_16 : (a b : ℕ) → a % 65536 ≡ b % 65536 → to_be_bytes w16 a ≡ to_be_bytes w16 b
+    low_16 a b e =
+        let high : a / 256 % 256 ≡ b / 256 % 256 = omega arith in
+        let low : a % 256 ≡ b % 256 = omega arith in
+        ap (λ (x : ℕ). x ∷ a % 256 ∷ []) high ∙ ap (λ (x : ℕ). b / 256 % 256 ∷ x ∷ []) low

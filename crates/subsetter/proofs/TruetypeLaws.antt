@@ -1,0 +1,6 @@
+-- A TrueType subset as a whole.
+pub mod Laid
+pub mod Steps
+pub mod Subset
+pub mod Fault
+pub mod Gave

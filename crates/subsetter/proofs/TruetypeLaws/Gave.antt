@@ -1,0 +1,82 @@
+-- What an answer that gives a plain function's value says.
+use Rattle.std.proofs.Common.{◌≡◌, ℕ, ◌^◌, ◌<◌, List, length, Option, Result, Ok, Err, refl, sym, ap, subst, ◌∙◌, ◌⊎◌, inl, inr, arith}
+use Rattle.std.specs.Prelude.{IfOk, IfErr}
+use Rattle.std.specs.List.{AllByRecursion}
+use Rattle.std.proofs.lemmas.List.{length-map}
+use Rattle.subsetter_base.specs.Bytes.{◌>>=◌}
+use Rattle.subsetter_base.specs.Gives.{Fails, Gives}
+use Rattle.subsetter_base.specs.declared.error.Error.{Error}
+use Rattle.subsetter_base.specs.declared.error.Error.TheVariants as errors
+use Rattle.subsetter.specs.declared.sfnt.context.NewTable.{NewTable}
+use Rattle.subsetter.specs.Truetype.Answered.{IsAnswered, IsRefused, no_memory, unmade, unlaid}
+use Rattle.subsetter.specs.Glyf.Read.{Outlines, outline_in}
+use Rattle.subsetter.specs.Sfnt.Written.{Table, IsTable}
+use Rattle.subsetter.specs.Truetype.Plain.{Made, made_of, laid, truetype_tables}
+use Rattle.subsetter.specs.Sfnt.PlainFile.{file_of}
+use Rattle.subsetter.specs.Glyf.Plain.{outlines_read}
+use Rattle.subsetter.specs.Glyf.Reach.{IsGlyphOrderBy}
+use Rattle.subsetter.specs.Sfnt.View.{view, views}
+use Rattle.subsetter.proofs.TruetypeLaws.Laid.{laid_few}
+use Rattle.subsetter.proofs.TruetypeLaws.Steps.{made_steps}
+use Rattle.subsetter.proofs.TruetypeLaws.Subset.{laid_all}
+
+-- a failure is want of memory, or the plain function's
+failing : {Y : Type 0} (e : Error) (read : Result Y Error) → Fails e read → (e ≡ errors.OutOfMemory) ⊎ (read ≡ Err e)
+failing errors.OutOfMemory read h = inl refl
+failing errors.UnknownKind read h = inr h
+failing errors.MalformedFont read h = inr h
+failing errors.Unimplemented read h = inr h
+failing errors.SubsetError read h = inr h
+failing errors.OverflowError read h = inr h
+failing errors.CFFError read h = inr h
+
+pub gave_ok : {X Y : Type 0} (view : X → Y) (r : Result X Error) (read : Result Y Error) (P : Y → Type 0) → Gives view r read → ((y : Y) → read ≡ Ok y → P y) → IfOk r (λ x. P (view x))
+gave_ok view (Ok x) read P h f = f (view x) h
+gave_ok view (Err e) read P h f = tt
+
+pub gave_err : {X Y : Type 0} (view : X → Y) (r : Result X Error) (read : Result Y Error) (P : Error → Type 0) → Gives view r read → P errors.OutOfMemory → ((e : Error) → read ≡ Err e → P e) → IfErr r P
+gave_err view (Ok x) read P h m f = tt
+gave_err view (Err e) read P h m f =
+    elim (failing e read h) [
+      | inl memory ↦ subst P (sym memory) m
+      | inr k ↦ f e k
+    ]
+
+module _ (find : List ℕ → Option (List ℕ)) (glyphs order : List ℕ) (t : Outlines) (read : outlines_read find ≡ Ok t) (closed : IsGlyphOrderBy (outline_in t) glyphs order) where
+  -- what was made is laid out
+  made_tables : (m : Made) → made_of find t order ≡ Ok m → truetype_tables find t order ≡ Ok (laid find m)
+  unfolding truetype_tables
+  made_tables m h = ap (λ (r : Result Made Error). r >>= λ x. Ok (laid find x)) h
+
+  unmade_tables : (e : Error) → made_of find t order ≡ Err e → truetype_tables find t order ≡ Err e
+  unfolding truetype_tables
+  unmade_tables e h = ap (λ (r : Result Made Error). r >>= λ x. Ok (laid find x)) h
+
+  pub refused_made : (e : Error) → Fails e (made_of find t order) → IsRefused find glyphs e
+  refused_made e h =
+      elim (failing e (made_of find t order) h) [
+        | inl memory ↦ subst (IsRefused find glyphs) (sym memory) no_memory
+        | inr k ↦ unmade t order read closed (unmade_tables e k)
+      ]
+
+  module _ (m : Made) (made : made_of find t order ≡ Ok m) (ts : List NewTable) (are : views ts ≡ laid find m) where
+    pub few_tables : length ts < 16
+    few_tables = omega (arith, length-map ts view, ap length are, laid_few find m)
+
+    pub all_tables : AllByRecursion IsTable (views ts)
+    all_tables = subst (λ (l : List Table). AllByRecursion IsTable l) (sym are) (laid_all find t order m (made_steps find t order m made))
+
+    pub answered : (out : List ℕ) → length order < 2 ^ 16 → file_of 0x00010000 (views ts) ≡ Ok out → IsAnswered find glyphs out
+    answered out few h = record {
+      source = t;
+      read = read;
+      order = order;
+      is_order = closed;
+      few = few;
+      tables = laid find m;
+      tables_are = made_tables m made;
+      laid_out = ap (file_of 0x00010000) (sym are) ∙ h;
+    }
+
+    pub refused_file : (e : Error) → file_of 0x00010000 (views ts) ≡ Err e → IsRefused find glyphs e
+    refused_file e h = unlaid t order (laid find m) read closed (made_tables m made) (ap (file_of 0x00010000) (sym are) ∙ h)

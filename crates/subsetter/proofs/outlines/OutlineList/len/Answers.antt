@@ -1,8 +1,0 @@
-use Rattle.std.proofs.Common.{length, ap, sym, ◌∙◌}
-use Rattle.std.proofs.lemmas.List.{length-map}
-use Rattle.subsetter.specs.NamesSeen.{nows}
-use Rattle.subsetter.proofs.WovenLemmas.{length-woven}
-use Rattle.subsetter.proofs.outlines.OutlineList.len.Goals as goal
-
-pub returns : goal.returns
-returns c = ap length c.as_slice.ensures.value ∙ sym (length-map c.self.inside.kept.items (λ b. b.now)) ∙ sym (length-woven (nows c.self.inside.kept.items) c.self.inside.sizes.items c.self.inside.made.items c.self.invariant.parts) ∙ ap length c.self.view_is

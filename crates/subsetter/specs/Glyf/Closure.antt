@@ -1,0 +1,49 @@
+-- How the glyphs that a list reaches are found.
+use Rattle.std.specs.Prelude.{◌≡◌, ℕ, ◌+◌, ◌<◌, ◌^◌, Bool, true, false, not, ◌&&◌, List, [], ◌∷◌, ◌++◌, length, Option, Some, None, is_some, filter, slice_index, nat_lt, if◌then◌else◌}
+use Rattle.subsetter_base.specs.Places.{place, with_glyph}
+use Rattle.subsetter_base.specs.declared.error.Error.{Error}
+use Rattle.subsetter_base.specs.declared.error.Error.TheVariants.{MalformedFont, OverflowError, OutOfMemory}
+use Rattle.subsetter.specs.Glyf.Read.{Outlines, outline_in}
+use Rattle.subsetter.specs.Glyf.Parts.{component_numbers, outline_parts}
+use Rattle.subsetter.specs.Glyf.Reach.{IsReachableBy}
+
+-- the numbers of the components of an outline, none where there is no outline
+abbrev pub components_in : Option (List ℕ) → List ℕ
+components_in None = []
+components_in (Some bytes) = component_numbers bytes
+
+-- the numbers that aren't in a list
+abbrev pub others_in : List ℕ → List ℕ → List ℕ
+others_in order numbers = filter (λ h. not (is_some (place order h))) numbers
+
+-- one byte, or a composite of fewer than ten bytes
+unfoldable pub lacks_head : List ℕ → Bool
+lacks_head [] = false
+lacks_head (a ∷ []) = true
+lacks_head (a ∷ b ∷ bytes) = not (nat_lt a 128) && nat_lt (length (a ∷ b ∷ bytes)) 10
+
+-- a glyph has an outline without parts
+pub record IsFaulty (t : Outlines) (g : ℕ) : Type 0 where
+  pub bytes : List ℕ
+  pub there : outline_in t g ≡ Some bytes
+  pub faulty : outline_parts bytes ≡ None
+
+-- a list of 65535 glyphs lacks a further one
+pub record IsFull (order : List ℕ) (g : ℕ) : Type 0 where
+  pub full : length order ≡ 65535
+  pub further : place order g ≡ None
+  pub fits : g < 65536
+  pub small : (i : ℕ) → slice_index order i < 65536
+
+-- an order and the waiting glyphs, before and after a glyph was taken
+pub record IsVisited (t : Outlines) (order waiting : List ℕ) (g : ℕ) (order_after waiting_after : List ℕ) : Type 0 where
+  pub is_last : order_after ≡ with_glyph order g
+  pub wait : waiting_after ≡ (if is_some (place order g) then waiting else waiting ++ others_in order_after (components_in (outline_in t g)))
+  pub few : length waiting_after < length waiting + 2 ^ 32
+  pub room : length order_after < 65536
+
+-- a glyph that the given ones reach is faulty, or they reach all numbers, or memory ran out
+pub data StopsClosure (t : Outlines) (glyphs : List ℕ) : Error → Type 0 where
+  no_memory : StopsClosure t glyphs OutOfMemory
+  faulty_glyph : (g : ℕ) → IsReachableBy (outline_in t) glyphs g → IsFaulty t g → StopsClosure t glyphs MalformedFont
+  all_reached : ((g : ℕ) → g < 65536 → IsReachableBy (outline_in t) glyphs g) → StopsClosure t glyphs OverflowError

@@ -1,0 +1,57 @@
+-- The plain way to take the outlines of the kept glyphs, with the error that is answered where one can't be taken.
+use Rattle.std.specs.Prelude.{ℕ, Bool, List, [], ◌∷◌, length, map, Option, Result, Ok, Err, nat_lt, if◌then◌else◌}
+use Rattle.std.specs.Option.{option_map, unwrap_or, ok_or}
+use Rattle.subsetter_base.specs.Bytes.{◌>>=◌}
+use Rattle.subsetter_base.specs.Places.{place}
+use Rattle.subsetter_base.specs.declared.error.Error.{Error}
+use Rattle.subsetter_base.specs.declared.error.Error.TheVariants.{MalformedFont}
+use Rattle.subsetter.specs.Glyf.Read.{Outlines, outlines_in, outline_in}
+use Rattle.subsetter.specs.Glyf.Parts.{Component, Chain, Parts, Empty, Simple, Composite, composite_parts, outline_parts, parts_bytes}
+use Rattle.subsetter.specs.Glyf.Written.{head_bytes}
+
+-- the tables of the outlines
+abbrev pub outlines_read : (List ℕ → Option (List ℕ)) → Result Outlines Error
+outlines_read find = ok_or (outlines_in find) MalformedFont
+
+-- the new number of a glyph: its place in the order
+abbrev pub new_number : List ℕ → ℕ → ℕ
+new_number order g = unwrap_or (place order g) 0
+
+-- a component under the new number of its glyph
+abbrev pub renumbered_component : List ℕ → Component → Component
+renumbered_component order c = record { flags = c.flags; glyph = new_number order c.glyph; rest = c.rest }
+
+abbrev pub renumbered_chain : List ℕ → Chain → Chain
+renumbered_chain order chain = record { components = map (renumbered_component order) chain.components; tail = chain.tail }
+
+-- parts with their components under the new numbers
+abbrev pub renumbered : List ℕ → Parts → Parts
+renumbered order Empty = Empty
+renumbered order (Simple bytes) = Simple bytes
+renumbered order (Composite head chain) = Composite head (renumbered_chain order chain)
+
+-- a composite with its components under the new numbers
+unfoldable pub rewritten_composite : List ℕ → List ℕ → Result (List ℕ) Error
+rewritten_composite order bytes = ok_or (option_map (λ p. parts_bytes (renumbered order p)) (composite_parts bytes)) MalformedFont
+
+-- an outline with its components under the new numbers
+unfoldable pub rewritten : List ℕ → List ℕ → Result (List ℕ) Error
+rewritten order bytes = ok_or (option_map (λ p. parts_bytes (renumbered order p)) (outline_parts bytes)) MalformedFont
+
+-- the outline of a glyph that is kept
+unfoldable pub kept : Outlines → List ℕ → ℕ → Result (List ℕ) Error
+kept t order g = do
+  bytes ← ok_or (outline_in t g) MalformedFont
+  rewritten order bytes
+
+-- the outlines of a list of glyphs
+abbrev pub kept_all : Outlines → List ℕ → List ℕ → Result (List (List ℕ)) Error
+kept_all t order [] = Ok []
+kept_all t order (g ∷ gs) = do
+  first ← kept t order g
+  rest ← kept_all t order gs
+  Ok (first ∷ rest)
+
+-- `head` with the format of loca
+abbrev pub head_kept : Bool → List ℕ → Result (List ℕ) Error
+head_kept long head = if nat_lt (length head) 52 then Err MalformedFont else Ok (head_bytes long head)

@@ -1,0 +1,44 @@
+-- The outlines of a TrueType font (OpenType, "glyf" and "loca").
+use Rattle.std.specs.Prelude.{ℕ, ◌+◌, ◌-◌, ◌*◌, Bool, not, List, codes, Option, Some, None, nat_le, ◌==◌, if◌then◌else◌}
+use Rattle.std.specs.Option.{option_and_then, option_map}
+use Rattle.subsetter_base.specs.Bytes.{range, number}
+use Rattle.subsetter.specs.Optional.{◌>>=◌}
+use Rattle.subsetter.specs.Sfnt.Read.{Font, table}
+
+-- the tables that outlines are read from
+pub record Outlines : Type 0 where
+  pub loca : List ℕ
+  pub glyf : List ℕ
+  pub head : List ℕ
+  pub long : Bool
+
+-- loca is in the long format where the number at byte 50 of head is not 0
+unfoldable pub outlines_in : (List ℕ → Option (List ℕ)) → Option Outlines
+outlines_in find = do
+  loca ← find (codes "loca")
+  glyf ← find (codes "glyf")
+  head ← find (codes "head")
+  format ← number head 50 2
+  Some (record { loca = loca; glyf = glyf; head = head; long = not (format == 0) })
+
+abbrev pub outlines : Font → Option Outlines
+outlines font = outlines_in (table font)
+
+-- how many bytes an entry of loca has
+abbrev pub entry_size : Bool → ℕ
+entry_size long = if long then 4 else 2
+
+-- an entry of loca: an offset, or half of it
+abbrev pub offset : Outlines → ℕ → Option ℕ
+offset t g = if t.long then number t.loca (4 * g) 4 else option_map (λ half. 2 * half) (number t.loca (2 * g) 2)
+
+-- the bytes between two entries
+abbrev pub between : List ℕ → ℕ → ℕ → Option (List ℕ)
+between glyf from to = if nat_le from to then range glyf from (to - from) else None
+
+unfoldable pub outline_in : Outlines → ℕ → Option (List ℕ)
+outline_in t g = option_and_then (λ from. option_and_then (λ to. between t.glyf from to) (offset t (g + 1))) (offset t g)
+
+-- the outline of a glyph: the bytes of glyf between its entry of loca and the next
+abbrev pub outline : Font → ℕ → Option (List ℕ)
+outline font g = option_and_then (λ t. outline_in t g) (outlines font)

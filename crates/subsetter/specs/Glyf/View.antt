@@ -1,0 +1,11 @@
+-- What the code's tables of outlines are.
+use Rattle.subsetter.specs.declared.glyf.Table.{Table}
+use Rattle.subsetter.specs.declared.glyf.component.Component.{Component}
+use Rattle.subsetter.specs.Glyf.Read.{Outlines}
+use Rattle.subsetter.specs.Glyf.Parts as parts
+
+abbrev pub seen : Table → Outlines
+seen t = record { loca = t.loca.now; glyf = t.glyf.now; head = t.head.now; long = t.long }
+
+abbrev pub component_seen : Component → parts.Component
+component_seen c = record { flags = c.flags; glyph = c.glyph; rest = c.rest.now }

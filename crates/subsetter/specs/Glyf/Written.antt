@@ -1,0 +1,32 @@
+-- `glyf`, `loca` and `head` of a subset, from the outlines that it holds (OpenType, "glyf", "loca", "head").
+use Rattle.std.specs.Prelude.{ℕ, ◌+◌, ◌/◌, ◌%◌, Bool, List, [], ◌∷◌, ◌++◌, length, take, drop, slice_range, nat_lt, if◌then◌else◌, sum_by}
+use Rattle.std.specs.List.{flat_map}
+use Rattle.std.specs.Int.{w16, w32, to_be_bytes}
+use Rattle.subsetter.specs.Glyf.Unfold.{padded}
+
+-- the length of the outlines, each rounded up to even
+abbrev pub even_size : List (List ℕ) → ℕ
+even_size bs = sum_by (λ (b : List ℕ). length b + length b % 2) bs
+
+-- the long format is chosen where halves of the offsets don't fit 16 bits
+abbrev pub is_long : List (List ℕ) → Bool
+is_long bs = nat_lt 131070 (even_size bs)
+
+abbrev pub glyf_bytes : Bool → List (List ℕ) → List ℕ
+glyf_bytes long bs = flat_map (padded long) bs
+
+abbrev pub offset_bytes : Bool → ℕ → List ℕ
+offset_bytes long at = if long then to_be_bytes w32 at else to_be_bytes w16 (at / 2)
+
+-- where each of the outlines from a place on begins, and where the last one ends
+abbrev pub loca_bytes : Bool → ℕ → List (List ℕ) → List ℕ
+loca_bytes long at [] = offset_bytes long at
+loca_bytes long at (b ∷ bs) = offset_bytes long at ++ loca_bytes long (at + length (padded long b)) bs
+
+-- indexToLocFormat: 0 for halves of offsets, 1 for offsets
+abbrev pub format_bytes : Bool → List ℕ
+format_bytes long = 0 ∷ (if long then 1 else 0) ∷ []
+
+-- `head` with zeros in checksumAdjustment (bytes 8..12), and the format of loca in bytes 50..52
+abbrev pub head_bytes : Bool → List ℕ → List ℕ
+head_bytes long head = take 8 head ++ (0 ∷ 0 ∷ 0 ∷ 0 ∷ []) ++ slice_range head 12 50 ++ format_bytes long ++ drop 52 head

@@ -1,0 +1,3 @@
+-- Metrics: `hhea` and `hmtx`.
+pub mod Read
+pub mod Written

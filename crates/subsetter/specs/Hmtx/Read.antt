@@ -1,0 +1,71 @@
+-- Horizontal metrics of glyphs (OpenType, "hhea" and "hmtx").
+use Rattle.std.specs.Prelude.{◌≡◌, ℕ, ◌+◌, ◌-◌, ◌*◌, ◌<◌, ◌≤◌, List, length, take, drop, slice_index, codes, Option, Some, None, IsSome, nat_lt, ◌==◌, if◌then◌else◌}
+use Rattle.subsetter_base.specs.Bytes.{number}
+use Rattle.subsetter_base.specs.declared.error.Error.{Error}
+use Rattle.subsetter_base.specs.declared.error.Error.TheVariants.{MalformedFont, OverflowError}
+use Rattle.subsetter.specs.Optional.{◌>>=◌}
+use Rattle.subsetter.specs.Sfnt.Read.{Font, table}
+use Rattle.subsetter.specs.declared.hmtx.Metric.{Metric}
+
+-- numberOfHMetrics
+abbrev pub number_of_metrics : List ℕ → Option ℕ
+number_of_metrics hhea = number hhea 34 2
+
+-- an advance and a bearing at two places
+abbrev pub metric_at : List ℕ → ℕ → ℕ → Option Metric
+metric_at hmtx advance_at bearing_at = do
+  advance ← number hmtx advance_at 2
+  bearing ← number hmtx bearing_at 2
+  Some (record { advance = advance; bearing = bearing })
+
+-- longHorMetric pairs come first, for as many glyphs as the count says; then bearings alone, which share the last pair's advance
+unfoldable pub metric_in : List ℕ → ℕ → ℕ → Option Metric
+metric_in hmtx count g = if nat_lt g count then metric_at hmtx (4 * g) (4 * g + 2) else (if count == 0 then None else metric_at hmtx (4 * (count - 1)) (4 * count + 2 * (g - count)))
+
+-- the metric of a glyph, among the tables that a look-up finds
+unfoldable pub metric_of : (List ℕ → Option (List ℕ)) → ℕ → Option Metric
+metric_of find g = do
+  hhea ← find (codes "hhea")
+  hmtx ← find (codes "hmtx")
+  count ← number_of_metrics hhea
+  metric_in hmtx count g
+
+abbrev pub metric : Font → ℕ → Option Metric
+metric font g = metric_of (table font) g
+
+-- both fonts have the metric of their glyph, and they are equal
+pub record SameMetric (find out : List ℕ → Option (List ℕ)) (g h : ℕ) : Type 0 where
+  pub metric : Metric
+  pub source : metric_of find g ≡ Some metric
+  pub copy : metric_of out h ≡ Some metric
+
+-- the tables of a subset have the metrics of its glyphs, with the least number of pairs
+pub record KeepsMetrics (find : List ℕ → Option (List ℕ)) (order : List ℕ) (out : List ℕ → Option (List ℕ)) : Type 0 where
+  pub metrics : (i : ℕ) → i < length order → SameMetric find out (slice_index order i) i
+  pub header : List ℕ
+  pub header_is : find (codes "hhea") ≡ Some header
+  pub hhea : List ℕ
+  pub hhea_is : out (codes "hhea") ≡ Some hhea
+  pub hmtx : List ℕ
+  pub hmtx_is : out (codes "hmtx") ≡ Some hmtx
+  pub count : ℕ
+  pub count_is : number_of_metrics hhea ≡ Some count
+  pub at_least : 1 ≤ count
+  pub at_most : count ≤ length order
+  -- no bytes give these metrics by a lesser count
+  pub least : (bytes : List ℕ) (c : ℕ) → ((i : ℕ) → i < length order → metric_in bytes c i ≡ metric_of find (slice_index order i)) → count ≤ c
+  -- each pair has four bytes, and each bearing two
+  pub size : length hmtx ≡ 4 * count + 2 * (length order - count)
+  -- `hhea` is the source's but for the count
+  pub same_length : length hhea ≡ length header
+  pub before : take 34 hhea ≡ take 34 header
+  pub after : drop 36 hhea ≡ drop 36 header
+
+-- what can stand against metrics, under the name of its error
+pub data HasMetricsFault (find : List ℕ → Option (List ℕ)) (reached : ℕ → Type 0) : Error → Type 0 where
+  no_hhea : IsSome (find (codes "hmtx")) → find (codes "hhea") ≡ None → HasMetricsFault find reached MalformedFont
+  -- numberOfHMetrics ends at byte 36
+  short_hhea : (hhea : List ℕ) → IsSome (find (codes "hmtx")) → find (codes "hhea") ≡ Some hhea → length hhea < 36 → HasMetricsFault find reached MalformedFont
+  no_pairs : (hhea : List ℕ) → IsSome (find (codes "hmtx")) → find (codes "hhea") ≡ Some hhea → number_of_metrics hhea ≡ Some 0 → HasMetricsFault find reached OverflowError
+  last_advance_outside : (hhea hmtx : List ℕ) (count : ℕ) → find (codes "hmtx") ≡ Some hmtx → find (codes "hhea") ≡ Some hhea → number_of_metrics hhea ≡ Some count → 0 < count → number hmtx (4 * (count - 1)) 2 ≡ None → HasMetricsFault find reached MalformedFont
+  metric_outside : (g : ℕ) (hhea hmtx : List ℕ) (count : ℕ) → reached g → find (codes "hmtx") ≡ Some hmtx → find (codes "hhea") ≡ Some hhea → number_of_metrics hhea ≡ Some count → 0 < count → metric_in hmtx count g ≡ None → HasMetricsFault find reached MalformedFont

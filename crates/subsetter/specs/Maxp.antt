@@ -1,0 +1,3 @@
+-- The number of glyphs: `maxp`.
+pub mod Read
+pub mod Written

@@ -1,0 +1,10 @@
+-- The font file: directory, tables, checksums.
+pub mod Read
+pub mod Plain
+pub mod Checksum
+pub mod Written
+pub mod Container
+pub mod Weights
+pub mod View
+pub mod PlainFile
+pub mod Fault

@@ -1,0 +1,4 @@
+-- A TrueType subset as a whole.
+pub mod Plain
+pub mod View
+pub mod Answered

@@ -1,0 +1,30 @@
+-- What subsetting a TrueType font comes to, step by step: the outlines are read, the order of the glyphs is found, the tables are made, and the file is laid out.
+use Rattle.std.specs.Prelude.{◌≡◌, ◌<◌, ◌^◌, ℕ, List, length, Option, Ok, Err}
+use Rattle.subsetter_base.specs.declared.error.Error.{Error}
+use Rattle.subsetter_base.specs.declared.error.Error.TheVariants.{OutOfMemory}
+use Rattle.subsetter.specs.Glyf.Closure.{StopsClosure}
+use Rattle.subsetter.specs.Glyf.Read.{Outlines, outline_in}
+use Rattle.subsetter.specs.Sfnt.Written.{Table}
+use Rattle.subsetter.specs.Truetype.Plain.{truetype_tables}
+use Rattle.subsetter.specs.Sfnt.PlainFile.{file_of}
+use Rattle.subsetter.specs.Glyf.Plain.{outlines_read}
+use Rattle.subsetter.specs.Glyf.Reach.{IsGlyphOrderBy}
+
+-- the steps to a file
+pub record IsAnswered (find : List ℕ → Option (List ℕ)) (glyphs out : List ℕ) : Type 0 where
+  pub source : Outlines
+  pub read : outlines_read find ≡ Ok source
+  pub order : List ℕ
+  pub is_order : IsGlyphOrderBy (outline_in source) glyphs order
+  pub few : length order < 2 ^ 16
+  pub tables : List Table
+  pub tables_are : truetype_tables find source order ≡ Ok tables
+  pub laid_out : file_of 0x00010000 tables ≡ Ok out
+
+-- the step that fails
+pub data IsRefused (find : List ℕ → Option (List ℕ)) (glyphs : List ℕ) : Error → Type 0 where
+  no_memory : IsRefused find glyphs OutOfMemory
+  unread : {e : Error} → outlines_read find ≡ Err e → IsRefused find glyphs e
+  unclosed : {e : Error} (source : Outlines) → outlines_read find ≡ Ok source → StopsClosure source glyphs e → IsRefused find glyphs e
+  unmade : {e : Error} (source : Outlines) (order : List ℕ) → outlines_read find ≡ Ok source → IsGlyphOrderBy (outline_in source) glyphs order → truetype_tables find source order ≡ Err e → IsRefused find glyphs e
+  unlaid : {e : Error} (source : Outlines) (order : List ℕ) (tables : List Table) → outlines_read find ≡ Ok source → IsGlyphOrderBy (outline_in source) glyphs order → truetype_tables find source order ≡ Ok tables → file_of 0x00010000 tables ≡ Err e → IsRefused find glyphs e

@@ -1,0 +1,234 @@
+//! The components of a composite glyph (OpenType, "glyf": composite glyph description).
+
+ghost use Rattle.std.specs.Prelude.{◌≡◌, ◌+◌, [], ◌++◌, length, drop, OnOk, IfErr, if◌then◌else◌};
+ghost use Rattle.std.specs.Cow.{cow_slice_items};
+ghost use Rattle.std.specs.Option.{option_map};
+ghost use Rattle.subsetter_base.specs.Gives.{Gives};
+ghost use Rattle.subsetter_base.specs.declared.error.Error.TheVariants.{OutOfMemory};
+ghost use Rattle.subsetter.specs.Glyf.View.{component_seen};
+ghost use Rattle.subsetter.specs.Glyf.Parts.{rest_size, has_more, has_instructions, component_at, numbers_at, component_numbers, spelled};
+ghost use Rattle.subsetter.specs.Glyf.Plain.{renumbered_component, rewritten_composite, rewritten};
+
+use std::alloc::Global;
+use std::borrow::CowSlice;
+use std::marker::Model;
+use subsetter_base::read::{Reader, u16_at};
+use subsetter_base::write::Writer;
+use subsetter_base::{Error, GlyphRemapper};
+
+/// Two words of arguments follow, and not two bytes.
+const ARGS_ARE_WORDS: u16 = 0x0001;
+/// A scale follows.
+const HAS_SCALE: u16 = 0x0008;
+/// Another component follows.
+const MORE_COMPONENTS: u16 = 0x0020;
+/// Two scales follow.
+const HAS_TWO_SCALES: u16 = 0x0040;
+/// A matrix of four numbers follows.
+const HAS_MATRIX: u16 = 0x0080;
+/// Instructions follow the last component.
+const HAS_INSTRUCTIONS: u16 = 0x0100;
+
+/// A component: its flags, its glyph, and the bytes of its arguments and its transform.
+#[derive(Clone, Copy)]
+pub struct Component<'a> {
+    pub flags: u16,
+    pub glyph: u16,
+    pub rest: &'a [u8],
+}
+
+/// How many bytes the arguments and the transform take.
+fn rest_size(flags: u16) -> usize
+    ensures { result ≡ rest_size flags }
+{
+    let arguments = if flags & ARGS_ARE_WORDS != 0 { 4 } else { 2 };
+    let transform = if flags & HAS_SCALE != 0 {
+        2
+    } else if flags & HAS_TWO_SCALES != 0 {
+        4
+    } else if flags & HAS_MATRIX != 0 {
+        8
+    } else {
+        0
+    };
+    arguments + transform
+}
+
+/// Whether another component follows.
+fn has_more(flags: u16) -> bool
+    ensures { result ≡ has_more flags }
+{
+    flags & MORE_COMPONENTS != 0
+}
+
+/// Whether instructions follow the last component.
+fn has_instructions(flags: u16) -> bool
+    ensures { result ≡ has_instructions flags }
+{
+    flags & HAS_INSTRUCTIONS != 0
+}
+
+/// The component at the front, if it is whole.
+fn read_component(bytes: &[u8]) -> Option<Component<'_>>
+    ensures { option_map component_seen result ≡ component_at bytes.now }
+{
+    let mut r = Reader::new(bytes);
+    let flags = r.read::<u16>()?;
+    let glyph = r.read::<u16>()?;
+    let rest = r.read_bytes(rest_size(flags))?;
+    Some(Component { flags, glyph, rest })
+}
+
+/// The numbers of the components of an outline. A component counts once its flags and its number are there.
+#[derive(Drop)]
+pub struct Components<'a> {
+    rest: &'a [u8],
+}
+
+impl<'a> Model for Components<'a> {
+    ghost use Rattle.std.specs.Prelude.{ℕ, List, length};
+    ghost use Rattle.subsetter.specs.Glyf.Parts.{numbers_at};
+
+    ghost Value = { List ℕ };
+
+    ghost view = { λ c. numbers_at (length c.rest.now) c.rest.now };
+}
+
+impl<'a> Components<'a> {
+    /// The components of an outline; of an empty or a simple one there are none.
+    pub fn new(outline: &'a [u8]) -> Self
+        ensures { result ≡ component_numbers outline.now }
+    {
+        Self {
+            rest: records(outline),
+        }
+    }
+}
+
+/// The records of an outline's components.
+fn records(outline: &[u8]) -> &[u8]
+    ensures { numbers_at (length result.now) result.now ≡ component_numbers outline.now }
+{
+    if outline.len() < 10 {
+        return &[];
+    }
+    if outline[0] < 128 {
+        return &[];
+    }
+    &outline[10..]
+}
+
+impl<'a> Iterator for Components<'a> {
+    ghost use Rattle.std.specs.Iterator.{YieldsFirst, item_count};
+
+    type Item = u16;
+
+    ghost next_gives = { YieldsFirst (λ rest. rest) };
+
+    ghost remaining = { item_count (λ rest. rest) };
+
+    fn next(&mut self) -> Option<u16> {
+        let bytes = self.rest;
+        if bytes.len() < 4 {
+            return None;
+        }
+        let flags = u16_at(bytes, 0);
+        self.rest = behind(bytes, flags);
+        Some(u16_at(bytes, 2))
+    }
+}
+
+/// What stands behind the component at the front, which has these flags.
+fn after(bytes: &[u8], flags: u16) -> &[u8]
+    ensures { result.now ≡ drop (4 + rest_size flags) bytes.now }
+{
+    let size = 4 + rest_size(flags);
+    if size <= bytes.len() {
+        &bytes[size..]
+    } else {
+        &[]
+    }
+}
+
+/// The components behind the one at the front, which has these flags.
+fn behind(bytes: &[u8], flags: u16) -> &[u8]
+    ensures { result.now ≡ (if has_more flags then drop (4 + rest_size flags) bytes.now else []) }
+{
+    if has_more(flags) {
+        after(bytes, flags)
+    } else {
+        &[]
+    }
+}
+
+/// Writes a component under the new number of its glyph.
+fn write_component(
+    w: &mut Writer,
+    order: &GlyphRemapper,
+    component: Component<'_>,
+) -> Result<(), Error>
+    ensures ok { OnOk result (w.new ≡ w.old ++ spelled (renumbered_component order.now (component_seen component.entry))) }
+    ensures err { IfErr result (λ e. e ≡ OutOfMemory) }
+{
+    let number = order.get(component.glyph).unwrap_or(0);
+    w.write(&component.flags)?;
+    w.write(&number)?;
+    w.extend(component.rest)
+}
+
+/// Writes the bytes behind the last component, which are its instructions or nothing.
+fn write_tail(w: &mut Writer, flags: u16, rest: &[u8]) -> Result<(), Error>
+    ensures ok { OnOk result (w.new ≡ w.old ++ (if has_instructions flags then rest.now else [])) }
+    ensures err { IfErr result (λ e. e ≡ OutOfMemory) }
+{
+    if has_instructions(flags) {
+        w.extend(rest)?;
+    }
+    Ok(())
+}
+
+/// A composite with its components under their new numbers. `MalformedFont` where it is cut.
+fn rewrite_composite(alloc: Global, outline: &[u8], order: &GlyphRemapper) -> Result<Vec<u8>, Error>
+    ensures { Gives (λ v. v.items) result (rewritten_composite order.now outline.now) }
+{
+    if outline.len() < 10 {
+        return Err(Error::MalformedFont);
+    }
+    let mut w = Writer::with_capacity(alloc, outline.len())?;
+    w.extend(&outline[..10])?;
+    let mut rest = &outline[10..];
+    loop {
+        let Some(component) = read_component(rest) else {
+            return Err(Error::MalformedFont);
+        };
+        write_component(&mut w, order, component)?;
+        rest = after(rest, component.flags);
+        if !has_more(component.flags) {
+            write_tail(&mut w, component.flags, rest)?;
+            return Ok(w.finish());
+        }
+    }
+}
+
+/// An outline with its components under their new numbers; an empty or a simple one is borrowed.
+/// `MalformedFont` for one byte and for a composite that is cut.
+#[tactic(auto, unfolding(crate::specs::Glyf::Plain::rewritten, crate::specs::Glyf::Parts::outline_parts))]
+pub fn rewrite<'a>(
+    alloc: Global,
+    outline: &'a [u8],
+    order: &GlyphRemapper,
+) -> Result<CowSlice<'a, u8>, Error>
+    ensures { Gives cow_slice_items result (rewritten order.now outline.now) }
+{
+    match outline {
+        [] => Ok(CowSlice::Borrowed(outline)),
+        [_] => Err(Error::MalformedFont),
+        [high, _, ..] => {
+            if *high < 128 {
+                Ok(CowSlice::Borrowed(outline))
+            } else {
+                Ok(CowSlice::Owned(rewrite_composite(alloc, outline, order)?))
+            }
+        }
+    }
+}

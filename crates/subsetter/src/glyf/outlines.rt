@@ -1,0 +1,238 @@
+//! The outlines of a new `glyf`.
+
+ghost use Rattle.std.specs.Prelude.{◌≡◌, ◌+◌, ◌<◌, ◌≤◌, ◌^◌, ◌++◌, ◌∷◌, [], length, vec_capacity, OnOk, IfOk, IfErr};
+ghost use Rattle.std.specs.Cow.{cow_slice_items};
+ghost use Rattle.std.specs.Iterator.{YieldsFirstRef, item_count};
+ghost use Rattle.subsetter_base.specs.declared.error.Error.TheVariants.{OutOfMemory};
+ghost use Rattle.subsetter.specs.Sfnt.Checksum.{checksum};
+ghost use Rattle.subsetter.specs.Glyf.Unfold.{padded};
+ghost use Rattle.subsetter.specs.Glyf.Written.{glyf_bytes};
+
+use crate::sfnt::checksum::add;
+use crate::sfnt::room::put;
+use std::alloc::Global;
+use std::borrow::CowSlice;
+use std::marker::Model;
+use subsetter_base::Error;
+
+/// A list of outlines, in less room than a `CowSlice` each: borrowed ones stay in the source, and those that are made
+/// anew stand one after another.
+#[derive(Drop)]
+pub struct OutlineList<'a> {
+    /// The borrowed outlines; no bytes stand for the next of those that were made.
+    kept: Vec<&'a [u8]>,
+    /// How many bytes each outline that was made has. An empty one counts as made.
+    sizes: Vec<usize>,
+    /// The bytes of the outlines that were made.
+    made: Vec<u8>,
+    /// How many bytes all outlines have.
+    size: usize,
+    /// How many bytes they have with each outline rounded up to even.
+    even_size: usize,
+}
+
+impl<'a> Model for OutlineList<'a> {
+    ghost use Rattle.std.specs.Prelude.{ℕ, List};
+    ghost use Rattle.subsetter.specs.Name.View.{nows};
+    ghost use Rattle.std.specs.Prelude.{true, false, length};
+    ghost use Rattle.subsetter.specs.Glyf.Woven.{woven, AreWoven, IsCounted};
+    ghost use Rattle.subsetter.specs.Glyf.Written.{glyf_bytes};
+
+    ghost Value = { List (List ℕ) };
+
+    ghost view = { λ o. woven (nows o.kept.items) o.sizes.items o.made.items };
+
+    ghost invariant = { λ o. record {
+      parts : AreWoven (nows o.kept.items) o.sizes.items o.made.items;
+      counted : IsCounted o.size (length (glyf_bytes true (woven (nows o.kept.items) o.sizes.items o.made.items)));
+      even : IsCounted o.even_size (length (glyf_bytes false (woven (nows o.kept.items) o.sizes.items o.made.items)));
+    } };
+}
+
+impl<'a> OutlineList<'a> {
+    /// No outlines, and room for so many.
+    pub fn with_capacity(alloc: Global, count: usize) -> Result<Self, Error>
+        ensures ok { IfOk result (λ list. list ≡ []) }
+        ensures err { IfErr result (λ e. e ≡ OutOfMemory) }
+    {
+        Ok(Self {
+            kept: Vec::with_capacity(alloc, count)?,
+            sizes: Vec::new(alloc),
+            made: Vec::new(alloc),
+            size: 0,
+            even_size: 0,
+        })
+    }
+
+    /// Puts an outline last.
+    pub fn push(&mut self, outline: CowSlice<'a, u8>) -> Result<(), Error>
+        ensures ok { OnOk result (self.new ≡ self.old ++ cow_slice_items outline.entry ∷ []) }
+        ensures err { IfErr result (λ e. e ≡ OutOfMemory) }
+    {
+        match outline {
+            CowSlice::Borrowed(bytes) => self.push_kept(bytes),
+            CowSlice::Owned(bytes) => self.push_made(&bytes),
+        }
+    }
+
+    /// Puts an outline of the source last.
+    fn push_kept(&mut self, outline: &'a [u8]) -> Result<(), Error>
+        ensures ok { OnOk result (self.new ≡ self.old ++ outline.now ∷ []) }
+        ensures err { IfErr result (λ e. e ≡ OutOfMemory) }
+    {
+        match outline {
+            [] => self.push_made(outline),
+            [_, ..] => {
+                self.kept.push(outline)?;
+                self.size = self.size.saturating_add(padded_len(outline, true));
+                self.even_size = self.even_size.saturating_add(padded_len(outline, false));
+                Ok(())
+            }
+        }
+    }
+
+    /// Puts a copy of an outline last.
+    fn push_made(&mut self, outline: &[u8]) -> Result<(), Error>
+        ensures ok { OnOk result (self.new ≡ self.old ++ outline.now ∷ []) }
+        ensures err { IfErr result (λ e. e ≡ OutOfMemory) }
+    {
+        self.kept.reserve(1)?;
+        self.sizes.reserve(1)?;
+        self.made.reserve(outline.len())?;
+        self.kept.push(&[]).unwrap();
+        self.sizes.push(outline.len()).unwrap();
+        self.made.extend_from_slice(outline).unwrap();
+        self.size = self.size.saturating_add(padded_len(outline, true));
+        self.even_size = self.even_size.saturating_add(padded_len(outline, false));
+        Ok(())
+    }
+
+    /// Gives back room that the list doesn't need.
+    pub fn shrink_to_fit(&mut self)
+        ensures { self.new ≡ self.old }
+    {
+        self.sizes.shrink_to_fit();
+        self.made.shrink_to_fit();
+    }
+
+    /// The outlines, in order.
+    pub fn iter(&self) -> OutlineIter<'_>
+        ensures { result ≡ self.now }
+    {
+        OutlineIter {
+            kept: &self.kept,
+            sizes: &self.sizes,
+            made: &self.made,
+        }
+    }
+
+    /// How many outlines there are.
+    pub fn len(&self) -> usize
+        ensures { result ≡ length self.now }
+    {
+        self.kept.as_slice().len()
+    }
+}
+
+/// The outlines of a list, in order.
+#[derive(Drop)]
+pub struct OutlineIter<'a> {
+    kept: &'a [&'a [u8]],
+    sizes: &'a [usize],
+    made: &'a [u8],
+}
+
+impl<'a> Model for OutlineIter<'a> {
+    ghost use Rattle.std.specs.Prelude.{ℕ, List};
+    ghost use Rattle.subsetter.specs.Name.View.{nows};
+    ghost use Rattle.subsetter.specs.Glyf.Woven.{woven, AreWoven};
+
+    ghost Value = { List (List ℕ) };
+
+    ghost view = { λ s. woven (nows s.kept.now) s.sizes.now s.made.now };
+
+    ghost invariant = { λ s. AreWoven (nows s.kept.now) s.sizes.now s.made.now };
+}
+
+impl<'a> Iterator for OutlineIter<'a> {
+    type Item = &'a [u8];
+
+    ghost next_gives = { YieldsFirstRef (λ rest. rest) };
+
+    ghost remaining = { item_count (λ rest. rest) };
+
+    fn next(&mut self) -> Option<&'a [u8]> {
+        let kept = self.kept;
+        let first = *kept.first()?;
+        if !first.is_empty() {
+            self.kept = &kept[1..];
+            return Some(first);
+        }
+        let sizes = self.sizes;
+        let size = *sizes.first()?;
+        let (outline, made) = self.made.split_at(size);
+        self.kept = &kept[1..];
+        self.sizes = &sizes[1..];
+        self.made = made;
+        Some(outline)
+    }
+}
+
+/// How many bytes an outline takes: in the short format of `loca` an even number.
+fn padded_len(outline: &[u8], long: bool) -> usize
+    ensures { result ≡ length (padded long outline.now) }
+{
+    if long {
+        outline.len()
+    } else {
+        outline.len() + outline.len() % 2
+    }
+}
+
+/// How many bytes the outlines take; where these are 2^32 or more, some number from 2^32 on.
+pub fn outlines_len(outlines: &OutlineList<'_>, long: bool) -> usize
+    ensures exact { length (glyf_bytes long outlines.now) < 2 ^ 32 → result ≡ length (glyf_bytes long outlines.now) }
+    ensures past { 2 ^ 32 ≤ length (glyf_bytes long outlines.now) → 2 ^ 32 ≤ result }
+{
+    if long {
+        outlines.size
+    } else {
+        outlines.even_size
+    }
+}
+
+/// The checksum of the outlines one after another.
+pub fn outlines_checksum(outlines: &OutlineList<'_>, long: bool) -> u32
+    ensures { result ≡ checksum (glyf_bytes long outlines.now) }
+{
+    let mut sum = 0;
+    let mut phase = 0;
+    for outline in outlines.iter() {
+        sum = add(sum, phase, outline);
+        phase = (phase + padded_len(outline, long)) % 4;
+    }
+    sum
+}
+
+/// Writes an outline.
+fn write_outline(out: &mut Vec<u8>, outline: &[u8], long: bool)
+    requires { length out.old.items + length (padded long outline.now) ≤ vec_capacity out.old }
+    ensures items { out.new.items ≡ out.old.items ++ padded long outline.now }
+    ensures capacity { vec_capacity out.old ≤ vec_capacity out.new }
+{
+    put(out, outline);
+    if !long && outline.len() % 2 == 1 {
+        put(out, &[0]);
+    }
+}
+
+/// Writes the outlines one after another.
+pub fn write_outlines(out: &mut Vec<u8>, outlines: &OutlineList<'_>, long: bool)
+    requires { length out.old.items + length (glyf_bytes long outlines.now) ≤ vec_capacity out.old }
+    ensures items { out.new.items ≡ out.old.items ++ glyf_bytes long outlines.now }
+    ensures capacity { vec_capacity out.old ≤ vec_capacity out.new }
+{
+    for outline in outlines.iter() {
+        write_outline(out, outline, long);
+    }
+}

@@ -1,0 +1,226 @@
+//! Laying out a font file.
+
+ghost use Rattle.std.specs.Prelude.{◌≡◌, ◌+◌, ◌-◌, ◌*◌, ◌<◌, ◌≤◌, ◌^◌, ◌++◌, ◌%◌, [], length, map, take, drop, true, false, vec_capacity, IfSome, IfNone};
+ghost use Rattle.std.specs.Int.{w16, w32, to_be_bytes};
+ghost use Rattle.std.specs.List.{AllByRecursion};
+ghost use Rattle.subsetter_base.specs.Bytes.{aligned};
+ghost use Rattle.subsetter_base.specs.Gives.{Gives};
+ghost use Rattle.subsetter.specs.Sfnt.Written.{selector, header_bytes, directory_bytes, record_bytes, body, adjusted, fits, file, start_of, IsTable};
+ghost use Rattle.subsetter.specs.Sfnt.Checksum.{checksum};
+ghost use Rattle.subsetter.specs.Sfnt.PlainFile.{file_of};
+ghost use Rattle.subsetter.specs.Sfnt.View.{view, views, kind_word};
+
+use crate::sfnt::checksum::checksum;
+use crate::sfnt::context::NewTable;
+use crate::sfnt::flavor::FontFlavor;
+use crate::sfnt::room::{align, patch, put};
+use std::alloc::Global;
+use subsetter_base::{Error, Tag};
+
+/// How many bytes the file has, unless a place or a length is 2^32 or more.
+fn measured(tables: &[NewTable<'_>]) -> Option<usize>
+    requires { length tables.now < 16 }
+    ensures some { IfSome result (λ n. (fits (start_of (views tables.now)) (views tables.now) ≡ true) × (n ≡ start_of (views tables.now) + length (body (views tables.now)))) }
+    ensures none { IfNone result (fits (start_of (views tables.now)) (views tables.now) ≡ false) }
+{
+    let mut at = 12 + 16 * tables.len();
+    for table in tables {
+        if at > 0xffff_ffff {
+            return None;
+        }
+        let len = table.data.len();
+        if len > 0xffff_ffff {
+            return None;
+        }
+        at += (len + 3) / 4 * 4;
+    }
+    Some(at)
+}
+
+/// The greatest e with 2^e at most the number of tables.
+fn entry_selector(count: u16) -> u16
+    requires { count < 16 }
+    ensures { result ≡ selector count }
+{
+    match count {
+        0..2 => 0,
+        2..4 => 1,
+        4..8 => 2,
+        _ => 3,
+    }
+}
+
+/// 16 times that power of two.
+fn search_range(count: u16) -> u16
+    requires { count < 16 }
+    ensures { result ≡ 16 * 2 ^ selector count }
+{
+    match count {
+        0..2 => 16,
+        2..4 => 32,
+        4..8 => 64,
+        _ => 128,
+    }
+}
+
+/// Writes kind, number of tables and the numbers for a search.
+#[tactic(auto, unfolding(crate::specs::Sfnt::Written::header_bytes))]
+fn write_header(out: &mut Vec<u8>, kind: u32, count: u16)
+    requires count { count < 16 }
+    requires room { length out.old.items + 12 ≤ vec_capacity out.old }
+    ensures items { out.new.items ≡ out.old.items ++ header_bytes kind count }
+    ensures capacity { vec_capacity out.old ≤ vec_capacity out.new }
+{
+    let range = search_range(count);
+    put(out, &kind.to_be_bytes());
+    put(out, &count.to_be_bytes());
+    put(out, &range.to_be_bytes());
+    put(out, &entry_selector(count).to_be_bytes());
+    put(out, &(16 * count).saturating_sub(range).to_be_bytes());
+}
+
+/// Writes the record of a table that stands at a place.
+fn write_record(out: &mut Vec<u8>, at: usize, len: usize, sum: u32, table: &NewTable<'_>)
+    requires at { at < 2 ^ 32 }
+    requires len { (len ≡ length (view table.now).bytes) × (len < 2 ^ 32) }
+    requires sum { sum ≡ checksum (view table.now).bytes }
+    requires room { length out.old.items + 16 ≤ vec_capacity out.old }
+    ensures items { out.new.items ≡ out.old.items ++ record_bytes at (view table.now) }
+    ensures capacity { vec_capacity out.old ≤ vec_capacity out.new }
+{
+    put(out, table.tag.get());
+    put(out, &sum.to_be_bytes());
+    put(out, &(at as u32).to_be_bytes());
+    put(out, &(len as u32).to_be_bytes());
+}
+
+/// Writes the records of tables that stand from a place on, and answers the checksum of all the tables.
+/// The checksums are taken of the tables as they were laid out.
+fn write_directory(out: &mut Vec<u8>, start: usize, tables: &[NewTable<'_>], laid: &[u8]) -> u32
+    requires tables { AllByRecursion IsTable (views tables.now) }
+    requires fit { fits start (views tables.now) ≡ true }
+    requires laid { laid.now ≡ body (views tables.now) }
+    requires room { length out.old.items + 16 * length tables.now ≤ vec_capacity out.old }
+    ensures items { out.new.items ≡ out.old.items ++ directory_bytes start (views tables.now) }
+    ensures capacity { vec_capacity out.old ≤ vec_capacity out.new }
+    ensures sum { result ≡ checksum (body (views tables.now)) }
+{
+    let mut at = start;
+    let mut sum: u32 = 0;
+    let mut rest = laid;
+    for table in tables {
+        let len = table.data.len();
+        let size = (len + 3) / 4 * 4;
+        let (bytes, behind) = rest.split_at(size);
+        let table_sum = checksum(bytes);
+        write_record(out, at, len, table_sum, table);
+        sum = sum.wrapping_add(table_sum);
+        rest = behind;
+        at += size;
+    }
+    sum
+}
+
+/// Writes the tables, each with zeros up to a multiple of four.
+fn write_body(out: &mut Vec<u8>, tables: &[NewTable<'_>])
+    requires multiple { length out.old.items % 4 ≡ 0 }
+    requires room { length out.old.items + length (body (views tables.now)) ≤ vec_capacity out.old }
+    ensures { out.new.items ≡ out.old.items ++ body (views tables.now) }
+{
+    for table in tables {
+        table.data.write(out);
+        align(out);
+    }
+}
+
+/// Puts the adjustment into a table that stands at a place, if it is `head`.
+fn adjust_table(out: &mut Vec<u8>, at: usize, word: u32, table: &NewTable<'_>)
+    requires is_table { IsTable (view table.now) }
+    requires within { at + length (view table.now).bytes ≤ length out.old.items }
+    requires there { take (length (view table.now).bytes) (drop at out.old.items) ≡ (view table.now).bytes }
+    ensures { out.new.items ≡ take at out.old.items ++ (adjusted word (view table.now)).bytes ++ drop (at + length (view table.now).bytes) out.old.items }
+{
+    if table.tag == Tag::HEAD {
+        patch(out, at + 8, word);
+    }
+}
+
+/// Puts the adjustment into `head` among the tables that stand from a place on.
+fn adjust(out: &mut Vec<u8>, start: usize, word: u32, tables: &[NewTable<'_>])
+    requires tables { AllByRecursion IsTable (views tables.now) }
+    requires fit { fits start (views tables.now) ≡ true }
+    requires start { start ≤ length out.old.items }
+    requires body { drop start out.old.items ≡ body (views tables.now) }
+    ensures { out.new.items ≡ take start out.old.items ++ body (map (adjusted word) (views tables.now)) }
+{
+    let mut at = start;
+    for table in tables {
+        adjust_table(out, at, word, table);
+        at += (table.data.len() + 3) / 4 * 4;
+    }
+}
+
+/// Keeps room for what stands before the tables.
+fn skip_front(out: &mut Vec<u8>, count: usize)
+    requires few { count ≤ 252 }
+    requires room { length out.old.items + count ≤ vec_capacity out.old }
+    ensures count { length out.new.items ≡ length out.old.items + count }
+    ensures capacity { vec_capacity out.old ≤ vec_capacity out.new }
+{
+    put(out, &[0; 252][..count]);
+}
+
+/// Puts bytes in the place of as many from a place on.
+fn patch_bytes(out: &mut Vec<u8>, at: usize, bytes: &[u8])
+    requires { at + length bytes.now ≤ length out.old.items }
+    ensures { out.new.items ≡ take at out.old.items ++ bytes.now ++ drop (at + length bytes.now) out.old.items }
+{
+    out[at..at + bytes.len()].copy_from_slice(bytes);
+}
+
+/// Lays out a file in room that its caller reserved, also for what stands before the tables. No memory is taken.
+/// The tables are written first, so that their checksums are taken of one piece.
+pub fn construct(
+    out: Vec<u8>,
+    front: Vec<u8>,
+    flavor: FontFlavor,
+    tables: &[NewTable<'_>],
+) -> Vec<u8>
+    requires few { length tables.now < 16 }
+    requires tables { AllByRecursion IsTable (views tables.now) }
+    requires fit { fits (start_of (views tables.now)) (views tables.now) ≡ true }
+    requires empty { (out.items ≡ []) × (front.items ≡ []) }
+    requires room { length (file (kind_word flavor) (views tables.now)) ≤ vec_capacity out }
+    requires front_room { start_of (views tables.now) ≤ vec_capacity front }
+    ensures { result.items ≡ file (kind_word flavor) (views tables.now) }
+{
+    let mut out = out;
+    let mut front = front;
+    let start = 12 + 16 * tables.len();
+    skip_front(&mut out, start);
+    write_body(&mut out, tables);
+    write_header(&mut front, flavor.kind(), tables.len() as u16);
+    let tables_sum = write_directory(&mut front, start, tables, &out[start..]);
+    patch_bytes(&mut out, 0, &front);
+    // Each table begins at a multiple of four, so the sum of the file is that of its parts.
+    let sum = checksum(&front).wrapping_add(tables_sum);
+    adjust(&mut out, start, 0xB1B0AFBAu32.wrapping_sub(sum), tables);
+    out
+}
+
+/// Lays out a file. Its size is taken first: `OverflowError` where a place or a length is 2^32 or more. Room is reserved once.
+#[tactic(auto, unfolding(crate::specs::Sfnt::PlainFile::file_of))]
+pub fn finish(alloc: Global, flavor: FontFlavor, tables: &[NewTable<'_>]) -> Result<Vec<u8>, Error>
+    requires few { length tables.now < 16 }
+    requires tables { AllByRecursion IsTable (views tables.now) }
+    ensures { Gives (λ v. v.items) result (file_of (kind_word flavor) (views tables.now)) }
+{
+    match measured(tables) {
+        None => Err(Error::OverflowError),
+        Some(size) => {
+            let front = Vec::with_capacity(alloc, 12 + 16 * tables.len())?;
+            let out = Vec::with_capacity(alloc, size)?;
+            Ok(construct(out, front, flavor, tables))
+        }
+    }
+}
