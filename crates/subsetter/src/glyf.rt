@@ -14,7 +14,7 @@ ghost use Rattle.subsetter.specs.Glyf.Reach.{IsGlyphOrderBy};
 ghost use Rattle.subsetter_base.specs.declared.error.Error.TheVariants.{OutOfMemory, MalformedFont, OverflowError};
 
 mod component;
-mod f2dot14;
+pub mod f2dot14;
 pub mod outlines;
 #[cfg(test)]
 mod tests;

@@ -55,23 +55,3 @@ pub fn subset(
     w.extend(further)?;
     Ok(Some(w.finish()))
 }
-
-#[cfg(test)]
-mod tests {
-    use super::*;
-    use std::test::Fail;
-
-    #[test]
-    fn the_short_version_has_the_count_alone(rt: HostRuntime) -> Result<(), Fail> {
-        let table = subset(
-            rt.alloc(),
-            Some(&[0x00, 0x01, 0x00, 0x00, 0x00, 0x03, 0xAA, 0xBB]),
-            FontFlavor::Cff,
-            2,
-        );
-        let table = table.ok().flatten().ok_or("a table")?;
-        let wanted = [0x00, 0x00, 0x50, 0x00, 0x00, 0x02];
-        assert_eq!(rt; table.as_slice(), wanted.as_slice());
-        Ok(())
-    }
-}

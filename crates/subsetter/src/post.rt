@@ -327,111 +327,30 @@ mod tests {
     use super::*;
     use std::test::*;
 
-    /// A table of version 2.0 with a header of zeros behind the version.
-    fn table_of(rt: &HostRuntime, rest: &[u8]) -> Result<Vec<u8>, Fail> {
+    /// The error for so many glyphs of 65535 that each have a name of their own, none of which is there.
+    fn error_of(rt: &HostRuntime, glyphs: &[u16]) -> Result<Option<Error>, Fail> {
         let mut table = Vec::new(rt.alloc());
         table.extend_from_slice(&[0, 2, 0, 0])?;
         table.extend_from_slice(&[0; 28])?;
-        table.extend_from_slice(rest)?;
-        Ok(table)
-    }
-
-    fn glyphs(rt: &HostRuntime, glyphs: &[u16]) -> Result<GlyphRemapper, Fail> {
-        Ok(
-            GlyphRemapper::new_from_glyphs(rt.alloc(), glyphs)
-                .ok()
-                .ok_or("a mapper")?,
-        )
-    }
-
-    /// What is written for a table.
-    fn new_bytes(rt: &HostRuntime, table: &[u8], mapper: &GlyphRemapper) -> Result<Vec<u8>, Fail> {
-        match subset(rt.alloc(), Some(table), mapper) {
-            Ok(Some(CowSlice::Owned(bytes))) => Ok(bytes),
-            _ => Err(Fail::from("a written table")),
+        for _ in 0..65536 {
+            table.extend_from_slice(&[0xFF, 0xFF])?;
         }
-    }
-
-    fn fails(rt: &HostRuntime, table: &[u8], mapper: &GlyphRemapper, error: Error) -> bool {
-        matches!(subset(rt.alloc(), Some(table), mapper), Err(e) if e == error)
-    }
-
-    #[test]
-    fn empty_names_are_names(rt: HostRuntime) -> Result<(), Fail> {
-        let mapper = glyphs(&rt, &[])?;
-        let table = table_of(&rt, &[0, 1, 1, 3, 0, 1, 0x42])?;
-        let new = new_bytes(&rt, &table, &mapper)?;
-        assert_eq!(rt;
-            new.get(32..).ok_or("a rest")?,
-            [0, 1, 1, 2, 1, 0x42].as_slice()
-        );
-        Ok(())
+        let mapper = GlyphRemapper::new_from_glyphs(rt.alloc(), glyphs)?;
+        Ok(subset(rt.alloc(), Some(&table), &mapper).err())
     }
 
     #[test]
-    fn names_end_and_stay_ended(rt: HostRuntime) -> Result<(), Fail> {
-        let table = table_of(&rt, &[0, 0, 1, 0x41, 0, 2, 0x42])?;
-        let table = Version2Table::parse(&table).ok_or("a table")?;
-        let mut names = table.names();
-        assert_eq!(rt; names.next(), Some([0x41].as_slice()));
-        assert_eq!(rt; names.next(), Some([].as_slice()));
-        assert_eq!(rt; names.next(), None);
-        assert_eq!(rt; names.next(), None);
-        Ok(())
-    }
-
-    #[test]
-    fn other_versions_and_cut_tables(rt: HostRuntime) -> Result<(), Fail> {
-        let mapper = glyphs(&rt, &[])?;
-        assert!(rt; matches!(subset(rt.alloc(), None, &mapper), Ok(None)));
-        let mut other = Vec::new(rt.alloc());
-        other.extend_from_slice(&[0, 3, 0, 0])?;
-        other.extend_from_slice(&[0; 28])?;
-        assert!(rt;
-            matches!(
-                subset(rt.alloc(), Some(&other), &mapper),
-                Ok(Some(CowSlice::Borrowed(bytes))) if bytes == other.as_slice()
-            )
-        );
-        assert!(rt; fails(&rt, &[0, 3, 0], &mapper, Error::MalformedFont));
-        assert!(rt; fails(&rt, &table_of(&rt, &[0])?, &mapper, Error::MalformedFont));
-        assert!(rt; fails(&rt, &table_of(&rt, &[0, 0])?, &mapper, Error::MalformedFont));
-        assert!(rt;
-            fails(
-                &rt,
-                &table_of(&rt, &[0, 1, 0])?,
-                &mapper,
-                Error::MalformedFont
-            )
-        );
-        let one = table_of(&rt, &[0, 1, 0, 36])?;
-        assert_eq!(rt; new_bytes(&rt, &one, &mapper)?.as_slice(), one.as_slice());
-        let header = one.get(..31).ok_or("a part")?;
-        assert!(rt; fails(&rt, header, &mapper, Error::MalformedFont));
-        Ok(())
-    }
-
-    #[test]
-    fn many_own_names(rt: HostRuntime) -> Result<(), Fail> {
-        let mut rest = Vec::new(rt.alloc());
-        rest.extend_from_slice(&[0xFF, 0xFF])?;
-        for _ in 0..65535 {
-            rest.extend_from_slice(&[0xFF, 0xFF])?;
-        }
-        let table = table_of(&rt, &rest)?;
-        let mut list = Vec::new(rt.alloc());
+    fn at_most_65278_own_names_are_kept(rt: HostRuntime) -> Result<(), Fail> {
+        let mut glyphs = Vec::new(rt.alloc());
         for glyph in 0..65278u16 {
-            list.push(glyph)?;
+            glyphs.push(glyph)?;
         }
-        let mapper = glyphs(&rt, &list)?;
-        let new = new_bytes(&rt, &table, &mapper)?;
-        assert_eq!(rt; new.len(), 34 + 3 * 65278);
-        list.push(65278)?;
-        let mapper = glyphs(&rt, &list)?;
-        assert!(rt; fails(&rt, &table, &mapper, Error::OverflowError));
-        list.push(65535)?;
-        let mapper = glyphs(&rt, &list)?;
-        assert!(rt; fails(&rt, &table, &mapper, Error::MalformedFont));
+        assert_eq!(rt; error_of(&rt, &glyphs)?, None);
+        glyphs.push(65278)?;
+        assert_eq!(rt; error_of(&rt, &glyphs)?, Some(Error::OverflowError));
+        // A glyph without an index comes before the number of names.
+        glyphs.push(65535)?;
+        assert_eq!(rt; error_of(&rt, &glyphs)?, Some(Error::MalformedFont));
         Ok(())
     }
 }

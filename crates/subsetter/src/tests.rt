@@ -8,3 +8,4 @@ mod hostile;
 mod metrics;
 mod names;
 mod simple;
+mod values;

@@ -6,17 +6,22 @@
 --   number_at                    a number between two other parts
 --   range-fits, range-take_drop  where there is a part, and what it is
 --   range-drop                   a part of what is left behind a place
+--   range-short, number-fits, number-short
+--                                how many bytes there are where a part or a number is there, or isn't
+--   IsBytes-take, IsBytes-drop, IsBytes-range, number-small
+--                                parts of bytes are bytes, and two of them spell a number below 2 ^ 16
 --   flat_map-bytes               an array of bytes, as it is written
-use Rattle.std.proofs.Common.{◌≡◌, ℕ, suc, ◌+◌, ◌*◌, ◌^◌, ◌<◌, ◌≤◌, Bool, true, false, cond, leb, List, [], ◌∷◌, ◌++◌, length, take, drop, Option, Some, None, refl, sym, ap, ◌∙◌, inl, inr, lit<, add_assoc, arith}
+use Rattle.std.proofs.Common.{◌≡◌, ℕ, suc, ◌+◌, ◌*◌, ◌^◌, ◌<◌, ◌≤◌, Bool, true, false, cond, leb, List, [], ◌∷◌, ◌++◌, length, take, drop, Option, Some, None, refl, sym, ap, subst, ◌∙◌, inl, inr, lit<, add_assoc, arith}
 use Rattle.std.specs.Prelude.{flat_map}
 use Rattle.std.specs.Option.{option_map}
 use Rattle.std.specs.Int.{w16, w32, to_be_bytes}
-use Rattle.std.proofs.lemmas.Bool.{le-leb, lt-leb, leb-true, cases_lt}
+use Rattle.std.proofs.lemmas.Bool.{le-leb, lt-leb, leb-true, leb-false, cases_lt}
 use Rattle.std.proofs.lemmas.Nat.{from_be_bytes-to_be_bytes_2, from_be_bytes-to_be_bytes_4, pow-add}
-use Rattle.std.proofs.lemmas.List.{append-nil, take_at, drop_at, length-append, length-take-le, length-drop, drop-append-le, take-append-le, take-append-drop}
+use Rattle.std.proofs.lemmas.List.{append-nil, take_at, drop_at, length-append, length-take-le, length-drop, drop-append-le, take-append-le, take-append-drop, get_or-take, get_or-drop, get_or_past, length-take}
 use Rattle.std.proofs.Math.Seq.{drop-append-add}
 use Rattle.std.proofs.Math.Nat.{mul_assoc, add-mul, mul-le-mul_right}
 use Rattle.subsetter_base.specs.Bytes.{be, range, number, IsBytes}
+use Rattle.subsetter_base.proofs.Options.{map_some, map_none}
 
 -- ---- numbers
 
@@ -128,3 +133,41 @@ range-drop bytes k at size h =
     let len : length (take k bytes) ≡ k = length-take-le k bytes h in
     let whole : take k bytes ++ drop k bytes ≡ bytes = take-append-drop k bytes in
     sym (range-right (take k bytes) (drop k bytes) at size) ∙ ap (λ (l : List ℕ). range l (length (take k bytes) + at) size) whole ∙ ap (λ (n : ℕ). range bytes (n + at) size) len
+
+-- ---- what isn't there
+
+unfound : (b : Bool) (x : List ℕ) → part b x ≡ None → b ≡ false
+unfound true x h = absurd cc
+unfound false x h = refl
+
+pub range-short : (bytes : List ℕ) (at size : ℕ) → range bytes at size ≡ None → length bytes < at + size
+range-short bytes at size h = leb-false (at + size) (length bytes) (unfound (leb (at + size) (length bytes)) (take size (drop at bytes)) h)
+
+pub number-short : (bytes : List ℕ) (at size : ℕ) → number bytes at size ≡ None → length bytes < at + size
+number-short bytes at size h = range-short bytes at size (map_none be (range bytes at size) h)
+
+pub number-fits : (bytes : List ℕ) (at size n : ℕ) → number bytes at size ≡ Some n → at + size ≤ length bytes
+number-fits bytes at size n h = let part = map_some be (range bytes at size) n h in range-fits bytes part.0 at size part.1
+
+-- ---- parts of bytes
+
+pub IsBytes-drop : (n : ℕ) (bytes : List ℕ) → IsBytes bytes → IsBytes (drop n bytes)
+IsBytes-drop n bytes h i = omega (arith, get_or-drop n bytes i 0, h (n + i))
+
+pub IsBytes-take : (n : ℕ) (bytes : List ℕ) → IsBytes bytes → IsBytes (take n bytes)
+IsBytes-take n bytes h i = elim (cases_lt i n) [
+  | inl lt ↦ omega (arith, get_or-take n bytes i 0 lt, h i)
+  | inr le ↦ omega (arith, get_or_past (take n bytes) i 0 (omega (arith, length-take n bytes)))
+]
+
+pub IsBytes-range : (bytes part : List ℕ) (at size : ℕ) → IsBytes bytes → range bytes at size ≡ Some part → IsBytes part
+IsBytes-range bytes p at size h e =
+    let is = (found (leb (at + size) (length bytes)) (take size (drop at bytes)) p e).1 in
+    subst IsBytes (sym is) (IsBytes-take size (drop at bytes) (IsBytes-drop at bytes h))
+
+-- a number of two bytes
+pub number-small : (bytes : List ℕ) (at n : ℕ) → IsBytes bytes → number bytes at 2 ≡ Some n → n < 2 ^ 16
+number-small bytes at n h e =
+    let part = map_some be (range bytes at 2) n e in
+    let fits : be part.0 < 256 ^ 2 = subst (λ k. be part.0 < 256 ^ k) (range-length bytes part.0 at 2 part.1) (be-fits part.0 (IsBytes-range bytes part.0 at 2 h part.1)) in
+    omega (arith, part.2, fits)

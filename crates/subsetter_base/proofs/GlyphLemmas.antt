@@ -17,6 +17,7 @@ use Rattle.std.proofs.lemmas.List.{length_push, get_or_append_left, get_or_push,
 use Rattle.std.proofs.lemmas.Map.Keys.{IsDistinct-from_apart}
 use Rattle.std.proofs.lemmas.Map.Steps.{length-le_from_distinct_below, le-length_from_below}
 use Rattle.subsetter_base.specs.Places.{place, with_glyph, with_glyphs, IsWithoutRepeats, HasAllAboveZero, IsAscending}
+use Rattle.subsetter_base.proofs.Options.{some_of, none_of}
 use Rattle.subsetter_base.proofs.PlaceLemmas.{place-push, IsWithoutRepeats-push}
 
 -- the list has the number
@@ -60,13 +61,9 @@ place-finds (y ∷ ys) q i e = elim (found_in (eqb y q) (place ys q) i e) [
   | inr there ↦ let before = place-finds ys q there.0 there.1 in rw there.2 (omega (arith, before.0), before.1)
 ]
 
-some_place : (o : Option ℕ) → is_some o ≡ true → (i : ℕ) × (o ≡ Some i)
-some_place None e = absurd (false≢true e)
-some_place (Some i) e = (i, refl)
-
 pub place-Contains : (xs : List ℕ) (q : ℕ) → known xs q ≡ true → Contains xs q
 place-Contains xs q e =
-    let at = some_place (place xs q) e in
+    let at = some_of (place xs q) e in
     let is = place-finds xs q at.0 at.1 in
     (at.0, is.0, get_or_default xs at.0 q 0 is.0 ∙ is.1)
 
@@ -89,13 +86,9 @@ grown false true false h = refl
 grown false false true h = refl
 grown false false false h = refl
 
-none_place : (o : Option ℕ) → is_some o ≡ false → o ≡ None
-none_place None e = refl
-none_place (Some i) e = absurd (false≢true (sym e))
-
 pushed_known : (xs : List ℕ) (x q : ℕ) → known xs x ≡ false → known (xs ++ x ∷ []) q ≡ (eqb x q || known xs q)
 pushed_known xs x q absent =
-    ap is_some (place-push xs x q (length xs) (none_place (place xs x) absent) refl)
+    ap is_some (place-push xs x q (length xs) (none_of (place xs x) absent) refl)
     ∙ elim (eqb x q) as (λ b. is_some (cond b (Some (length xs)) (place xs q)) ≡ (b || known xs q)) [ true ↦ refl | false ↦ refl ]
 
 pub known-with_glyph : (xs : List ℕ) (x q : ℕ) → known (with_glyph xs x) q ≡ (known xs q || eqb x q)
@@ -139,7 +132,7 @@ IsDistinct-places xs once = IsDistinct-from_apart eqb xs (λ i j d below lt.
 
 pub below : (n : ℕ) (xs : List ℕ) → ((i : ℕ) → get_or xs i 0 < n) → (q : ℕ) → list_any (eqb q) xs ≡ true → q < n
 below n xs small q e =
-    let at = some_place (place xs q) (sym (any-is_known xs q) ∙ e) in
+    let at = some_of (place xs q) (sym (any-is_known xs q) ∙ e) in
     let is = (place-finds xs q at.0 at.1).1 in
     omega (arith, small at.0, is)
 
@@ -180,8 +173,8 @@ none_left_out xs glyphs i x so_far lt is absent fits full once small y above mos
       let other : eqb x y ≡ false = ne_eqb x y (λ e. false≢true (sym lacking ∙ ap (known glyphs) (sym e ∙ is) ∙ known-at glyphs i 0 lt)) in
       let longer = xs ++ x ∷ [] in
       let unknown : known longer y ≡ false = pushed_known xs x y absent ∙ ap (λ b. b || known xs y) other ∙ not_held in
-      let longer_once = IsWithoutRepeats-push xs x (none_place (place xs x) absent) once in
-      let longest_once = IsWithoutRepeats-push longer y (none_place (place longer y) unknown) longer_once in
+      let longer_once = IsWithoutRepeats-push xs x (none_of (place xs x) absent) once in
+      let longest_once = IsWithoutRepeats-push longer y (none_of (place longer y) unknown) longer_once in
       let longest_small = small-push 65536 longer y (small-push 65536 xs x small fits) (omega (arith, most)) in
       absurd (omega (arith, full, length_push xs x, length_push longer y, length-le_small 65536 (longer ++ y ∷ []) longest_once longest_small))
 ]

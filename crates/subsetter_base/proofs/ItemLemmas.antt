@@ -1,6 +1,5 @@
 -- The values of an array, one after another.
 use Rattle.std.proofs.Common.{◌≡◌, ℕ, zero, suc, ◌+◌, ◌*◌, ◌-◌, ◌<◌, ◌≤◌, Bool, true, false, cond, ltb, leb, List, [], ◌∷◌, length, take, drop, Option, Some, None, refl, ap, sym, ◌∙◌, arith}
-use Rattle.std.proofs.lemmas.List.{take_all, length-drop}
 use Rattle.std.specs.Prelude.{slice_get}
 use Rattle.std.specs.Option.{option_and_then}
 use Rattle.std.proofs.lemmas.Bool.{lt-ltb, ltb-true, leb-true}
@@ -17,10 +16,6 @@ values_of-more {A} size value_of n count bytes rest x is after e =
     ap (λ (k : ℕ). values_of size value_of k bytes) is
     ∙ ap (λ (o : Option A). elim o [ None ↦ [] | Some y ↦ y ∷ values_of size value_of count (drop size bytes) ]) (sym e)
     ∙ ap (λ (l : List ℕ). x ∷ values_of size value_of count l) (sym after)
-
--- `&bytes[n..]`
-pub rest_of : (n : ℕ) (bytes : List ℕ) → take (length bytes - n) (drop n bytes) ≡ drop n bytes
-rest_of n bytes = take_all (length bytes - n) (drop n bytes) (omega (arith, length-drop n bytes))
 
 -- ---- each of the values is the item at its place
 

@@ -6,17 +6,7 @@ use Rattle.std.specs.List.{list_any}
 use Rattle.std.specs.Option.{option_map}
 use Rattle.std.proofs.lemmas.Bool.{false≢true}
 use Rattle.subsetter_base.specs.Remap.{place_by, sum_below}
-
-map_none : (b : Bool) (o : Option ℕ) → cond b (Some 0) (option_map (λ i. i + 1) o) ≡ None → (b ≡ false) × (o ≡ None)
-map_none true o e = absurd cc
-map_none false None e = (refl, refl)
-map_none false (Some x) e = absurd cc
-
-swapped : (b d : Bool) (n : ℕ) (o : Option ℕ) → (b ≡ true → d ≡ false) → cond d (Some 0) (option_map (λ i. i + 1) (cond b (Some n) o)) ≡ cond b (Some (n + 1)) (cond d (Some 0) (option_map (λ i. i + 1) o))
-swapped true true n o h = absurd (false≢true (sym (h refl)))
-swapped true false n o h = refl
-swapped false true n o h = refl
-swapped false false n o h = refl
+use Rattle.subsetter_base.proofs.PlaceLemmas.{later_none, later_swapped}
 
 any_from : (b : Bool) (o : Option ℕ) (rest : Bool) → is_some o ≡ rest → is_some (cond b (Some 0) (option_map (λ i. i + 1) o)) ≡ (b || rest)
 any_from true o rest e = refl
@@ -28,11 +18,11 @@ module _ {A : Type 0} {eq : A → A → Bool} (laws : IsEquivalence eq) where
   pub place_by-push : (xs : List A) (x q : A) (n : ℕ) → place_by eq xs x ≡ None → n ≡ length xs → place_by eq (xs ++ x ∷ []) q ≡ cond (eq x q) (Some n) (place_by eq xs q)
   place_by-push [] x q n absent e = ap (λ k. cond (eq x q) (Some k) None) (sym e)
   place_by-push (y ∷ ys) x q n absent e =
-      let parts = map_none (eq y x) (place_by eq ys x) absent in
+      let parts = later_none (eq y x) (place_by eq ys x) absent in
       let before = place_by-push ys x q (length ys) parts.1 refl in
       let apart : eq x q ≡ true → eq y q ≡ false = λ h. laws.symm y q ∙ sym (laws.congr x q y h) ∙ laws.symm x y ∙ parts.0 in
       let len : length ys + 1 ≡ n = omega (arith, e) in
-      ap (λ o. cond (eq y q) (Some 0) (option_map (λ i. i + 1) o)) before ∙ swapped (eq x q) (eq y q) (length ys) (place_by eq ys q) apart
+      ap (λ o. cond (eq y q) (Some 0) (option_map (λ i. i + 1) o)) before ∙ later_swapped (eq x q) (eq y q) (length ys) (place_by eq ys q) apart
       ∙ ap (λ k. cond (eq x q) (Some k) (cond (eq y q) (Some 0) (option_map (λ i. i + 1) (place_by eq ys q)))) len
 
   pub place_by-pushed : (xs : List A) (x : A) (n : ℕ) → place_by eq xs x ≡ None → n ≡ length xs → place_by eq (xs ++ x ∷ []) x ≡ Some n

@@ -6,13 +6,10 @@ use Rattle.std.proofs.lemmas.Bool.{le-leb, lt-leb, leb-true, le-ltb}
 use Rattle.std.proofs.lemmas.List.{append-nil, length-drop, length-take}
 use Rattle.subsetter_base.specs.Bytes.{range, number}
 use Rattle.subsetter_base.specs.declared.error.Error.TheVariants.{MalformedFont}
+use Rattle.subsetter_base.proofs.Options.{bind_some}
 use Rattle.subsetter.specs.Glyf.Parts.{Component, Chain, Composite, Simple, rest_size, has_more, has_instructions, component_at, with_component, last_component, chain_at, composite_parts, outline_parts, spelled, parts_bytes}
 use Rattle.subsetter.specs.Glyf.Plain.{renumbered_component, renumbered_chain, renumbered, rewritten_composite, rewritten}
 
--- the first of two steps that gave something
-pub bind_some : {A B : Type 0} (o : Option A) (f : A → Option B) (y : B) → option_and_then f o ≡ Some y → (x : A) × (o ≡ Some x) × (f x ≡ Some y)
-bind_some None f y h = absurd cc
-bind_some (Some x) f y h = (x, refl, h)
 
 -- a component that is whole
 pub record IsComponent (bytes : List ℕ) (c : Component) : Type 0 where
@@ -32,7 +29,7 @@ range_is bytes at size part h = by (leb (at + size) (length bytes)) refl h
         (le, omega (arith, ap length same, length-take size (drop at bytes), length-drop at bytes))
     by false t k = absurd cc
 
-abbrev made : ℕ → ℕ → List ℕ → Option Component
+abbrev pub made : ℕ → ℕ → List ℕ → Option Component
 made flags glyph rest = Some (record { flags = flags; glyph = glyph; rest = rest })
 
 pub is_component : (bytes : List ℕ) (c : Component) → component_at bytes ≡ Some c → IsComponent bytes c

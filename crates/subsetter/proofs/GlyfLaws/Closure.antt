@@ -14,6 +14,8 @@ use Rattle.subsetter.specs.Glyf.Parts.{Simple, Composite, component_numbers, cha
 use Rattle.subsetter.specs.Glyf.Reach.{IsReachableBy, given, step, IsGlyphOrderBy}
 use Rattle.subsetter_base.specs.declared.error.Error.{Error}
 use Rattle.subsetter_base.specs.declared.error.Error.TheVariants.{OutOfMemory, MalformedFont, OverflowError}
+use Rattle.subsetter_base.proofs.Lists.{Contains-later}
+use Rattle.subsetter_base.proofs.Options.{none_of}
 use Rattle.subsetter.proofs.GlyfLaws.Components.{components_few}
 use Rattle.subsetter.specs.Glyf.Closure.{components_in, others_in, lacks_head, IsFaulty, IsFull, IsVisited, StopsClosure, no_memory, faulty_glyph, all_reached}
 
@@ -29,21 +31,14 @@ cons_cases x h xs (suc k, lt, is) = inr (k, omega arith, is)
 here : (x h : ℕ) (xs : List ℕ) → x ≡ h → Contains (x ∷ xs) h
 here x h xs is = (0, omega arith, is)
 
-there : (x h : ℕ) (xs : List ℕ) → Contains xs h → Contains (x ∷ xs) h
-there x h xs (k, lt, is) = (suc k, omega arith, is)
-
-unknown : (o : Option ℕ) → is_some o ≡ false → o ≡ None
-unknown None h = refl
-unknown (Some x) h = absurd cc
-
 -- the numbers that aren't in the order are among the numbers
 pub others_are : (order ns : List ℕ) (h : ℕ) → Contains (others_in order ns) h → Contains ns h
 others_are order [] h c = c
 others_are order (n ∷ ns) h c = by (λ d. others_are order ns h d) (is_some (place order n)) c
   where
     by : (Contains (others_in order ns) h → Contains ns h) → (b : Bool) → Contains (cond (not b) (n ∷ others_in order ns) (others_in order ns)) h → Contains (n ∷ ns) h
-    by again true d = there n h ns (again d)
-    by again false d = elim (cons_cases n h (others_in order ns) d) [ inl is ↦ here n h ns is | inr later ↦ there n h ns (again later) ]
+    by again true d = Contains-later n h ns (again d)
+    by again false d = elim (cons_cases n h (others_in order ns) d) [ inl is ↦ here n h ns is | inr later ↦ Contains-later n h ns (again later) ]
 
 -- each number is in the order or among the others
 pub others_have : (order ns : List ℕ) (h : ℕ) → Contains ns h → Contains order h ⊎ Contains (others_in order ns) h
@@ -54,7 +49,7 @@ others_have order (n ∷ ns) h c = by (λ d. others_have order ns h d) (is_some 
     by again true known = elim (cons_cases n h ns c) [ inl is ↦ inl (subst (Contains order) is (place-Contains order n known)) | inr later ↦ again later ]
     by again false known = elim (cons_cases n h ns c) [
       | inl is ↦ inr (here n h (others_in order ns) is)
-      | inr later ↦ elim (again later) [ inl d ↦ inl d | inr d ↦ inr (there n h (others_in order ns) d) ]
+      | inr later ↦ elim (again later) [ inl d ↦ inl d | inr d ↦ inr (Contains-later n h (others_in order ns) d) ]
     ]
 
 -- ---- the walk
@@ -144,7 +139,7 @@ new_glyph t glyphs left waiting order g absent room f =
     record {
       others = f.others ++ g ∷ [];
       begins = ap (λ (l : List ℕ). l ++ g ∷ []) f.begins ∙ append_assoc glyphs f.others (g ∷ []);
-      once = IsWithoutRepeats-push order g (unknown (place order g) absent) f.once;
+      once = IsWithoutRepeats-push order g (none_of (place order g) absent) f.once;
       room = room;
       are_given = f.are_given;
       reached = λ q c. elim (Contains-push_cases order g q c) [ inl d ↦ f.reached q d | inr e ↦ subst (Reached t glyphs) e waited ];
@@ -208,7 +203,7 @@ all_numbers order g once full q lt = by (is_some (place (order ++ g ∷ []) q)) 
     by true known = place-Contains (order ++ g ∷ []) q known
     by false absent =
         let once_more = IsWithoutRepeats-push order g full.further once in
-        let all_once = IsWithoutRepeats-push (order ++ g ∷ []) q (unknown (place (order ++ g ∷ []) q) absent) once_more in
+        let all_once = IsWithoutRepeats-push (order ++ g ∷ []) q (none_of (place (order ++ g ∷ []) q) absent) once_more in
         let all_small = small-push 65536 (order ++ g ∷ []) q (small-push 65536 order g full.small full.fits) lt in
         absurd (omega (arith, full.full, length_push order g, length_push (order ++ g ∷ []) q, length-le_small 65536 ((order ++ g ∷ []) ++ q ∷ []) all_once all_small))
 

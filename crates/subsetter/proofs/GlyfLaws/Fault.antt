@@ -10,6 +10,8 @@ use Rattle.subsetter_base.specs.Bytes.{be, range, number}
 use Rattle.subsetter_base.specs.declared.error.Error.{Error}
 use Rattle.subsetter_base.specs.declared.error.Error.TheVariants.{MalformedFont, OutOfMemory}
 use Rattle.subsetter_base.proofs.ByteLemmas.{range-fits}
+use Rattle.subsetter_base.proofs.Results.{named_err}
+use Rattle.subsetter_base.proofs.Options.{some_not_none, present, present_is, bind_some}
 use Rattle.subsetter.specs.Sfnt.Read.{Font, table}
 use Rattle.subsetter.specs.Glyf.Read.{Outlines, outlines_in, outlines, outline_in, outline}
 use Rattle.subsetter.specs.Glyf.Parts.{Parts, outline_parts}
@@ -18,8 +20,7 @@ use Rattle.subsetter.specs.Glyf.Closure.{StopsClosure, no_memory, faulty_glyph, 
 use Rattle.subsetter.specs.Glyf.Plain.{outlines_read, kept_all}
 use Rattle.subsetter.specs.Glyf.Fault as faults
 use Rattle.subsetter.specs.Glyf.Fault.{HasOutlineFault}
-use Rattle.subsetter.proofs.GlyfLaws.Chains.{bind_some}
-use Rattle.subsetter.proofs.GlyfLaws.Kept.{unnamed, not_kept, first_not_kept, kept_at}
+use Rattle.subsetter.proofs.GlyfLaws.Kept.{not_kept, first_not_kept, kept_at}
 use Rattle.subsetter.proofs.GlyfLaws.Unfold.{outline_is}
 
 -- ---- the tables
@@ -30,12 +31,6 @@ pub record HasTables (find : List ℕ → Option (List ℕ)) (t : Outlines) : Ty
   pub glyf_is : find (codes "glyf") ≡ Some t.glyf
   pub head_is : find (codes "head") ≡ Some t.head
   pub head_len : 52 ≤ length t.head
-
-abbrev outlines_there : Outlines → Option Outlines
-outlines_there t = Some t
-
-same_outlines : (a b : Outlines) → outlines_there a ≡ outlines_there b → a ≡ b
-same_outlines a b h = cc
 
 format_there : (head : List ℕ) (n : ℕ) → number head 50 2 ≡ Some n → 52 ≤ length head
 format_there head n h = by (range head 50 2) refl h
@@ -54,7 +49,7 @@ has_tables find t h =
     let b = bind_some (find (codes "glyf")) (λ glyf. option_and_then (λ head. option_and_then (λ format. tables_of a.0 glyf head format) (number head 50 2)) (find (codes "head"))) t a.2 in
     let c = bind_some (find (codes "head")) (λ head. option_and_then (λ format. tables_of a.0 b.0 head format) (number head 50 2)) t b.2 in
     let d = bind_some (number c.0 50 2) (λ format. tables_of a.0 b.0 c.0 format) t c.2 in
-    let same : record { loca = a.0; glyf = b.0; head = c.0; long = not (eqb d.0 0) } ≡ t = same_outlines (record { loca = a.0; glyf = b.0; head = c.0; long = not (eqb d.0 0) }) t d.2 in
+    let same : record { loca = a.0; glyf = b.0; head = c.0; long = not (eqb d.0 0) } ≡ t = present_is (record { loca = a.0; glyf = b.0; head = c.0; long = not (eqb d.0 0) }) t d.2 in
     record {
       loca_is = a.1 ∙ ap (λ (o : Outlines). Some o.loca) same;
       glyf_is = b.1 ∙ ap (λ (o : Outlines). Some o.glyf) same;
@@ -89,7 +84,7 @@ no_outlines font glyphs there h = missing font glyphs (table font (codes "loca")
 -- the tables were refused
 pub tables_refused : (font : Font) (glyphs : List ℕ) (e : Error) → IsSome (table font (codes "glyf")) → outlines_read (table font) ≡ Err e → HasOutlineFault font glyphs e
 tables_refused font glyphs e there h =
-    let u = unnamed (outlines font) MalformedFont e h in
+    let u = named_err (outlines font) MalformedFont e h in
     subst (HasOutlineFault font glyphs) u.1 (no_outlines font glyphs there u.0)
 
 -- a reached glyph without parts
@@ -129,15 +124,6 @@ outlines_refused font glyphs order t e read closed h =
 
 -- ---- what is taken has none
 
-never : {A : Type 0} (o : Option A) (x : A) → o ≡ Some x → o ≡ None → ⊥
-never o x h k = let both = sym h ∙ k in cc
-
-abbrev bytes_there : List ℕ → Option (List ℕ)
-bytes_there b = Some b
-
-same_bytes : (a b : List ℕ) → bytes_there a ≡ bytes_there b → a ≡ b
-same_bytes a b h = cc
-
 one_has_none : (b : ℕ) → outline_parts (b ∷ []) ≡ None
 unfolding outline_parts
 one_has_none b = refl
@@ -163,17 +149,17 @@ module _ (font : Font) (glyphs order : List ℕ) (t : Outlines) (bs : List (List
   without_parts : (g : ℕ) (bytes : List ℕ) → IsReachable font glyphs g → outline font g ≡ Some bytes → outline_parts bytes ≡ None → ⊥
   without_parts g bytes r there none =
       let k = has_parts g r in
-      let same : k.0 ≡ bytes = same_bytes k.0 bytes (sym k.1 ∙ there) in
-      never (outline_parts k.0) k.2.0 k.2.1 (ap outline_parts same ∙ none)
+      let same : k.0 ≡ bytes = present_is k.0 bytes (sym k.1 ∙ there) in
+      some_not_none (outline_parts k.0) k.2.0 k.2.1 (ap outline_parts same ∙ none)
 
   pub no_outline_fault : (e : Error) → HasOutlineFault font glyphs e → ⊥
-  no_outline_fault e (faults.no_loca a b) = let h = has_tables (table font) t read in never (table font (codes "loca")) t.loca h.loca_is b
-  no_outline_fault e (faults.no_head a b) = let h = has_tables (table font) t read in never (table font (codes "head")) t.head h.head_is b
+  no_outline_fault e (faults.no_loca a b) = let h = has_tables (table font) t read in some_not_none (table font (codes "loca")) t.loca h.loca_is b
+  no_outline_fault e (faults.no_head a b) = let h = has_tables (table font) t read in some_not_none (table font (codes "head")) t.head h.head_is b
   no_outline_fault e (faults.short_head head a b) =
       let h = has_tables (table font) t read in
-      let same : t.head ≡ head = same_bytes t.head head (sym h.head_is ∙ a) in
+      let same : t.head ≡ head = present_is t.head head (sym h.head_is ∙ a) in
       omega (arith, ap length same, h.head_len, b)
-  no_outline_fault e (faults.no_outline g a r none) = let k = has_parts g r in never (outline font g) k.0 k.1 none
+  no_outline_fault e (faults.no_outline g a r none) = let k = has_parts g r in some_not_none (outline font g) k.0 k.1 none
   no_outline_fault e (faults.one_byte g b r there) = without_parts g (b ∷ []) r there (one_has_none b)
   no_outline_fault e (faults.cut_composite g bytes r there le none) = without_parts g bytes r there none
   no_outline_fault e (faults.all_reached a r) = too_many order few (λ g lt. (closed.members g).1 (r g lt))

@@ -5,41 +5,13 @@ use Rattle.std.specs.Option.{option_map, ok_or}
 use Rattle.subsetter_base.specs.Bytes.{◌>>=◌}
 use Rattle.subsetter_base.specs.declared.error.Error.{Error}
 use Rattle.subsetter_base.specs.declared.error.Error.TheVariants.{MalformedFont}
+use Rattle.subsetter_base.proofs.Results.{bind_ok, bind_err, named_ok, named_err, done, done_is}
+use Rattle.subsetter_base.proofs.Options.{map_some, map_none}
 use Rattle.subsetter.specs.Glyf.Read.{Outlines, outline_in}
 use Rattle.subsetter.specs.Glyf.Parts.{Parts, outline_parts, parts_bytes}
 use Rattle.subsetter.specs.Glyf.Plain.{renumbered, rewritten, kept, kept_all}
 
 -- ---- steps that gave something, and steps that failed
-
-pub bind_ok : {A B : Type 0} (r : Result A Error) (f : A → Result B Error) (y : B) → (r >>= f) ≡ Ok y → (x : A) × (r ≡ Ok x) × (f x ≡ Ok y)
-bind_ok (Ok x) f y e = (x, refl, e)
-bind_ok (Err d) f y e = absurd cc
-
-pub bind_err : {A B : Type 0} (r : Result A Error) (f : A → Result B Error) (e : Error) → (r >>= f) ≡ Err e → (r ≡ Err e) ⊎ ((x : A) × (r ≡ Ok x) × (f x ≡ Err e))
-bind_err (Ok x) f e h = inr (x, refl, h)
-bind_err (Err d) f e h = inl (cc)
-
-pub named : {A : Type 0} (o : Option A) (e : Error) (x : A) → ok_or o e ≡ Ok x → o ≡ Some x
-named None e x h = absurd cc
-named (Some y) e x h = cc
-
-pub unnamed : {A : Type 0} (o : Option A) (d e : Error) → ok_or o d ≡ Err e → (o ≡ None) × (d ≡ e)
-unnamed None d e h = (refl, cc)
-unnamed (Some x) d e h = absurd cc
-
-abbrev pub done : {A : Type 0} → A → Result A Error
-done x = Ok x
-
-pub ok_is : {A : Type 0} (x y : A) → done x ≡ done y → x ≡ y
-ok_is x y e = cc
-
-pub map_some : {A B : Type 0} (f : A → B) (o : Option A) (y : B) → option_map f o ≡ Some y → (x : A) × (o ≡ Some x) × (f x ≡ y)
-map_some f None y h = absurd cc
-map_some f (Some x) y h = (x, refl, cc)
-
-pub map_none : {A B : Type 0} (f : A → B) (o : Option A) → option_map f o ≡ None → o ≡ None
-map_none f None h = refl
-map_none f (Some x) h = absurd cc
 
 -- ---- one outline
 
@@ -55,18 +27,18 @@ pub is_kept : (t : Outlines) (order : List ℕ) (g : ℕ) (b : List ℕ) → kep
 unfolding kept rewritten
 is_kept t order g b h =
     let a = bind_ok (ok_or (outline_in t g) MalformedFont) (λ bytes. ok_or (option_map (λ p. parts_bytes (renumbered order p)) (outline_parts bytes)) MalformedFont) b h in
-    let m = map_some (λ p. parts_bytes (renumbered order p)) (outline_parts a.0) b (named (option_map (λ p. parts_bytes (renumbered order p)) (outline_parts a.0)) MalformedFont b a.2) in
-    record { bytes = a.0; there = named (outline_in t g) MalformedFont a.0 a.1; parts = m.0; parts_are = m.1; written = m.2 }
+    let m = map_some (λ p. parts_bytes (renumbered order p)) (outline_parts a.0) b (named_ok (option_map (λ p. parts_bytes (renumbered order p)) (outline_parts a.0)) MalformedFont b a.2) in
+    record { bytes = a.0; there = named_ok (outline_in t g) MalformedFont a.0 a.1; parts = m.0; parts_are = m.1; written = m.2 }
 
 -- a glyph that isn't kept has no outline, or one without parts
 pub not_kept : (t : Outlines) (order : List ℕ) (g : ℕ) (e : Error) → kept t order g ≡ Err e → (MalformedFont ≡ e) × ((outline_in t g ≡ None) ⊎ ((bytes : List ℕ) × (outline_in t g ≡ Some bytes) × (outline_parts bytes ≡ None)))
 unfolding kept rewritten
 not_kept t order g e h =
     elim (bind_err (ok_or (outline_in t g) MalformedFont) (λ bytes. ok_or (option_map (λ p. parts_bytes (renumbered order p)) (outline_parts bytes)) MalformedFont) e h) [
-      | inl k ↦ let u = unnamed (outline_in t g) MalformedFont e k in (u.1, inl u.0)
+      | inl k ↦ let u = named_err (outline_in t g) MalformedFont e k in (u.1, inl u.0)
       | inr k ↦
-          let u = unnamed (option_map (λ p. parts_bytes (renumbered order p)) (outline_parts k.0)) MalformedFont e k.2 in
-          (u.1, inr (k.0, named (outline_in t g) MalformedFont k.0 k.1, map_none (λ p. parts_bytes (renumbered order p)) (outline_parts k.0) u.0))
+          let u = named_err (option_map (λ p. parts_bytes (renumbered order p)) (outline_parts k.0)) MalformedFont e k.2 in
+          (u.1, inr (k.0, named_ok (outline_in t g) MalformedFont k.0 k.1, map_none (λ p. parts_bytes (renumbered order p)) (outline_parts k.0) u.0))
     ]
 
 -- ---- all of them
@@ -76,18 +48,18 @@ kept_at t order [] bs i h lt = absurd (omega arith)
 kept_at t order (g ∷ gs) bs zero h lt =
     let a = bind_ok (kept t order g) (λ first. kept_all t order gs >>= λ rest. Ok (first ∷ rest)) bs h in
     let b = bind_ok (kept_all t order gs) (λ rest. Ok (a.0 ∷ rest)) bs a.2 in
-    subst (λ (c : List (List ℕ)). IsKept t order g (get_or c 0 [])) (ok_is (a.0 ∷ b.0) bs b.2) (is_kept t order g a.0 a.1)
+    subst (λ (c : List (List ℕ)). IsKept t order g (get_or c 0 [])) (done_is (a.0 ∷ b.0) bs b.2) (is_kept t order g a.0 a.1)
 kept_at t order (g ∷ gs) bs (suc i) h lt =
     let a = bind_ok (kept t order g) (λ first. kept_all t order gs >>= λ rest. Ok (first ∷ rest)) bs h in
     let b = bind_ok (kept_all t order gs) (λ rest. Ok (a.0 ∷ rest)) bs a.2 in
-    subst (λ (c : List (List ℕ)). IsKept t order (get_or gs i 0) (get_or c (suc i) [])) (ok_is (a.0 ∷ b.0) bs b.2) (kept_at t order gs b.0 i b.1 (omega arith))
+    subst (λ (c : List (List ℕ)). IsKept t order (get_or gs i 0) (get_or c (suc i) [])) (done_is (a.0 ∷ b.0) bs b.2) (kept_at t order gs b.0 i b.1 (omega arith))
 
 pub length-kept_all : (t : Outlines) (order gs : List ℕ) (bs : List (List ℕ)) → kept_all t order gs ≡ Ok bs → length bs ≡ length gs
-length-kept_all t order [] bs h = ap length (sym (ok_is [] bs h))
+length-kept_all t order [] bs h = ap length (sym (done_is [] bs h))
 length-kept_all t order (g ∷ gs) bs h =
     let a = bind_ok (kept t order g) (λ first. kept_all t order gs >>= λ rest. Ok (first ∷ rest)) bs h in
     let b = bind_ok (kept_all t order gs) (λ rest. Ok (a.0 ∷ rest)) bs a.2 in
-    ap length (sym (ok_is (a.0 ∷ b.0) bs b.2)) ∙ ap suc (length-kept_all t order gs b.0 b.1)
+    ap length (sym (done_is (a.0 ∷ b.0) bs b.2)) ∙ ap suc (length-kept_all t order gs b.0 b.1)
 
 abbrev kept_more : List ℕ → List (List ℕ) → Result (List (List ℕ)) Error
 kept_more b x = Ok (b ∷ x)

@@ -4,11 +4,10 @@ use Rattle.subsetter_base.specs.Bytes.{◌>>=◌}
 use Rattle.subsetter_base.specs.Gives.{Fails}
 use Rattle.subsetter_base.specs.declared.error.Error.{Error}
 use Rattle.subsetter_base.specs.declared.error.Error.TheVariants as errors
+use Rattle.subsetter_base.proofs.Results.{with_front}
 use Rattle.subsetter.specs.Glyf.Read.{Outlines}
 use Rattle.subsetter.specs.Glyf.Plain.{kept, kept_all}
 
-abbrev pub with_front : {A : Type 0} → List A → Result (List A) Error → Result (List A) Error
-with_front front read = read >>= λ xs. Ok (front ++ xs)
 
 regroup : {A : Type 0} (front : List A) (x : A) (read : Result (List A) Error) → with_front front (read >>= λ xs. Ok (x ∷ xs)) ≡ with_front (front ++ x ∷ []) read
 regroup front x (Ok xs) = ap Ok (sym (append_assoc front (x ∷ []) xs))

@@ -7,41 +7,14 @@ use Rattle.std.specs.Int.{w16, to_be_bytes}
 use Rattle.std.proofs.lemmas.Bool.{cases_lt}
 use Rattle.std.proofs.lemmas.List.{append-nil, drop_at, get_or-drop, get_or-take, length-append, length-take, get_or_past}
 use Rattle.subsetter_base.specs.Bytes.{be, range, number, IsBytes}
-use Rattle.subsetter_base.proofs.ByteLemmas.{be-u16, be-fits, range-middle, range-length, number_at}
+use Rattle.subsetter_base.proofs.ByteLemmas.{be-u16, be-fits, range-middle, range-length, number_at, IsBytes-drop, IsBytes-take, IsBytes-range, number-small}
+use Rattle.subsetter_base.proofs.Options.{present, present_is, bind_some}
 use Rattle.subsetter.specs.Glyf.Unfold.{padded}
 use Rattle.subsetter.specs.Glyf.Parts.{Component, Chain, has, rest_size, has_more, has_instructions, component_at, with_component, last_component, chain_at, spelled}
 use Rattle.subsetter.specs.Glyf.Plain.{new_number, renumbered_component}
-use Rattle.subsetter.proofs.GlyfLaws.Chains.{bind_some, IsComponent, is_component, chain_none, chain_more}
+use Rattle.subsetter.proofs.GlyfLaws.Chains.{IsComponent, is_component, chain_none, chain_more, made}
 
 -- ---- bytes
-
-pub IsBytes-drop : (n : ℕ) (bytes : List ℕ) → IsBytes bytes → IsBytes (drop n bytes)
-IsBytes-drop n bytes h i = omega (arith, get_or-drop n bytes i 0, h (n + i))
-
-pub IsBytes-take : (n : ℕ) (bytes : List ℕ) → IsBytes bytes → IsBytes (take n bytes)
-IsBytes-take n bytes h i = elim (cases_lt i n) [
-  | inl lt ↦ omega (arith, get_or-take n bytes i 0 lt, h i)
-  | inr le ↦ omega (arith, get_or_past (take n bytes) i 0 (omega (arith, length-take n bytes)))
-]
-
-pub IsBytes-range : (bytes part : List ℕ) (at size : ℕ) → IsBytes bytes → range bytes at size ≡ Some part → IsBytes part
-IsBytes-range bytes part at size h is = by (leb (at + size) (length bytes)) is
-  where
-    by : (b : Bool) → cond b (Some (take size (drop at bytes))) None ≡ Some part → IsBytes part
-    by true e = let same : take size (drop at bytes) ≡ part = cc in subst IsBytes same (IsBytes-take size (drop at bytes) (IsBytes-drop at bytes h))
-    by false e = absurd cc
-
--- a number of two bytes
-pub fits_word : (bytes : List ℕ) (at n : ℕ) → IsBytes bytes → number bytes at 2 ≡ Some n → n < 2 ^ 16
-fits_word bytes at n h is = by (range bytes at 2) refl is
-  where
-    by : (o : Option (List ℕ)) → range bytes at 2 ≡ o → option_map be o ≡ Some n → n < 2 ^ 16
-    by None r e = absurd cc
-    by (Some part) r e =
-        let same : be part ≡ n = cc in
-        let len : length part ≡ 2 = range-length bytes part at 2 r in
-        let fits : be part < 256 ^ 2 = subst (λ k. be part < 256 ^ k) len (be-fits part (IsBytes-range bytes part at 2 h r)) in
-        omega (arith, same, fits)
 
 -- ---- padding
 
@@ -76,12 +49,6 @@ pub data IsChain (tail : List ℕ) : List Component → Type 0 where
   last : (c : Component) → length c.rest ≡ rest_size c.flags → c.flags < 2 ^ 16 → has_more c.flags ≡ false → (has_instructions c.flags ≡ false → tail ≡ []) → IsChain tail (c ∷ [])
   more : (c : Component) (cs : List Component) → length c.rest ≡ rest_size c.flags → c.flags < 2 ^ 16 → has_more c.flags ≡ true → IsChain tail cs → IsChain tail (c ∷ cs)
 
-abbrev chain_there : Chain → Option Chain
-chain_there chain = Some chain
-
-same_chain : (a b : Chain) → chain_there a ≡ chain_there b → a ≡ b
-same_chain a b h = cc
-
 abbrev ChainOf : Chain → Type 0
 ChainOf chain = IsChain chain.tail chain.components
 
@@ -97,21 +64,18 @@ chain_is (suc n) bytes chain fit h = by (λ rest whole r e. chain_is n rest whol
     into : ((rest : List ℕ) (whole : Chain) → IsBytes rest → chain_at n rest ≡ Some whole → IsChain whole.tail whole.components) → (c : Component) → IsComponent bytes c → (b : Bool) → has_more c.flags ≡ b
         → cond b (option_and_then (λ rest. Some (with_component c rest)) (chain_at n (drop (4 + rest_size c.flags) bytes))) (Some (last_component c (drop (4 + rest_size c.flags) bytes))) ≡ Some chain → IsChain chain.tail chain.components
     into again c is true m e =
-        let k = bind_some (chain_at n (drop (4 + rest_size c.flags) bytes)) (λ rest. chain_there (with_component c rest)) chain e in
-        let same : with_component c k.0 ≡ chain = same_chain (with_component c k.0) chain k.2 in
-        subst ChainOf same (more c k.0.components is.size (fits_word bytes 0 c.flags fit is.flags_is) m (again (drop (4 + rest_size c.flags) bytes) k.0 (IsBytes-drop (4 + rest_size c.flags) bytes fit) k.1))
+        let k = bind_some (chain_at n (drop (4 + rest_size c.flags) bytes)) (λ rest. present (with_component c rest)) chain e in
+        let same : with_component c k.0 ≡ chain = present_is (with_component c k.0) chain k.2 in
+        subst ChainOf same (more c k.0.components is.size (number-small bytes 0 c.flags fit is.flags_is) m (again (drop (4 + rest_size c.flags) bytes) k.0 (IsBytes-drop (4 + rest_size c.flags) bytes fit) k.1))
     into again c is false m e =
-        let same : last_component c (drop (4 + rest_size c.flags) bytes) ≡ chain = same_chain (last_component c (drop (4 + rest_size c.flags) bytes)) chain e in
-        subst ChainOf same (last c is.size (fits_word bytes 0 c.flags fit is.flags_is) m (λ none. no_tail (has_instructions c.flags) (drop (4 + rest_size c.flags) bytes) none))
+        let same : last_component c (drop (4 + rest_size c.flags) bytes) ≡ chain = present_is (last_component c (drop (4 + rest_size c.flags) bytes)) chain e in
+        subst ChainOf same (last c is.size (number-small bytes 0 c.flags fit is.flags_is) m (λ none. no_tail (has_instructions c.flags) (drop (4 + rest_size c.flags) bytes) none))
 
     by : ((rest : List ℕ) (whole : Chain) → IsBytes rest → chain_at n rest ≡ Some whole → IsChain whole.tail whole.components) → (o : Option Component) → component_at bytes ≡ o → IsChain chain.tail chain.components
     by again None k = let e = sym (chain_none (suc n) bytes k) ∙ h in absurd cc
     by again (Some c) k = into again c (is_component bytes c k) (has_more c.flags) refl (sym (chain_more n bytes c k) ∙ h)
 
 -- ---- components that were written
-
-abbrev made : ℕ → ℕ → List ℕ → Option Component
-made flags glyph rest = Some (record { flags = flags; glyph = glyph; rest = rest })
 
 pub length-spelled : (c : Component) → length (spelled c) ≡ 4 + length c.rest
 length-spelled c = omega (arith, length-append (to_be_bytes w16 c.flags ++ to_be_bytes w16 c.glyph) c.rest)
@@ -155,8 +119,8 @@ module _ (order : List ℕ) (small : (g : ℕ) → new_number order g < 2 ^ 16) 
       let kept : last_component (again c) (drop (4 + rest_size c.flags) X) ≡ record { components = again c ∷ []; tail = T } =
       ap (λ (l : List ℕ). last_component (again c) l) rest ∙ ap (λ (l : List ℕ). record { components = again c ∷ []; tail = l }) (kept_tail (has_instructions c.flags) long tail none) in
       ap (chain_at (suc n)) whole ∙ chain_more n X (again c) read
-      ∙ ap (λ b. cond b (option_and_then (λ chain. chain_there (with_component (again c) chain)) (chain_at n (drop (4 + rest_size c.flags) X))) (Some (last_component (again c) (drop (4 + rest_size c.flags) X)))) stop
-      ∙ ap chain_there kept
+      ∙ ap (λ b. cond b (option_and_then (λ chain. present (with_component (again c) chain)) (chain_at n (drop (4 + rest_size c.flags) X))) (Some (last_component (again c) (drop (4 + rest_size c.flags) X)))) stop
+      ∙ ap present kept
   chain_back (suc n) long tail (c ∷ cs) (more _ _ len fit go h) le =
       let T = padded long tail in
       let R = flat_map spelled (map again cs) ++ T in
@@ -166,9 +130,9 @@ module _ (order : List ℕ) (small : (g : ℕ) → new_number order g < 2 ^ 16) 
       let rest : drop (4 + rest_size c.flags) X ≡ R = behind (again c) R len in
       let below = chain_back n long tail cs h (omega arith) in
       ap (chain_at (suc n)) whole ∙ chain_more n X (again c) read
-      ∙ ap (λ b. cond b (option_and_then (λ chain. chain_there (with_component (again c) chain)) (chain_at n (drop (4 + rest_size c.flags) X))) (Some (last_component (again c) (drop (4 + rest_size c.flags) X)))) go
-      ∙ ap (λ (l : List ℕ). option_and_then (λ chain. chain_there (with_component (again c) chain)) (chain_at n l)) rest
-      ∙ ap (λ (o : Option Chain). option_and_then (λ chain. chain_there (with_component (again c) chain)) o) below
+      ∙ ap (λ b. cond b (option_and_then (λ chain. present (with_component (again c) chain)) (chain_at n (drop (4 + rest_size c.flags) X))) (Some (last_component (again c) (drop (4 + rest_size c.flags) X)))) go
+      ∙ ap (λ (l : List ℕ). option_and_then (λ chain. present (with_component (again c) chain)) (chain_at n l)) rest
+      ∙ ap (λ (o : Option Chain). option_and_then (λ chain. present (with_component (again c) chain)) o) below
 
   pub chain-even : (tail : List ℕ) (cs : List Component) → IsChain tail cs → length (flat_map spelled (map again cs)) % 2 ≡ 0
   chain-even tail [] h = elim h [ ]

@@ -7,8 +7,10 @@ use Rattle.std.proofs.lemmas.Bool.{le-ltb, ltb-false}
 use Rattle.std.proofs.lemmas.List.{get_or-take, get_or_append_left, get_or_default, length-append, length-drop, drop_at}
 use Rattle.subsetter_base.specs.Bytes.{range, IsBytes}
 use Rattle.subsetter_base.specs.Places.{place}
-use Rattle.subsetter_base.proofs.ByteLemmas.{range-middle, range-fits, range-length, range-take_drop}
+use Rattle.subsetter_base.proofs.ByteLemmas.{range-middle, range-fits, range-length, range-take_drop, IsBytes-drop, IsBytes-range}
 use Rattle.subsetter_base.proofs.GlyphLemmas.{place-finds, Contains-place}
+use Rattle.subsetter_base.proofs.Options.{present, present_is, some_of, bind_some}
+use Rattle.subsetter_base.proofs.Lists.{Contains-later}
 use Rattle.subsetter.specs.Sfnt.Read.{Font}
 use Rattle.subsetter.specs.Glyf.Read.{Outlines, outlines, outline_in, outline, between, offset}
 use Rattle.subsetter.specs.Glyf.Unfold.{padded, SameComponents, SameParts, UnfoldAlike}
@@ -16,8 +18,8 @@ use Rattle.subsetter.specs.Glyf.Parts.{Component, Chain, Parts, Empty, Simple, C
 use Rattle.subsetter.specs.Glyf.Plain.{new_number, renumbered_component, renumbered, kept_all}
 use Rattle.subsetter.specs.Glyf.Reach.{IsGlyphOrder, step}
 use Rattle.subsetter.proofs.GlyfLaws.Components.{numbers_more, numbers_enough, components_composite}
-use Rattle.subsetter.proofs.GlyfLaws.Chains.{bind_some, IsComponent, is_component, chain_none, chain_more}
-use Rattle.subsetter.proofs.GlyfLaws.Parts.{IsBytes-range, IsBytes-drop, padded-append, padded-nil, chain_is, chain_back, chain-even, chain-length}
+use Rattle.subsetter.proofs.GlyfLaws.Chains.{IsComponent, is_component, chain_none, chain_more}
+use Rattle.subsetter.proofs.GlyfLaws.Parts.{padded-append, padded-nil, chain_is, chain_back, chain-even, chain-length}
 use Rattle.subsetter.proofs.GlyfLaws.Back.{AreWritten, read_back}
 use Rattle.subsetter.proofs.GlyfLaws.Kept.{kept_at, length-kept_all}
 
@@ -32,17 +34,8 @@ pub each_weaker : (P Q : ℕ → Type 0) (cs : List Component) → ((g : ℕ) �
 each_weaker P Q [] f h = tt
 each_weaker P Q (c ∷ cs) f h = (f c.glyph h.0, each_weaker P Q cs f h.1)
 
-abbrev chain_there : Chain → Option Chain
-chain_there chain = Some chain
-
-same_chain : (a b : Chain) → chain_there a ≡ chain_there b → a ≡ b
-same_chain a b h = cc
-
 first_number : (x : ℕ) (xs : List ℕ) → Contains (x ∷ xs) x
 first_number x xs = (0, omega arith, refl)
-
-later_number : (x y : ℕ) (xs : List ℕ) → Contains xs y → Contains (x ∷ xs) y
-later_number x y xs (k, lt, is) = (suc k, omega arith, is)
 
 each_numbered : (n : ℕ) (bytes : List ℕ) (chain : Chain) → chain_at n bytes ≡ Some chain → EachGlyph (λ g. Contains (numbers_at n bytes) g) chain.components
 unfolding chain_at
@@ -53,14 +46,14 @@ each_numbered (suc n) bytes chain h = by (λ rest whole e. each_numbered n rest 
         → cond b (option_and_then (λ rest. Some (with_component c rest)) (chain_at n (drop (4 + rest_size c.flags) bytes))) (Some (last_component c (drop (4 + rest_size c.flags) bytes))) ≡ Some chain → EachGlyph (λ g. Contains (numbers_at (suc n) bytes) g) chain.components
     into again c is true m e =
         let after = drop (4 + rest_size c.flags) bytes in
-        let k = bind_some (chain_at n after) (λ rest. chain_there (with_component c rest)) chain e in
-        let same : with_component c k.0 ≡ chain = same_chain (with_component c k.0) chain k.2 in
+        let k = bind_some (chain_at n after) (λ rest. present (with_component c rest)) chain e in
+        let same : with_component c k.0 ≡ chain = present_is (with_component c k.0) chain k.2 in
         let numbers : c.glyph ∷ numbers_at n after ≡ numbers_at (suc n) bytes = sym (numbers_more n bytes c.flags c.glyph is.flags_is is.glyph_is ∙ ap (λ b. c.glyph ∷ cond b (numbers_at n after) []) m) in
         subst (λ (l : List ℕ). EachGlyph (λ g. Contains l g) chain.components) numbers (subst (λ (whole : Chain). EachGlyph (λ g. Contains (c.glyph ∷ numbers_at n after) g) whole.components) same
-        (first_number c.glyph (numbers_at n after), each_weaker (λ g. Contains (numbers_at n after) g) (λ g. Contains (c.glyph ∷ numbers_at n after) g) k.0.components (λ g at. later_number c.glyph g (numbers_at n after) at) (again after k.0 k.1)))
+        (first_number c.glyph (numbers_at n after), each_weaker (λ g. Contains (numbers_at n after) g) (λ g. Contains (c.glyph ∷ numbers_at n after) g) k.0.components (λ g at. Contains-later c.glyph g (numbers_at n after) at) (again after k.0 k.1)))
     into again c is false m e =
         let after = drop (4 + rest_size c.flags) bytes in
-        let same : last_component c after ≡ chain = same_chain (last_component c after) chain e in
+        let same : last_component c after ≡ chain = present_is (last_component c after) chain e in
         let numbers : c.glyph ∷ [] ≡ numbers_at (suc n) bytes = sym (numbers_more n bytes c.flags c.glyph is.flags_is is.glyph_is ∙ ap (λ b. c.glyph ∷ cond b (numbers_at n after) []) m) in
         subst (λ (l : List ℕ). EachGlyph (λ g. Contains l g) chain.components) numbers (subst (λ (whole : Chain). EachGlyph (λ g. Contains (c.glyph ∷ []) g) whole.components) same (first_number c.glyph [], tt))
 
@@ -89,12 +82,6 @@ parts_there p = Some p
 same_parts_are : (a b : Parts) → parts_there a ≡ parts_there b → a ≡ b
 same_parts_are a b h = cc
 
-abbrev bytes_there : List ℕ → Option (List ℕ)
-bytes_there b = Some b
-
-same_bytes : (a b : List ℕ) → bytes_there a ≡ bytes_there b → a ≡ b
-same_bytes a b h = cc
-
 pub parts_are : (bytes : List ℕ) (p : Parts) → outline_parts bytes ≡ Some p → PartsAre bytes p
 unfolding outline_parts
 parts_are [] p h = is_empty refl (sym (same_parts_are Empty p h))
@@ -107,7 +94,7 @@ parts_are (a ∷ b ∷ rest) p h = by (ltb a 128) refl h
         let k = bind_some (range bytes 0 10) (λ head. option_and_then (λ chain. parts_there (Composite head chain)) (chain_at (length bytes) (drop 10 bytes))) p e in
         let l = bind_some (chain_at (length bytes) (drop 10 bytes)) (λ chain. parts_there (Composite k.0 chain)) p k.2 in
         let le : 10 ≤ length bytes = range-fits bytes k.0 0 10 k.1 in
-        let head_is : k.0 ≡ take 10 bytes = same_bytes k.0 (take 10 bytes) (sym k.1 ∙ range-take_drop bytes 0 10 le) in
+        let head_is : k.0 ≡ take 10 bytes = present_is k.0 (take 10 bytes) (sym k.1 ∙ range-take_drop bytes 0 10 le) in
         is_composite k.0 l.0 (record { long = le; high = ltb-false a 128 t; head_is = head_is; size = range-length bytes k.0 0 10 k.1; chain_read = l.1 }) (sym (same_parts_are (Composite k.0 l.0) p l.2))
 
     by : (q : Bool) → ltb a 128 ≡ q → cond q (Some (Simple (a ∷ b ∷ rest))) (composite_parts (a ∷ b ∷ rest)) ≡ Some p → PartsAre (a ∷ b ∷ rest) p
@@ -216,14 +203,10 @@ outline_is font t g read = ap (λ (o : Option Outlines). option_and_then (λ u. 
 
 -- ---- new numbers
 
-some_number : (o : Option ℕ) → is_some o ≡ true → (k : ℕ) × (o ≡ Some k)
-some_number None h = absurd cc
-some_number (Some k) h = (k, refl)
-
 -- the new number of a glyph of the order is its place
 pub has_number : (order : List ℕ) (g : ℕ) → Contains order g → (k : ℕ) × (k < length order) × (get_or order k 0 ≡ g) × (new_number order g ≡ k)
 has_number order g at =
-    let k = some_number (place order g) (Contains-place order g at) in
+    let k = some_of (place order g) (Contains-place order g at) in
     let f = place-finds order g k.0 k.1 in
     (k.0, f.0, f.1, ap (λ (o : Option ℕ). unwrap_or o 0) k.1)
 

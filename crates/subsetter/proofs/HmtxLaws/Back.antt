@@ -7,55 +7,20 @@ use Rattle.std.specs.Int.{w16, to_be_bytes}
 use Rattle.std.proofs.lemmas.Bool.{lt-ltb, le-ltb, ne_eqb, cases_lt}
 use Rattle.std.proofs.lemmas.List.{length-append, length-take-le, length-drop, take_at, drop_at, get_or-take, get_or-drop}
 use Rattle.subsetter_base.specs.Bytes.{be, range, number, IsBytes}
-use Rattle.subsetter_base.proofs.ByteLemmas.{be-u16, be-fits, range-length, number_at}
+use Rattle.subsetter_base.proofs.ByteLemmas.{be-u16, be-fits, range-length, number_at, IsBytes-take, IsBytes-drop, IsBytes-range, number-small}
+use Rattle.subsetter_base.proofs.Options.{present, present_is}
 use Rattle.subsetter.specs.declared.hmtx.Metric.{Metric}
 use Rattle.subsetter.specs.Hmtx.Read.{number_of_metrics, metric_at, metric_in}
 use Rattle.subsetter.specs.Hmtx.Written.{pair_bytes, bearing_bytes, hmtx_bytes, hhea_bytes}
 
 -- ---- what bytes spell is small
 
-take_bytes : (n : ℕ) (bytes : List ℕ) → IsBytes bytes → IsBytes (take n bytes)
-take_bytes zero bytes h i = lit< tt
-take_bytes (suc n) [] h i = lit< tt
-take_bytes (suc n) (b ∷ bytes) h zero = h 0
-take_bytes (suc n) (b ∷ bytes) h (suc i) = take_bytes n bytes (λ j. h (suc j)) i
-
-drop_bytes : (n : ℕ) (bytes : List ℕ) → IsBytes bytes → IsBytes (drop n bytes)
-drop_bytes zero bytes h i = h i
-drop_bytes (suc n) [] h i = lit< tt
-drop_bytes (suc n) (b ∷ bytes) h i = drop_bytes n bytes (λ j. h (suc j)) i
-
-abbrev there : {A : Type 0} → A → Option A
-there x = Some x
-
-there_is : {A : Type 0} (x y : A) → there x ≡ there y → x ≡ y
-there_is x y h = cc
-
--- a part of bytes
-pub range_bytes : (bytes part : List ℕ) (at size : ℕ) → IsBytes bytes → range bytes at size ≡ Some part → IsBytes part
-range_bytes bytes part at size h e = by (leb (at + size) (length bytes)) e
-  where
-    by : (b : Bool) → cond b (Some (take size (drop at bytes))) None ≡ Some part → IsBytes part
-    by true e = subst (λ (l : List ℕ). IsBytes l) (there_is (take size (drop at bytes)) part e) (take_bytes size (drop at bytes) (drop_bytes at bytes h))
-    by false e = absurd cc
-
-pub number_small : (bytes : List ℕ) (at n : ℕ) → IsBytes bytes → number bytes at 2 ≡ Some n → n < 2 ^ 16
-number_small bytes at n h e = by (range bytes at 2) refl e
-  where
-    by : (o : Option (List ℕ)) → range bytes at 2 ≡ o → option_map be o ≡ Some n → n < 2 ^ 16
-    by None r k = absurd cc
-    by (Some part) r k =
-        let small = be-fits part (range_bytes bytes part at 2 h r) in
-        let power : 256 ^ length part ≡ 256 ^ 2 = ap (λ (k : ℕ). 256 ^ k) (range-length bytes part at 2 r) in
-        let is : be part ≡ n = there_is (be part) n k in
-        omega arith
-
 -- both numbers fit their two bytes
 pub record IsSmall (m : Metric) : Type 0 where
   pub advance : m.advance < 2 ^ 16
   pub bearing : m.bearing < 2 ^ 16
 
-abbrev metric_by : Option ℕ → Option ℕ → Option Metric
+abbrev pub metric_by : Option ℕ → Option ℕ → Option Metric
 metric_by a b = option_and_then (λ advance. option_and_then (λ bearing. Some (record { advance = advance; bearing = bearing })) b) a
 
 at_small : (hmtx : List ℕ) (p q : ℕ) (m : Metric) → IsBytes hmtx → metric_at hmtx p q ≡ Some m → IsSmall m
@@ -65,8 +30,8 @@ at_small hmtx p q m h e = by (number hmtx p 2) (number hmtx q 2) refl refl e
     by None b x y k = absurd cc
     by (Some a) None x y k = absurd cc
     by (Some a) (Some b) x y k =
-        let both : IsSmall (record { advance = a; bearing = b }) = record { advance = number_small hmtx p a h x; bearing = number_small hmtx q b h y } in
-        subst IsSmall (there_is (record { advance = a; bearing = b }) m k) both
+        let both : IsSmall (record { advance = a; bearing = b }) = record { advance = number-small hmtx p a h x; bearing = number-small hmtx q b h y } in
+        subst IsSmall (present_is (record { advance = a; bearing = b }) m k) both
 
 pub metric_small : (hmtx : List ℕ) (count g : ℕ) (m : Metric) → IsBytes hmtx → metric_in hmtx count g ≡ Some m → IsSmall m
 unfolding metric_in

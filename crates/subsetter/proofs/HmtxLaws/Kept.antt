@@ -7,26 +7,16 @@ use Rattle.std.proofs.lemmas.List.{get_or_default}
 use Rattle.subsetter_base.specs.Bytes.{be, range, number, IsBytes, ◌>>=◌}
 use Rattle.subsetter_base.specs.declared.error.Error.{Error}
 use Rattle.subsetter_base.specs.declared.error.Error.TheVariants.{MalformedFont, OverflowError}
-use Rattle.subsetter_base.proofs.ByteLemmas.{range-fits}
+use Rattle.subsetter_base.proofs.ByteLemmas.{range-fits, number-fits, number-short}
+use Rattle.subsetter_base.proofs.Results.{done, done_is, failed_is, bind_ok, bind_err, named_ok, named_err}
+use Rattle.subsetter_base.proofs.Options.{some_not_none, present, present_is, is_some_of}
 use Rattle.subsetter.specs.declared.hmtx.Metric.{Metric}
 use Rattle.subsetter.specs.Hmtx.Read.{number_of_metrics, metric_at, metric_in, metric_of, KeepsMetrics, HasMetricsFault, no_hhea, short_hhea, no_pairs, last_advance_outside, metric_outside}
 use Rattle.subsetter.specs.Hmtx.Written.{MetricBytes, least_count, hmtx_bytes, hhea_bytes, if_pairs, metrics_all, source_count, tables_of, metrics_in, metrics_of}
-use Rattle.subsetter.proofs.HmtxLaws.Written.{done, done_is, failed_is, bind_ok, bind_err, named_ok, named_err, metrics-length, metrics_at, metrics_missing, least_count-le, least_count_pos, advances_agree, least_count_least}
-use Rattle.subsetter.proofs.HmtxLaws.Back.{metric_small, metric_back, length-hmtx, count_back, header_length, header_before, header_after}
+use Rattle.subsetter.proofs.HmtxLaws.Written.{metrics-length, metrics_at, metrics_missing, least_count-le, least_count_pos, advances_agree, least_count_least}
+use Rattle.subsetter.proofs.HmtxLaws.Back.{metric_small, metric_back, length-hmtx, count_back, header_length, header_before, header_after, metric_by}
 
 -- ---- the steps of what was answered
-
-abbrev maybe : {A : Type 0} → A → Option A
-maybe x = Some x
-
-maybe_is : {A : Type 0} (x y : A) → maybe x ≡ maybe y → x ≡ y
-maybe_is x y h = cc
-
-never : {A : Type 0} (o : Option A) (x : A) → o ≡ Some x → o ≡ None → ⊥
-never o x h k = let both = sym h ∙ k in cc
-
-never_both : {A : Type 0} (r : Result A Error) (x : A) (e : Error) → r ≡ Ok x → r ≡ Err e → ⊥
-never_both r x e h k = let both = sym h ∙ k in cc
 
 pairs_ok : (n c : ℕ) → if_pairs n ≡ Ok c → (n ≡ c) × (0 < n)
 pairs_ok n c h = by (n == 0) refl h
@@ -107,7 +97,7 @@ steps find order t h = by (find (codes "hmtx")) refl h
     by None at k = absurd cc
     by (Some hmtx) at k =
         let a = bind_ok (tables_of (find (codes "hhea")) hmtx order) (λ tables. Ok (Some tables)) (Some t) k in
-        steps_in find order hmtx t at (a.1 ∙ ap Ok (maybe_is a.0 t (done_is (Some a.0) (Some t) a.2)))
+        steps_in find order hmtx t at (a.1 ∙ ap Ok (present_is a.0 t (done_is (Some a.0) (Some t) a.2)))
 
 -- the tables are written exactly where the source has `hmtx`
 pub no_metrics : (find : List ℕ → Option (List ℕ)) (order : List ℕ) → metrics_of find order ≡ Ok None → find (codes "hmtx") ≡ None
@@ -122,23 +112,13 @@ no_metrics find order h = by (find (codes "hmtx")) refl h
 
 -- ---- advances of tables
 
-number_fits : (bytes : List ℕ) (at size n : ℕ) → number bytes at size ≡ Some n → at + size ≤ length bytes
-number_fits bytes at size n h = by (range bytes at size) refl h
-  where
-    by : (o : Option (List ℕ)) → range bytes at size ≡ o → option_map be o ≡ Some n → at + size ≤ length bytes
-    by None r k = absurd cc
-    by (Some part) r k = range-fits bytes part at size r
-
-abbrev metric_by : Option ℕ → Option ℕ → Option Metric
-metric_by a b = option_and_then (λ advance. option_and_then (λ bearing. Some (record { advance = advance; bearing = bearing })) b) a
-
 advance_there : (hmtx : List ℕ) (p q : ℕ) (m : Metric) → metric_at hmtx p q ≡ Some m → number hmtx p 2 ≡ Some m.advance
 advance_there hmtx p q m h = by (number hmtx p 2) (number hmtx q 2) h
   where
     by : (a b : Option ℕ) → metric_by a b ≡ Some m → a ≡ Some m.advance
     by None b k = absurd cc
     by (Some a) None k = absurd cc
-    by (Some a) (Some b) k = ap (λ (x : Metric). Some x.advance) (maybe_is (record { advance = a; bearing = b }) m k)
+    by (Some a) (Some b) k = ap (λ (x : Metric). Some x.advance) (present_is (record { advance = a; bearing = b }) m k)
 
 -- a pair has its own advance
 own_advance : (hmtx : List ℕ) (count g : ℕ) (m : Metric) → metric_in hmtx count g ≡ Some m → g < count → number hmtx (4 * g) 2 ≡ Some m.advance
@@ -165,7 +145,7 @@ zeros = record { advance = 0; bearing = 0 }
 
 -- tables with these metrics have at least the least number of pairs
 no_fewer : (ms : List Metric) (bytes : List ℕ) (c : ℕ) → 0 < length ms → ((i : ℕ) → i < length ms → metric_in bytes c i ≡ Some (get_or ms i zeros)) → least_count ms ≤ c
-no_fewer ms bytes zero some h = absurd (never (metric_in bytes 0 0) (get_or ms 0 zeros) (h 0 some) (no_pairs_no_metric bytes 0))
+no_fewer ms bytes zero some h = absurd (some_not_none (metric_in bytes 0 0) (get_or ms 0 zeros) (h 0 some) (no_pairs_no_metric bytes 0))
 no_fewer ms bytes (suc k) some h = least_count_least ms k zeros agree
   where
     agree : (i : ℕ) → suc k ≤ i → i < length ms → (get_or ms i zeros).advance ≡ (get_or ms k zeros).advance
@@ -173,7 +153,7 @@ no_fewer ms bytes (suc k) some h = least_count_least ms k zeros agree
         let a = shared_advance bytes (suc k) i (get_or ms i zeros) (h i lt) le in
         let b = own_advance bytes (suc k) k (get_or ms k zeros) (h k (omega arith)) (omega arith) in
         let place : 4 * (suc k - 1) ≡ 4 * k = omega arith in
-        maybe_is (get_or ms i zeros).advance (get_or ms k zeros).advance (sym a ∙ ap (λ p. number bytes p 2) place ∙ b)
+        present_is (get_or ms i zeros).advance (get_or ms k zeros).advance (sym a ∙ ap (λ p. number bytes p 2) place ∙ b)
 
 -- ---- what is answered
 
@@ -200,7 +180,7 @@ module _ (find out : List ℕ → Option (List ℕ)) (order : List ℕ) (t : Met
       let n = least_count s.metrics in
       let len = metrics-length s.hmtx s.count order s.metrics s.all in
       let small : n < 2 ^ 16 = omega (arith, len, least_count-le s.metrics) in
-      let long = number_fits s.hhea 34 2 s.count s.pairs.count_is in
+      let long = number-fits s.hhea 34 2 s.count s.pairs.count_is in
       let hhea_at : out (codes "hhea") ≡ Some (hhea_bytes n s.hhea) = a ∙ ap (λ (x : MetricBytes). Some x.hhea) s.tables in
       let hmtx_at : out (codes "hmtx") ≡ Some (hmtx_bytes n s.metrics) = b ∙ ap (λ (x : MetricBytes). Some x.hmtx) s.tables in
       record {
@@ -229,22 +209,12 @@ keeps_metrics find out order t all_bytes some few h a b = keeps find out order t
 
 -- ---- what is refused
 
-number_short : (bytes : List ℕ) (at size : ℕ) → number bytes at size ≡ None → length bytes < at + size
-number_short bytes at size h = by (leb (at + size) (length bytes)) refl h
-  where
-    by : (b : Bool) → leb (at + size) (length bytes) ≡ b → option_map be (cond b (Some (take size (drop at bytes))) None) ≡ None → length bytes < at + size
-    by true t k = absurd cc
-    by false t k = leb-false (at + size) (length bytes) t
-
-is_there : {A : Type 0} (o : Option A) (x : A) → o ≡ Some x → IsSome o
-is_there o x h = rw h refl
-
 module _ (find : List ℕ → Option (List ℕ)) (order hmtx : List ℕ) (at : find (codes "hmtx") ≡ Some hmtx) where
   count_fault : (hhea : List ℕ) (e : Error) → find (codes "hhea") ≡ Some hhea → source_count hhea hmtx ≡ Err e → HasMetricsFault find (Contains order) e
   unfolding source_count
   count_fault hhea e is h =
       elim (bind_err (ok_or (number_of_metrics hhea) MalformedFont) (λ found. if_pairs found >>= λ c. last_pair hmtx c) e h) [
-        | inl k ↦ let n = named_err (number_of_metrics hhea) MalformedFont e k in subst (HasMetricsFault find (Contains order)) n.1 (short_hhea hhea (is_there (find (codes "hmtx")) hmtx at) is (number_short hhea 34 2 n.0))
+        | inl k ↦ let n = named_err (number_of_metrics hhea) MalformedFont e k in subst (HasMetricsFault find (Contains order)) n.1 (short_hhea hhea (is_some_of (find (codes "hmtx")) hmtx at) is (number-short hhea 34 2 n.0))
         | inr k ↦ second k.0 (named_ok (number_of_metrics hhea) MalformedFont k.0 k.1) (bind_err (if_pairs k.0) (λ c. last_pair hmtx c) e k.2)
       ]
     where
@@ -255,14 +225,14 @@ module _ (find : List ℕ → Option (List ℕ)) (order hmtx : List ℕ) (at : f
       third n c seen p (inr k) = absurd cc
 
       second : (n : ℕ) → number_of_metrics hhea ≡ Some n → (if_pairs n ≡ Err e) ⊎ ((c : ℕ) × (if_pairs n ≡ Ok c) × (last_pair hmtx c ≡ Err e)) → HasMetricsFault find (Contains order) e
-      second n seen (inl k) = let z = pairs_err n e k in subst (HasMetricsFault find (Contains order)) z.1 (no_pairs hhea (is_there (find (codes "hmtx")) hmtx at) is (seen ∙ ap Some z.0))
+      second n seen (inl k) = let z = pairs_err n e k in subst (HasMetricsFault find (Contains order)) z.1 (no_pairs hhea (is_some_of (find (codes "hmtx")) hmtx at) is (seen ∙ ap Some z.0))
       second n seen (inr k) = third n k.0 seen (pairs_ok n k.0 k.1) (bind_err (ok_or (number hmtx (4 * (k.0 - 1)) 2) MalformedFont) (λ advance. Ok k.0) e k.2)
 
   tables_fault : (e : Error) → tables_of (find (codes "hhea")) hmtx order ≡ Err e → HasMetricsFault find (Contains order) e
   unfolding tables_of
   tables_fault e h =
       elim (bind_err (ok_or (find (codes "hhea")) MalformedFont) (λ header. source_count header hmtx >>= λ count. metrics_all hmtx count order >>= λ ms. laid header ms) e h) [
-        | inl k ↦ let n = named_err (find (codes "hhea")) MalformedFont e k in subst (HasMetricsFault find (Contains order)) n.1 (no_hhea (is_there (find (codes "hmtx")) hmtx at) n.0)
+        | inl k ↦ let n = named_err (find (codes "hhea")) MalformedFont e k in subst (HasMetricsFault find (Contains order)) n.1 (no_hhea (is_some_of (find (codes "hmtx")) hmtx at) n.0)
         | inr k ↦ second k.0 (named_ok (find (codes "hhea")) MalformedFont k.0 k.1) (bind_err (source_count k.0 hmtx) (λ count. metrics_all hmtx count order >>= λ ms. laid k.0 ms) e k.2)
       ]
     where
@@ -299,30 +269,30 @@ module _ (find : List ℕ → Option (List ℕ)) (order : List ℕ) where
   none_clean e at (no_hhea a b) = no_table (find (codes "hmtx")) at a
   none_clean e at (short_hhea hhea a b c) = no_table (find (codes "hmtx")) at a
   none_clean e at (no_pairs hhea a b c) = no_table (find (codes "hmtx")) at a
-  none_clean e at (last_advance_outside hhea hmtx count a b c d f) = never (find (codes "hmtx")) hmtx a at
-  none_clean e at (metric_outside g hhea hmtx count r a b c d f) = never (find (codes "hmtx")) hmtx a at
+  none_clean e at (last_advance_outside hhea hmtx count a b c d f) = some_not_none (find (codes "hmtx")) hmtx a at
+  none_clean e at (metric_outside g hhea hmtx count r a b c d f) = some_not_none (find (codes "hmtx")) hmtx a at
 
   -- the header and the count of a fault are those that were found
   same_header : (t : MetricBytes) (s : Steps find order t) (hhea : List ℕ) → find (codes "hhea") ≡ Some hhea → s.hhea ≡ hhea
-  same_header t s hhea h = maybe_is s.hhea hhea (sym s.hhea_is ∙ h)
+  same_header t s hhea h = present_is s.hhea hhea (sym s.hhea_is ∙ h)
 
   same_hmtx : (t : MetricBytes) (s : Steps find order t) (hmtx : List ℕ) → find (codes "hmtx") ≡ Some hmtx → s.hmtx ≡ hmtx
-  same_hmtx t s hmtx h = maybe_is s.hmtx hmtx (sym s.hmtx_is ∙ h)
+  same_hmtx t s hmtx h = present_is s.hmtx hmtx (sym s.hmtx_is ∙ h)
 
   same_count : (t : MetricBytes) (s : Steps find order t) (hhea : List ℕ) (count : ℕ) → find (codes "hhea") ≡ Some hhea → number_of_metrics hhea ≡ Some count → s.count ≡ count
-  same_count t s hhea count h k = maybe_is s.count count (sym s.pairs.count_is ∙ ap number_of_metrics (same_header t s hhea h) ∙ k)
+  same_count t s hhea count h k = present_is s.count count (sym s.pairs.count_is ∙ ap number_of_metrics (same_header t s hhea h) ∙ k)
 
   some_clean : (t : MetricBytes) (e : Error) → Steps find order t → HasMetricsFault find (Contains order) e → ⊥
-  some_clean t e s (no_hhea a b) = never (find (codes "hhea")) s.hhea s.hhea_is b
-  some_clean t e s (short_hhea hhea a b c) = omega (arith, ap length (same_header t s hhea b), number_fits s.hhea 34 2 s.count s.pairs.count_is, c)
+  some_clean t e s (no_hhea a b) = some_not_none (find (codes "hhea")) s.hhea s.hhea_is b
+  some_clean t e s (short_hhea hhea a b c) = omega (arith, ap length (same_header t s hhea b), number-fits s.hhea 34 2 s.count s.pairs.count_is, c)
   some_clean t e s (no_pairs hhea a b c) = omega (arith, same_count t s hhea 0 b c, s.pairs.positive)
   some_clean t e s (last_advance_outside hhea hmtx count a b c d f) =
-      never (number s.hmtx (4 * (s.count - 1)) 2) s.pairs.advance s.pairs.last (ap (λ k. number s.hmtx (4 * (k - 1)) 2) (same_count t s hhea count b c) ∙ ap (λ (l : List ℕ). number l (4 * (count - 1)) 2) (same_hmtx t s hmtx a) ∙ f)
+      some_not_none (number s.hmtx (4 * (s.count - 1)) 2) s.pairs.advance s.pairs.last (ap (λ k. number s.hmtx (4 * (k - 1)) 2) (same_count t s hhea count b c) ∙ ap (λ (l : List ℕ). number l (4 * (count - 1)) 2) (same_hmtx t s hmtx a) ∙ f)
   some_clean t e s (metric_outside g hhea hmtx count r a b c d f) =
       let is_g : slice_index order r.0 ≡ g = get_or_default order r.0 0 g r.1 ∙ r.2 in
       let found = metrics_at s.hmtx s.count order s.metrics r.0 zeros s.all r.1 in
       let lost : metric_in s.hmtx s.count (slice_index order r.0) ≡ None = ap (λ k. metric_in s.hmtx s.count k) is_g ∙ ap (λ k. metric_in s.hmtx k g) (same_count t s hhea count b c) ∙ ap (λ (l : List ℕ). metric_in l count g) (same_hmtx t s hmtx a) ∙ f in
-      never (metric_in s.hmtx s.count (slice_index order r.0)) (get_or s.metrics r.0 zeros) found lost
+      some_not_none (metric_in s.hmtx s.count (slice_index order r.0)) (get_or s.metrics r.0 zeros) found lost
 
 pub metrics_clean : (find : List ℕ → Option (List ℕ)) (order : List ℕ) (x : Option MetricBytes) (e : Error) → metrics_of find order ≡ Ok x → HasMetricsFault find (Contains order) e → ⊥
 metrics_clean find order None e h fault = none_clean find order e (no_metrics find order h) fault

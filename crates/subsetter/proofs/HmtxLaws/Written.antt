@@ -6,13 +6,12 @@ use Rattle.std.specs.Int.{w16, to_be_bytes}
 use Rattle.subsetter_base.specs.Bytes.{◌>>=◌}
 use Rattle.subsetter_base.specs.declared.error.Error.{Error}
 use Rattle.subsetter_base.specs.declared.error.Error.TheVariants.{MalformedFont}
+use Rattle.subsetter_base.proofs.Results.{done, done_is, failed, bind_ok, bind_err, named_ok, named_err}
+use Rattle.subsetter_base.proofs.Lists.{and_parts}
 use Rattle.subsetter.specs.declared.hmtx.Metric.{Metric}
 use Rattle.subsetter.specs.Hmtx.Read.{metric_in}
 use Rattle.subsetter.specs.Hmtx.Written.{hhea_bytes, all_advance, least_count, metrics_all}
 
--- a list in front of what is answered
-abbrev pub with_front : {A : Type 0} → List A → Result (List A) Error → Result (List A) Error
-with_front front read = read >>= λ xs. Ok (front ++ xs)
 
 -- `hhea`, written in three parts
 pub header_written : (count : ℕ) (hhea w w1 w2 w3 out : List ℕ) → w ≡ [] → w1 ≡ w ++ take 34 hhea → w2 ≡ w1 ++ to_be_bytes w16 count → w3 ≡ w2 ++ drop 36 hhea → out ≡ w3 → out ≡ hhea_bytes count hhea
@@ -20,34 +19,6 @@ unfolding hhea_bytes
 header_written count hhea w w1 w2 w3 out h0 h1 h2 h3 h = rw (h, h3, h2, h1, h0) refl
 
 -- ---- steps that answer, and the one that failed
-
-abbrev pub done : {A : Type 0} → A → Result A Error
-done x = Ok x
-
-pub done_is : {A : Type 0} (x y : A) → done x ≡ done y → x ≡ y
-done_is x y e = cc
-
-abbrev pub failed : {A : Type 0} → Error → Result A Error
-failed e = Err e
-
-pub failed_is : {A : Type 0} (d e : Error) → failed {A = A} d ≡ failed {A = A} e → d ≡ e
-failed_is d e h = cc
-
-pub bind_ok : {A B : Type 0} (r : Result A Error) (f : A → Result B Error) (y : B) → (r >>= f) ≡ Ok y → (x : A) × (r ≡ Ok x) × (f x ≡ Ok y)
-bind_ok (Ok x) f y e = (x, refl, e)
-bind_ok (Err d) f y e = absurd cc
-
-pub bind_err : {A B : Type 0} (r : Result A Error) (f : A → Result B Error) (e : Error) → (r >>= f) ≡ Err e → (r ≡ Err e) ⊎ ((x : A) × (r ≡ Ok x) × (f x ≡ Err e))
-bind_err (Ok x) f e h = inr (x, refl, h)
-bind_err (Err d) f e h = inl cc
-
-pub named_ok : {A : Type 0} (o : Option A) (e : Error) (x : A) → ok_or o e ≡ Ok x → o ≡ Some x
-named_ok None e x h = absurd cc
-named_ok (Some y) e x h = cc
-
-pub named_err : {A : Type 0} (o : Option A) (d e : Error) → ok_or o d ≡ Err e → (o ≡ None) × (d ≡ e)
-named_err None d e h = (refl, cc)
-named_err (Some x) d e h = absurd cc
 
 -- ---- each glyph's metric
 
@@ -88,16 +59,11 @@ metrics_missing hmtx count (g ∷ gs) e h =
 
 -- ---- the least number of pairs
 
-and_true : (p q : Bool) → (p && q) ≡ true → (p ≡ true) × (q ≡ true)
-and_true true true h = (refl, refl)
-and_true true false h = absurd cc
-and_true false q h = absurd cc
-
 -- each has the advance
 pub all_advance_at : (a : ℕ) (ms : List Metric) (i : ℕ) (d : Metric) → all_advance a ms ≡ true → i < length ms → (get_or ms i d).advance ≡ a
 all_advance_at a [] i d h lt = absurd (omega arith)
-all_advance_at a (m ∷ ms) zero d h lt = let t = (and_true (m.advance == a) (all_advance a ms) h).0 in grind arith
-all_advance_at a (m ∷ ms) (suc i) d h lt = all_advance_at a ms i d (and_true (m.advance == a) (all_advance a ms) h).1 (omega arith)
+all_advance_at a (m ∷ ms) zero d h lt = let t = (and_parts (m.advance == a) (all_advance a ms) h).0 in grind arith
+all_advance_at a (m ∷ ms) (suc i) d h lt = all_advance_at a ms i d (and_parts (m.advance == a) (all_advance a ms) h).1 (omega arith)
 
 pub all_advance_from : (a : ℕ) (ms : List Metric) (d : Metric) → ((i : ℕ) → i < length ms → (get_or ms i d).advance ≡ a) → all_advance a ms ≡ true
 all_advance_from a [] d h = refl

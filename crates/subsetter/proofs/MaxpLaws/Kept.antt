@@ -8,11 +8,12 @@ use Rattle.subsetter_base.specs.Bytes.{number}
 use Rattle.subsetter_base.specs.declared.error.Error.{Error}
 use Rattle.subsetter_base.specs.declared.error.Error.TheVariants.{MalformedFont}
 use Rattle.subsetter_base.proofs.ByteLemmas.{be-u16, be-u32, number_at}
+use Rattle.subsetter_base.proofs.Results.{done_is, failed_is}
+use Rattle.subsetter_base.proofs.Options.{some_not_none, present, present_is}
 use Rattle.subsetter.specs.declared.sfnt.flavor.FontFlavor.{FontFlavor}
 use Rattle.subsetter.specs.declared.sfnt.flavor.FontFlavor.TheVariants.{TrueType, Cff}
 use Rattle.subsetter.specs.Maxp.Read.{number_of_glyphs, version_of, further_fields, IsMaxProfile, HasMaxProfileFault, short_maxp}
 use Rattle.subsetter.specs.Maxp.Written.{maxp_bytes, maxp_in, maxp_of}
-use Rattle.subsetter.proofs.HmtxLaws.Written.{done_is, failed_is}
 
 version_small : (flavor : FontFlavor) → version_of flavor < 2 ^ 32
 version_small TrueType = omega arith
@@ -38,12 +39,6 @@ further_back : (flavor : FontFlavor) (n : ℕ) (source : List ℕ) → drop 6 (m
 unfolding maxp_bytes
 further_back flavor n source = drop_at (to_be_bytes w32 (version_of flavor) ++ to_be_bytes w16 n) (further_fields flavor source) 6 refl
 
-abbrev maybe : {A : Type 0} → A → Option A
-maybe x = Some x
-
-maybe_is : {A : Type 0} (x y : A) → maybe x ≡ maybe y → x ≡ y
-maybe_is x y h = cc
-
 -- ---- what is answered
 
 pub record Steps (find : List ℕ → Option (List ℕ)) (flavor : FontFlavor) (n : ℕ) (maxp : List ℕ) : Type 0 where
@@ -58,7 +53,7 @@ steps find flavor n maxp h = by (find (codes "maxp")) refl h
     tested : (source : List ℕ) (b : Bool) → find (codes "maxp") ≡ Some source → ltb (length source) 6 ≡ b → cond b (Err MalformedFont) (Ok (Some (maxp_bytes flavor n source))) ≡ Ok (Some maxp) → Steps find flavor n maxp
     tested source true at t k = absurd cc
     tested source false at t k =
-        record { source = source; source_is = at; long = ltb-false (length source) 6 t; is = sym (maybe_is (maxp_bytes flavor n source) maxp (done_is (Some (maxp_bytes flavor n source)) (Some maxp) k)) }
+        record { source = source; source_is = at; long = ltb-false (length source) 6 t; is = sym (present_is (maxp_bytes flavor n source) maxp (done_is (Some (maxp_bytes flavor n source)) (Some maxp) k)) }
 
     by : (o : Option (List ℕ)) → find (codes "maxp") ≡ o → maxp_in o flavor n ≡ Ok (Some maxp) → Steps find flavor n maxp
     by None at k = absurd cc
@@ -104,13 +99,10 @@ maxp_refused find flavor n e h = by (find (codes "maxp")) refl h
     by None at k = absurd cc
     by (Some source) at k = tested source (ltb (length source) 6) at refl k
 
-never : {A : Type 0} (o : Option A) (x : A) → o ≡ Some x → o ≡ None → ⊥
-never o x h k = let both = sym h ∙ k in cc
-
 -- what is answered has none
 pub maxp_clean : (find : List ℕ → Option (List ℕ)) (flavor : FontFlavor) (n : ℕ) (x : Option (List ℕ)) (e : Error) → maxp_of find flavor n ≡ Ok x → HasMaxProfileFault find e → ⊥
-maxp_clean find flavor n None e h (short_maxp maxp at lt) = never (find (codes "maxp")) maxp at (no_maxp find flavor n h)
+maxp_clean find flavor n None e h (short_maxp maxp at lt) = some_not_none (find (codes "maxp")) maxp at (no_maxp find flavor n h)
 maxp_clean find flavor n (Some out) e h (short_maxp maxp at lt) =
     let s = steps find flavor n out h in
-    let same : s.source ≡ maxp = maybe_is s.source maxp (sym s.source_is ∙ at) in
+    let same : s.source ≡ maxp = present_is s.source maxp (sym s.source_is ∙ at) in
     omega (arith, ap length same, s.long, lt)

@@ -8,6 +8,7 @@ use Rattle.std.proofs.lemmas.Bool.{le-leb, leb-true, leb-false}
 use Rattle.std.proofs.lemmas.Nat.{from_be_bytes-to_be_bytes_2}
 use Rattle.std.proofs.lemmas.List.{take_at, drop_at, length-append, length-take, length-drop}
 use Rattle.subsetter_base.specs.Bytes.{IsBytes, be, range, number}
+use Rattle.subsetter_base.proofs.ByteLemmas.{range-middle, be-u16}
 use Rattle.subsetter.specs.declared.name.NameRecord.{NameRecord}
 use Rattle.subsetter.specs.Name.Read.{name_record_of, name_records_in, name_table, bytes_from, name_record_bytes, name_bytes, is_kept_record}
 
@@ -35,16 +36,6 @@ be_two [] h = omega arith
 be_two (a ∷ []) h = let x : a < 256 = h.0 in omega arith
 be_two (a ∷ b ∷ bytes) h = let x : a < 256 = h.0 in let y : b < 256 = h.1.0 in omega arith
 
-pub be_u16 : (n : ℕ) → n < 65536 → be (to_be_bytes w16 n) ≡ n
-be_u16 n lt = omega (arith, from_be_bytes-to_be_bytes_2 n lt)
-
--- a part between two others
-pub part_at : (bytes pre mid post : List ℕ) (at size : ℕ) → bytes ≡ pre ++ (mid ++ post) → at ≡ length pre → size ≡ length mid → range bytes at size ≡ Some mid
-part_at bytes pre mid post at size is a s =
-    let enough : leb (at + size) (length bytes) ≡ true = le-leb _ _ (omega (arith, ap length is, length-append pre (mid ++ post), length-append mid post)) in
-    let there : take size (drop at bytes) ≡ mid = ap (λ (l : List ℕ). take size (drop at l)) is ∙ ap (take size) (drop_at pre (mid ++ post) at (sym a)) ∙ take_at mid post size (sym s) in
-    ap (λ b. cond b (Some (take size (drop at bytes))) None) enough ∙ ap Some there
-
 pub tail_at : (bytes pre post : List ℕ) (at : ℕ) → bytes ≡ pre ++ post → at ≡ length pre → bytes_from bytes at ≡ Some post
 tail_at bytes pre post at is a =
     let enough : leb at (length bytes) ≡ true = le-leb _ _ (omega (arith, ap length is, length-append pre post)) in
@@ -65,13 +56,6 @@ there bytes at size x h = by (leb (at + size) (length bytes)) refl h
         let is : x ≡ take size (drop at bytes) = cc in
         record { within = within; is = is; long = ap length is ∙ omega (arith, length-take size (drop at bytes), length-drop at bytes) }
     by false t k = absurd cc
-
-pub not_there : (bytes : List ℕ) (at size : ℕ) → range bytes at size ≡ None → length bytes < at + size
-not_there bytes at size h = by (leb (at + size) (length bytes)) refl h
-  where
-    by : (b : Bool) → leb (at + size) (length bytes) ≡ b → cond b (Some (take size (drop at bytes))) None ≡ None → length bytes < at + size
-    by true t k = absurd cc
-    by false t k = leb-false _ _ t
 
 -- ---- records
 
@@ -107,7 +91,7 @@ same_record p e l n s o r a b c d f g = rw (a, b, c, d, f, g) refl
 
 record_back : (r : NameRecord) (rest : List ℕ) → FitsRecord r → name_record_of (name_record_bytes r ++ rest) ≡ r
 record_back r rest f =
-    same_record _ _ _ _ _ _ r (be_u16 r.platform_id f.platform) (be_u16 r.encoding_id f.encoding) (be_u16 r.language_id f.language) (be_u16 r.name_id f.name) (be_u16 r.length f.size) (be_u16 r.string_offset f.offset)
+    same_record _ _ _ _ _ _ r (be-u16 r.platform_id f.platform) (be-u16 r.encoding_id f.encoding) (be-u16 r.language_id f.language) (be-u16 r.name_id f.name) (be-u16 r.length f.size) (be-u16 r.string_offset f.offset)
 
 pub records_back : (rs : List NameRecord) → AllByRecursion FitsRecord rs → name_records_in (length rs) (flat_map name_record_bytes rs) ≡ rs
 records_back [] h = refl
@@ -135,10 +119,10 @@ table_back records storage fit few =
     let offset = to_be_bytes w16 (6 + 12 * n) in
     let body = flat_map name_record_bytes records in
     let new = zeros ++ count ++ offset ++ body ++ storage in
-    let version : number new 0 2 ≡ Some 0 = ap (option_map be) (part_at new [] zeros (count ++ offset ++ body ++ storage) 0 2 refl refl refl) in
-    let count_is : number new 2 2 ≡ Some n = ap (option_map be) (part_at new zeros count (offset ++ body ++ storage) 2 2 refl refl refl) ∙ ap Some (be_u16 n (omega arith)) in
-    let offset_is : number new 4 2 ≡ Some (6 + 12 * n) = ap (option_map be) (part_at new (zeros ++ count) offset (body ++ storage) 4 2 refl refl refl) ∙ ap Some (be_u16 (6 + 12 * n) (omega arith)) in
-    let records_are : range new 6 (n * 12) ≡ Some body = part_at new (zeros ++ count ++ offset) body storage 6 (n * 12) refl refl (sym (length-records records)) in
+    let version : number new 0 2 ≡ Some 0 = ap (option_map be) (range-middle new [] zeros (count ++ offset ++ body ++ storage) 0 2 refl refl refl) in
+    let count_is : number new 2 2 ≡ Some n = ap (option_map be) (range-middle new zeros count (offset ++ body ++ storage) 2 2 refl refl refl) ∙ ap Some (be-u16 n (omega arith)) in
+    let offset_is : number new 4 2 ≡ Some (6 + 12 * n) = ap (option_map be) (range-middle new (zeros ++ count) offset (body ++ storage) 4 2 refl refl refl) ∙ ap Some (be-u16 (6 + 12 * n) (omega arith)) in
+    let records_are : range new 6 (n * 12) ≡ Some body = range-middle new (zeros ++ count ++ offset) body storage 6 (n * 12) refl refl (sym (length-records records)) in
     let storage_is : bytes_from new (6 + 12 * n) ≡ Some storage = tail_at new (zeros ++ count ++ offset ++ body) storage (6 + 12 * n) refl (omega (arith, length-records records)) in
     record {
       table = rw (version, count_is, offset_is, records_are, storage_is) (ap (λ (rs : List NameRecord). Some (record { records = rs; storage = storage })) (records_back records fit));

@@ -8,20 +8,17 @@ use Rattle.std.proofs.lemmas.List.{length-map}
 use Rattle.subsetter_base.specs.Bytes.{IsBytes, be, range, number, ◌>>=◌}
 use Rattle.subsetter_base.specs.declared.error.Error.{Error}
 use Rattle.subsetter_base.specs.declared.error.Error.TheVariants.{MalformedFont}
+use Rattle.subsetter_base.proofs.Results.{bind_ok, named_ok}
+use Rattle.subsetter_base.proofs.Options.{bind_some}
+use Rattle.subsetter_base.proofs.ByteLemmas.{number-fits}
 use Rattle.subsetter.specs.declared.name.NameRecord.{NameRecord}
 use Rattle.subsetter.specs.Name.Read.{Name, NameTable, name_records_in, bytes_from, name_parts, name_table, name_records, string_of, name_bytes, is_kept_record, is_kept_name, distinct, string_place}
 use Rattle.subsetter.specs.Name.Plain.{subset_names, name_of_table, new_name, name_of}
 use Rattle.subsetter.specs.Name.Fault.{HasNameFault, kept_strings, name_without_version, name_header_cut, name_records_cut, name_storage_outside, name_string_outside, too_many_names, name_string_too_far}
 use Rattle.subsetter.proofs.NameLaws.Back.{there, all_bytes, fits_kept}
-use Rattle.subsetter.proofs.NameLaws.Kept.{bind_ok, named, found, kept_alike, subsetted, placed_as, fit_table, has_kept_names, read_by_version}
+use Rattle.subsetter.proofs.NameLaws.Kept.{kept_alike, subsetted, placed_as, fit_table, has_kept_names, read_by_version}
 use Rattle.subsetter.proofs.NameLaws.Fault.{names_of, records_are, readable, kept_strings_are, placed_length}
 
-number_there : (bytes : List ℕ) (at size n : ℕ) → number bytes at size ≡ Some n → at + size ≤ length bytes
-number_there bytes at size n h = by (range bytes at size) refl h
-  where
-    by : (o : Option (List ℕ)) → range bytes at size ≡ o → option_map be o ≡ Some n → at + size ≤ length bytes
-    by None e k = absurd cc
-    by (Some x) e k = (there bytes at size x e).within
 
 -- a table that was answered for
 answered : (find : List ℕ → Option (List ℕ)) (bytes : List ℕ) (x : Option (List ℕ)) → find (codes "name") ≡ Some bytes → name_of find ≡ Ok x → (y : List ℕ) × (name_of_table bytes ≡ Ok y)
@@ -34,7 +31,7 @@ versioned : (bytes y : List ℕ) → name_of_table bytes ≡ Ok y → (v : ℕ) 
 unfolding name_of_table
 versioned bytes y h =
     let a = bind_ok (ok_or (number bytes 0 2) MalformedFont) (λ version. cond (eqb version 0) (ok_or (name_parts bytes) MalformedFont >>= λ t. subset_names t >>= λ n. Ok (name_bytes n.records n.storage)) (Ok bytes)) y h in
-    (a.0, named (number bytes 0 2) MalformedFont a.0 a.1)
+    (a.0, named_ok (number bytes 0 2) MalformedFont a.0 a.1)
 
 -- the parts of a table of version 0, which were subset
 pub record Ran (bytes : List ℕ) : Type 0 where
@@ -50,7 +47,7 @@ ran bytes y v h =
     let k : (ok_or (name_parts bytes) MalformedFont >>= λ t. subset_names t >>= λ n. Ok (name_bytes n.records n.storage)) ≡ Ok y = sym (ap (λ (o : Option ℕ). ok_or o MalformedFont >>= λ version. cond (eqb version 0) (ok_or (name_parts bytes) MalformedFont >>= λ t. subset_names t >>= λ n. Ok (name_bytes n.records n.storage)) (Ok bytes)) v) ∙ h in
     let a = bind_ok (ok_or (name_parts bytes) MalformedFont) (λ t. subset_names t >>= λ n. Ok (name_bytes n.records n.storage)) y k in
     let b = bind_ok (subset_names a.0) (λ n. Ok (name_bytes n.records n.storage)) y a.2 in
-    let parts = named (name_parts bytes) MalformedFont a.0 a.1 in
+    let parts = named_ok (name_parts bytes) MalformedFont a.0 a.1 in
     record { t = a.0; n = b.0; parts = parts; table = read_by_version bytes 0 a.0 v refl parts; names = b.1 }
 
 -- records are read of version 0 alone
@@ -84,10 +81,10 @@ storage_there bytes offset x h = by (leb offset (length bytes)) refl h
 
 parts_there : (bytes : List ℕ) (t : NameTable) → name_parts bytes ≡ Some t → PartsThere bytes
 parts_there bytes t h =
-    let a = found (number bytes 2 2) (λ count. option_and_then (λ offset. option_and_then (λ records. option_and_then (λ storage. Some (record { records = name_records_in count records; storage = storage })) (bytes_from bytes offset)) (range bytes 6 (count * 12))) (number bytes 4 2)) t h in
-    let b = found (number bytes 4 2) (λ offset. option_and_then (λ records. option_and_then (λ storage. Some (record { records = name_records_in a.0 records; storage = storage })) (bytes_from bytes offset)) (range bytes 6 (a.0 * 12))) t a.2 in
-    let c = found (range bytes 6 (a.0 * 12)) (λ records. option_and_then (λ storage. Some (record { records = name_records_in a.0 records; storage = storage })) (bytes_from bytes b.0)) t b.2 in
-    let d = found (bytes_from bytes b.0) (λ storage. Some (record { records = name_records_in a.0 c.0; storage = storage })) t c.2 in
+    let a = bind_some (number bytes 2 2) (λ count. option_and_then (λ offset. option_and_then (λ records. option_and_then (λ storage. Some (record { records = name_records_in count records; storage = storage })) (bytes_from bytes offset)) (range bytes 6 (count * 12))) (number bytes 4 2)) t h in
+    let b = bind_some (number bytes 4 2) (λ offset. option_and_then (λ records. option_and_then (λ storage. Some (record { records = name_records_in a.0 records; storage = storage })) (bytes_from bytes offset)) (range bytes 6 (a.0 * 12))) t a.2 in
+    let c = bind_some (range bytes 6 (a.0 * 12)) (λ records. option_and_then (λ storage. Some (record { records = name_records_in a.0 records; storage = storage })) (bytes_from bytes b.0)) t b.2 in
+    let d = bind_some (bytes_from bytes b.0) (λ storage. Some (record { records = name_records_in a.0 c.0; storage = storage })) t c.2 in
     record { count = a.0; offset = b.0; count_is = a.1; offset_is = b.1; records = (there bytes 6 (a.0 * 12) c.0 c.1).within; storage = storage_there bytes b.0 d.0 d.1 }
 
 abbrev some_number : ℕ → Option ℕ
@@ -149,12 +146,12 @@ pub name_clean : (find : List ℕ → Option (List ℕ)) (x : Option (List ℕ))
 name_clean find x e all h (name_without_version bytes is short) =
     let a = answered find bytes x is h in
     let v = versioned bytes a.0 a.1 in
-    omega (arith, short, number_there bytes 0 2 v.0 v.1)
+    omega (arith, short, number-fits bytes 0 2 v.0 v.1)
 name_clean find x e all h (name_header_cut bytes is v short) =
     let a = answered find bytes x is h in
     let r = ran bytes a.0 v a.1 in
     let p = parts_there bytes r.t r.parts in
-    omega (arith, short, number_there bytes 4 2 p.offset p.offset_is)
+    omega (arith, short, number-fits bytes 4 2 p.offset p.offset_is)
 name_clean find x e all h (name_records_cut bytes count is v c short) =
     let a = answered find bytes x is h in
     let r = ran bytes a.0 v a.1 in

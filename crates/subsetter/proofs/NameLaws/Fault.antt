@@ -8,34 +8,14 @@ use Rattle.std.proofs.lemmas.List.{length-map}
 use Rattle.subsetter_base.specs.Bytes.{be, range, number, ◌>>=◌}
 use Rattle.subsetter_base.specs.declared.error.Error.{Error}
 use Rattle.subsetter_base.specs.declared.error.Error.TheVariants.{MalformedFont, SubsetError}
+use Rattle.subsetter_base.proofs.Results.{bind_ok, named_ok, done_is, failed, failed_is, bind_err, named_err}
+use Rattle.subsetter_base.proofs.ByteLemmas.{number-short, range-short}
 use Rattle.subsetter.specs.declared.name.NameRecord.{NameRecord}
 use Rattle.subsetter.specs.Name.Read.{Name, NameTable, name_records_in, bytes_from, name_parts, name_table, name_records, string_of, name_of_record, name_bytes, is_kept_record, is_kept_name, with_string, with_strings, distinct, string_place, joined}
 use Rattle.subsetter.specs.Name.Plain.{Placed, placed, placed_string, with_name, few_names, subset_names, name_of_table, new_name, name_of}
 use Rattle.subsetter.specs.Name.Fault.{HasNameFault, kept_strings, name_without_version, name_header_cut, name_records_cut, name_storage_outside, name_string_outside, too_many_names, name_string_too_far}
-use Rattle.subsetter.proofs.NameLaws.Back.{not_there}
-use Rattle.subsetter.proofs.NameLaws.Kept.{bind_ok, named, ok_is, stored, kept_alike, read_by_version}
+use Rattle.subsetter.proofs.NameLaws.Kept.{stored, kept_alike, read_by_version}
 
-abbrev failed : {X : Type 0} → Error → Result X Error
-failed n = Err n
-
-err_is : {X : Type 0} (d e : Error) → failed {X = X} d ≡ failed {X = X} e → d ≡ e
-err_is d e h = cc
-
--- the step that failed
-bind_err : {A B : Type 0} (r : Result A Error) (f : A → Result B Error) (e : Error) → (r >>= f) ≡ Err e → (r ≡ Err e) ⊎ ((x : A) × (r ≡ Ok x) × (f x ≡ Err e))
-bind_err (Ok x) f e h = inr (x, refl, h)
-bind_err (Err d) f e h = inl (cc)
-
-unnamed : {A : Type 0} (o : Option A) (d e : Error) → ok_or o d ≡ Err e → (o ≡ None) × (d ≡ e)
-unnamed None d e h = (refl, cc)
-unnamed (Some x) d e h = absurd cc
-
-no_number : (bytes : List ℕ) (at size : ℕ) → number bytes at size ≡ None → length bytes < at + size
-no_number bytes at size h = not_there bytes at size (by (range bytes at size) h)
-  where
-    by : (o : Option (List ℕ)) → option_map be o ≡ None → o ≡ None
-    by None k = refl
-    by (Some x) k = absurd cc
 
 -- ---- parts that aren't there
 
@@ -51,12 +31,12 @@ cut_parts find bytes is version h = first (number bytes 2 2) (number bytes 4 2) 
         by false t j = leb-false _ _ t
 
     third : (count offset : ℕ) (o : Option (List ℕ)) → range bytes 6 (count * 12) ≡ o → number bytes 2 2 ≡ Some count → number bytes 4 2 ≡ Some offset → option_and_then {U = NameTable} (λ records. option_and_then {U = NameTable} (λ storage. Some (record { records = name_records_in count records; storage = storage })) (bytes_from bytes offset)) o ≡ None → HasNameFault find MalformedFont
-    third count offset None e c at k = name_records_cut bytes count is version c (not_there bytes 6 (count * 12) e)
+    third count offset None e c at k = name_records_cut bytes count is version c (range-short bytes 6 (count * 12) e)
     third count offset (Some x) e c at k = last count offset x (bytes_from bytes offset) refl at k
 
     first : (o p : Option ℕ) → number bytes 2 2 ≡ o → number bytes 4 2 ≡ p → option_and_then {U = NameTable} (λ count. option_and_then {U = NameTable} (λ offset. option_and_then {U = NameTable} (λ records. option_and_then {U = NameTable} (λ storage. Some (record { records = name_records_in count records; storage = storage })) (bytes_from bytes offset)) (range bytes 6 (count * 12))) p) o ≡ None → HasNameFault find MalformedFont
-    first None p e f k = name_header_cut bytes is version (omega (arith, no_number bytes 2 2 e))
-    first (Some count) None e f k = name_header_cut bytes is version (omega (arith, no_number bytes 4 2 f))
+    first None p e f k = name_header_cut bytes is version (omega (arith, number-short bytes 2 2 e))
+    first (Some count) None e f k = name_header_cut bytes is version (omega (arith, number-short bytes 4 2 f))
     first (Some count) (Some offset) e f k = third count offset (range bytes 6 (count * 12)) refl e f k
 
 -- ---- strings that aren't there, or too far
@@ -85,7 +65,7 @@ not_placed ts s e h = by (ltb (string_place ts s) 65536) refl h
   where
     by : (b : Bool) → ltb (string_place ts s) 65536 ≡ b → cond b (Ok (string_place ts s)) (Err SubsetError) ≡ Err e → (SubsetError ≡ e) × (65535 < string_place ts s)
     by true t k = absurd cc
-    by false t k = (err_is {X = ℕ} SubsetError e k, let far_off : 65536 ≤ string_place ts s = ltb-false _ _ t in omega arith)
+    by false t k = (failed_is {A = ℕ} SubsetError e k, let far_off : 65536 ≤ string_place ts s = ltb-false _ _ t in omega arith)
 
 misplaced : (storage : List ℕ) (seen : List (List ℕ)) (rs : List NameRecord) (e : Error) → placed storage seen rs ≡ Err e → (SubsetError ≡ e) × Misplaced storage seen rs
 misplaced storage seen [] e h = absurd cc
@@ -105,16 +85,16 @@ misplaced storage seen (r ∷ rs) e h = by (string_of storage r) refl h (λ s k.
 
     by : (o : Option (List ℕ)) → string_of storage r ≡ o → (ok_or o SubsetError >>= λ s. placed_string seen s >>= λ at. placed storage (with_string seen s) rs >>= λ p. Ok (with_name r at p)) ≡ Err e
         → ((s : List ℕ) → placed storage (with_string seen s) rs ≡ Err e → (SubsetError ≡ e) × Misplaced storage (with_string seen s) rs) → (SubsetError ≡ e) × Misplaced storage seen (r ∷ rs)
-    by None o k later = (err_is {X = Placed} SubsetError e k, outside r (0, omega arith, refl) o)
+    by None o k later = (failed_is {A = Placed} SubsetError e k, outside r (0, omega arith, refl) o)
     by (Some s) o k later = second s o (later s) (bind_err (placed_string seen s) (λ at. placed storage (with_string seen s) rs >>= λ p. Ok (with_name r at p)) e k)
 
 pub placed_length : (storage : List ℕ) (seen : List (List ℕ)) (rs : List NameRecord) (p : Placed) → placed storage seen rs ≡ Ok p → length p.names ≡ length rs
-placed_length storage seen [] p h = ap (λ (q : Placed). length q.names) (sym (ok_is (record { names = []; strings = seen }) p h))
+placed_length storage seen [] p h = ap (λ (q : Placed). length q.names) (sym (done_is (record { names = []; strings = seen }) p h))
 placed_length storage seen (r ∷ rs) p h =
     let a = bind_ok (ok_or (string_of storage r) SubsetError) (λ s. placed_string seen s >>= λ at. placed storage (with_string seen s) rs >>= λ q. Ok (with_name r at q)) p h in
     let b = bind_ok (placed_string seen a.0) (λ at. placed storage (with_string seen a.0) rs >>= λ q. Ok (with_name r at q)) p a.2 in
     let c = bind_ok (placed storage (with_string seen a.0) rs) (λ q. Ok (with_name r b.0 q)) p b.2 in
-    ap (λ (q : Placed). length q.names) (sym (ok_is (with_name r b.0 c.0) p c.2)) ∙ ap suc (placed_length storage (with_string seen a.0) rs c.0 c.1)
+    ap (λ (q : Placed). length q.names) (sym (done_is (with_name r b.0 c.0) p c.2)) ∙ ap suc (placed_length storage (with_string seen a.0) rs c.0 c.1)
 
 -- ---- as names
 
@@ -153,7 +133,7 @@ subset_refused find bytes t e is read h =
     many p k false b j =
         let more : 5460 < length p.names = leb-false _ _ b in
         let count : length (filter is_kept_name (names_of t)) ≡ length (filter is_kept_record t.records) = ap length (kept_alike t.storage t.records) ∙ length-map (filter is_kept_record t.records) (name_of_record t.storage) in
-        subst (HasNameFault find) (err_is {X = NameTable} SubsetError e j) (too_many_names bytes (names_of t) is (records_are bytes t read) (omega (arith, count, placed_length t.storage [] (filter is_kept_record t.records) p k)))
+        subst (HasNameFault find) (failed_is {A = NameTable} SubsetError e j) (too_many_names bytes (names_of t) is (records_are bytes t read) (omega (arith, count, placed_length t.storage [] (filter is_kept_record t.records) p k)))
 
     by : (placed t.storage [] (filter is_kept_record t.records) ≡ Err e) ⊎ ((p : Placed) × (placed t.storage [] (filter is_kept_record t.records) ≡ Ok p) × (few_names p ≡ Err e)) → HasNameFault find e
     by (inl k) = let m = misplaced t.storage [] (filter is_kept_record t.records) e k in subst (HasNameFault find) m.0 (wrong m.1)
@@ -169,16 +149,16 @@ table_refused find bytes e is h =
     fourth t read (inr k) = absurd cc
 
     third : (version : ℕ) → number bytes 0 2 ≡ Some version → eqb version 0 ≡ true → (ok_or (name_parts bytes) MalformedFont ≡ Err e) ⊎ ((t : NameTable) × (ok_or (name_parts bytes) MalformedFont ≡ Ok t) × ((subset_names t >>= λ n. Ok (name_bytes n.records n.storage)) ≡ Err e)) → HasNameFault find e
-    third version v z (inl k) = let u = unnamed (name_parts bytes) MalformedFont e k in subst (HasNameFault find) u.1 (cut_parts find bytes is (v ∙ ap Some (eqb-true version 0 z)) u.0)
-    third version v z (inr k) = fourth k.0 (read_by_version bytes version k.0 v z (named (name_parts bytes) MalformedFont k.0 k.1)) (bind_err (subset_names k.0) (λ n. Ok (name_bytes n.records n.storage)) e k.2)
+    third version v z (inl k) = let u = named_err (name_parts bytes) MalformedFont e k in subst (HasNameFault find) u.1 (cut_parts find bytes is (v ∙ ap Some (eqb-true version 0 z)) u.0)
+    third version v z (inr k) = fourth k.0 (read_by_version bytes version k.0 v z (named_ok (name_parts bytes) MalformedFont k.0 k.1)) (bind_err (subset_names k.0) (λ n. Ok (name_bytes n.records n.storage)) e k.2)
 
     second : (version : ℕ) → number bytes 0 2 ≡ Some version → (b : Bool) → eqb version 0 ≡ b → cond b (ok_or (name_parts bytes) MalformedFont >>= λ t. subset_names t >>= λ n. Ok (name_bytes n.records n.storage)) (Ok bytes) ≡ Err e → HasNameFault find e
     second version v true z k = third version v z (bind_err (ok_or (name_parts bytes) MalformedFont) (λ t. subset_names t >>= λ n. Ok (name_bytes n.records n.storage)) e k)
     second version v false z k = absurd cc
 
     first : (ok_or (number bytes 0 2) MalformedFont ≡ Err e) ⊎ ((version : ℕ) × (ok_or (number bytes 0 2) MalformedFont ≡ Ok version) × (cond (eqb version 0) (ok_or (name_parts bytes) MalformedFont >>= λ t. subset_names t >>= λ n. Ok (name_bytes n.records n.storage)) (Ok bytes) ≡ Err e)) → HasNameFault find e
-    first (inl k) = let u = unnamed (number bytes 0 2) MalformedFont e k in subst (HasNameFault find) u.1 (name_without_version bytes is (omega (arith, no_number bytes 0 2 u.0)))
-    first (inr k) = second k.0 (named (number bytes 0 2) MalformedFont k.0 k.1) (eqb k.0 0) refl k.2
+    first (inl k) = let u = named_err (number bytes 0 2) MalformedFont e k in subst (HasNameFault find) u.1 (name_without_version bytes is (omega (arith, number-short bytes 0 2 u.0)))
+    first (inr k) = second k.0 (named_ok (number bytes 0 2) MalformedFont k.0 k.1) (eqb k.0 0) refl k.2
 
 pub name_refused : (find : List ℕ → Option (List ℕ)) (e : Error) → name_of find ≡ Err e → HasNameFault find e
 unfolding new_name

@@ -9,31 +9,17 @@ use Rattle.std.proofs.lemmas.List.{append-nil, length-append}
 use Rattle.subsetter_base.specs.Bytes.{IsBytes, range, number, ◌>>=◌}
 use Rattle.subsetter_base.specs.declared.error.Error.{Error}
 use Rattle.subsetter_base.specs.declared.error.Error.TheVariants.{MalformedFont, SubsetError}
+use Rattle.subsetter_base.proofs.Results.{bind_ok, named_ok, done, done_is}
+use Rattle.subsetter_base.proofs.Options.{bind_some}
+use Rattle.subsetter_base.proofs.Lists.{bytes_eq_is, bytes_eq_self}
+use Rattle.subsetter_base.proofs.ByteLemmas.{range-middle}
 use Rattle.subsetter.specs.declared.name.NameRecord.{NameRecord}
 use Rattle.subsetter.specs.Name.Read.{Name, NameTable, name_records_in, bytes_from, name_parts, name_table, name_records, name_storage, string_of, name_of_record, name_bytes, is_kept_record, is_kept_name, among, with_string, with_strings, string_place, joined, HasKeptNames, KeepsNames, rewritten, copied}
 use Rattle.subsetter.specs.Name.Plain.{Placed, placed, placed_string, with_name, few_names, subset_names, name_of_table, new_name, name_of}
-use Rattle.subsetter.proofs.NameLaws.Written.{same_bytes, eq_self, among-append, place_before, place_behind, place_new}
-use Rattle.subsetter.proofs.NameLaws.Back.{AllBytes, all_bytes, all_drop, all_take, part_at, there, FitsRecord, fit_records, fits_kept, table_back}
+use Rattle.subsetter.proofs.NameLaws.Written.{among-append, place_before, place_behind, place_new}
+use Rattle.subsetter.proofs.NameLaws.Back.{AllBytes, all_bytes, all_drop, all_take, there, FitsRecord, fit_records, fits_kept, table_back}
 
 -- ---- steps that answered
-
-pub bind_ok : {A B : Type 0} (r : Result A Error) (f : A → Result B Error) (y : B) → (r >>= f) ≡ Ok y → (x : A) × (r ≡ Ok x) × (f x ≡ Ok y)
-bind_ok (Ok x) f y e = (x, refl, e)
-bind_ok (Err d) f y e = absurd cc
-
-pub named : {A : Type 0} (o : Option A) (e : Error) (x : A) → ok_or o e ≡ Ok x → o ≡ Some x
-named None e x h = absurd cc
-named (Some y) e x h = cc
-
-abbrev pub done : {A : Type 0} → A → Result A Error
-done x = Ok x
-
-pub ok_is : {A : Type 0} (x y : A) → done x ≡ done y → x ≡ y
-ok_is x y e = cc
-
-pub found : {A B : Type 0} (o : Option A) (f : A → Option B) (y : B) → option_and_then f o ≡ Some y → (x : A) × (o ≡ Some x) × (f x ≡ Some y)
-found None f y h = absurd cc
-found (Some x) f y h = (x, refl, h)
 
 -- ---- strings that were placed
 
@@ -53,7 +39,7 @@ there_now ts s = by (among ts s) refl
     by : (b : Bool) → among ts s ≡ b → (among (cond b ts (ts ++ s ∷ [])) s ≡ true) × (string_place (cond b ts (ts ++ s ∷ [])) s ≡ string_place ts s)
     by true t = (t, refl)
     by false t =
-        let self = eq_self s in (
+        let self = bytes_eq_self s in (
           among-append ts (s ∷ []) s ∙ ap (λ b. b || (bytes_eq s s || false)) t ∙ ap (λ b. b || false) self,
           place_behind ts (s ∷ []) s t ∙ ap (λ b. length (joined ts) + cond b 0 (length s + 0)) self ∙ omega (arith, place_new ts s t),
         )
@@ -65,8 +51,8 @@ stored_after (t ∷ ts) more s pre bytes at h is a =
   where
     by : (b : Bool) → bytes_eq s t ≡ b → (b || among ts s) ≡ true → at ≡ length pre + cond b 0 (length t + string_place ts s) → (among ts s ≡ true → at ≡ length (pre ++ t) + string_place ts s → range bytes at (length s) ≡ Some s) → range bytes at (length s) ≡ Some s
     by true e k p later =
-        let same : s ≡ t = same_bytes s t e in
-        part_at bytes pre s (joined (ts ++ more)) at (length s) (is ∙ ap (λ (x : List ℕ). pre ++ (x ++ joined (ts ++ more))) (sym same)) (omega arith) refl
+        let same : s ≡ t = bytes_eq_is s t e in
+        range-middle bytes pre s (joined (ts ++ more)) at (length s) (is ∙ ap (λ (x : List ℕ). pre ++ (x ++ joined (ts ++ more))) (sym same)) (omega arith) refl
     by false e k p later = later k (omega (arith, length-append pre t))
 
 -- what a string's place among the strings before it says of all strings
@@ -98,7 +84,7 @@ near_enough : (ts : List (List ℕ)) (s : List ℕ) (at : ℕ) → placed_string
 near_enough ts s at h = by (ltb (string_place ts s) 65536) refl h
   where
     by : (b : Bool) → ltb (string_place ts s) 65536 ≡ b → cond b (Ok (string_place ts s)) (Err SubsetError) ≡ Ok at → (string_place ts s < 65536) × (string_place ts s ≡ at)
-    by true t k = (ltb-true _ _ t, ok_is (string_place ts s) at k)
+    by true t k = (ltb-true _ _ t, done_is (string_place ts s) at k)
     by false t k = absurd cc
 
 same_name : (storage bytes : List ℕ) (r : NameRecord) (at : ℕ) → range bytes at r.length ≡ string_of storage r → name_of_record bytes (record r { string_offset = at }) ≡ name_of_record storage r
@@ -123,13 +109,13 @@ one_placed storage seen r rs s at q fit h k later =
 
 pub placed_as : (storage : List ℕ) (seen : List (List ℕ)) (rs : List NameRecord) (p : Placed) → AllByRecursion FitsRecord rs → placed storage seen rs ≡ Ok p → PlacedAs storage seen rs p
 placed_as storage seen [] p fit h =
-    subst (λ (q : Placed). PlacedAs storage seen [] q) (ok_is (record { names = []; strings = seen }) p h) (record { strings = []; read = refl; all = refl; same = refl; count = refl; fit = tt; near = tt })
+    subst (λ (q : Placed). PlacedAs storage seen [] q) (done_is (record { names = []; strings = seen }) p h) (record { strings = []; read = refl; all = refl; same = refl; count = refl; fit = tt; near = tt })
 placed_as storage seen (r ∷ rs) p fit h =
     let a = bind_ok (ok_or (string_of storage r) SubsetError) (λ s. placed_string seen s >>= λ at. placed storage (with_string seen s) rs >>= λ q. Ok (with_name r at q)) p h in
     let b = bind_ok (placed_string seen a.0) (λ at. placed storage (with_string seen a.0) rs >>= λ q. Ok (with_name r at q)) p a.2 in
     let c = bind_ok (placed storage (with_string seen a.0) rs) (λ q. Ok (with_name r b.0 q)) p b.2 in
-    subst (λ (q : Placed). PlacedAs storage seen (r ∷ rs) q) (ok_is (with_name r b.0 c.0) p c.2)
-    (one_placed storage seen r rs a.0 b.0 c.0 fit.0 (named (string_of storage r) SubsetError a.0 a.1) b.1 (placed_as storage (with_string seen a.0) rs c.0 fit.1 c.1))
+    subst (λ (q : Placed). PlacedAs storage seen (r ∷ rs) q) (done_is (with_name r b.0 c.0) p c.2)
+    (one_placed storage seen r rs a.0 b.0 c.0 fit.0 (named_ok (string_of storage r) SubsetError a.0 a.1) b.1 (placed_as storage (with_string seen a.0) rs c.0 fit.1 c.1))
 
 -- ---- the whole table
 
@@ -162,17 +148,17 @@ subsetted t n h =
   where
     by : (p : Placed) → placed t.storage [] (filter is_kept_record t.records) ≡ Ok p → (b : Bool) → leb (length p.names) 5460 ≡ b → cond b (Ok (record { records = p.names; storage = joined p.strings })) (Err SubsetError) ≡ Ok n → Subsetted t n
     by p is true e k =
-        let same = ok_is (record { records = p.names; storage = joined p.strings }) n k in
+        let same = done_is (record { records = p.names; storage = joined p.strings }) n k in
         record { p = p; placed_is = is; few = leb-true _ _ e; records = ap (λ (x : NameTable). x.records) (sym same); storage = ap (λ (x : NameTable). x.storage) (sym same) }
     by p is false e k = absurd cc
 
 -- the parts of a table are those of its bytes
 pub fit_table : (source : List ℕ) (t : NameTable) → AllBytes source → name_parts source ≡ Some t → AllByRecursion FitsRecord t.records
 fit_table source t all h =
-    let a = found (number source 2 2) (λ count. option_and_then (λ offset. option_and_then (λ records. option_and_then (λ storage. Some (record { records = name_records_in count records; storage = storage })) (bytes_from source offset)) (range source 6 (count * 12))) (number source 4 2)) t h in
-    let b = found (number source 4 2) (λ offset. option_and_then (λ records. option_and_then (λ storage. Some (record { records = name_records_in a.0 records; storage = storage })) (bytes_from source offset)) (range source 6 (a.0 * 12))) t a.2 in
-    let c = found (range source 6 (a.0 * 12)) (λ records. option_and_then (λ storage. Some (record { records = name_records_in a.0 records; storage = storage })) (bytes_from source b.0)) t b.2 in
-    let d = found (bytes_from source b.0) (λ storage. Some (record { records = name_records_in a.0 c.0; storage = storage })) t c.2 in
+    let a = bind_some (number source 2 2) (λ count. option_and_then (λ offset. option_and_then (λ records. option_and_then (λ storage. Some (record { records = name_records_in count records; storage = storage })) (bytes_from source offset)) (range source 6 (count * 12))) (number source 4 2)) t h in
+    let b = bind_some (number source 4 2) (λ offset. option_and_then (λ records. option_and_then (λ storage. Some (record { records = name_records_in a.0 records; storage = storage })) (bytes_from source offset)) (range source 6 (a.0 * 12))) t a.2 in
+    let c = bind_some (range source 6 (a.0 * 12)) (λ records. option_and_then (λ storage. Some (record { records = name_records_in a.0 records; storage = storage })) (bytes_from source b.0)) t b.2 in
+    let d = bind_some (bytes_from source b.0) (λ storage. Some (record { records = name_records_in a.0 c.0; storage = storage })) t c.2 in
     let is : name_records_in a.0 c.0 ≡ t.records = cc in
     let bytes : AllBytes c.0 = subst AllBytes (sym (there source 6 (a.0 * 12) c.0 c.1).is) (all_take (a.0 * 12) (drop 6 source) (all_drop 6 source all)) in
     subst (λ (l : List NameRecord). AllByRecursion FitsRecord l) is (fit_records a.0 c.0 bytes)
@@ -204,15 +190,15 @@ pub keeps_table : (source new : List ℕ) → IsBytes source → name_of_table s
 unfolding name_of_table
 keeps_table source new bytes h =
     let a = bind_ok (ok_or (number source 0 2) MalformedFont) (λ version. cond (eqb version 0) (ok_or (name_parts source) MalformedFont >>= λ t. subset_names t >>= λ n. Ok (name_bytes n.records n.storage)) (Ok source)) new h in
-    by (eqb a.0 0) a.0 (named (number source 0 2) MalformedFont a.0 a.1) refl a.2
+    by (eqb a.0 0) a.0 (named_ok (number source 0 2) MalformedFont a.0 a.1) refl a.2
   where
     by : (b : Bool) (version : ℕ) → number source 0 2 ≡ Some version → eqb version 0 ≡ b → cond b (ok_or (name_parts source) MalformedFont >>= λ t. subset_names t >>= λ n. Ok (name_bytes n.records n.storage)) (Ok source) ≡ Ok new → KeepsNames source new
     by true version v e k =
         let c = bind_ok (ok_or (name_parts source) MalformedFont) (λ t. subset_names t >>= λ n. Ok (name_bytes n.records n.storage)) new k in
         let d = bind_ok (subset_names c.0) (λ n. Ok (name_bytes n.records n.storage)) new c.2 in
-        let parts = named (name_parts source) MalformedFont c.0 c.1 in
-        subst (λ (l : List ℕ). KeepsNames source l) (ok_is (name_bytes d.0.records d.0.storage) new d.2) (rewritten (has_kept_names source c.0 d.0 (all_bytes source bytes) parts (read_by_version source version c.0 v e parts) d.1))
-    by false version v e k = copied version v (λ z. false≢true (sym e ∙ ap (λ n. eqb n 0) z)) (sym (ok_is source new k))
+        let parts = named_ok (name_parts source) MalformedFont c.0 c.1 in
+        subst (λ (l : List ℕ). KeepsNames source l) (done_is (name_bytes d.0.records d.0.storage) new d.2) (rewritten (has_kept_names source c.0 d.0 (all_bytes source bytes) parts (read_by_version source version c.0 v e parts) d.1))
+    by false version v e k = copied version v (λ z. false≢true (sym e ∙ ap (λ n. eqb n 0) z)) (sym (done_is source new k))
 
 -- a font without the table gets none
 pub name_absent : (find : List ℕ → Option (List ℕ)) → find (codes "name") ≡ None → name_of find ≡ Ok None
@@ -223,4 +209,4 @@ pub name_kept : (find : List ℕ → Option (List ℕ)) (source : List ℕ) (new
 unfolding new_name
 name_kept find source new is bytes h =
     let a = bind_ok (name_of_table source) (λ x. Ok (Some x)) new (sym (ap new_name is) ∙ h) in
-    (a.0, sym (ok_is (Some a.0) new a.2), keeps_table source a.0 bytes a.1)
+    (a.0, sym (done_is (Some a.0) new a.2), keeps_table source a.0 bytes a.1)

@@ -11,6 +11,7 @@ use Rattle.std.proofs.lemmas.List.{append-nil, length-append, length-drop, map-a
 use Rattle.std.proofs.lemmas.Grind.{flat_map-append}
 use Rattle.subsetter_base.specs.Items.{values_of}
 use Rattle.subsetter_base.specs.declared.error.Error.TheVariants.{SubsetError, MalformedFont}
+use Rattle.subsetter_base.proofs.Lists.{five_written, bytes_eq_is, bytes_eq_self}
 use Rattle.subsetter.specs.declared.name.NameRecord.{NameRecord}
 use Rattle.subsetter.specs.Name.Read.{NameTable, name_parts, name_record_of, name_records_in, name_record_bytes, name_bytes, among, string_place, joined}
 use Rattle.subsetter.specs.Name.Plain.{placed_string}
@@ -20,22 +21,13 @@ use Rattle.subsetter.specs.Name.View.{nows}
 pub six : (w a b c d e f w1 w2 w3 w4 w5 w6 : List ℕ) → w1 ≡ w ++ a → w2 ≡ w1 ++ b → w3 ≡ w2 ++ c → w4 ≡ w3 ++ d → w5 ≡ w4 ++ e → w6 ≡ w5 ++ f → w6 ≡ w ++ (a ++ b ++ c ++ d ++ e ++ f)
 six w a b c d e f w1 w2 w3 w4 w5 w6 h1 h2 h3 h4 h5 h6 = rw (h6, h5, h4, h3, h2, h1) (simp append_assoc)
 
-pub five_parts : (w a b c d e w1 w2 w3 w4 w5 : List ℕ) → w1 ≡ w ++ a → w2 ≡ w1 ++ b → w3 ≡ w2 ++ c → w4 ≡ w3 ++ d → w5 ≡ w4 ++ e → w5 ≡ w ++ (a ++ b ++ c ++ d ++ e)
-five_parts w a b c d e w1 w2 w3 w4 w5 h1 h2 h3 h4 h5 = rw (h5, h4, h3, h2, h1) (simp append_assoc)
-
 -- ---- strings among others
-
-pub same_bytes : (a b : List ℕ) → bytes_eq a b ≡ true → a ≡ b
-same_bytes a b e = (bytes_eq-Decides a b).0 e
-
-pub eq_self : (a : List ℕ) → bytes_eq a a ≡ true
-eq_self a = (bytes_eq-Decides a a).1 refl
 
 eq_turned : (a b : List ℕ) (r : Bool) → bytes_eq a b ≡ r → r ≡ false → bytes_eq b a ≡ false
 eq_turned a b r e f = by (bytes_eq b a) refl
   where
     by : (q : Bool) → bytes_eq b a ≡ q → bytes_eq b a ≡ false
-    by true t = absurd (false≢true (sym f ∙ sym e ∙ ap (bytes_eq a) (same_bytes b a t) ∙ eq_self a))
+    by true t = absurd (false≢true (sym f ∙ sym e ∙ ap (bytes_eq a) (bytes_eq_is b a t) ∙ bytes_eq_self a))
     by false t = t
 
 pub among-append : (ts us : List (List ℕ)) (q : List ℕ) → among (ts ++ us) q ≡ (among ts q || among us q)
@@ -78,9 +70,9 @@ places_more ts s q n absent is = by (bytes_eq s q) refl
 
     by : (b : Bool) → bytes_eq s q ≡ b → cond b (Some n) (cond (among ts q) (Some (string_place ts q)) None) ≡ cond (among (ts ++ s ∷ []) q) (Some (string_place (ts ++ s ∷ []) q)) None
     by true t =
-        let e : s ≡ q = same_bytes s q t in
+        let e : s ≡ q = bytes_eq_is s q t in
         let none : among ts q ≡ false = ap (among ts) (sym e) ∙ absent in
-        let self : bytes_eq q s ≡ true = ap (λ x. bytes_eq x s) (sym e) ∙ eq_self s in
+        let self : bytes_eq q s ≡ true = ap (λ x. bytes_eq x s) (sym e) ∙ bytes_eq_self s in
         let there : among (ts ++ s ∷ []) q ≡ true = among-append ts (s ∷ []) q ∙ ap (λ b. b || (bytes_eq q s || false)) none ∙ ap (λ b. b || false) self in
         let at : string_place (ts ++ s ∷ []) q ≡ length (joined ts) = place_behind ts (s ∷ []) q none ∙ ap (λ b. length (joined ts) + cond b 0 (length s + 0)) self ∙ omega arith in
         ap Some (is ∙ sym at) ∙ ap (λ b. cond b (Some (string_place (ts ++ s ∷ []) q)) None) (sym there)
@@ -104,10 +96,6 @@ fits_16 ts s n is lt = ap (λ b. cond b (Ok (string_place ts s)) (Err SubsetErro
 
 pub too_far : (ts : List (List ℕ)) (s : List ℕ) (n : ℕ) → string_place ts s ≡ n → 65535 < n → placed_string ts s ≡ Err SubsetError
 too_far ts s n is lt = ap (λ b. cond b (Ok (string_place ts s)) (Err SubsetError)) (le-ltb _ _ (omega arith))
-
--- one more record was written
-pub one_more_record : (w b rest total after : List ℕ) → after ≡ w ++ b → w ++ (b ++ rest) ≡ total → after ++ rest ≡ total
-one_more_record w b rest total after is so_far = ap (λ (l : List ℕ). l ++ rest) is ∙ append_assoc w b rest ∙ so_far
 
 -- the records that an array of bytes gives
 pub field_of : (x : List ℕ) (k m : ℕ) → 2 ≤ m → take 2 (drop k (take (k + m) x)) ≡ take 2 (drop k x)
@@ -145,7 +133,7 @@ table_written w records storage w1 w2 w3 w4 w5 h1 h2 h3 h4 h5 =
     let n = length records in
     let count : to_be_bytes w16 (n % 65536) ≡ to_be_bytes w16 n = low_16 (n % 65536) n (omega arith) in
     let place : to_be_bytes w16 ((6 + 12 * (n % 65536)) % 65536) ≡ to_be_bytes w16 (6 + 12 * n) = low_16 ((6 + 12 * (n % 65536)) % 65536) (6 + 12 * n) (omega arith) in
-    five_parts w (to_be_bytes w16 0) (to_be_bytes w16 n) (to_be_bytes w16 (6 + 12 * n)) (flat_map name_record_bytes records) storage w1 w2 w3 w4 w5 h1 (h2 ∙ ap (λ (l : List ℕ). w1 ++ l) count) (h3 ∙ ap (λ (l : List ℕ). w2 ++ l) place) h4 h5
+    five_written w (to_be_bytes w16 0) (to_be_bytes w16 n) (to_be_bytes w16 (6 + 12 * n)) (flat_map name_record_bytes records) storage w1 w2 w3 w4 w5 h1 (h2 ∙ ap (λ (l : List ℕ). w1 ++ l) count) (h3 ∙ ap (λ (l : List ℕ). w2 ++ l) place) h4 h5
   where
     low_16 : (a b : ℕ) → a % 65536 ≡ b % 65536 → to_be_bytes w16 a ≡ to_be_bytes w16 b
     low_16 a b e =

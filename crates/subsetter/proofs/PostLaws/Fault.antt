@@ -14,19 +14,15 @@ use Rattle.subsetter_base.specs.Places.{IsWithoutRepeats}
 use Rattle.subsetter_base.specs.declared.error.Error.{Error}
 use Rattle.subsetter_base.specs.declared.error.Error.TheVariants.{MalformedFont, OverflowError}
 use Rattle.subsetter_base.proofs.GlyphLemmas.{IsDistinct-places}
-use Rattle.subsetter_base.proofs.ByteLemmas.{range-fits, range-length, range-take_drop}
+use Rattle.subsetter_base.proofs.ByteLemmas.{range-fits, range-length, range-take_drop, number-short, range-short}
+use Rattle.subsetter_base.proofs.Results.{done_is, failed_is, bind_ok, bind_err, named_ok, named_err}
+use Rattle.subsetter_base.proofs.Options.{some_not_none}
 use Rattle.subsetter.specs.Name.Read.{bytes_from}
 use Rattle.subsetter.specs.Post.Read.{GlyphName, Standard, Custom, PostTable, names_in, post_parts, post_table, glyph_index, name_of_index, glyph_name, post_bytes}
 use Rattle.subsetter.specs.Post.Plain.{indexes_of, custom_count, post_of_indexes, subset_glyph_names, post_of_table, new_post, post_of}
 use Rattle.subsetter.specs.Post.Fault as faults
 use Rattle.subsetter.specs.Post.Fault.{HasOwnName, HasGlyphNameFault}
-use Rattle.subsetter.proofs.HmtxLaws.Written.{bind_ok, bind_err, done_is, failed_is, named_ok, named_err}
-
--- the own names, in order
-abbrev pub customs : List GlyphName → List (List ℕ)
-customs [] = []
-customs (Standard i ∷ ns) = customs ns
-customs (Custom s ∷ ns) = s ∷ customs ns
+use Rattle.subsetter.proofs.PostLaws.Indexes.{customs}
 
 -- as many own names as indexes of them
 customs_by : (names : List (List ℕ)) (i : ℕ) (is : List ℕ) → length (customs (name_of_index names i ∷ map (name_of_index names) is)) ≡ cond (leb 258 i) (1 + length (customs (map (name_of_index names) is))) (length (customs (map (name_of_index names) is)))
@@ -266,20 +262,6 @@ post_tables find order new h = by (find (codes "post")) refl h
 
 -- ---- what is refused has a fault
 
-number_short : (bytes : List ℕ) (at size : ℕ) → number bytes at size ≡ None → length bytes < at + size
-number_short bytes at size h = by (leb (at + size) (length bytes)) refl h
-  where
-    by : (b : Bool) → leb (at + size) (length bytes) ≡ b → option_map be (cond b (Some (take size (drop at bytes))) None) ≡ None → length bytes < at + size
-    by true t k = absurd cc
-    by false t k = leb-false (at + size) (length bytes) t
-
-range_short : (bytes : List ℕ) (at size : ℕ) → range bytes at size ≡ None → length bytes < at + size
-range_short bytes at size h = by (leb (at + size) (length bytes)) refl h
-  where
-    by : (b : Bool) → leb (at + size) (length bytes) ≡ b → cond b (Some (take size (drop at bytes))) None ≡ None → length bytes < at + size
-    by true t k = absurd cc
-    by false t k = leb-false (at + size) (length bytes) t
-
 tail_short : (bytes : List ℕ) (at : ℕ) → bytes_from bytes at ≡ None → length bytes < at
 tail_short bytes at h = by (leb at (length bytes)) refl h
   where
@@ -304,15 +286,15 @@ cut_parts bytes h = header (range bytes 0 32) refl h
     rest header count indexes n (Some x) e k = absurd cc
 
     indexes : (header : List ℕ) (count : ℕ) → number bytes 32 2 ≡ Some count → (o : Option (List ℕ)) → range bytes 34 (count * 2) ≡ o → option_and_then (λ (indexes : List ℕ). option_and_then (λ (names : List ℕ). whole header count indexes names) (bytes_from bytes (34 + count * 2))) o ≡ None → CutPost bytes
-    indexes header count n None e k = cut_indexes count n (range_short bytes 34 (count * 2) e)
+    indexes header count n None e k = cut_indexes count n (range-short bytes 34 (count * 2) e)
     indexes header count n (Some x) e k = rest header count x n (bytes_from bytes (34 + count * 2)) refl k
 
     counted : (header : List ℕ) (o : Option ℕ) → number bytes 32 2 ≡ o → option_and_then (λ count. option_and_then (λ (indexes : List ℕ). option_and_then (λ (names : List ℕ). whole header count indexes names) (bytes_from bytes (34 + count * 2))) (range bytes 34 (count * 2))) o ≡ None → CutPost bytes
-    counted header None e k = cut_count (number_short bytes 32 2 e)
+    counted header None e k = cut_count (number-short bytes 32 2 e)
     counted header (Some count) e k = indexes header count e (range bytes 34 (count * 2)) refl k
 
     header : (o : Option (List ℕ)) → range bytes 0 32 ≡ o → option_and_then (λ (header : List ℕ). option_and_then (λ count. option_and_then (λ (indexes : List ℕ). option_and_then (λ (names : List ℕ). whole header count indexes names) (bytes_from bytes (34 + count * 2))) (range bytes 34 (count * 2))) (number bytes 32 2)) o ≡ None → CutPost bytes
-    header None e k = cut_header (range_short bytes 0 32 e)
+    header None e k = cut_header (range-short bytes 0 32 e)
     header (Some x) e k = counted x (number bytes 32 2) refl k
 
 -- a table of version 2.0 that can't be read
@@ -413,7 +395,7 @@ refused_bytes : (find : List ℕ → Option (List ℕ)) (bytes order : List ℕ)
 unfolding post_of_table
 refused_bytes find bytes order e there once h =
     elim (bind_err (ok_or (number bytes 0 4) MalformedFont) (λ v. cond (eqb v 0x00020000) (ok_or (post_table bytes) MalformedFont >>= λ t. subset_glyph_names t order) (Ok bytes)) e h) [
-      | inl k ↦ let n = named_err (number bytes 0 4) MalformedFont e k in subst (HasGlyphNameFault find (Contains order)) n.1 (faults.short_post bytes there (number_short bytes 0 4 n.0))
+      | inl k ↦ let n = named_err (number bytes 0 4) MalformedFont e k in subst (HasGlyphNameFault find (Contains order)) n.1 (faults.short_post bytes there (number-short bytes 0 4 n.0))
       | inr a ↦ by a.0 (named_ok (number bytes 0 4) MalformedFont a.0 a.1) (eqb a.0 0x00020000) refl a.2
     ]
   where
@@ -436,9 +418,6 @@ post_refused find order e once h = by (find (codes "post")) refl h
 
 apart_numbers : (a b : ℕ) (o : Option ℕ) → o ≡ Some a → o ≡ Some b → a ≡ b
 apart_numbers a b o h k = some_number a b (sym h ∙ k)
-
-never : {A : Type 0} (o : Option A) (x : A) → o ≡ Some x → o ≡ None → ⊥
-never o x h k = let both = sym h ∙ k in cc
 
 version_there : (bytes : List ℕ) (v : ℕ) → number bytes 0 4 ≡ Some v → 4 ≤ length bytes
 version_there bytes v h = by (range bytes 0 4) refl h
@@ -502,12 +481,12 @@ clean_other find bytes order v there is other e f = by e f
     by d (faults.many_own_names x gs h k a b lt) = second_not x h k
 
 none_there : (find : List ℕ → Option (List ℕ)) (reached : ℕ → Type 0) (e : Error) → find (codes "post") ≡ None → HasGlyphNameFault find reached e → ⊥
-none_there find reached e gone (faults.short_post x h lt) = never (find (codes "post")) x h gone
-none_there find reached e gone (faults.short_header x h k lt) = never (find (codes "post")) x h gone
-none_there find reached e gone (faults.count_cut x h k lt) = never (find (codes "post")) x h gone
-none_there find reached e gone (faults.indexes_cut x count h k n lt) = never (find (codes "post")) x h gone
-none_there find reached e gone (faults.no_index x count g h k n c le) = never (find (codes "post")) x h gone
-none_there find reached e gone (faults.many_own_names x gs h k a b lt) = never (find (codes "post")) x h gone
+none_there find reached e gone (faults.short_post x h lt) = some_not_none (find (codes "post")) x h gone
+none_there find reached e gone (faults.short_header x h k lt) = some_not_none (find (codes "post")) x h gone
+none_there find reached e gone (faults.count_cut x h k lt) = some_not_none (find (codes "post")) x h gone
+none_there find reached e gone (faults.indexes_cut x count h k n lt) = some_not_none (find (codes "post")) x h gone
+none_there find reached e gone (faults.no_index x count g h k n c le) = some_not_none (find (codes "post")) x h gone
+none_there find reached e gone (faults.many_own_names x gs h k a b lt) = some_not_none (find (codes "post")) x h gone
 
 pub no_post : (find : List ℕ → Option (List ℕ)) (order : List ℕ) → post_of find order ≡ Ok None → find (codes "post") ≡ None
 unfolding new_post

@@ -8,12 +8,15 @@ use Rattle.std.proofs.lemmas.Bool.{le-leb}
 use Rattle.subsetter_base.specs.Bytes.{◌>>=◌}
 use Rattle.subsetter_base.specs.declared.error.Error.{Error}
 use Rattle.subsetter_base.specs.declared.error.Error.TheVariants.{OverflowError}
-use Rattle.subsetter.specs.Post.Read.{Standard, Custom, PostTable, pascal_strings, names_in, name_of_index, pascal_bytes, index_bytes, entry_bytes, post_bytes}
+use Rattle.subsetter.specs.Post.Read.{GlyphName, Standard, Custom, PostTable, pascal_strings, names_in, name_of_index, pascal_bytes, index_bytes, entry_bytes, post_bytes}
 use Rattle.subsetter.specs.Post.Plain.{custom_count, new_indexes, entry_of, post_of_indexes}
 
--- members in front of a list that is read
-abbrev pub with_front : {A : Type 0} → List A → Result (List A) Error → Result (List A) Error
-with_front front read = read >>= λ xs. Ok (front ++ xs)
+
+-- the own names in order
+abbrev pub customs : List GlyphName → List (List ℕ)
+customs [] = []
+customs (Standard j ∷ ns) = customs ns
+customs (Custom s ∷ ns) = s ∷ customs ns
 
 -- how many names are looked for doesn't matter once there are as many as bytes
 pub enough : (n m : ℕ) (bytes : List ℕ) → length bytes ≤ n → length bytes ≤ m → pascal_strings n bytes ≡ pascal_strings m bytes

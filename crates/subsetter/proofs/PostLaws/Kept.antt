@@ -10,23 +10,19 @@ use Rattle.std.proofs.lemmas.List.Sums.{length-filter}
 use Rattle.subsetter_base.specs.Bytes.{IsBytes, be, range, number, ◌>>=◌}
 use Rattle.subsetter_base.specs.Items.{item}
 use Rattle.subsetter_base.specs.declared.error.Error.TheVariants.{MalformedFont, OverflowError}
+use Rattle.subsetter_base.proofs.Results.{bind_ok, named_ok, done_is}
+use Rattle.subsetter_base.proofs.Options.{bind_some}
+use Rattle.subsetter_base.proofs.ByteLemmas.{range-middle, be-u16}
 use Rattle.subsetter.specs.Name.Read.{bytes_from}
 use Rattle.subsetter.specs.Post.Read.{GlyphName, Standard, Custom, PostTable, pascal_strings, names_in, post_parts, post_table, glyph_index, name_of_index, index_bytes, entry_bytes, post_bytes, HasGlyphNames, KeepsGlyphNames, rewritten, copied}
 use Rattle.subsetter.specs.Post.Plain.{indexes_of, custom_count, post_of_indexes, subset_glyph_names, post_of_table, new_post, post_of}
-use Rattle.subsetter.proofs.NameLaws.Back.{AllBytes, all_bytes, all_drop, be_u16, part_at, tail_at, there}
-use Rattle.subsetter.proofs.NameLaws.Kept.{bind_ok, named, ok_is, found}
-use Rattle.subsetter.proofs.PostLaws.Indexes.{first_name}
+use Rattle.subsetter.proofs.NameLaws.Back.{AllBytes, all_bytes, all_drop, tail_at, there}
+use Rattle.subsetter.proofs.PostLaws.Indexes.{first_name, customs}
 
 -- a standard name is one of 258, and a name of the font's own has at most 255 bytes
 abbrev pub IsNamed : GlyphName → Type 0
 IsNamed (Standard j) = j < 258
 IsNamed (Custom s) = length s < 256
-
--- the own names in order
-abbrev pub customs : List GlyphName → List (List ℕ)
-customs [] = []
-customs (Standard j ∷ ns) = customs ns
-customs (Custom s ∷ ns) = s ∷ customs ns
 
 -- the index that a name gets, of which k own ones came before
 abbrev pub new_index : ℕ → List GlyphName → ℕ → ℕ
@@ -43,8 +39,8 @@ length-index k (Custom s ∷ ns) = omega (arith, length-index (k + 1) ns)
 
 pub index_at : (k : ℕ) (ns : List GlyphName) (i : ℕ) (pre bytes : List ℕ) (at : ℕ) → i < length ns → bytes ≡ pre ++ index_bytes k ns → at ≡ length pre + i * 2 → range bytes at 2 ≡ Some (to_be_bytes w16 (new_index k ns i))
 index_at k [] i pre bytes at lt is a = absurd (omega arith)
-index_at k (Standard j ∷ ns) zero pre bytes at lt is a = part_at bytes pre (to_be_bytes w16 j) (index_bytes k ns) at 2 is (omega arith) refl
-index_at k (Custom s ∷ ns) zero pre bytes at lt is a = part_at bytes pre (to_be_bytes w16 (258 + k)) (index_bytes (k + 1) ns) at 2 is (omega arith) refl
+index_at k (Standard j ∷ ns) zero pre bytes at lt is a = range-middle bytes pre (to_be_bytes w16 j) (index_bytes k ns) at 2 is (omega arith) refl
+index_at k (Custom s ∷ ns) zero pre bytes at lt is a = range-middle bytes pre (to_be_bytes w16 (258 + k)) (index_bytes (k + 1) ns) at 2 is (omega arith) refl
 index_at k (Standard j ∷ ns) (suc i) pre bytes at lt is a =
     index_at k ns i (pre ++ to_be_bytes w16 j) bytes at (omega arith) (is ∙ sym (append_assoc pre (to_be_bytes w16 j) (index_bytes k ns))) (omega (arith, length-append pre (to_be_bytes w16 j)))
 index_at k (Custom s ∷ ns) (suc i) pre bytes at lt is a =
@@ -129,12 +125,12 @@ pub record IndexesAre (t : PostTable) (order is : List ℕ) : Type 0 where
   pub each : (i : ℕ) → i < length order → glyph_index t (get_or order i 0) ≡ Some (get_or is i 0)
 
 pub indexes_are : (t : PostTable) (order is : List ℕ) → indexes_of t order ≡ Ok is → IndexesAre t order is
-indexes_are t [] is h = subst (IndexesAre t []) (ok_is [] is h) (record { count = refl; each = λ i lt. absurd (omega arith) })
+indexes_are t [] is h = subst (IndexesAre t []) (done_is [] is h) (record { count = refl; each = λ i lt. absurd (omega arith) })
 indexes_are t (g ∷ gs) is h =
     let a = bind_ok (ok_or (glyph_index t g) MalformedFont) (λ i. indexes_of t gs >>= λ rest. Ok (i ∷ rest)) is h in
     let b = bind_ok (indexes_of t gs) (λ rest. Ok (a.0 ∷ rest)) is a.2 in
     let later = indexes_are t gs b.0 b.1 in
-    subst (IndexesAre t (g ∷ gs)) (ok_is (a.0 ∷ b.0) is b.2) (record { count = ap suc later.count; each = each_of a.0 b.0 (named (glyph_index t g) MalformedFont a.0 a.1) later.each })
+    subst (IndexesAre t (g ∷ gs)) (done_is (a.0 ∷ b.0) is b.2) (record { count = ap suc later.count; each = each_of a.0 b.0 (named_ok (glyph_index t g) MalformedFont a.0 a.1) later.each })
   where
     each_of : (x : ℕ) (rest : List ℕ) → glyph_index t g ≡ Some x → ((i : ℕ) → i < length gs → glyph_index t (get_or gs i 0) ≡ Some (get_or rest i 0)) → (i : ℕ) → i < length (g ∷ gs) → glyph_index t (get_or (g ∷ gs) i 0) ≡ Some (get_or (x ∷ rest) i 0)
     each_of x rest e later zero lt = e
@@ -174,16 +170,16 @@ post_back header ns long few =
     let indexes = index_bytes 0 ns in
     let names = flat_map entry_bytes ns in
     let new = header ++ count ++ indexes ++ names in
-    let header_is : range new 0 32 ≡ Some header = part_at new [] header (count ++ (indexes ++ names)) 0 32 (by_one header count indexes names) refl (sym long) in
-    let count_is : number new 32 2 ≡ Some n = ap (option_map be) (part_at new header count (indexes ++ names) 32 2 (by_one header count indexes names) (sym long) refl) ∙ ap Some (be_u16 n few) in
+    let header_is : range new 0 32 ≡ Some header = range-middle new [] header (count ++ (indexes ++ names)) 0 32 (by_one header count indexes names) refl (sym long) in
+    let count_is : number new 32 2 ≡ Some n = ap (option_map be) (range-middle new header count (indexes ++ names) 32 2 (by_one header count indexes names) (sym long) refl) ∙ ap Some (be-u16 n few) in
     let front : length (header ++ count) ≡ 34 = omega (arith, length-append header count) in
-    let indexes_there : range new 34 (n * 2) ≡ Some indexes = part_at new (header ++ count) indexes names 34 (n * 2) (by_two header count indexes names) (sym front) (sym (length-index 0 ns)) in
+    let indexes_there : range new 34 (n * 2) ≡ Some indexes = range-middle new (header ++ count) indexes names 34 (n * 2) (by_two header count indexes names) (sym front) (sym (length-index 0 ns)) in
     let names_there : bytes_from new (34 + n * 2) ≡ Some names = tail_at new ((header ++ count) ++ indexes) names (34 + n * 2) (by_three header count indexes names) (omega (arith, front, length-append (header ++ count) indexes, length-index 0 ns)) in
     record {
       header_is = header_is;
       count_is = count_is;
       table = rw (header_is, count_is, indexes_there, names_there) refl;
-      version = ap (option_map be) (part_at new [] (take 4 header) (drop 4 header ++ (count ++ (indexes ++ names))) 0 4 (by_half (take 4 header) (drop 4 header) header count indexes names (sym (take-append-drop 4 header))) refl (omega (arith, length-take 4 header)));
+      version = ap (option_map be) (range-middle new [] (take 4 header) (drop 4 header ++ (count ++ (indexes ++ names))) 0 4 (by_half (take 4 header) (drop 4 header) header count indexes names (sym (take-append-drop 4 header))) refl (omega (arith, length-take 4 header)));
     }
 
 -- the header and the version of a table
@@ -194,10 +190,10 @@ pub record Headed (source : List ℕ) (t : PostTable) : Type 0 where
 
 pub headed : (source : List ℕ) (t : PostTable) → post_parts source ≡ Some t → Headed source t
 headed source t h =
-    let a = found (range source 0 32) (λ header. option_and_then (λ count. option_and_then (λ indexes. option_and_then (λ names. Some (record { header = header; indexes = record { bytes = indexes; count = count }; names_data = names })) (bytes_from source (34 + count * 2))) (range source 34 (count * 2))) (number source 32 2)) t h in
-    let b = found (number source 32 2) (λ count. option_and_then (λ indexes. option_and_then (λ names. Some (record { header = a.0; indexes = record { bytes = indexes; count = count }; names_data = names })) (bytes_from source (34 + count * 2))) (range source 34 (count * 2))) t a.2 in
-    let c = found (range source 34 (b.0 * 2)) (λ indexes. option_and_then (λ names. Some (record { header = a.0; indexes = record { bytes = indexes; count = b.0 }; names_data = names })) (bytes_from source (34 + b.0 * 2))) t b.2 in
-    let d = found (bytes_from source (34 + b.0 * 2)) (λ names. Some (record { header = a.0; indexes = record { bytes = c.0; count = b.0 }; names_data = names })) t c.2 in
+    let a = bind_some (range source 0 32) (λ header. option_and_then (λ count. option_and_then (λ indexes. option_and_then (λ names. Some (record { header = header; indexes = record { bytes = indexes; count = count }; names_data = names })) (bytes_from source (34 + count * 2))) (range source 34 (count * 2))) (number source 32 2)) t h in
+    let b = bind_some (number source 32 2) (λ count. option_and_then (λ indexes. option_and_then (λ names. Some (record { header = a.0; indexes = record { bytes = indexes; count = count }; names_data = names })) (bytes_from source (34 + count * 2))) (range source 34 (count * 2))) t a.2 in
+    let c = bind_some (range source 34 (b.0 * 2)) (λ indexes. option_and_then (λ names. Some (record { header = a.0; indexes = record { bytes = indexes; count = b.0 }; names_data = names })) (bytes_from source (34 + b.0 * 2))) t b.2 in
+    let d = bind_some (bytes_from source (34 + b.0 * 2)) (λ names. Some (record { header = a.0; indexes = record { bytes = c.0; count = b.0 }; names_data = names })) t c.2 in
     let same : a.0 ≡ t.header = cc in
     let w = there source 0 32 a.0 a.1 in
     let four : take 4 t.header ≡ take 4 source = ap (take 4) (sym same ∙ w.is) ∙ take-take 4 32 source (omega arith) in
@@ -211,7 +207,7 @@ post_read source t v h = ap (option_and_then (λ (x : ℕ). cond (eqb x 0x000200
 pub post_unread : (source : List ℕ) (t : PostTable) → post_table source ≡ Some t → (number source 0 4 ≡ Some 0x00020000) × (post_parts source ≡ Some t)
 unfolding post_table
 post_unread source t h =
-    let a = found (number source 0 4) (λ (x : ℕ). cond (eqb x 0x00020000) (post_parts source) None) t h in
+    let a = bind_some (number source 0 4) (λ (x : ℕ). cond (eqb x 0x00020000) (post_parts source) None) t h in
     by a.0 a.1 (eqb a.0 0x00020000) refl a.2
   where
     by : (v : ℕ) → number source 0 4 ≡ Some v → (b : Bool) → eqb v 0x00020000 ≡ b → cond b (post_parts source) None ≡ Some t → (number source 0 4 ≡ Some 0x00020000) × (post_parts source ≡ Some t)
@@ -224,7 +220,7 @@ glyph_back header ns i all few lt =
     let within : ltb i (length ns) ≡ true = lt-ltb _ _ lt in
     let there_is : range (index_bytes 0 ns) (i * 2) 2 ≡ Some (to_be_bytes w16 (new_index 0 ns i)) = index_at 0 ns i [] (index_bytes 0 ns) (i * 2) lt refl (omega arith) in
     let it : item 2 (record { bytes = index_bytes 0 ns; count = length ns }) i ≡ Some (to_be_bytes w16 (new_index 0 ns i)) = ap (λ b. cond b (range (index_bytes 0 ns) (i * 2) 2) None) within ∙ there_is in
-    ap (option_and_then (λ (bytes : List ℕ). Some (be bytes))) it ∙ ap Some (be_u16 (new_index 0 ns i) (index_small 0 ns i all (omega arith)))
+    ap (option_and_then (λ (bytes : List ℕ). Some (be bytes))) it ∙ ap Some (be-u16 (new_index 0 ns i) (index_small 0 ns i all (omega arith)))
 
 pub has_glyph_names : (source order is : List ℕ) (t : PostTable) → AllBytes source → number source 0 4 ≡ Some 0x00020000 → post_parts source ≡ Some t → length order < 65536 → indexes_of t order ≡ Ok is → custom_count is ≤ 65278
     → HasGlyphNames source (post_bytes t.header (map (name_of_index (names_in t.names_data)) is)) order
@@ -256,10 +252,10 @@ has_glyph_names source order is t all v parts few h small =
   where
     names_bytes : (source : List ℕ) (t : PostTable) → AllBytes source → post_parts source ≡ Some t → AllBytes t.names_data
     names_bytes source t all h =
-        let a = found (range source 0 32) (λ header. option_and_then (λ count. option_and_then (λ indexes. option_and_then (λ names. Some (record { header = header; indexes = record { bytes = indexes; count = count }; names_data = names })) (bytes_from source (34 + count * 2))) (range source 34 (count * 2))) (number source 32 2)) t h in
-        let b = found (number source 32 2) (λ count. option_and_then (λ indexes. option_and_then (λ names. Some (record { header = a.0; indexes = record { bytes = indexes; count = count }; names_data = names })) (bytes_from source (34 + count * 2))) (range source 34 (count * 2))) t a.2 in
-        let c = found (range source 34 (b.0 * 2)) (λ indexes. option_and_then (λ names. Some (record { header = a.0; indexes = record { bytes = indexes; count = b.0 }; names_data = names })) (bytes_from source (34 + b.0 * 2))) t b.2 in
-        let d = found (bytes_from source (34 + b.0 * 2)) (λ names. Some (record { header = a.0; indexes = record { bytes = c.0; count = b.0 }; names_data = names })) t c.2 in
+        let a = bind_some (range source 0 32) (λ header. option_and_then (λ count. option_and_then (λ indexes. option_and_then (λ names. Some (record { header = header; indexes = record { bytes = indexes; count = count }; names_data = names })) (bytes_from source (34 + count * 2))) (range source 34 (count * 2))) (number source 32 2)) t h in
+        let b = bind_some (number source 32 2) (λ count. option_and_then (λ indexes. option_and_then (λ names. Some (record { header = a.0; indexes = record { bytes = indexes; count = count }; names_data = names })) (bytes_from source (34 + count * 2))) (range source 34 (count * 2))) t a.2 in
+        let c = bind_some (range source 34 (b.0 * 2)) (λ indexes. option_and_then (λ names. Some (record { header = a.0; indexes = record { bytes = indexes; count = b.0 }; names_data = names })) (bytes_from source (34 + b.0 * 2))) t b.2 in
+        let d = bind_some (bytes_from source (34 + b.0 * 2)) (λ names. Some (record { header = a.0; indexes = record { bytes = c.0; count = b.0 }; names_data = names })) t c.2 in
         let same : d.0 ≡ t.names_data = cc in
         subst AllBytes same (tail_bytes (34 + b.0 * 2) d.0 d.1)
       where
@@ -274,20 +270,20 @@ pub keeps_post : (source new order : List ℕ) → IsBytes source → length ord
 unfolding post_of_table subset_glyph_names post_of_indexes
 keeps_post source new order bytes few h =
     let a = bind_ok (ok_or (number source 0 4) MalformedFont) (λ version. cond (eqb version 0x00020000) (ok_or (post_table source) MalformedFont >>= λ t. indexes_of t order >>= λ is. post_of_indexes t is) (Ok source)) new h in
-    by (eqb a.0 0x00020000) a.0 (named (number source 0 4) MalformedFont a.0 a.1) refl a.2
+    by (eqb a.0 0x00020000) a.0 (named_ok (number source 0 4) MalformedFont a.0 a.1) refl a.2
   where
     written : (t : PostTable) (is : List ℕ) → post_table source ≡ Some t → indexes_of t order ≡ Ok is → (b : Bool) → leb (custom_count is) 65278 ≡ b → cond b (Ok (post_bytes t.header (map (name_of_index (names_in t.names_data)) is))) (Err OverflowError) ≡ Ok new → KeepsGlyphNames source new order
     written t is read k true e j =
         let u = post_unread source t read in
-        subst (λ (l : List ℕ). KeepsGlyphNames source l order) (ok_is (post_bytes t.header (map (name_of_index (names_in t.names_data)) is)) new j) (rewritten u.0 (has_glyph_names source order is t (all_bytes source bytes) u.0 u.1 few k (leb-true _ _ e)))
+        subst (λ (l : List ℕ). KeepsGlyphNames source l order) (done_is (post_bytes t.header (map (name_of_index (names_in t.names_data)) is)) new j) (rewritten u.0 (has_glyph_names source order is t (all_bytes source bytes) u.0 u.1 few k (leb-true _ _ e)))
     written t is read k false e j = absurd cc
 
     by : (b : Bool) (version : ℕ) → number source 0 4 ≡ Some version → eqb version 0x00020000 ≡ b → cond b (ok_or (post_table source) MalformedFont >>= λ t. indexes_of t order >>= λ is. post_of_indexes t is) (Ok source) ≡ Ok new → KeepsGlyphNames source new order
     by true version v e k =
         let c = bind_ok (ok_or (post_table source) MalformedFont) (λ t. indexes_of t order >>= λ is. post_of_indexes t is) new k in
         let d = bind_ok (indexes_of c.0 order) (post_of_indexes c.0) new c.2 in
-        written c.0 d.0 (named (post_table source) MalformedFont c.0 c.1) d.1 (leb (custom_count d.0) 65278) refl d.2
-    by false version v e k = copied version v (λ z. false≢true (sym e ∙ ap (λ n. eqb n 0x00020000) z)) (sym (ok_is source new k))
+        written c.0 d.0 (named_ok (post_table source) MalformedFont c.0 c.1) d.1 (leb (custom_count d.0) 65278) refl d.2
+    by false version v e k = copied version v (λ z. false≢true (sym e ∙ ap (λ n. eqb n 0x00020000) z)) (sym (done_is source new k))
 
 pub post_absent : (find : List ℕ → Option (List ℕ)) (order : List ℕ) → find (codes "post") ≡ None → post_of find order ≡ Ok None
 unfolding new_post
@@ -297,4 +293,4 @@ pub post_kept : (find : List ℕ → Option (List ℕ)) (source order : List ℕ
 unfolding new_post
 post_kept find source order new is bytes few h =
     let a = bind_ok (post_of_table source order) (λ x. Ok (Some x)) new (sym (ap (λ (o : Option (List ℕ)). new_post o order) is) ∙ h) in
-    (a.0, sym (ok_is (Some a.0) new a.2), keeps_post source a.0 order bytes few a.1)
+    (a.0, sym (done_is (Some a.0) new a.2), keeps_post source a.0 order bytes few a.1)

@@ -9,6 +9,7 @@ use Rattle.std.proofs.lemmas.Bool.{le-leb}
 use Rattle.std.proofs.lemmas.Nat.{from_be_bytes-to_be_bytes_2, from_be_bytes-to_be_bytes_4}
 use Rattle.std.proofs.lemmas.List.{append-nil, take_at, drop_at, length-append}
 use Rattle.subsetter_base.specs.Bytes.{be, range, number, aligned}
+use Rattle.subsetter_base.proofs.ByteLemmas.{range-middle, be-u16, be-u32, number_at}
 use Rattle.subsetter.specs.declared.sfnt.face.TableRecord.{TableRecord}
 use Rattle.subsetter.specs.declared.sfnt.face.FontKind.TheVariants.{Single}
 use Rattle.subsetter.specs.Sfnt.Read.{as_font, kind_of, kind_at, header_by_kind, header_place, records_at, records, directory, table, table_in, record_of, directory_records, find_record}
@@ -18,22 +19,6 @@ use Rattle.subsetter.proofs.SfntLaws.Checksum.{checksum_fits}
 use Rattle.subsetter.proofs.SfntLaws.Written.{length-record, length-directory, length-header, length-front, length-adjusted, aligned_len, fitting}
 
 -- ---- numbers and ranges
-
-pub be-u16 : (n : ℕ) → n < 2 ^ 16 → be (to_be_bytes w16 n) ≡ n
-be-u16 n lt = omega (arith, from_be_bytes-to_be_bytes_2 n lt)
-
-pub be-u32 : (n : ℕ) → n < 2 ^ 32 → be (to_be_bytes w32 n) ≡ n
-be-u32 n lt = omega (arith, from_be_bytes-to_be_bytes_4 n lt)
-
--- a part between two others
-pub range_at : (bytes pre mid post : List ℕ) (at size : ℕ) → bytes ≡ pre ++ (mid ++ post) → at ≡ length pre → size ≡ length mid → range bytes at size ≡ Some mid
-range_at bytes pre mid post at size is a s =
-    let enough : leb (at + size) (length bytes) ≡ true = le-leb _ _ (omega (arith, ap length is, length-append pre (mid ++ post), length-append mid post)) in
-    let there : take size (drop at bytes) ≡ mid = ap (λ (l : List ℕ). take size (drop at l)) is ∙ ap (take size) (drop_at pre (mid ++ post) at (sym a)) ∙ take_at mid post size (sym s) in
-    ap (λ b. cond b (Some (take size (drop at bytes))) None) enough ∙ ap Some there
-
-pub number_at : (bytes pre mid post : List ℕ) (at size n : ℕ) → bytes ≡ pre ++ (mid ++ post) → at ≡ length pre → size ≡ length mid → be mid ≡ n → number bytes at size ≡ Some n
-number_at bytes pre mid post at size n is a s v = ap (option_map be) (range_at bytes pre mid post at size is a s) ∙ ap Some v
 
 -- ---- the records of the directory
 
@@ -107,7 +92,7 @@ tables_back pre post word tag (t ∷ ts) bytes all is =
     let rest = body (map (adjusted word) ts) in
     let same : length A.bytes ≡ length t.bytes = length-adjusted word t all.0 in
     let split : bytes ≡ pre ++ (A.bytes ++ (zeros ++ (rest ++ post))) = is ∙ ap (λ (l : List ℕ). pre ++ l) (append_assoc (A.bytes ++ zeros) rest post ∙ append_assoc A.bytes zeros (rest ++ post)) in
-    let here : range bytes (length pre) (length t.bytes) ≡ Some A.bytes = range_at bytes pre A.bytes (zeros ++ (rest ++ post)) (length pre) (length t.bytes) split refl (sym same) in
+    let here : range bytes (length pre) (length t.bytes) ≡ Some A.bytes = range-middle bytes pre A.bytes (zeros ++ (rest ++ post)) (length pre) (length t.bytes) split refl (sym same) in
     let next : length (pre ++ aligned 4 A.bytes) ≡ length pre + length (aligned 4 t.bytes) = length-append pre (aligned 4 A.bytes) ∙ ap (λ (n : ℕ). length pre + n) (aligned_len A.bytes t.bytes same) in
     let beyond : bytes ≡ (pre ++ aligned 4 A.bytes) ++ (rest ++ post) = is ∙ ap (λ (l : List ℕ). pre ++ l) (append_assoc (aligned 4 A.bytes) rest post) ∙ sym (append_assoc pre (aligned 4 A.bytes) (rest ++ post)) in
     let later = ap (λ (n : ℕ). option_and_then (λ e. range bytes e.offset e.length) (find_record tag (records_from n ts))) (sym next) ∙ tables_back (pre ++ aligned 4 A.bytes) post word tag ts bytes all.1 beyond in
@@ -154,7 +139,7 @@ module _ (kind : ℕ) (ts : List Table) (rest : List ℕ) where
       let file = front kind ts ++ rest in
       let n = length ts in
       ap (option_and_then (λ m. range file (0 + 12) (16 * m))) (count_back few)
-      ∙ range_at file (header_bytes kind n) (directory_bytes (12 + 16 * n) ts) rest (0 + 12) (16 * n) parts_two (sym (length-header kind n)) (sym (length-directory (12 + 16 * n) ts all))
+      ∙ range-middle file (header_bytes kind n) (directory_bytes (12 + 16 * n) ts) rest (0 + 12) (16 * n) parts_two (sym (length-header kind n)) (sym (length-directory (12 + 16 * n) ts all))
 
   pub records_back_whole : IsKind kind → length ts < 16 → AllByRecursion IsTable ts → records (as_font (front kind ts ++ rest)) ≡ Some (directory_bytes (12 + 16 * length ts) ts)
   records_back_whole is few all = ap (option_and_then (λ at. records_at (front kind ts ++ rest) at)) (header_back is) ∙ records_at_back few all

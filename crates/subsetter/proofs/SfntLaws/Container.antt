@@ -8,6 +8,8 @@ use Rattle.std.specs.Int.{w16, w32, to_be_bytes}
 use Rattle.std.proofs.lemmas.Bool.{ltb-true, ltb-false, false≢true}
 use Rattle.std.proofs.lemmas.List.{append-nil, take_at, drop_at, length-append, length-replicate, length-take}
 use Rattle.subsetter_base.specs.Bytes.{be, number, aligned}
+use Rattle.subsetter_base.proofs.ByteLemmas.{range-middle, be-u16, be-u32, number_at}
+use Rattle.subsetter_base.proofs.Lists.{bytes_eq_is}
 use Rattle.subsetter.specs.declared.sfnt.face.TableRecord.{TableRecord}
 use Rattle.subsetter.specs.Sfnt.Read.{as_font, table}
 use Rattle.subsetter.specs.Sfnt.Checksum.{checksum}
@@ -16,8 +18,8 @@ use Rattle.subsetter.specs.Sfnt.Written.{Table, selector, body, front, with_adju
 use Rattle.subsetter.specs.Sfnt.View.{lookup, tags}
 use Rattle.subsetter.proofs.SfntLaws.Checksum.{checksum-append, checksum-body, checksum_fits}
 use Rattle.subsetter.proofs.SfntLaws.Written.{length-front, length-adjusted, aligned_len, adjusted_head, adjusted_other}
-use Rattle.subsetter.proofs.SfntLaws.Lookups.{same_bytes, apart_by}
-use Rattle.subsetter.proofs.SfntLaws.Back.{IsKind, be-u16, be-u32, range_at, number_at, record_at, records_from, find_table, same_tag, parts, kind_back, count_back, directory_back, word_of, table_back}
+use Rattle.subsetter.proofs.SfntLaws.Lookups.{apart_by}
+use Rattle.subsetter.proofs.SfntLaws.Back.{IsKind, record_at, records_from, find_table, same_tag, parts, kind_back, count_back, directory_back, word_of, table_back}
 
 which : (b : Bool) → (b ≡ true) ⊎ (b ≡ false)
 which true = inl refl
@@ -68,7 +70,7 @@ no_head w low (t ∷ ts) lt up =
 
 sum_at_head : (w : ℕ) (t : Table) (ts : List Table) → w < 2 ^ 32 → IsTable t → AscendFrom (be t.tag + 1) (tags ts) → bytes_eq t.tag (codes "head") ≡ true → checksum (body (map (adjusted w) (t ∷ ts))) ≡ (checksum (body (t ∷ ts)) + w) % 2 ^ 32
 sum_at_head w t ts lt is up h =
-    let above : be (codes "head") < be t.tag + 1 = omega (arith, ap be (same_bytes t.tag (codes "head") h)) in
+    let above : be (codes "head") < be t.tag + 1 = omega (arith, ap be (bytes_eq_is t.tag (codes "head") h)) in
     let rest : checksum (body (map (adjusted w) ts)) ≡ checksum (body ts) = ap (λ (l : List Table). checksum (body l)) (no_head w (be t.tag + 1) ts above up) in
     let room = is.room h in
     let here : checksum (adjusted w t).bytes ≡ (checksum t.bytes + w) % 2 ^ 32 = ap checksum (adjusted_head w t h) ∙ checksum_adjusted w t.bytes room.0 room.1 lt in
@@ -137,8 +139,8 @@ names_from pre w (t ∷ ts) bytes at all is place =
       record {
         place = refl;
         bytes = A.bytes;
-        there = range_at bytes pre A.bytes (zeros ++ rest) at (length t.bytes) split place (sym same);
-        zeros_after = range_at bytes pre (aligned 4 A.bytes) rest at (length (aligned 4 A.bytes)) is place refl;
+        there = range-middle bytes pre A.bytes (zeros ++ rest) at (length t.bytes) split place (sym same);
+        zeros_after = range-middle bytes pre (aligned 4 A.bytes) rest at (length (aligned 4 A.bytes)) is place refl;
         sum = summed_back w at t all.0;
       },
       subst (λ k. NameTablesFrom bytes (at + k) (records_from (at + length (aligned 4 t.bytes)) ts)) (sym size) others,
@@ -231,7 +233,7 @@ abbrev pub with_word : ℕ → List ℕ → Option (List ℕ) → Option (List �
 with_word w tag o = cond (bytes_eq tag (codes "head")) (option_map (with_adjustment w) o) o
 
 word_here : (w : ℕ) (tag : List ℕ) (t : Table) → bytes_eq t.tag tag ≡ true → Some (adjusted w t).bytes ≡ with_word w tag (Some t.bytes)
-word_here w tag t h = subst (λ (x : List ℕ). Some (adjusted w t).bytes ≡ with_word w x (Some t.bytes)) (same_bytes t.tag tag h) (by (bytes_eq t.tag (codes "head")))
+word_here w tag t h = subst (λ (x : List ℕ). Some (adjusted w t).bytes ≡ with_word w x (Some t.bytes)) (bytes_eq_is t.tag tag h) (by (bytes_eq t.tag (codes "head")))
   where
     by : (b : Bool) → Some (cond b (record { tag = t.tag; bytes = with_adjustment w t.bytes }) t).bytes ≡ cond b (Some (with_adjustment w t.bytes)) (Some t.bytes)
     by true = refl

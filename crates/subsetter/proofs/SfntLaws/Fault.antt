@@ -6,6 +6,8 @@ use Rattle.std.proofs.lemmas.Bool.{leb-true}
 use Rattle.subsetter_base.specs.Bytes.{◌>>=◌}
 use Rattle.subsetter_base.specs.declared.error.Error.{Error}
 use Rattle.subsetter_base.specs.declared.error.Error.TheVariants.{UnknownKind, MalformedFont, Unimplemented}
+use Rattle.subsetter_base.proofs.Results.{failed, failed_is, done, done_is, ok_not_err}
+use Rattle.subsetter_base.proofs.Options.{some_not_none}
 use Rattle.subsetter.specs.declared.sfnt.face.FontKind.{FontKind}
 use Rattle.subsetter.specs.declared.sfnt.face.FontKind.TheVariants.{Collection, Single}
 use Rattle.subsetter.specs.declared.sfnt.flavor.FontFlavor.{FontFlavor}
@@ -14,23 +16,6 @@ use Rattle.subsetter.specs.Sfnt.Read.{Font, kind_at, collection_entry, if_single
 use Rattle.subsetter.specs.Sfnt.Plain.{opened_by_kind, opened_header, opened, flavored}
 use Rattle.subsetter.specs.Sfnt.Fault.{HasOpeningFault, no_kind, no_entry, entry_outside, no_face, nested, cut_directory, no_outlines, lone_cff2}
 
-abbrev failed : {X : Type 0} → Error → Result X Error
-failed n = Err n
-
-err_is : {X : Type 0} (d e : Error) → failed {X = X} d ≡ failed {X = X} e → d ≡ e
-err_is d e h = cc
-
-abbrev done : {X : Type 0} → X → Result X Error
-done x = Ok x
-
-ok_is : {X : Type 0} (x y : X) → done x ≡ done y → x ≡ y
-ok_is x y h = cc
-
-never : {X : Type 0} (r : Result X Error) (x : X) (e : Error) → r ≡ Ok x → r ≡ Err e → ⊥
-never r x e h k = let both = sym h ∙ k in cc
-
-apart : {X : Type 0} (o : Option X) (x : X) → o ≡ Some x → o ≡ None → ⊥
-apart o x h k = let both = sym h ∙ k in cc
 
 -- ---- the header
 
@@ -82,12 +67,12 @@ unfolding opened
 opening_case font = in_header font (opened_header font) (header_case font)
 
 by_case : (font : Font) (r : Result (List ℕ) Error) (e : Error) → OpeningCase font r → r ≡ Err e → HasOpeningFault font e
-by_case font r e (inl c) h = subst (HasOpeningFault font) (err_is {X = List ℕ} c.0 e (sym c.1 ∙ h)) c.2
-by_case font r e (inr c) h = absurd (never {X = List ℕ} r c.0 e c.1 h)
+by_case font r e (inl c) h = subst (HasOpeningFault font) (failed_is {A = List ℕ} c.0 e (sym c.1 ∙ h)) c.2
+by_case font r e (inr c) h = absurd (ok_not_err {A = List ℕ} r c.0 e c.1 h)
 
 by_records : (font : Font) (r : Result (List ℕ) Error) (d : List ℕ) → OpeningCase font r → r ≡ Ok d → records font ≡ Some d
-by_records font r d (inl c) h = absurd (never {X = List ℕ} r d c.0 h c.1)
-by_records font r d (inr c) h = c.2 ∙ ap (λ (x : List ℕ). Some x) (ok_is {X = List ℕ} c.0 d (sym c.1 ∙ h))
+by_records font r d (inl c) h = absurd (ok_not_err {A = List ℕ} r d c.0 h c.1)
+by_records font r d (inr c) h = c.2 ∙ ap (λ (x : List ℕ). Some x) (done_is {A = List ℕ} c.0 d (sym c.1 ∙ h))
 
 -- a font that isn't opened has a fault of that name
 pub opened_refused : (font : Font) (e : Error) → opened font ≡ Err e → HasOpeningFault font e
@@ -107,8 +92,8 @@ in_tables : (font : Font) (o1 o2 o3 : Option (List ℕ)) (e : Error) → IsSome 
     → cond (is_some o1) (Ok TrueType) (cond (is_some o2) (Ok Cff) (cond (is_some o3) (Err Unimplemented) (Err UnknownKind))) ≡ Err e → HasOpeningFault font e
 in_tables font (Some a) o2 o3 e r h1 h2 h3 h = absurd cc
 in_tables font None (Some b) o3 e r h1 h2 h3 h = absurd cc
-in_tables font None None (Some c) e r h1 h2 h3 h = subst (HasOpeningFault font) (err_is {X = FontFlavor} Unimplemented e h) (lone_cff2 h1 h2 (rw h3 refl))
-in_tables font None None None e r h1 h2 h3 h = subst (HasOpeningFault font) (err_is {X = FontFlavor} UnknownKind e h) (no_outlines r h1 h2 h3)
+in_tables font None None (Some c) e r h1 h2 h3 h = subst (HasOpeningFault font) (failed_is {A = FontFlavor} Unimplemented e h) (lone_cff2 h1 h2 (rw h3 refl))
+in_tables font None None None e r h1 h2 h3 h = subst (HasOpeningFault font) (failed_is {A = FontFlavor} UnknownKind e h) (no_outlines r h1 h2 h3)
 
 -- a font without outlines that are taken has a fault of that name
 pub flavored_refused : (font : Font) (d : List ℕ) (e : Error) → opened font ≡ Ok d → flavored (table_in font.bytes d) ≡ Err e → HasOpeningFault font e
@@ -142,7 +127,7 @@ no_header font k (inl c) = rw (k, c) refl
 no_header font k (inr c) = no_face_at font c.0 k c.1 c.2
 
 unread : (font : Font) (d : List ℕ) → opened font ≡ Ok d → header_place font ≡ None → ⊥
-unread font d o h = apart (records font) d (opened_records font d o) (ap (option_and_then (λ k. records_at font.bytes k)) h)
+unread font d o h = some_not_none (records font) d (opened_records font d o) (ap (option_and_then (λ k. records_at font.bytes k)) h)
 
 -- what is answered without `glyf` and `CFF `
 abbrev failed_or : Option (List ℕ) → Result FontFlavor Error
@@ -166,6 +151,6 @@ opened_clean font d f e o h (no_entry k c) = unread font d o (no_header font k (
 opened_clean font d f e o h (entry_outside at k c far) = unread font d o (no_header font k (inr (at, c, inl (past_end font.bytes at far))))
 opened_clean font d f e o h (no_face at k c w) = unread font d o (no_header font k (inr (at, c, inl w)))
 opened_clean font d f e o h (nested at k c w) = unread font d o (no_header font k (inr (at, c, inr w)))
-opened_clean font d f e o h (cut_directory at p r) = apart (records font) d (opened_records font d o) (ap (option_and_then (λ k. records_at font.bytes k)) p ∙ r)
+opened_clean font d f e o h (cut_directory at p r) = some_not_none (records font) d (opened_records font d o) (ap (option_and_then (λ k. records_at font.bytes k)) p ∙ r)
 opened_clean font d f e o h (no_outlines r g c c2) = taken font d f o h g c
 opened_clean font d f e o h (lone_cff2 g c c2) = taken font d f o h g c

@@ -6,28 +6,24 @@ use Rattle.std.specs.Str.{bytes_eq}
 use Rattle.std.proofs.lemmas.Bool.{false≢true}
 use Rattle.std.proofs.lemmas.Slice.Eq.{bytes_eq-Decides}
 use Rattle.subsetter_base.specs.Bytes.{be}
+use Rattle.subsetter_base.proofs.Lists.{bytes_eq_is, bytes_eq_self}
 use Rattle.subsetter.specs.Sfnt.Container.{AscendFrom}
 use Rattle.subsetter.specs.Sfnt.Written.{Table, IsTable}
 use Rattle.subsetter.specs.Sfnt.View.{opt, lookup, tags}
 
-pub same_bytes : (a b : List ℕ) → bytes_eq a b ≡ true → a ≡ b
-same_bytes a b h = (bytes_eq-Decides a b).0 h
-
-pub itself : (a : List ℕ) → bytes_eq a a ≡ true
-itself a = (bytes_eq-Decides a a).1 refl
 
 -- tags of different numbers are different
 pub apart_by : (a b : List ℕ) → be a < be b → bytes_eq b a ≡ false
 apart_by a b lt = by (bytes_eq b a) refl
   where
     by : (q : Bool) → bytes_eq b a ≡ q → bytes_eq b a ≡ false
-    by true h = absurd (omega (arith, ap be (same_bytes b a h)))
+    by true h = absurd (omega (arith, ap be (bytes_eq_is b a h)))
     by false h = h
 
 -- ---- looking up
 
 pub lookup_here : (tag bytes : List ℕ) (rest : List Table) → lookup tag (record { tag = tag; bytes = bytes } ∷ rest) ≡ Some bytes
-lookup_here tag bytes rest = rw (itself tag) refl
+lookup_here tag bytes rest = rw (bytes_eq_self tag) refl
 
 pub lookup_other : (tag other bytes : List ℕ) (rest : List Table) → bytes_eq other tag ≡ false → lookup tag (record { tag = other; bytes = bytes } ∷ rest) ≡ lookup tag rest
 lookup_other tag other bytes rest h = rw h refl

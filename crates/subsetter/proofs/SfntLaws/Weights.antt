@@ -4,6 +4,7 @@ use Rattle.std.specs.Prelude.{sum, replicate}
 use Rattle.std.proofs.lemmas.List.{drop_more, length-take, length-drop, drop_all, take_all, take-append-drop}
 use Rattle.std.proofs.lemmas.List.Sums.{sum_by-cons}
 use Rattle.subsetter_base.specs.Bytes.{be, aligned}
+use Rattle.subsetter_base.proofs.Lists.{rest_of}
 use Rattle.subsetter.specs.Sfnt.Checksum.{words, checksum}
 use Rattle.subsetter.specs.Sfnt.Weights.{weighed}
 use Rattle.subsetter.specs.Glyf.Unfold.{padded}
@@ -51,16 +52,12 @@ pub checksum-weighed : (bs : List ℕ) → checksum bs ≡ weighed 0 bs % 2 ^ 32
 unfolding checksum
 checksum-weighed bs = ap (λ (k : ℕ). k % 2 ^ 32) (weighed_words bs)
 
--- the rest of a list
-pub rest_is : (n : ℕ) (bs : List ℕ) → take (length bs - n) (drop n bs) ≡ drop n bs
-rest_is n bs = take_all (length bs - n) (drop n bs) (omega (arith, length-drop n bs))
-
 pub weighed_four : (bs : List ℕ) → 4 ≤ length bs → weighed 0 bs ≡ get_or bs 0 0 * 16777216 + get_or bs 1 0 * 65536 + get_or bs 2 0 * 256 + get_or bs 3 0 + weighed 0 (take (length bs - 4) (drop 4 bs))
 weighed_four [] le = absurd (omega arith)
 weighed_four (a ∷ []) le = absurd (omega arith)
 weighed_four (a ∷ b ∷ []) le = absurd (omega arith)
 weighed_four (a ∷ b ∷ c ∷ []) le = absurd (omega arith)
-weighed_four (a ∷ b ∷ c ∷ d ∷ bs) le = omega (arith, weighed-mod 4 0 bs refl, ap (weighed 0) (rest_is 4 (a ∷ b ∷ c ∷ d ∷ bs)))
+weighed_four (a ∷ b ∷ c ∷ d ∷ bs) le = omega (arith, weighed-mod 4 0 bs refl, ap (weighed 0) (rest_of 4 (a ∷ b ∷ c ∷ d ∷ bs)))
 
 -- the bytes up to a multiple of four, and the words from there on
 pub weighed_split : (at n : ℕ) (bs : List ℕ) → n ≤ length bs → ((at + n) % 4 ≡ 0) ⊎ (n ≡ length bs) → weighed at bs ≡ weighed at (take n bs) + weighed 0 (take (length bs - n) (drop n bs))
@@ -68,7 +65,7 @@ weighed_split at n bs le whole =
     let len : length (take n bs) ≡ n = omega (arith, length-take n bs) in
     let parts = ap (weighed at) (sym (take-append-drop n bs)) ∙ weighed-append at (take n bs) (drop n bs) ∙ ap (λ (k : ℕ). weighed at (take n bs) + weighed (at + k) (drop n bs)) len in
     parts ∙ ap (λ (k : ℕ). weighed at (take n bs) + k) (elim whole [ inl h ↦ weighed-mod (at + n) 0 (drop n bs) h | inr h ↦ ap (weighed (at + n)) (none h) ∙ sym (ap (weighed 0) (none h)) ])
-    ∙ ap (λ (l : List ℕ). weighed at (take n bs) + weighed 0 l) (sym (rest_is n bs))
+    ∙ ap (λ (l : List ℕ). weighed at (take n bs) + weighed 0 l) (sym (rest_of n bs))
   where
     none : n ≡ length bs → drop n bs ≡ []
     none h = drop_all n bs (omega arith)

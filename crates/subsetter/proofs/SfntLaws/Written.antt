@@ -7,6 +7,7 @@ use Rattle.std.specs.Int.{w32, to_be_bytes}
 use Rattle.std.proofs.lemmas.Bool.{ltb-true}
 use Rattle.std.proofs.lemmas.List.{take_at, drop_at, drop-drop, length-append, length-replicate, length-take, length-drop, take-append-drop}
 use Rattle.subsetter_base.specs.Bytes.{aligned}
+use Rattle.subsetter_base.proofs.Lists.{and_parts}
 use Rattle.subsetter.specs.Sfnt.Checksum.{checksum}
 use Rattle.subsetter.specs.Sfnt.Written.{Table, header_bytes, record_bytes, directory_bytes, body, front, with_adjustment, adjusted, adjustment, file, fits, start_of, IsTable}
 
@@ -66,10 +67,6 @@ length-file kind ts all =
 
 -- ---- places that fit
 
-and_parts : (a b : Bool) → (a && b) ≡ true → (a ≡ true) × (b ≡ true)
-and_parts true b h = (refl, h)
-and_parts false b h = absurd cc
-
 pub record Fitting (at : ℕ) (t : Table) (ts : List Table) : Type 0 where
   pub place : at < 2 ^ 32
   pub len : length t.bytes < 2 ^ 32
@@ -98,14 +95,6 @@ at_index P f (y ∷ ys) (suc i) x all lt is = at_index P f ys i x all.1 (omega a
 -- a write of bytes that are known
 pub one_write : (w x a after : List ℕ) → after ≡ w ++ x → x ≡ a → after ≡ w ++ a
 one_write w x a after h is = h ∙ ap (λ (l : List ℕ). w ++ l) is
-
--- five writes in turn
-pub five : (w a b c d e w1 w2 w3 w4 w5 : List ℕ) → w1 ≡ w ++ a → w2 ≡ w1 ++ b → w3 ≡ w2 ++ c → w4 ≡ w3 ++ d → w5 ≡ w4 ++ e → w5 ≡ w ++ (a ++ b ++ c ++ d ++ e)
-five w a b c d e w1 w2 w3 w4 w5 h1 h2 h3 h4 h5 = rw (h5, h4, h3, h2, h1) (simp append_assoc)
-
--- one more record
-pub record_written : (w r rest total after : List ℕ) → after ≡ w ++ r → w ++ (r ++ rest) ≡ total → after ++ rest ≡ total
-record_written w r rest total after is so_far = ap (λ (l : List ℕ). l ++ rest) is ∙ append_assoc w r rest ∙ so_far
 
 -- ---- the adjustment
 

@@ -6,6 +6,7 @@ use Rattle.std.proofs.lemmas.Bool.{ltb-true, ltb-false}
 use Rattle.subsetter_base.specs.Bytes.{◌>>=◌, IsBytes}
 use Rattle.subsetter_base.specs.declared.error.Error.{Error}
 use Rattle.subsetter_base.specs.declared.error.Error.TheVariants.{MalformedFont, OverflowError, OutOfMemory}
+use Rattle.subsetter_base.proofs.Results.{named_ok, done_is, failed_is, bind_err}
 use Rattle.subsetter.specs.declared.sfnt.flavor.FontFlavor.TheVariants.{TrueType, Cff}
 use Rattle.subsetter.specs.Truetype.Answered.{IsAnswered, IsRefused, no_memory, unread, unclosed, unmade, unlaid}
 use Rattle.subsetter.specs.Fault as faults
@@ -28,10 +29,8 @@ use Rattle.subsetter.specs.Glyf.Plain.{kept_all, head_kept}
 use Rattle.subsetter.specs.Glyf.Reach.{IsReachable, IsGlyphOrder}
 use Rattle.subsetter.specs.Glyf.Written.{is_long, glyf_bytes, loca_bytes, head_bytes}
 use Rattle.subsetter.proofs.PostLaws.Fault.{post_refused, post_clean}
-use Rattle.subsetter.proofs.GlyfLaws.Kept.{named}
 use Rattle.subsetter.proofs.MaxpLaws.Kept.{maxp_refused, maxp_clean}
 use Rattle.subsetter.proofs.HmtxLaws.Kept.{metrics_refused, metrics_clean}
-use Rattle.subsetter.proofs.HmtxLaws.Written.{bind_err, done_is, failed_is}
 use Rattle.subsetter.proofs.NameLaws.Clean.{name_clean}
 use Rattle.subsetter.proofs.NameLaws.Fault.{name_refused}
 use Rattle.subsetter.proofs.GlyfLaws.Fault.{has_tables, tables_refused, closure_refused, outlines_refused, order_in, no_outline_fault}
@@ -142,15 +141,15 @@ pub has_fault : (font : Font) (glyphs : List ℕ) (e : Error) → IsSome (table 
 has_fault font glyphs e there no_memory = inl refl
 has_fault font glyphs e there (unread h) = inr ([], faults.in_outlines (tables_refused font glyphs e there h))
 has_fault font glyphs e there (unclosed t h stops) =
-    elim (closure_refused font glyphs t e (named (outlines font) MalformedFont t h) stops) [
+    elim (closure_refused font glyphs t e (named_ok (outlines font) MalformedFont t h) stops) [
       | inl m ↦ inl m
       | inr f ↦ inr ([], faults.in_outlines f)
     ]
 has_fault font glyphs e there (unmade t order h o k) =
-    let read = named (outlines font) MalformedFont t h in
+    let read = named_ok (outlines font) MalformedFont t h in
     inr (order, tables_not_made font glyphs order t read (order_in font glyphs order t read o) e k)
 has_fault font glyphs e there (unlaid t order ts h o k l) =
-    let read = named (outlines font) MalformedFont t h in
+    let read = named_ok (outlines font) MalformedFont t h in
     inr (order, not_laid_out font glyphs order t read (order_in font glyphs order t read o) ts e k l)
 
 -- ---- where a file is answered
@@ -171,7 +170,7 @@ same_outlines t u h = cc
 
 module _ (font : Font) (glyphs out : List ℕ) (bytes : IsBytes font.bytes) (there : IsSome (table font (codes "glyf"))) (opening : (e : Error) → HasOpeningFault font e → ⊥) (a : IsAnswered (table font) glyphs out) where
   read : outlines font ≡ Some a.source
-  read = named (outlines font) MalformedFont a.source a.read
+  read = named_ok (outlines font) MalformedFont a.source a.read
 
   closed : IsGlyphOrder font glyphs a.order
   closed = order_in font glyphs a.order a.source read a.is_order

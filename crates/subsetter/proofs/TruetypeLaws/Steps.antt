@@ -5,6 +5,8 @@ use Rattle.std.proofs.lemmas.Bool.{ltb-true, ltb-false}
 use Rattle.subsetter_base.specs.Bytes.{◌>>=◌}
 use Rattle.subsetter_base.specs.declared.error.Error.{Error}
 use Rattle.subsetter_base.specs.declared.error.Error.TheVariants.{MalformedFont, OverflowError}
+use Rattle.subsetter_base.proofs.Results.{done_is, bind_ok}
+use Rattle.subsetter_base.proofs.Options.{present, present_is}
 use Rattle.subsetter.specs.declared.sfnt.flavor.FontFlavor.{FontFlavor}
 use Rattle.subsetter.specs.declared.sfnt.flavor.FontFlavor.TheVariants.{TrueType}
 use Rattle.subsetter.specs.Glyf.Read.{Outlines}
@@ -17,7 +19,6 @@ use Rattle.subsetter.specs.Truetype.Plain.{Made, located, made_of, laid, truetyp
 use Rattle.subsetter.specs.Sfnt.PlainFile.{file_of}
 use Rattle.subsetter.specs.Glyf.Plain.{kept_all, head_kept}
 use Rattle.subsetter.specs.Glyf.Written.{is_long, glyf_bytes, loca_bytes, head_bytes}
-use Rattle.subsetter.proofs.HmtxLaws.Written.{bind_ok, done_is}
 
 -- a test that was passed
 chosen : {A : Type 0} (b : Bool) (x y : A) (e : Error) → cond b (Ok x) (Err e) ≡ Ok y → (b ≡ true) × (x ≡ y)
@@ -114,12 +115,6 @@ post_there find order x h = by (find (codes "post")) h
 
 -- ---- the table that a new one was made from
 
-abbrev bytes_there : List ℕ → Option (List ℕ)
-bytes_there b = Some b
-
-same_bytes : (a b : List ℕ) → bytes_there a ≡ bytes_there b → a ≡ b
-same_bytes a b h = cc
-
 pub name_tables : (find : List ℕ → Option (List ℕ)) (new : List ℕ) → name_of find ≡ Ok (Some new) → (source : List ℕ) × (find (codes "name") ≡ Some source) × (name_of_table source ≡ Ok new)
 unfolding new_name
 name_tables find new h = by (find (codes "name")) refl h
@@ -128,7 +123,7 @@ name_tables find new h = by (find (codes "name")) refl h
     by None is k = absurd cc
     by (Some bytes) is k =
         let a = bind_ok (name_of_table bytes) (λ x. Ok (Some x)) (Some new) k in
-        (bytes, is, a.1 ∙ ap (λ (l : List ℕ). Ok l) (same_bytes a.0 new (done_is (Some a.0) (Some new) a.2)))
+        (bytes, is, a.1 ∙ ap (λ (l : List ℕ). Ok l) (present_is a.0 new (done_is (Some a.0) (Some new) a.2)))
 
 pub glyph_name_tables : (find : List ℕ → Option (List ℕ)) (order new : List ℕ) → post_of find order ≡ Ok (Some new) → (source : List ℕ) × (find (codes "post") ≡ Some source) × (post_of_table source order ≡ Ok new)
 unfolding new_post
@@ -138,4 +133,4 @@ glyph_name_tables find order new h = by (find (codes "post")) refl h
     by None is k = absurd cc
     by (Some bytes) is k =
         let a = bind_ok (post_of_table bytes order) (λ x. Ok (Some x)) (Some new) k in
-        (bytes, is, a.1 ∙ ap (λ (l : List ℕ). Ok l) (same_bytes a.0 new (done_is (Some a.0) (Some new) a.2)))
+        (bytes, is, a.1 ∙ ap (λ (l : List ℕ). Ok l) (present_is a.0 new (done_is (Some a.0) (Some new) a.2)))

@@ -7,6 +7,7 @@ use Rattle.std.specs.Str.{bytes_eq}
 use Rattle.subsetter_base.specs.Bytes.{IsBytes}
 use Rattle.subsetter_base.specs.declared.error.Error.{Error}
 use Rattle.subsetter_base.specs.declared.error.Error.TheVariants.{MalformedFont}
+use Rattle.subsetter_base.proofs.Results.{named_ok}
 use Rattle.subsetter.specs.declared.sfnt.flavor.FontFlavor.TheVariants.{TrueType}
 use Rattle.subsetter.specs.Truetype.Answered.{IsAnswered}
 use Rattle.subsetter.specs.Sfnt.Container.{IsSoundContainer}
@@ -28,7 +29,7 @@ use Rattle.subsetter.specs.Glyf.Written.{is_long, glyf_bytes, head_bytes}
 use Rattle.subsetter.proofs.SfntLaws.Container.{sound, table_of, head_of}
 use Rattle.subsetter.proofs.PostLaws.Kept.{keeps_post}
 use Rattle.subsetter.proofs.HeadLaws.Back.{head_length, head_front, head_middle, head_end, outlines_afresh, head_room, head_zeros}
-use Rattle.subsetter.proofs.GlyfLaws.Kept.{length-kept_all, named}
+use Rattle.subsetter.proofs.GlyfLaws.Kept.{length-kept_all}
 use Rattle.std.proofs.lemmas.List.{length-append}
 use Rattle.subsetter.proofs.TruetypeLaws.Laid as laid_tables
 use Rattle.subsetter.proofs.MaxpLaws.Kept.{is_max_profile}
@@ -175,7 +176,7 @@ IsClean font glyphs out = (s : IsSubset font glyphs out) × ((e : Error) → Has
 -- what is answered is a subset
 pub is_subset : (font : Font) (glyphs out : List ℕ) → IsBytes font.bytes → 0 < length glyphs → (a : IsAnswered (table font) glyphs out) → ((e : Error) → HasFault font glyphs a.order e → ⊥) → IsClean font glyphs out
 is_subset font glyphs out bytes some a clean =
-    let read : outlines font ≡ Some a.source = named (outlines font) MalformedFont a.source a.read in
+    let read : outlines font ≡ Some a.source = named_ok (outlines font) MalformedFont a.source a.read in
     let closed : IsGlyphOrder font glyphs a.order = order_in font glyphs a.order a.source read a.is_order in
     let more = some_glyph glyphs closed.others a.order closed.begins some in
     let made = tables_steps (table font) a.source a.order a.tables a.tables_are in

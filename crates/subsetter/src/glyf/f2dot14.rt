@@ -31,20 +31,3 @@ impl Writeable for F2Dot14 {
         w.write(&self.0)
     }
 }
-
-#[cfg(test)]
-mod tests {
-    use super::*;
-    use std::test::Fail;
-
-    #[test]
-    fn the_bits_stay(rt: HostRuntime) -> Result<(), Fail> {
-        let mut r = Reader::new(&[0x40, 0x00, 0xC0]);
-        assert_eq!(rt; r.read::<F2Dot14>(), Some(F2Dot14(0x4000)));
-        assert!(rt; r.read::<F2Dot14>().is_none());
-        let mut w = Writer::new(rt.alloc());
-        w.write(&F2Dot14(0x7001))?;
-        assert_eq!(rt; w.finish().as_slice(), [0x70, 0x01].as_slice());
-        Ok(())
-    }
-}

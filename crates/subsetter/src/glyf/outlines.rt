@@ -236,29 +236,3 @@ pub fn write_outlines(out: &mut Vec<u8>, outlines: &OutlineList<'_>, long: bool)
         write_outline(out, outline, long);
     }
 }
-
-#[cfg(test)]
-mod tests {
-    use super::*;
-    use std::test::*;
-
-    #[test]
-    fn kept_and_made_outlines_stay_in_order(rt: HostRuntime) -> Result<(), Fail> {
-        let mut made = Vec::new(rt.alloc());
-        made.extend_from_slice(&[5, 6, 7])?;
-        let mut outlines = OutlineList::with_capacity(rt.alloc(), 4)?;
-        outlines.push(CowSlice::Borrowed(&[1, 2]))?;
-        outlines.push(CowSlice::Owned(made))?;
-        outlines.push(CowSlice::Borrowed(&[]))?;
-        outlines.push(CowSlice::Borrowed(&[3]))?;
-        outlines.shrink_to_fit();
-        let mut left = outlines.iter();
-        for want in [&[1, 2][..], &[5, 6, 7], &[], &[3]] {
-            assert_eq!(rt; left.next(), Some(want));
-        }
-        assert!(rt; left.next().is_none());
-        assert!(rt; left.next().is_none());
-        assert_eq!(rt; outlines.len(), 4);
-        Ok(())
-    }
-}

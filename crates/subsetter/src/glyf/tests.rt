@@ -1,23 +1,42 @@
-//! Outlines: which glyphs are reached, and `head`.
+//! Which glyphs follow the given ones, and in which order: no clause says it.
 
 use crate::glyf::{Table, closure};
-use crate::{Error, GlyphRemapper, head};
+use crate::GlyphRemapper;
 use std::alloc::Global;
-use std::test::Fail;
+use std::test::*;
 
-/// `head` with the short format of `loca`.
-const HEAD: [u8; 54] = [0; 54];
-
-/// Glyphs 0 and 2 to 6 are empty; glyph 1 has the components 5 and 6.
-const TWO_COMPONENTS: [u8; 22] = [
-    0xFF, 0xFF, 0, 0, 0, 0, 0, 0, 0, 0, 0x00, 0x20, 0, 5, 0, 0, 0, 0, 0, 6, 0, 0,
+/// Two composites, of glyphs 5 and 6 and of glyphs 7 and 8.
+const TWO_COMPOSITES: [u8; 44] = [
+    0xFF, 0xFF, 0, 0, 0, 0, 0, 0, 0, 0, 0x00, 0x20, 0, 5, 0, 0, 0, 0, 0, 6, 0, 0, //
+    0xFF, 0xFF, 0, 0, 0, 0, 0, 0, 0, 0, 0x00, 0x20, 0, 7, 0, 0, 0, 0, 0, 8, 0, 0,
 ];
 
-/// Where the glyphs of `TWO_COMPONENTS` stand, in halves.
-const SEVEN_GLYPHS: [u8; 16] = [0, 0, 0, 0, 0, 11, 0, 11, 0, 11, 0, 11, 0, 11, 0, 11];
+/// Where they stand as glyphs 1 and 2 among nine glyphs, in halves of offsets.
+const NINE_GLYPHS: [u8; 20] = [
+    0, 0, 0, 0, 0, 11, 0, 22, 0, 22, 0, 22, 0, 22, 0, 22, 0, 22, 0, 22,
+];
 
-/// The glyphs of an order, as a list.
-fn listed(alloc: Global, order: &GlyphRemapper) -> Result<Vec<u16>, Fail> {
+/// Glyphs 1 and 2, each a composite of the other.
+const CIRCLE: [u8; 32] = [
+    0xFF, 0xFF, 0, 0, 0, 0, 0, 0, 0, 0, 0, 0, 0, 2, 0, 0, //
+    0xFF, 0xFF, 0, 0, 0, 0, 0, 0, 0, 0, 0, 0, 0, 1, 0, 0,
+];
+
+/// Glyph 1, a composite of itself three times.
+const ITSELF: [u8; 28] = [
+    0xFF, 0xFF, 0, 0, 0, 0, 0, 0, 0, 0, 0, 0x20, 0, 1, 0, 0, 0, 0x20, 0, 1, 0, 0, 0, 0, 0, 1, 0, 0,
+];
+
+/// The order of the glyphs for some given ones, of outlines in the short format.
+fn order_of(alloc: Global, loca: &[u8], glyf: &[u8], given: &[u16]) -> Result<Vec<u16>, Fail> {
+    let table = Table {
+        loca,
+        glyf,
+        head: &[0; 54],
+        long: false,
+    };
+    let mapper = GlyphRemapper::new_from_glyphs(alloc, given)?;
+    let order = closure(alloc, &table, &mapper)?;
     let mut glyphs = Vec::new(alloc);
     for glyph in order.remapped_gids() {
         glyphs.push(glyph)?;
@@ -25,80 +44,17 @@ fn listed(alloc: Global, order: &GlyphRemapper) -> Result<Vec<u16>, Fail> {
     Ok(glyphs)
 }
 
-/// The tables of outlines in the short format.
-fn short<'a>(loca: &'a [u8], glyf: &'a [u8]) -> Table<'a> {
-    Table {
-        loca,
-        glyf,
-        head: &HEAD,
-        long: false,
-    }
-}
-
 #[test]
-fn the_last_component_comes_first_behind_the_given_glyphs(rt: HostRuntime) -> Result<(), Fail> {
-    let table = short(&SEVEN_GLYPHS, &TWO_COMPONENTS);
-    let mapper = GlyphRemapper::new_from_glyphs(rt.alloc(), &[1])?;
-    let order = closure(rt.alloc(), &table, &mapper)?;
-    assert_eq!(rt;
-        listed(rt.alloc(), &order)?.as_slice(),
-        [0, 1, 6, 5].as_slice()
-    );
-    Ok(())
-}
-
-#[test]
-fn components_in_a_circle_come_once(rt: HostRuntime) -> Result<(), Fail> {
-    let glyf: [u8; 32] = [
-        0xFF, 0xFF, 0, 0, 0, 0, 0, 0, 0, 0, 0, 0, 0, 2, 0, 0, 0xFF, 0xFF, 0, 0, 0, 0, 0, 0, 0, 0,
-        0, 0, 0, 1, 0, 0,
-    ];
-    let table = short(&[0, 0, 0, 0, 0, 8, 0, 16], &glyf);
-    let mapper = GlyphRemapper::new_from_glyphs(rt.alloc(), &[1])?;
-    let order = closure(rt.alloc(), &table, &mapper)?;
-    assert_eq!(rt;
-        listed(rt.alloc(), &order)?.as_slice(),
-        [0, 1, 2].as_slice()
-    );
-    Ok(())
-}
-
-#[test]
-fn a_composite_of_itself_comes_once(rt: HostRuntime) -> Result<(), Fail> {
-    let glyf: [u8; 28] = [
-        0xFF, 0xFF, 0, 0, 0, 0, 0, 0, 0, 0, 0, 0x20, 0, 1, 0, 0, 0, 0x20, 0, 1, 0, 0, 0, 0, 0, 1,
-        0, 0,
-    ];
-    let table = short(&[0, 0, 0, 0, 0, 14], &glyf);
-    let mapper = GlyphRemapper::new_from_glyphs(rt.alloc(), &[1])?;
-    let order = closure(rt.alloc(), &table, &mapper)?;
-    assert_eq!(rt; listed(rt.alloc(), &order)?.as_slice(), [0, 1].as_slice());
-    Ok(())
-}
-
-#[test]
-fn head_says_the_format_of_loca(rt: HostRuntime) -> Result<(), Fail> {
-    let mut source = [7u8; 54];
-    source[51] = 1;
-    let mut expected = source;
-    expected[8] = 0;
-    expected[9] = 0;
-    expected[10] = 0;
-    expected[11] = 0;
-    expected[50] = 0;
-    expected[51] = 0;
-    assert_eq!(rt;
-        head::subset(rt.alloc(), &source, false)?.as_slice(),
-        expected.as_slice()
-    );
-    expected[51] = 1;
-    assert_eq!(rt;
-        head::subset(rt.alloc(), &source, true)?.as_slice(),
-        expected.as_slice()
-    );
-    assert_eq!(rt;
-        head::subset(rt.alloc(), &source[..51], true).err(),
-        Some(Error::MalformedFont)
-    );
+fn the_last_glyph_that_waits_is_taken_first(rt: HostRuntime) -> Result<(), Fail> {
+    let alloc = rt.alloc();
+    let one = order_of(alloc, &NINE_GLYPHS, &TWO_COMPOSITES, &[1])?;
+    assert_eq!(rt; one.as_slice(), [0, 1, 6, 5].as_slice());
+    // The components of the glyph that was given last come first.
+    let two = order_of(alloc, &NINE_GLYPHS, &TWO_COMPOSITES, &[1, 2])?;
+    assert_eq!(rt; two.as_slice(), [0, 1, 2, 8, 7, 6, 5].as_slice());
+    let circle = order_of(alloc, &[0, 0, 0, 0, 0, 8, 0, 16], &CIRCLE, &[1])?;
+    assert_eq!(rt; circle.as_slice(), [0, 1, 2].as_slice());
+    let itself = order_of(alloc, &[0, 0, 0, 0, 0, 14], &ITSELF, &[1])?;
+    assert_eq!(rt; itself.as_slice(), [0, 1].as_slice());
     Ok(())
 }

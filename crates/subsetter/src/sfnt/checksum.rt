@@ -58,23 +58,3 @@ pub fn checksum(bytes: &[u8]) -> u32
 {
     add_words(0, bytes)
 }
-
-#[cfg(test)]
-mod tests {
-    use super::*;
-
-    #[test]
-    fn words_are_filled_up_with_zeros(rt: HostRuntime) {
-        assert_eq!(rt; checksum(&[]), 0);
-        assert_eq!(rt; checksum(&[1, 2, 3, 4, 5, 6]), 0x06080304);
-        assert_eq!(rt; checksum(&[0xff, 0xff, 0xff, 0xff, 0, 0, 0, 2]), 1);
-    }
-
-    #[test]
-    fn parts_sum_like_the_whole(rt: HostRuntime) {
-        let sum = add(0, 0, &[1]);
-        let sum = add(sum, 1, &[2, 3]);
-        let sum = add(sum, 3, &[4, 5, 6]);
-        assert_eq!(rt; sum, 0x06080304);
-    }
-}

@@ -109,32 +109,3 @@ impl<'a> Context<'a> {
         &self.tables
     }
 }
-
-#[cfg(test)]
-mod tests {
-    use super::*;
-    use std::test::Fail;
-
-    #[test]
-    fn tables_are_held_in_order_whole_or_in_parts(rt: HostRuntime) -> Result<(), Fail> {
-        let mut outlines = OutlineList::with_capacity(rt.alloc(), 2)?;
-        outlines.push(CowSlice::Borrowed(&[1, 2, 3]))?;
-        outlines.push(CowSlice::Borrowed(&[4]))?;
-        let mut context = Context::new(rt.alloc());
-        assert!(rt; context.tables().is_empty());
-        let glyf = TableData::Outlines {
-            outlines: Box::new(rt.alloc(), outlines)?,
-            long: false,
-        };
-        context.push(Tag::GLYF, glyf)?;
-        context.push(Tag::PREP, TableData::Whole(CowSlice::Borrowed(&[5, 6])))?;
-        let [glyf, prep] = context.tables() else {
-            return Err(Fail::from("two tables"));
-        };
-        assert_eq!(rt; (glyf.tag, glyf.data.len()), (Tag::GLYF, 6));
-        assert_eq!(rt; glyf.data.checksum(), 0x05020300);
-        assert_eq!(rt; (prep.tag, prep.data.len()), (Tag::PREP, 2));
-        assert_eq!(rt; prep.data.checksum(), 0x05060000);
-        Ok(())
-    }
-}

@@ -87,26 +87,3 @@ pub struct Face<'a> {
     pub data: &'a [u8],
     pub records: &'a [u8],
 }
-
-#[cfg(test)]
-mod tests {
-    use super::*;
-    use std::test::Fail;
-
-    #[test]
-    fn a_record_is_tag_checksum_offset_and_length(rt: HostRuntime) -> Result<(), Fail> {
-        let bytes = [
-            b'h', b'e', b'a', b'd', 1, 2, 3, 4, 5, 6, 7, 8, 9, 10, 11, 12,
-        ];
-        let mut r = Reader::new(&bytes);
-        let record = r.read::<TableRecord>().ok_or("a record")?;
-        assert_eq!(rt; record.tag, Tag::HEAD);
-        assert_eq!(rt; record.checksum, 0x01020304);
-        assert_eq!(rt; record.offset, 0x05060708);
-        assert_eq!(rt; record.length, 0x090A0B0C);
-        let mut w = Writer::new(rt.alloc());
-        w.write(&record)?;
-        assert_eq!(rt; w.finish().as_slice(), bytes.as_slice());
-        Ok(())
-    }
-}

@@ -56,21 +56,3 @@ pub fn flavor(face: &Face<'_>) -> Result<FontFlavor, Error>
         Err(Error::UnknownKind)
     }
 }
-
-#[cfg(test)]
-mod tests {
-    use super::*;
-    use std::test::Fail;
-
-    #[test]
-    fn kinds_are_written_as_the_first_word(rt: HostRuntime) -> Result<(), Fail> {
-        let mut w = Writer::new(rt.alloc());
-        w.write(&FontFlavor::TrueType)?;
-        w.write(&FontFlavor::Cff)?;
-        assert_eq!(rt;
-            w.finish().as_slice(),
-            [0, 1, 0, 0, b'O', b'T', b'T', b'O'].as_slice()
-        );
-        Ok(())
-    }
-}

@@ -83,7 +83,6 @@ impl<'a> Face<'a> {
 #[cfg(test)]
 mod tests {
     use super::*;
-    use std::test::*;
 
     #[test]
     fn a_table_past_the_end_is_missing(rt: HostRuntime) {
@@ -95,58 +94,5 @@ mod tests {
             records: &records,
         };
         assert!(rt; face.table(Tag::HEAD).is_none());
-    }
-
-    #[test]
-    fn the_first_record_of_a_tag_counts(rt: HostRuntime) {
-        let records = [
-            0x70, 0x72, 0x65, 0x70, 0, 0, 0, 0, 0, 0, 0, 3, 0, 0, 0, 2, 0x70, 0x72, 0x65, 0x70, 0,
-            0, 0, 0, 0, 0, 0, 1, 0, 0, 0, 2,
-        ];
-        let long = Face {
-            data: &[7, 8, 9, 10, 11],
-            records: &records,
-        };
-        assert!(rt; matches!(long.table(Tag::PREP), Some([10, 11])));
-        let cut = Face {
-            data: &[7, 8, 9, 10],
-            records: &records,
-        };
-        assert!(rt; cut.table(Tag::PREP).is_none());
-    }
-
-    #[test]
-    fn a_collection_names_its_fonts(rt: HostRuntime) {
-        let nested = [
-            0x74, 0x74, 0x63, 0x66, 0, 1, 0, 0, 0, 0, 0, 1, 0, 0, 0, 16, 0x74, 0x74, 0x63, 0x66,
-        ];
-        assert!(rt; matches!(parse(&nested, 0), Err(Error::MalformedFont)));
-        assert!(rt; matches!(parse(&nested, 0xffff_ffff), Err(Error::MalformedFont)));
-        let outside = [0x74, 0x74, 0x63, 0x66, 0, 1, 0, 0, 0, 0, 0, 1, 0, 0, 0, 17];
-        assert!(rt; matches!(parse(&outside, 0), Err(Error::MalformedFont)));
-        let unknown = [
-            0x74, 0x74, 0x63, 0x66, 0, 1, 0, 0, 0, 0, 0, 1, 0, 0, 0, 16, 0, 2, 0, 0,
-        ];
-        assert!(rt; matches!(parse(&unknown, 0), Err(Error::MalformedFont)));
-        let sound = [
-            0x74, 0x74, 0x63, 0x66, 0, 1, 0, 0, 0, 0, 0, 1, 0, 0, 0, 16, 0x4f, 0x54, 0x54, 0x4f, 0,
-            1, 0, 0, 0, 0, 0, 0, 0x63, 0x76, 0x74, 0x20, 0, 0, 0, 0, 0, 0, 0, 0, 0, 0, 0, 2,
-        ];
-        let face = parse(&sound, 0).ok();
-        assert!(rt;
-            matches!(
-                face.and_then(|face| face.table(Tag::CVT)),
-                Some([0x74, 0x74])
-            )
-        );
-    }
-
-    #[test]
-    fn a_cut_font_is_refused(rt: HostRuntime) {
-        assert!(rt; matches!(parse(&[], 0), Err(Error::UnknownKind)));
-        assert!(rt; matches!(parse(&[0, 1, 0, 1], 0), Err(Error::UnknownKind)));
-        assert!(rt; matches!(parse(&[0, 1, 0, 0], 0), Err(Error::MalformedFont)));
-        let cut = [0x74, 0x72, 0x75, 0x65, 0, 1, 0, 0, 0, 0, 0, 0, 0x63, 0x76];
-        assert!(rt; matches!(parse(&cut, 0), Err(Error::MalformedFont)));
     }
 }

@@ -4,117 +4,64 @@ use super::fonts::*;
 use crate::{Error, Tag};
 use std::alloc::Global;
 use std::test::*;
-use subsetter_base::write::Writer;
 
-/// `loca` in the long format: glyph 0 is empty, glyph 1 has all bytes, five more are empty.
-fn one_of_seven(alloc: Global, size: u32) -> Result<Vec<u8>, Fail> {
-    let mut w = Writer::new(alloc);
-    w.write(&0u32)?;
-    w.write(&0u32)?;
-    for _ in 0..6 {
-        w.write(&size)?;
-    }
-    Ok(w.finish())
+/// A font of seven glyphs: glyph 1 has these bytes, and the others are empty.
+fn one_of_seven(alloc: Global, glyph: &[u8]) -> Result<Vec<u8>, Fail> {
+    let size = u32::try_from(glyph.len()).ok().ok_or("a short glyph")?;
+    outlines(alloc, glyph, &[0, 0, size, size, size, size, size, size])
 }
 
-#[test]
-fn instructions_of_odd_length_get_one_zero(rt: HostRuntime) -> Result<(), Fail> {
-    let glyph: [u8; 17] = [0xFF, 0xFF, 0, 0, 0, 0, 0, 0, 0, 0, 1, 0, 0, 0, 1, 2, 3];
-    let font = long_font(rt.alloc(), &glyph, &[0, 0, 0, 0, 0, 0, 0, 0, 0, 0, 0, 17])?;
-    let out = subset_of(rt.alloc(), &font, &[1])?;
-    assert_eq!(rt; table(&out, Tag::LOCA)?, [0, 0, 0, 0, 0, 9].as_slice());
-    assert_eq!(rt;
-        table(&out, Tag::GLYF)?,
-        [0xFF, 0xFF, 0, 0, 0, 0, 0, 0, 0, 0, 1, 0, 0, 0, 1, 2, 3, 0].as_slice()
-    );
-    Ok(())
-}
+/// Glyph 0 at (1, 2), and an instruction.
+const WITH_INSTRUCTION: [u8; 17] = [0xFF, 0xFF, 0, 0, 0, 0, 0, 0, 0, 0, 1, 0, 0, 0, 1, 2, 3];
+
+/// The same without the flag of instructions.
+const WITHOUT_INSTRUCTIONS: [u8; 17] = [0xFF, 0xFF, 0, 0, 0, 0, 0, 0, 0, 0, 0, 0, 0, 0, 1, 2, 3];
+
+/// Glyphs 5 and 6.
+const FIVE_AND_SIX: [u8; 22] = [
+    0xFF, 0xFF, 0, 0, 0, 0, 0, 0, 0, 0, 0, 0x20, 0, 5, 0, 0, 0, 0, 0, 6, 0, 0,
+];
+
+/// Glyph 5 by a scale, with two words of arguments, and glyph 6.
+const SCALED: [u8; 26] = [
+    0xFF, 0xFF, 0, 0, 0, 0, 0, 0, 0, 0, 0, 0x29, 0, 5, 0, 1, 0, 2, 0x40, 0, 0, 0, 0, 6, 0, 0,
+];
+
+/// Itself three times.
+const ITSELF: [u8; 28] = [
+    0xFF, 0xFF, 0, 0, 0, 0, 0, 0, 0, 0, 0, 0x20, 0, 1, 0, 0, 0, 0x20, 0, 1, 0, 0, 0, 0, 0, 1, 0, 0,
+];
 
 #[test]
-fn bytes_behind_a_composite_without_instructions_go(rt: HostRuntime) -> Result<(), Fail> {
-    let glyph: [u8; 17] = [0xFF, 0xFF, 0, 0, 0, 0, 0, 0, 0, 0, 0, 0, 0, 0, 1, 2, 3];
-    let font = long_font(rt.alloc(), &glyph, &[0, 0, 0, 0, 0, 0, 0, 0, 0, 0, 0, 17])?;
-    let out = subset_of(rt.alloc(), &font, &[1])?;
-    assert_eq!(rt; table(&out, Tag::LOCA)?, [0, 0, 0, 0, 0, 8].as_slice());
-    assert_eq!(rt; table(&out, Tag::GLYF)?, &glyph[..16]);
-    Ok(())
-}
-
-#[test]
-fn components_get_their_new_numbers(rt: HostRuntime) -> Result<(), Fail> {
-    let glyph: [u8; 22] = [
-        0xFF, 0xFF, 0, 0, 0, 0, 0, 0, 0, 0, 0, 0x20, 0, 5, 0, 0, 0, 0, 0, 6, 0, 0,
-    ];
-    let written: [u8; 22] = [
+fn composites_get_new_numbers_and_keep_the_rest(rt: HostRuntime) -> Result<(), Fail> {
+    let padded = [0xFF, 0xFF, 0, 0, 0, 0, 0, 0, 0, 0, 1, 0, 0, 0, 1, 2, 3, 0];
+    let three_and_two = [
         0xFF, 0xFF, 0, 0, 0, 0, 0, 0, 0, 0, 0, 0x20, 0, 3, 0, 0, 0, 0, 0, 2, 0, 0,
     ];
-    let font = long_font(rt.alloc(), &glyph, &one_of_seven(rt.alloc(), 22)?)?;
-    let out = subset_of(rt.alloc(), &font, &[1])?;
-    assert_eq!(rt; table(&out, Tag::GLYF)?, written.as_slice());
-    Ok(())
-}
-
-#[test]
-fn a_scaled_component_keeps_its_scale(rt: HostRuntime) -> Result<(), Fail> {
-    let glyph: [u8; 26] = [
-        0xFF, 0xFF, 0, 0, 0, 0, 0, 0, 0, 0, 0, 0x29, 0, 5, 0, 1, 0, 2, 0x40, 0, 0, 0, 0, 6, 0, 0,
-    ];
-    let written: [u8; 26] = [
+    let still_scaled = [
         0xFF, 0xFF, 0, 0, 0, 0, 0, 0, 0, 0, 0, 0x29, 0, 3, 0, 1, 0, 2, 0x40, 0, 0, 0, 0, 2, 0, 0,
     ];
-    let font = long_font(rt.alloc(), &glyph, &one_of_seven(rt.alloc(), 26)?)?;
-    let out = subset_of(rt.alloc(), &font, &[1])?;
-    assert_eq!(rt; table(&out, Tag::GLYF)?, written.as_slice());
-    assert_eq!(rt;
-        table(&out, Tag::LOCA)?,
-        [0, 0, 0, 0, 0, 13, 0, 13, 0, 13].as_slice()
-    );
-    Ok(())
-}
-
-#[test]
-fn a_composite_whose_second_component_is_cut_is_malformed(rt: HostRuntime) -> Result<(), Fail> {
-    let glyph: [u8; 18] = [
-        0xFF, 0xFF, 0, 0, 0, 0, 0, 0, 0, 0, 0, 0x20, 0, 5, 0, 0, 0, 0,
+    let rows: [(&[u8], &[u8], &[u8]); 5] = [
+        (&WITH_INSTRUCTION, &padded, &[0, 0, 0, 0, 0, 9]),
+        (&WITHOUT_INSTRUCTIONS, &WITHOUT_INSTRUCTIONS[..16], &[0, 0, 0, 0, 0, 8]),
+        (&FIVE_AND_SIX, &three_and_two, &[0, 0, 0, 0, 0, 11, 0, 11, 0, 11]),
+        (&SCALED, &still_scaled, &[0, 0, 0, 0, 0, 13, 0, 13, 0, 13]),
+        (&ITSELF, &ITSELF, &[0, 0, 0, 0, 0, 14]),
     ];
-    let font = long_font(rt.alloc(), &glyph, &one_of_seven(rt.alloc(), 18)?)?;
-    assert_eq!(rt; refusal(rt.alloc(), &font, 0, &[1])?, Error::MalformedFont);
+    for (glyph, glyf, loca) in rows {
+        let out = subset_of(rt.alloc(), &one_of_seven(rt.alloc(), glyph)?, &[1])?;
+        assert_eq!(rt; table(&out, Tag::GLYF)?, glyf);
+        assert_eq!(rt; table(&out, Tag::LOCA)?, loca);
+    }
     Ok(())
 }
 
 #[test]
-fn a_composite_of_ten_bytes_is_malformed(rt: HostRuntime) -> Result<(), Fail> {
-    let glyph: [u8; 10] = [0xFF, 0xFF, 0, 0, 0, 0, 0, 0, 0, 0];
-    let font = long_font(rt.alloc(), &glyph, &[0, 0, 0, 0, 0, 0, 0, 0, 0, 0, 0, 10])?;
-    assert_eq!(rt; refusal(rt.alloc(), &font, 0, &[1])?, Error::MalformedFont);
-    Ok(())
-}
-
-#[test]
-fn a_composite_of_itself_three_times_keeps_its_number(rt: HostRuntime) -> Result<(), Fail> {
-    let glyph: [u8; 28] = [
-        0xFF, 0xFF, 0, 0, 0, 0, 0, 0, 0, 0, 0, 0x20, 0, 1, 0, 0, 0, 0x20, 0, 1, 0, 0, 0, 0, 0, 1,
-        0, 0,
-    ];
-    let font = long_font(rt.alloc(), &glyph, &[0, 0, 0, 0, 0, 0, 0, 0, 0, 0, 0, 28])?;
-    let out = subset_of(rt.alloc(), &font, &[1])?;
-    assert_eq!(rt; table(&out, Tag::GLYF)?, glyph.as_slice());
-    assert_eq!(rt; table(&out, Tag::LOCA)?, [0, 0, 0, 0, 0, 14].as_slice());
-    Ok(())
-}
-
-#[test]
-fn two_composites_of_each_other_are_both_kept(rt: HostRuntime) -> Result<(), Fail> {
-    let glyphs: [u8; 32] = [
-        0xFF, 0xFF, 0, 0, 0, 0, 0, 0, 0, 0, 0, 0, 0, 2, 0, 0, 0xFF, 0xFF, 0, 0, 0, 0, 0, 0, 0, 0,
-        0, 0, 0, 1, 0, 0,
-    ];
-    let font = outlines(rt.alloc(), &glyphs, &[0, 0, 16, 32])?;
-    let out = subset_of(rt.alloc(), &font, &[1])?;
-    assert_eq!(rt; table(&out, Tag::GLYF)?, glyphs.as_slice());
-    assert_eq!(rt;
-        table(&out, Tag::LOCA)?,
-        [0, 0, 0, 0, 0, 8, 0, 16].as_slice()
-    );
+fn cut_composites_are_refused(rt: HostRuntime) -> Result<(), Fail> {
+    // Up to the second component's flags, and up to the first one's.
+    for size in [18, 10] {
+        let file = one_of_seven(rt.alloc(), &FIVE_AND_SIX[..size])?;
+        assert_eq!(rt; refusal(rt.alloc(), &file, 0, &[1])?, Error::MalformedFont);
+    }
     Ok(())
 }

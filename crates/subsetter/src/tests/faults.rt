@@ -5,22 +5,6 @@ use crate::{Error, Tag};
 use std::test::*;
 
 #[test]
-fn the_first_word_comes_before_the_records_and_these_before_the_outlines(
-    rt: HostRuntime,
-) -> Result<(), Fail> {
-    let alloc = rt.alloc();
-    // An unknown first word before a header that is cut.
-    assert_eq!(rt;
-        refusal(alloc, &[0, 1, 0, 1, 0], 0, &[])?,
-        Error::UnknownKind
-    );
-    // A record that is cut, in a font without outlines.
-    let cut = [b'O', b'T', b'T', b'O', 0, 1, 0, 16, 0, 0, 0, 0, b'h', b'e'];
-    assert_eq!(rt; refusal(alloc, &cut, 0, &[])?, Error::MalformedFont);
-    Ok(())
-}
-
-#[test]
 fn outlines_come_before_metrics_and_their_number_before_them(rt: HostRuntime) -> Result<(), Fail> {
     let mut head = [0; 54];
     head[51] = 1;
@@ -41,77 +25,66 @@ fn outlines_come_before_metrics_and_their_number_before_them(rt: HostRuntime) ->
 #[test]
 fn the_first_table_with_a_fault_names_the_error(rt: HostRuntime) -> Result<(), Fail> {
     let alloc = rt.alloc();
-    let no_pairs = [0; 36];
     let mut one_pair = [0; 36];
     one_pair[35] = 1;
-    let hmtx = [0, 1, 0, 2];
-    let cut_maxp = [0, 1, 0, 0, 0];
-    let maxp = [0, 1, 0, 0, 0, 3];
     // The string of its record lies outside of the storage.
     let far_string = [0, 0, 0, 1, 0, 18, 0, 3, 0, 1, 4, 9, 0, 0, 0, 1, 0, 0];
-    let no_names = [0, 0, 0, 0, 0, 6];
-    let cut_post = [0, 3, 0];
-    let post = [0, 3, 0, 0];
+    let bad = [
+        part(Tag::HHEA, &[0; 36]),
+        part(Tag::MAXP, &[0, 1, 0, 0, 0]),
+        part(Tag::NAME, &far_string),
+        part(Tag::POST, &[0, 3, 0]),
+    ];
+    let sound = [
+        part(Tag::HHEA, &one_pair),
+        part(Tag::MAXP, &[0, 1, 0, 0, 0, 3]),
+        part(Tag::NAME, &[0, 0, 0, 0, 0, 6]),
+        part(Tag::POST, &[0, 3, 0, 0]),
+    ];
+    let errors = [
+        Error::OverflowError,
+        Error::MalformedFont,
+        Error::SubsetError,
+        Error::MalformedFont,
+    ];
+    for first in 0..4 {
+        let mut parts = Vec::new(alloc);
+        parts.push(part(Tag::HMTX, &[0, 1, 0, 2]))?;
+        parts.extend_from_slice(&sound[..first])?;
+        parts.extend_from_slice(&bad[first..])?;
+        let file = three_empty(alloc, &parts)?;
+        assert_eq!(rt; refusal(alloc, &file, 0, &[])?, errors[first]);
+    }
+    Ok(())
+}
 
-    let file = three_empty(
-        alloc,
-        &[
-            part(Tag::HHEA, &no_pairs),
-            part(Tag::HMTX, &hmtx),
-            part(Tag::MAXP, &cut_maxp),
-            part(Tag::NAME, &far_string),
-            part(Tag::POST, &cut_post),
-        ],
-    )?;
-    assert_eq!(rt; refusal(alloc, &file, 0, &[])?, Error::OverflowError);
-
-    let file = three_empty(
-        alloc,
-        &[
-            part(Tag::HHEA, &one_pair),
-            part(Tag::HMTX, &hmtx),
-            part(Tag::MAXP, &cut_maxp),
-            part(Tag::NAME, &far_string),
-            part(Tag::POST, &cut_post),
-        ],
-    )?;
-    assert_eq!(rt; refusal(alloc, &file, 0, &[])?, Error::MalformedFont);
-
-    let file = three_empty(
-        alloc,
-        &[
-            part(Tag::HHEA, &one_pair),
-            part(Tag::HMTX, &hmtx),
-            part(Tag::MAXP, &maxp),
-            part(Tag::NAME, &far_string),
-            part(Tag::POST, &cut_post),
-        ],
-    )?;
-    assert_eq!(rt; refusal(alloc, &file, 0, &[])?, Error::SubsetError);
-
-    let file = three_empty(
-        alloc,
-        &[
-            part(Tag::HHEA, &one_pair),
-            part(Tag::HMTX, &hmtx),
-            part(Tag::MAXP, &maxp),
-            part(Tag::NAME, &no_names),
-            part(Tag::POST, &cut_post),
-        ],
-    )?;
-    assert_eq!(rt; refusal(alloc, &file, 0, &[])?, Error::MalformedFont);
-
-    let file = three_empty(
-        alloc,
-        &[
-            part(Tag::HHEA, &one_pair),
-            part(Tag::HMTX, &hmtx),
-            part(Tag::MAXP, &maxp),
-            part(Tag::NAME, &no_names),
-            part(Tag::POST, &post),
-        ],
-    )?;
-    let out = subset_of(alloc, &file, &[])?;
-    assert_eq!(rt; table(&out, Tag::POST)?, post.as_slice());
+#[test]
+fn cut_tables_are_refused(rt: HostRuntime) -> Result<(), Fail> {
+    let alloc = rt.alloc();
+    let mut post = [0; 35];
+    post[1] = 2;
+    post[33] = 1;
+    let rows: [(Tag, &[u8], Error); 11] = [
+        (Tag::HMTX, &[0, 1, 0, 2], Error::MalformedFont),
+        (Tag::MAXP, &[0, 1, 0, 0, 0], Error::MalformedFont),
+        // The version, the header, the storage and a record.
+        (Tag::NAME, &[0], Error::MalformedFont),
+        (Tag::NAME, &[0, 0, 0, 0, 0], Error::MalformedFont),
+        (Tag::NAME, &[0, 0, 0, 0, 0, 7], Error::MalformedFont),
+        (
+            Tag::NAME,
+            &[0, 0, 0, 1, 0, 0, 0, 3, 0, 1, 4, 9, 0, 0, 0, 0, 0],
+            Error::MalformedFont,
+        ),
+        // The version, the header, the count, the index of glyph 0 and an index for it.
+        (Tag::POST, &[0, 3, 0], Error::MalformedFont),
+        (Tag::POST, &post[..31], Error::MalformedFont),
+        (Tag::POST, &post[..33], Error::MalformedFont),
+        (Tag::POST, &post, Error::MalformedFont),
+        (Tag::POST, &[0, 2, 0, 0], Error::MalformedFont),
+    ];
+    for (tag, bytes, error) in rows {
+        assert_eq!(rt; refused(alloc, tag, bytes, &[])?, error);
+    }
     Ok(())
 }

@@ -36,11 +36,7 @@ fn a_chain_of_composites_is_followed_to_its_end(rt: HostRuntime) -> Result<(), F
     assert_eq!(rt; table(&out, Tag::GLYF)?.len(), 1_048_544);
     assert_eq!(rt; table(&out, Tag::GLYF)?, glyf.as_slice());
     assert_eq!(rt; table(&out, Tag::LOCA)?.len(), 4 * 65536);
-    Ok(())
-}
-
-#[test]
-fn all_numbers_reached_overflow(rt: HostRuntime) -> Result<(), Fail> {
+    // One glyph more, and all 65536 numbers are reached.
     let glyf = chain_glyf(rt.alloc(), 65535)?;
     let mut font = long_font(rt.alloc(), &glyf, &chain_loca(rt.alloc(), 65535)?)?;
     assert_eq!(rt; refusal(rt.alloc(), &font, 0, &[])?, Error::OverflowError);
@@ -52,26 +48,52 @@ fn all_numbers_reached_overflow(rt: HostRuntime) -> Result<(), Fail> {
     Ok(())
 }
 
+/// Glyph 0 is a composite of each glyph from 1 to the last one. These are empty, but for one that may have one byte.
+fn crowd(alloc: Global, last: u16, one_byte: u16) -> Result<Vec<u8>, Fail> {
+    let mut glyf = Writer::new(alloc);
+    glyf.extend(&[0xFF, 0xFF, 0, 0, 0, 0, 0, 0, 0, 0])?;
+    for glyph in 1..last {
+        glyf.write(&0x0020u16)?;
+        glyf.write(&glyph)?;
+        glyf.write(&0u16)?;
+    }
+    glyf.write(&0u16)?;
+    glyf.write(&last)?;
+    glyf.write(&0u16)?;
+    glyf.write(&0u8)?;
+    let size = 10 + 6 * last as u32;
+    let mut loca = Writer::new(alloc);
+    loca.write(&0u32)?;
+    loca.write(&size)?;
+    for glyph in 0..last {
+        let end = if glyph.wrapping_add(1) >= one_byte {
+            size + 1
+        } else {
+            size
+        };
+        loca.write(&end)?;
+    }
+    long_font(alloc, &glyf.finish(), &loca.finish())
+}
+
 #[test]
 fn one_glyph_with_a_component_for_each_number(rt: HostRuntime) -> Result<(), Fail> {
-    let mut w = Writer::new(rt.alloc());
-    w.extend(&[0xFF, 0xFF, 0, 0, 0, 0, 0, 0, 0, 0])?;
-    for g in 1..65534u16 {
-        w.write(&0x0020u16)?;
-        w.write(&g)?;
-        w.write(&0u16)?;
-    }
-    w.extend(&[0, 0, 0xFF, 0xFE, 0, 0])?;
-    let glyf = w.finish();
-    let mut places = Writer::new(rt.alloc());
-    places.write(&0u32)?;
-    for _ in 0..65535u16 {
-        places.write(&393_214u32)?;
-    }
-    let loca = places.finish();
-    let font = long_font(rt.alloc(), &glyf, &loca)?;
+    let font = crowd(rt.alloc(), 65534, 65535)?;
     let out = subset_of(rt.alloc(), &font, &[])?;
     assert_eq!(rt; table(&out, Tag::GLYF)?.len(), 393_214);
     assert_eq!(rt; table(&out, Tag::LOCA)?.len(), 262_144);
+    Ok(())
+}
+
+#[test]
+fn the_first_fault_on_the_way_names_the_error(rt: HostRuntime) -> Result<(), Fail> {
+    // The components wait in ascending order and are taken from the end, so glyph 1 is taken last. For it no number is left.
+    let font = crowd(rt.alloc(), 65535, 1)?;
+    assert_eq!(rt; refusal(rt.alloc(), &font, 0, &[])?, Error::OverflowError);
+    // Where it is given, its one byte is seen before the components of glyph 0.
+    assert_eq!(rt; refusal(rt.alloc(), &font, 0, &[1])?, Error::MalformedFont);
+    // Glyph 2 gets the last number, so its one byte is seen.
+    let font = crowd(rt.alloc(), 65535, 2)?;
+    assert_eq!(rt; refusal(rt.alloc(), &font, 0, &[])?, Error::MalformedFont);
     Ok(())
 }

@@ -25,50 +25,78 @@ fn names_at(
     Ok(w.finish())
 }
 
+/// A record of each platform, encoding and name: the first, third, fourth, sixth and last are kept.
+const EIGHT: [[u8; 12]; 8] = [
+    [0, 0, 0, 7, 0, 0, 0, 9, 0, 0, 0, 0],
+    [0, 0, 0, 0, 0, 0, 0, 10, 0, 0, 0, 0],
+    [0, 0, 0, 0, 0, 0, 0, 11, 0, 0, 0, 0],
+    [0, 0, 0, 0, 0, 0, 0, 14, 0, 0, 0, 0],
+    [0, 0, 0, 0, 0, 0, 0, 15, 0, 0, 0, 0],
+    [0, 3, 0, 0, 0, 0, 0, 1, 0, 0, 0, 0],
+    [0, 3, 0, 2, 0, 0, 0, 1, 0, 0, 0, 0],
+    [0, 3, 0, 10, 0, 0, 0, 1, 0, 0, 0, 0],
+];
+
+/// Those that are kept, as a table.
+const FIVE_KEPT: [u8; 66] = [
+    0, 0, 0, 5, 0, 66, //
+    0, 0, 0, 7, 0, 0, 0, 9, 0, 0, 0, 0, //
+    0, 0, 0, 0, 0, 0, 0, 11, 0, 0, 0, 0, //
+    0, 0, 0, 0, 0, 0, 0, 14, 0, 0, 0, 0, //
+    0, 3, 0, 0, 0, 0, 0, 1, 0, 0, 0, 0, //
+    0, 3, 0, 10, 0, 0, 0, 1, 0, 0, 0, 0,
+];
+
 #[test]
-fn strings_are_found_where_the_storage_begins(rt: HostRuntime) -> Result<(), Fail> {
+fn unicode_records_are_kept_with_their_strings_once(rt: HostRuntime) -> Result<(), Fail> {
     let alloc = rt.alloc();
-    let source = [
-        0, 0, 0, 1, 0, 0x16, 0, 3, 0, 1, 4, 9, 0, 0, 0, 4, 0, 0, b'B', b'A', b'D', b'!', 0, 0x4F,
-        0, 0x4B,
+    // Where the storage begins, the records, the bytes behind them, and the new table.
+    let rows: [(u16, &[[u8; 12]], &[u8], &[u8]); 6] = [
+        (
+            22,
+            &[[0, 3, 0, 1, 4, 9, 0, 0, 0, 4, 0, 0]],
+            &[b'B', b'A', b'D', b'!', 0, 0x4F, 0, 0x4B],
+            &[
+                0, 0, 0, 1, 0, 18, 0, 3, 0, 1, 4, 9, 0, 0, 0, 4, 0, 0, 0, 0x4F, 0, 0x4B,
+            ],
+        ),
+        (
+            42,
+            &[
+                [0, 1, 0, 0, 0, 0, 0, 0, 0, 1, 0, 0],
+                [0, 3, 0, 1, 4, 9, 0, 1, 0, 2, 0, 0],
+                [0, 3, 0, 1, 4, 9, 0, 4, 0, 2, 0, 0],
+            ],
+            &[0, 0x41],
+            &[
+                0, 0, 0, 2, 0, 30, 0, 3, 0, 1, 4, 9, 0, 1, 0, 2, 0, 0, 0, 3, 0, 1, 4, 9, 0, 4, 0, 2,
+                0, 0, 0, 0x41,
+            ],
+        ),
+        // The string of a record that goes may lie outside of the storage.
+        (
+            30,
+            &[
+                [0, 1, 0, 0, 0, 0, 0, 1, 0, 9, 0, 9],
+                [0, 3, 0, 1, 4, 9, 0, 0, 0, 1, 0, 0],
+            ],
+            &[0x41],
+            &[0, 0, 0, 1, 0, 18, 0, 3, 0, 1, 4, 9, 0, 0, 0, 1, 0, 0, 0x41],
+        ),
+        // An empty string at the end of the storage is inside it.
+        (
+            18,
+            &[[0, 3, 0, 1, 4, 9, 0, 0, 0, 0, 0, 1]],
+            &[0x41],
+            &[0, 0, 0, 1, 0, 18, 0, 3, 0, 1, 4, 9, 0, 0, 0, 0, 0, 0],
+        ),
+        (6, &[], &[], &[0, 0, 0, 0, 0, 6]),
+        (102, &EIGHT, &[], &FIVE_KEPT),
     ];
-    let wanted = [
-        0, 0, 0, 1, 0, 0x12, 0, 3, 0, 1, 4, 9, 0, 0, 0, 4, 0, 0, 0, 0x4F, 0, 0x4B,
-    ];
-    let new = rewritten(alloc, Tag::NAME, &source, &[1])?;
-    assert_eq!(rt; new.as_slice(), wanted.as_slice());
-    Ok(())
-}
-
-#[test]
-fn equal_strings_are_stored_once(rt: HostRuntime) -> Result<(), Fail> {
-    let records = [
-        [0, 1, 0, 0, 0, 0, 0, 0, 0, 1, 0, 0],
-        [0, 3, 0, 1, 4, 9, 0, 1, 0, 2, 0, 0],
-        [0, 3, 0, 1, 4, 9, 0, 4, 0, 2, 0, 0],
-    ];
-    let source = names_at(rt.alloc(), 42, &records, &[0, 0x41])?;
-    let wanted = [
-        0, 0, 0, 2, 0, 0x1E, 0, 3, 0, 1, 4, 9, 0, 1, 0, 2, 0, 0, 0, 3, 0, 1, 4, 9, 0, 4, 0, 2, 0,
-        0, 0, 0x41,
-    ];
-    let new = rewritten(rt.alloc(), Tag::NAME, &source, &[1])?;
-    assert_eq!(rt; new.as_slice(), wanted.as_slice());
-    Ok(())
-}
-
-#[test]
-fn dropped_records_need_no_string(rt: HostRuntime) -> Result<(), Fail> {
-    let records = [
-        [0, 1, 0, 0, 0, 0, 0, 1, 0, 9, 0, 9],
-        [0, 3, 0, 1, 4, 9, 0, 0, 0, 1, 0, 0],
-    ];
-    let source = names_at(rt.alloc(), 30, &records, &[0x41])?;
-    let wanted = [
-        0, 0, 0, 1, 0, 0x12, 0, 3, 0, 1, 4, 9, 0, 0, 0, 1, 0, 0, 0x41,
-    ];
-    let new = rewritten(rt.alloc(), Tag::NAME, &source, &[])?;
-    assert_eq!(rt; new.as_slice(), wanted.as_slice());
+    for (place, records, storage, wanted) in rows {
+        let source = names_at(alloc, place, records, storage)?;
+        assert_eq!(rt; rewritten(alloc, Tag::NAME, &source, &[])?.as_slice(), wanted);
+    }
     Ok(())
 }
 
@@ -122,10 +150,10 @@ fn at_most_5460_records_are_kept(rt: HostRuntime) -> Result<(), Fail> {
     Ok(())
 }
 
-/// A `post` of a version, with a header of 32 bytes and these behind it.
-fn glyph_names(alloc: Global, version: u32, rest: &[u8]) -> Result<Vec<u8>, Fail> {
+/// A `post` of version 2.0, with a header of 32 bytes and these behind it.
+fn glyph_names(alloc: Global, rest: &[u8]) -> Result<Vec<u8>, Fail> {
     let mut w = Writer::new(alloc);
-    w.write(&version)?;
+    w.write(&0x0002_0000u32)?;
     for byte in 4..32u8 {
         w.write(&byte)?;
     }
@@ -136,36 +164,45 @@ fn glyph_names(alloc: Global, version: u32, rest: &[u8]) -> Result<Vec<u8>, Fail
 #[test]
 fn own_names_stand_in_the_order_of_the_glyphs(rt: HostRuntime) -> Result<(), Fail> {
     let alloc = rt.alloc();
-    // Glyph 1 has the third name, which isn't there, and glyph 2 the second one.
-    let rest = [0, 3, 1, 2, 1, 4, 1, 3, 1, 0x41, 1, 0x42];
-    let source = glyph_names(alloc, 0x0002_0000, &rest)?;
-    let rest = [0, 3, 1, 2, 1, 3, 1, 4, 1, 0x41, 0, 1, 0x42];
-    let wanted = glyph_names(alloc, 0x0002_0000, &rest)?;
-    let file = three_empty(alloc, &[part(Tag::POST, &source)])?;
-    let once = subset_of(alloc, &file, &[1, 2])?;
-    assert_eq!(rt; table(&once, Tag::POST)?, wanted.as_slice());
-    let again = subset_of(alloc, &once, &[1, 2])?;
-    assert_eq!(rt; table(&again, Tag::POST)?, wanted.as_slice());
+    // The count, the indexes and the names, the kept glyphs, and the new rest of the table.
+    let rows: [(&[u8], &[u16], &[u8]); 4] = [
+        // Glyph 1 has the third name, which isn't there, and glyph 2 the second one. The table that comes of it stays.
+        (
+            &[0, 3, 1, 2, 1, 4, 1, 3, 1, 0x41, 1, 0x42],
+            &[1, 2],
+            &[0, 3, 1, 2, 1, 3, 1, 4, 1, 0x41, 0, 1, 0x42],
+        ),
+        (
+            &[0, 3, 1, 2, 1, 3, 1, 4, 1, 0x41, 0, 1, 0x42],
+            &[1, 2],
+            &[0, 3, 1, 2, 1, 3, 1, 4, 1, 0x41, 0, 1, 0x42],
+        ),
+        // A name that is cut becomes the empty one, and an empty name doesn't end the names.
+        (&[0, 2, 0, 36, 1, 2, 2, 0x41], &[1], &[0, 2, 0, 36, 1, 2, 0]),
+        (&[0, 1, 1, 3, 0, 1, 0x42], &[], &[0, 1, 1, 2, 1, 0x42]),
+    ];
+    for (rest, glyphs, wanted) in rows {
+        let source = glyph_names(alloc, rest)?;
+        let new = rewritten(alloc, Tag::POST, &source, glyphs)?;
+        assert_eq!(rt; new.as_slice(), glyph_names(alloc, wanted)?.as_slice());
+    }
     Ok(())
 }
 
 #[test]
-fn a_cut_name_becomes_the_empty_one(rt: HostRuntime) -> Result<(), Fail> {
-    let alloc = rt.alloc();
-    let source = glyph_names(alloc, 0x0002_0000, &[0, 2, 0, 36, 1, 2, 2, 0x41])?;
-    let wanted = glyph_names(alloc, 0x0002_0000, &[0, 2, 0, 36, 1, 2, 0])?;
-    let new = rewritten(alloc, Tag::POST, &source, &[1])?;
-    assert_eq!(rt; new.as_slice(), wanted.as_slice());
-    Ok(())
-}
-
-#[test]
-fn other_versions_of_glyph_names_are_copied(rt: HostRuntime) -> Result<(), Fail> {
-    let alloc = rt.alloc();
-    let other = glyph_names(alloc, 0x0003_0000, &[])?;
-    let new = rewritten(alloc, Tag::POST, &other, &[1])?;
-    assert_eq!(rt; new.as_slice(), other.as_slice());
-    let cut = glyph_names(alloc, 0x0002_0000, &[0])?;
-    assert_eq!(rt; refused(alloc, Tag::POST, &cut, &[])?, Error::MalformedFont);
+fn other_versions_are_copied_and_glyphs_are_counted_anew(rt: HostRuntime) -> Result<(), Fail> {
+    let mut post = [7; 32];
+    post[0] = 0;
+    post[1] = 3;
+    let rows: [(Tag, &[u8], &[u8]); 4] = [
+        (Tag::NAME, &[0, 1], &[0, 1]),
+        (Tag::POST, &post, &post),
+        (Tag::MAXP, &[0, 1, 0, 0, 0, 3, 0xAA, 0xBB], &[0, 1, 0, 0, 0, 2, 0xAA, 0xBB]),
+        (Tag::MAXP, &[0, 0, 0x50, 0, 0, 3], &[0, 1, 0, 0, 0, 2]),
+    ];
+    for (tag, source, wanted) in rows {
+        let new = rewritten(rt.alloc(), tag, source, &[1])?;
+        assert_eq!(rt; new.as_slice(), wanted);
+    }
     Ok(())
 }

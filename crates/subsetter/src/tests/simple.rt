@@ -1,7 +1,7 @@
 //! Empty and simple glyphs.
 
 use super::fonts::*;
-use crate::{Error, Tag, subset};
+use crate::{Error, Tag};
 use std::test::*;
 
 /// The subset of `two_glyphs` with glyphs 0 and 2, byte for byte.
@@ -25,55 +25,37 @@ fn an_odd_simple_glyph_is_padded_in_the_short_format(rt: HostRuntime) -> Result<
 }
 
 #[test]
-fn a_glyph_of_one_byte_is_refused_once_it_is_kept(rt: HostRuntime) -> Result<(), Fail> {
-    let file = outlines(rt.alloc(), &[0], &[0, 0, 1])?;
-    let out = subset_of(rt.alloc(), &file, &[])?;
-    assert_eq!(rt; table(&out, Tag::GLYF)?.len(), 0);
-    assert_eq!(rt; refusal(rt.alloc(), &file, 0, &[1])?, Error::MalformedFont);
-    Ok(())
-}
-
-#[test]
 fn the_short_format_reaches_131070_bytes(rt: HostRuntime) -> Result<(), Fail> {
-    let glyf = vec![in rt.alloc(); 0; 131_069]?;
-    let file = outlines(rt.alloc(), &glyf, &[0, 0, 65_535, 131_069])?;
-    let out = subset_of(rt.alloc(), &file, &[1, 2])?;
-    assert_eq!(rt;
-        table(&out, Tag::LOCA)?,
-        [0, 0, 0, 0, 0x80, 0, 0xff, 0xff].as_slice()
-    );
-    assert_eq!(rt; table(&out, Tag::GLYF)?.len(), 131_070);
+    let short = [0, 0, 0, 0, 0x80, 0, 0xff, 0xff];
+    let long = [0, 0, 0, 0, 0, 0, 0, 0, 0, 0, 0xff, 0xff, 0, 1, 0xff, 0xfe];
+    // Glyph 1 has 65535 bytes, and glyph 2 one less or as many. Only the short format pads them.
+    let rows: [(u16, u32, &[u8]); 2] = [(65_534, 131_069, &short), (65_535, 131_070, &long)];
+    for (size, end, loca) in rows {
+        let mut glyf = vec![in rt.alloc(); 0; 65_535]?;
+        for _ in 0..size {
+            glyf.push(0)?;
+        }
+        let file = outlines(rt.alloc(), &glyf, &[0, 0, 65_535, end])?;
+        let out = subset_of(rt.alloc(), &file, &[1, 2])?;
+        assert_eq!(rt; table(&out, Tag::LOCA)?, loca);
+        assert_eq!(rt; table(&out, Tag::GLYF)?.len(), 131_070);
+    }
     Ok(())
 }
 
 #[test]
-fn the_long_format_pads_nothing(rt: HostRuntime) -> Result<(), Fail> {
-    let glyf = vec![in rt.alloc(); 0; 131_070]?;
-    let file = outlines(rt.alloc(), &glyf, &[0, 0, 65_535, 131_070])?;
-    let out = subset_of(rt.alloc(), &file, &[1, 2])?;
-    assert_eq!(rt;
-        table(&out, Tag::LOCA)?,
-        [0, 0, 0, 0, 0, 0, 0, 0, 0, 0, 0xff, 0xff, 0, 1, 0xff, 0xfe].as_slice()
-    );
-    assert_eq!(rt; table(&out, Tag::GLYF)?.len(), 131_070);
-    Ok(())
-}
-
-#[test]
-fn outlines_may_be_shared_and_unkept_ones_may_be_bad(rt: HostRuntime) -> Result<(), Fail> {
-    // Glyphs 0 and 2 share their bytes, and the entries of glyph 1 descend.
-    let file = outlines(rt.alloc(), &[0; 12], &[0, 12, 0, 12])?;
-    let out = subset_of(rt.alloc(), &file, &[2])?;
-    assert_eq!(rt; table(&out, Tag::LOCA)?, [0, 0, 0, 6, 0, 12].as_slice());
-    assert_eq!(rt; refusal(rt.alloc(), &file, 0, &[1])?, Error::MalformedFont);
-    Ok(())
-}
-
-#[test]
-fn descending_entries_are_refused_once_they_are_kept(rt: HostRuntime) -> Result<(), Fail> {
-    let file = outlines(rt.alloc(), &[0; 12], &[0, 12, 0])?;
-    let mapper = mapper(rt.alloc(), &[])?;
-    assert!(rt; subset(rt.alloc(), &file, 0, &mapper).is_ok());
-    assert_eq!(rt; refusal(rt.alloc(), &file, 0, &[1])?, Error::MalformedFont);
+fn only_kept_outlines_are_looked_at(rt: HostRuntime) -> Result<(), Fail> {
+    // In each font glyph 1 is refused: it has one byte, or its entries descend. In the last one glyphs 0 and 2 share their bytes.
+    let rows: [(usize, &[u32], &[u16], &[u8]); 3] = [
+        (1, &[0, 0, 1], &[], &[0, 0, 0, 0]),
+        (12, &[0, 12, 0], &[], &[0, 0, 0, 6]),
+        (12, &[0, 12, 0, 12], &[2], &[0, 0, 0, 6, 0, 12]),
+    ];
+    for (size, offsets, glyphs, loca) in rows {
+        let file = outlines(rt.alloc(), &[0; 12][..size.min(12)], offsets)?;
+        let out = subset_of(rt.alloc(), &file, glyphs)?;
+        assert_eq!(rt; table(&out, Tag::LOCA)?, loca);
+        assert_eq!(rt; refusal(rt.alloc(), &file, 0, &[1])?, Error::MalformedFont);
+    }
     Ok(())
 }

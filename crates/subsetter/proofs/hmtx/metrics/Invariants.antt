@@ -1,6 +1,6 @@
 use Rattle.std.proofs.Common.{◌≡◌, ◌+◌, length}
+use Rattle.subsetter_base.proofs.Results.{with_front}
 use Rattle.subsetter.specs.Hmtx.Written.{metrics_all}
-use Rattle.subsetter.proofs.HmtxLaws.Written.{with_front}
 use Rattle.subsetter.proofs.hmtx.metrics.Given as goal
 
 abbrev pub invariant-loop-glyph : goal.invariant-loop-glyph

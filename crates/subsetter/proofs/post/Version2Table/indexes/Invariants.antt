@@ -1,6 +1,6 @@
 use Rattle.std.proofs.Common.{◌≡◌, ◌+◌, length}
+use Rattle.subsetter_base.proofs.Results.{with_front}
 use Rattle.subsetter.specs.Post.Plain.{seen_post, indexes_of}
-use Rattle.subsetter.proofs.PostLaws.Indexes.{with_front}
 use Rattle.subsetter.proofs.post.Version2Table.indexes.Given as goal
 
 abbrev pub invariant-loop-old : goal.invariant-loop-old

@@ -1,12 +1,13 @@
 use Rattle.std.proofs.Common.{◌≡◌, ◌+◌, ◌*◌, ◌/◌, ◌∷◌, ◌++◌, take, drop, length, refl, ap, sym, ◌∙◌, arith}
 use Rattle.std.proofs.lemmas.List.{take_at, drop_at, drop_all, drop_more, length-append, length-drop}
 use Rattle.subsetter_base.specs.Bytes.{aligned}
+use Rattle.subsetter_base.proofs.Lists.{one_more_written}
 use Rattle.subsetter.specs.declared.sfnt.context.NewTable.{NewTable}
 use Rattle.subsetter.specs.Sfnt.Checksum.{checksum}
 use Rattle.subsetter.specs.Sfnt.Written.{body, record_bytes, directory_bytes, fits, IsTable}
 use Rattle.subsetter.specs.Sfnt.View.{view, views}
 use Rattle.subsetter.proofs.SfntLaws.Checksum.{checksum-aligned, checksum-body, checksum_fits, none_left}
-use Rattle.subsetter.proofs.SfntLaws.Written.{at_index, fitting, rounded, record_written, length-record}
+use Rattle.subsetter.proofs.SfntLaws.Written.{at_index, fitting, rounded, length-record}
 use Rattle.subsetter.proofs.sfnt.construct.write_directory.Goals as goal
 
 pub loop-table-preserved : goal.loop-table-preserved
@@ -26,7 +27,7 @@ loop-table-preserved c =
     let next : at + (c.len-len.result + 3) / 4 * 4 ≡ at + length (aligned 4 (view t).bytes) = omega (arith, len, rounded (view t).bytes) in
     let is_table = at_index IsTable view ts i t c.requires.tables c.loop-table-test.true c.table-item.is in
     record {
-      written = ap (λ n. c.write_record.new.out.items ++ directory_bytes n (views others)) next ∙ record_written c.loop-table.out.items (record_bytes at (view t)) (directory_bytes (at + length (aligned 4 (view t).bytes)) (views others)) _ c.write_record.new.out.items c.write_record.ensures.items (ap (λ v. c.loop-table.out.items ++ directory_bytes at v) (sym more) ∙ c.loop-table.invariant.written);
+      written = ap (λ n. c.write_record.new.out.items ++ directory_bytes n (views others)) next ∙ one_more_written c.loop-table.out.items (record_bytes at (view t)) (directory_bytes (at + length (aligned 4 (view t).bytes)) (views others)) _ c.write_record.new.out.items c.write_record.ensures.items (ap (λ v. c.loop-table.out.items ++ directory_bytes at v) (sym more) ∙ c.loop-table.invariant.written);
       fit = ap (λ n. fits n (views others)) next ∙ f.rest;
       room = omega (arith, ap length c.write_record.ensures.items, length-append c.loop-table.out.items (record_bytes at (view t)), length-record at (view t) is_table, c.loop-table.invariant.room, c.write_record.ensures.capacity, length-drop i ts, length-drop (i + 1) ts, c.loop-table-test.true);
       capacity = omega (arith, c.loop-table.invariant.capacity, c.write_record.ensures.capacity);

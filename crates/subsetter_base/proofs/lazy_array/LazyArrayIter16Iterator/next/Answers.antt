@@ -3,7 +3,8 @@ use Rattle.std.specs.Option.{option_and_then}
 use Rattle.subsetter_base.specs.Bytes.{range}
 use Rattle.subsetter_base.specs.Items.{values}
 use Rattle.subsetter_base.specs.Read.{Source}
-use Rattle.subsetter_base.proofs.ItemLemmas.{values_of-more, rest_of}
+use Rattle.subsetter_base.proofs.ItemLemmas.{values_of-more}
+use Rattle.subsetter_base.proofs.Lists.{rest_of}
 use Rattle.subsetter_base.proofs.lazy_array.LazyArrayIter16Iterator.next.Goals as goal
 
 pub returns-clause-steps : goal.returns-clause-steps
