@@ -78,6 +78,8 @@ def tell():
     print(f"rt ci took {int(took) // 60} min {int(took) % 60} s on {len(os.sched_getaffinity(0))} processors")
 
 
+for stream in (sys.stdin, sys.stdout):
+    stream.reconfigure(encoding="utf-8", errors="replace")
 threading.Thread(target=look, args=[sys.argv[1]], daemon=True).start()
 for line in sys.stdin:
     mark = "" if re.match(r"\d+ passed, \d+ failed", line) else f"{clock(time.time() - start):>6} "
