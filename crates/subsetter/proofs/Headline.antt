@@ -9,7 +9,6 @@ use Rattle.subsetter.specs.declared.sfnt.flavor.FontFlavor.{FontFlavor}
 use Rattle.subsetter.specs.declared.sfnt.flavor.FontFlavor.TheVariants.{TrueType, Cff}
 use Rattle.subsetter.specs.Truetype.Answered.{IsAnswered, IsRefused}
 use Rattle.subsetter.specs.Fault as faults
-use Rattle.subsetter.specs.Fault.{HasFault}
 use Rattle.subsetter.specs.Sfnt.Read.{Font, table, table_in, flavor}
 use Rattle.subsetter.specs.Sfnt.Plain.{opened, flavored}
 use Rattle.subsetter.specs.Sfnt.Fault.{HasOpeningFault, no_kind, no_entry, entry_outside, no_face, nested, cut_directory, no_outlines, lone_cff2}

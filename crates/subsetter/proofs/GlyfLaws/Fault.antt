@@ -11,7 +11,7 @@ use Rattle.subsetter_base.specs.declared.error.Error.{Error}
 use Rattle.subsetter_base.specs.declared.error.Error.TheVariants.{MalformedFont, OutOfMemory}
 use Rattle.subsetter_base.proofs.ByteLemmas.{range-fits}
 use Rattle.subsetter_base.proofs.Results.{named_err}
-use Rattle.subsetter_base.proofs.Options.{some_not_none, present, present_is, bind_some}
+use Rattle.subsetter_base.proofs.Options.{some_not_none, present_is, bind_some}
 use Rattle.subsetter.specs.Sfnt.Read.{Font, table}
 use Rattle.subsetter.specs.Glyf.Read.{Outlines, outlines_in, outlines, outline_in, outline}
 use Rattle.subsetter.specs.Glyf.Parts.{Parts, outline_parts}

@@ -1,13 +1,12 @@
 -- An outline that was written under new numbers has the same parts under new numbers.
-use Rattle.std.proofs.Common.{◌≡◌, ℕ, zero, suc, ◌+◌, ◌-◌, ◌%◌, ◌^◌, ◌<◌, ◌≤◌, Bool, true, false, cond, leb, List, [], ◌∷◌, ◌++◌, length, take, drop, Option, Some, None, refl, sym, ap, subst, ◌∙◌, inl, inr, append_assoc, arith}
+use Rattle.std.proofs.Common.{◌≡◌, ℕ, zero, suc, ◌+◌, ◌-◌, ◌%◌, ◌^◌, ◌<◌, ◌≤◌, Bool, true, false, cond, List, [], ◌∷◌, ◌++◌, length, drop, Option, Some, None, refl, sym, ap, subst, ◌∙◌, append_assoc, arith}
 use Rattle.std.specs.Prelude.{map, replicate}
-use Rattle.std.specs.Option.{option_and_then, option_map}
+use Rattle.std.specs.Option.{option_and_then}
 use Rattle.std.specs.List.{flat_map}
 use Rattle.std.specs.Int.{w16, to_be_bytes}
-use Rattle.std.proofs.lemmas.Bool.{cases_lt}
-use Rattle.std.proofs.lemmas.List.{append-nil, drop_at, get_or-drop, get_or-take, length-append, length-take, get_or_past}
-use Rattle.subsetter_base.specs.Bytes.{be, range, number, IsBytes}
-use Rattle.subsetter_base.proofs.ByteLemmas.{be-u16, be-fits, range-middle, range-length, number_at, IsBytes-drop, IsBytes-take, IsBytes-range, number-small}
+use Rattle.std.proofs.lemmas.List.{append-nil, drop_at, length-append}
+use Rattle.subsetter_base.specs.Bytes.{range, number, IsBytes}
+use Rattle.subsetter_base.proofs.ByteLemmas.{be-u16, range-middle, number_at, IsBytes-drop, number-small}
 use Rattle.subsetter_base.proofs.Options.{present, present_is, bind_some}
 use Rattle.subsetter.specs.Glyf.Unfold.{padded}
 use Rattle.subsetter.specs.Glyf.Parts.{Component, Chain, has, rest_size, has_more, has_instructions, component_at, with_component, last_component, chain_at, spelled}

@@ -9,7 +9,7 @@ use Rattle.subsetter_base.specs.declared.error.Error.{Error}
 use Rattle.subsetter_base.specs.declared.error.Error.TheVariants.{MalformedFont}
 use Rattle.subsetter_base.proofs.ByteLemmas.{be-u16, be-u32, number_at}
 use Rattle.subsetter_base.proofs.Results.{done_is, failed_is}
-use Rattle.subsetter_base.proofs.Options.{some_not_none, present, present_is}
+use Rattle.subsetter_base.proofs.Options.{some_not_none, present_is}
 use Rattle.subsetter.specs.declared.sfnt.flavor.FontFlavor.{FontFlavor}
 use Rattle.subsetter.specs.declared.sfnt.flavor.FontFlavor.TheVariants.{TrueType, Cff}
 use Rattle.subsetter.specs.Maxp.Read.{number_of_glyphs, version_of, further_fields, IsMaxProfile, HasMaxProfileFault, short_maxp}

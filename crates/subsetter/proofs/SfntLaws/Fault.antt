@@ -6,7 +6,7 @@ use Rattle.std.proofs.lemmas.Bool.{leb-true}
 use Rattle.subsetter_base.specs.Bytes.{◌>>=◌}
 use Rattle.subsetter_base.specs.declared.error.Error.{Error}
 use Rattle.subsetter_base.specs.declared.error.Error.TheVariants.{UnknownKind, MalformedFont, Unimplemented}
-use Rattle.subsetter_base.proofs.Results.{failed, failed_is, done, done_is, ok_not_err}
+use Rattle.subsetter_base.proofs.Results.{failed_is, done_is, ok_not_err}
 use Rattle.subsetter_base.proofs.Options.{some_not_none}
 use Rattle.subsetter.specs.declared.sfnt.face.FontKind.{FontKind}
 use Rattle.subsetter.specs.declared.sfnt.face.FontKind.TheVariants.{Collection, Single}

@@ -4,7 +4,6 @@ use Rattle.std.specs.Prelude.{codes}
 use Rattle.std.specs.List.{AllByRecursion}
 use Rattle.std.specs.Str.{bytes_eq}
 use Rattle.std.proofs.lemmas.Bool.{false≢true}
-use Rattle.std.proofs.lemmas.Slice.Eq.{bytes_eq-Decides}
 use Rattle.subsetter_base.specs.Bytes.{be}
 use Rattle.subsetter_base.proofs.Lists.{bytes_eq_is, bytes_eq_self}
 use Rattle.subsetter.specs.Sfnt.Container.{AscendFrom}

@@ -6,7 +6,7 @@ use Rattle.subsetter_base.specs.Bytes.{◌>>=◌}
 use Rattle.subsetter_base.specs.declared.error.Error.{Error}
 use Rattle.subsetter_base.specs.declared.error.Error.TheVariants.{MalformedFont, OverflowError}
 use Rattle.subsetter_base.proofs.Results.{done_is, bind_ok}
-use Rattle.subsetter_base.proofs.Options.{present, present_is}
+use Rattle.subsetter_base.proofs.Options.{present_is}
 use Rattle.subsetter.specs.declared.sfnt.flavor.FontFlavor.{FontFlavor}
 use Rattle.subsetter.specs.declared.sfnt.flavor.FontFlavor.TheVariants.{TrueType}
 use Rattle.subsetter.specs.Glyf.Read.{Outlines}
