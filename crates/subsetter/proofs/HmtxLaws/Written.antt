@@ -12,7 +12,6 @@ use Rattle.subsetter.specs.declared.hmtx.Metric.{Metric}
 use Rattle.subsetter.specs.Hmtx.Read.{metric_in}
 use Rattle.subsetter.specs.Hmtx.Written.{hhea_bytes, all_advance, least_count, metrics_all}
 
-
 -- `hhea`, written in three parts
 pub header_written : (count : ℕ) (hhea w w1 w2 w3 out : List ℕ) → w ≡ [] → w1 ≡ w ++ take 34 hhea → w2 ≡ w1 ++ to_be_bytes w16 count → w3 ≡ w2 ++ drop 36 hhea → out ≡ w3 → out ≡ hhea_bytes count hhea
 unfolding hhea_bytes

@@ -19,7 +19,6 @@ use Rattle.subsetter.proofs.NameLaws.Back.{range_found, all_bytes, fits_kept}
 use Rattle.subsetter.proofs.NameLaws.Kept.{kept_alike, subsetted, placed_as, fit_table, has_kept_names, read_by_version}
 use Rattle.subsetter.proofs.NameLaws.Fault.{names_of, records_are, readable, kept_strings_are, placed_length}
 
-
 -- a table that was answered for
 answered : (find : List ℕ → Option (List ℕ)) (bytes : List ℕ) (x : Option (List ℕ)) → find (codes "name") ≡ Some bytes → name_of find ≡ Ok x → (y : List ℕ) × (name_of_table bytes ≡ Ok y)
 unfolding new_name

@@ -16,7 +16,6 @@ use Rattle.subsetter.specs.Name.Plain.{Placed, placed, placed_string, with_name,
 use Rattle.subsetter.specs.Name.Fault.{HasNameFault, kept_strings, name_without_version, name_header_cut, name_records_cut, name_storage_outside, name_string_outside, too_many_names, name_string_too_far}
 use Rattle.subsetter.proofs.NameLaws.Kept.{stored, kept_alike, read_by_version}
 
-
 -- ---- parts that aren't there
 
 cut_parts : (find : List ℕ → Option (List ℕ)) (bytes : List ℕ) → find (codes "name") ≡ Some bytes → number bytes 0 2 ≡ Some 0 → name_parts bytes ≡ None → HasNameFault find MalformedFont

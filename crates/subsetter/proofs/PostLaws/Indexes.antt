@@ -9,7 +9,6 @@ use Rattle.subsetter_base.specs.declared.error.Error.TheVariants.{OverflowError}
 use Rattle.subsetter.specs.Post.Read.{GlyphName, Standard, Custom, PostTable, pascal_strings, names_in, name_of_index, pascal_bytes, index_bytes, entry_bytes, post_bytes}
 use Rattle.subsetter.specs.Post.Plain.{custom_count, new_indexes, entry_of, post_of_indexes}
 
-
 -- the own names in order
 abbrev pub customs : List GlyphName → List (List ℕ)
 customs [] = []

@@ -16,7 +16,6 @@ use Rattle.subsetter.specs.Sfnt.Read.{Font, kind_at, collection_entry, if_single
 use Rattle.subsetter.specs.Sfnt.Plain.{opened_by_kind, opened_header, opened, flavored}
 use Rattle.subsetter.specs.Sfnt.Fault.{HasOpeningFault, no_kind, no_entry, entry_outside, no_face, nested, cut_directory, no_outlines, lone_cff2}
 
-
 -- ---- the header
 
 -- what each outcome of the header's steps says

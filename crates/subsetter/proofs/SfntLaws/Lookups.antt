@@ -8,8 +8,7 @@ use Rattle.subsetter_base.specs.Bytes.{be}
 use Rattle.subsetter_base.proofs.Lists.{bytes_eq_is, bytes_eq_self}
 use Rattle.subsetter.specs.Sfnt.Container.{AscendFrom}
 use Rattle.subsetter.specs.Sfnt.Written.{Table, IsTable}
-use Rattle.subsetter.specs.Sfnt.View.{opt, lookup, tags}
-
+use Rattle.subsetter.specs.Sfnt.Rows.{opt, lookup, tags}
 
 -- tags of different numbers are different
 pub apart_by : (a b : List ℕ) → be a < be b → bytes_eq b a ≡ false
