@@ -1,5 +1,5 @@
 -- Parts that may be missing.
---   present                      a part that is there, told apart from others by present_is
+--   just                      a part that is there, told apart from others by just_is
 --   some_not_none                nothing is both there and missing
 --   bind_some, map_some, map_none  what was there before a step
 --   is_some_of, some_of, none_of   the test and what it says
@@ -7,11 +7,11 @@ use Rattle.std.proofs.Common.{◌≡◌, true, false, Option, Some, None, refl, 
 use Rattle.std.specs.Prelude.{IsSome, is_some}
 use Rattle.std.specs.Option.{option_and_then, option_map}
 
-abbrev pub present : {A : Type 0} → A → Option A
-present x = Some x
+abbrev pub just : {A : Type 0} → A → Option A
+just x = Some x
 
-pub present_is : {A : Type 0} (x y : A) → present x ≡ present y → x ≡ y
-present_is x y h = cc
+pub just_is : {A : Type 0} (x y : A) → just x ≡ just y → x ≡ y
+just_is x y h = cc
 
 pub some_not_none : {A : Type 0} (o : Option A) (x : A) → o ≡ Some x → o ≡ None → ⊥
 some_not_none o x h k = let both = sym h ∙ k in cc

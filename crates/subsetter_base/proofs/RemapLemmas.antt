@@ -4,7 +4,6 @@ use Rattle.std.specs.Prelude.{is_some}
 use Rattle.std.specs.Cmp.{IsEquivalence}
 use Rattle.std.specs.List.{list_any}
 use Rattle.std.specs.Option.{option_map}
-use Rattle.std.proofs.lemmas.Bool.{false≢true}
 use Rattle.subsetter_base.specs.Remap.{place_by, sum_below}
 use Rattle.subsetter_base.proofs.PlaceLemmas.{later_none, later_swapped}
 

@@ -10,7 +10,6 @@ use Rattle.subsetter_base.proofs.Options.{bind_some}
 use Rattle.subsetter.specs.Glyf.Parts.{Component, Chain, Composite, Simple, rest_size, has_more, has_instructions, component_at, with_component, last_component, chain_at, composite_parts, outline_parts, spelled, parts_bytes}
 use Rattle.subsetter.specs.Glyf.Plain.{renumbered_component, renumbered_chain, renumbered, rewritten_composite, rewritten}
 
-
 -- a component that is whole
 pub record IsComponent (bytes : List ℕ) (c : Component) : Type 0 where
   pub flags_is : number bytes 0 2 ≡ Some c.flags

@@ -11,7 +11,7 @@ use Rattle.subsetter_base.specs.declared.error.Error.{Error}
 use Rattle.subsetter_base.specs.declared.error.Error.TheVariants.{MalformedFont, OutOfMemory}
 use Rattle.subsetter_base.proofs.ByteLemmas.{range-fits}
 use Rattle.subsetter_base.proofs.Results.{named_err}
-use Rattle.subsetter_base.proofs.Options.{some_not_none, present, present_is, bind_some}
+use Rattle.subsetter_base.proofs.Options.{some_not_none, just_is, bind_some}
 use Rattle.subsetter.specs.Sfnt.Read.{Font, table}
 use Rattle.subsetter.specs.Glyf.Read.{Outlines, outlines_in, outlines, outline_in, outline}
 use Rattle.subsetter.specs.Glyf.Parts.{Parts, outline_parts}
@@ -49,7 +49,7 @@ has_tables find t h =
     let b = bind_some (find (codes "glyf")) (λ glyf. option_and_then (λ head. option_and_then (λ format. tables_of a.0 glyf head format) (number head 50 2)) (find (codes "head"))) t a.2 in
     let c = bind_some (find (codes "head")) (λ head. option_and_then (λ format. tables_of a.0 b.0 head format) (number head 50 2)) t b.2 in
     let d = bind_some (number c.0 50 2) (λ format. tables_of a.0 b.0 c.0 format) t c.2 in
-    let same : record { loca = a.0; glyf = b.0; head = c.0; long = not (eqb d.0 0) } ≡ t = present_is (record { loca = a.0; glyf = b.0; head = c.0; long = not (eqb d.0 0) }) t d.2 in
+    let same : record { loca = a.0; glyf = b.0; head = c.0; long = not (eqb d.0 0) } ≡ t = just_is (record { loca = a.0; glyf = b.0; head = c.0; long = not (eqb d.0 0) }) t d.2 in
     record {
       loca_is = a.1 ∙ ap (λ (o : Outlines). Some o.loca) same;
       glyf_is = b.1 ∙ ap (λ (o : Outlines). Some o.glyf) same;
@@ -149,7 +149,7 @@ module _ (font : Font) (glyphs order : List ℕ) (t : Outlines) (bs : List (List
   without_parts : (g : ℕ) (bytes : List ℕ) → IsReachable font glyphs g → outline font g ≡ Some bytes → outline_parts bytes ≡ None → ⊥
   without_parts g bytes r there none =
       let k = has_parts g r in
-      let same : k.0 ≡ bytes = present_is k.0 bytes (sym k.1 ∙ there) in
+      let same : k.0 ≡ bytes = just_is k.0 bytes (sym k.1 ∙ there) in
       some_not_none (outline_parts k.0) k.2.0 k.2.1 (ap outline_parts same ∙ none)
 
   pub no_outline_fault : (e : Error) → HasOutlineFault font glyphs e → ⊥
@@ -157,7 +157,7 @@ module _ (font : Font) (glyphs order : List ℕ) (t : Outlines) (bs : List (List
   no_outline_fault e (faults.no_head a b) = let h = has_tables (table font) t read in some_not_none (table font (codes "head")) t.head h.head_is b
   no_outline_fault e (faults.short_head head a b) =
       let h = has_tables (table font) t read in
-      let same : t.head ≡ head = present_is t.head head (sym h.head_is ∙ a) in
+      let same : t.head ≡ head = just_is t.head head (sym h.head_is ∙ a) in
       omega (arith, ap length same, h.head_len, b)
   no_outline_fault e (faults.no_outline g a r none) = let k = has_parts g r in some_not_none (outline font g) k.0 k.1 none
   no_outline_fault e (faults.one_byte g b r there) = without_parts g (b ∷ []) r there (one_has_none b)

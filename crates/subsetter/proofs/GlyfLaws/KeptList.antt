@@ -8,7 +8,6 @@ use Rattle.subsetter_base.proofs.Results.{with_front}
 use Rattle.subsetter.specs.Glyf.Read.{Outlines}
 use Rattle.subsetter.specs.Glyf.Plain.{kept, kept_all}
 
-
 regroup : {A : Type 0} (front : List A) (x : A) (read : Result (List A) Error) → with_front front (read >>= λ xs. Ok (x ∷ xs)) ≡ with_front (front ++ x ∷ []) read
 regroup front x (Ok xs) = ap Ok (sym (append_assoc front (x ∷ []) xs))
 regroup front x (Err e) = refl

@@ -1,14 +1,13 @@
 -- An outline that was written under new numbers has the same parts under new numbers.
-use Rattle.std.proofs.Common.{◌≡◌, ℕ, zero, suc, ◌+◌, ◌-◌, ◌%◌, ◌^◌, ◌<◌, ◌≤◌, Bool, true, false, cond, leb, List, [], ◌∷◌, ◌++◌, length, take, drop, Option, Some, None, refl, sym, ap, subst, ◌∙◌, inl, inr, append_assoc, arith}
+use Rattle.std.proofs.Common.{◌≡◌, ℕ, zero, suc, ◌+◌, ◌-◌, ◌%◌, ◌^◌, ◌<◌, ◌≤◌, Bool, true, false, cond, List, [], ◌∷◌, ◌++◌, length, drop, Option, Some, None, refl, sym, ap, subst, ◌∙◌, append_assoc, arith}
 use Rattle.std.specs.Prelude.{map, replicate}
-use Rattle.std.specs.Option.{option_and_then, option_map}
+use Rattle.std.specs.Option.{option_and_then}
 use Rattle.std.specs.List.{flat_map}
 use Rattle.std.specs.Int.{w16, to_be_bytes}
-use Rattle.std.proofs.lemmas.Bool.{cases_lt}
-use Rattle.std.proofs.lemmas.List.{append-nil, drop_at, get_or-drop, get_or-take, length-append, length-take, get_or_past}
-use Rattle.subsetter_base.specs.Bytes.{be, range, number, IsBytes}
-use Rattle.subsetter_base.proofs.ByteLemmas.{be-u16, be-fits, range-middle, range-length, number_at, IsBytes-drop, IsBytes-take, IsBytes-range, number-small}
-use Rattle.subsetter_base.proofs.Options.{present, present_is, bind_some}
+use Rattle.std.proofs.lemmas.List.{append-nil, drop_at, length-append}
+use Rattle.subsetter_base.specs.Bytes.{range, number, IsBytes}
+use Rattle.subsetter_base.proofs.ByteLemmas.{be-u16, range-middle, number_at, IsBytes-drop, number-small}
+use Rattle.subsetter_base.proofs.Options.{just, just_is, bind_some}
 use Rattle.subsetter.specs.Glyf.Unfold.{padded}
 use Rattle.subsetter.specs.Glyf.Parts.{Component, Chain, has, rest_size, has_more, has_instructions, component_at, with_component, last_component, chain_at, spelled}
 use Rattle.subsetter.specs.Glyf.Plain.{new_number, renumbered_component}
@@ -64,11 +63,11 @@ chain_is (suc n) bytes chain fit h = by (λ rest whole r e. chain_is n rest whol
     into : ((rest : List ℕ) (whole : Chain) → IsBytes rest → chain_at n rest ≡ Some whole → IsChain whole.tail whole.components) → (c : Component) → IsComponent bytes c → (b : Bool) → has_more c.flags ≡ b
         → cond b (option_and_then (λ rest. Some (with_component c rest)) (chain_at n (drop (4 + rest_size c.flags) bytes))) (Some (last_component c (drop (4 + rest_size c.flags) bytes))) ≡ Some chain → IsChain chain.tail chain.components
     into again c is true m e =
-        let k = bind_some (chain_at n (drop (4 + rest_size c.flags) bytes)) (λ rest. present (with_component c rest)) chain e in
-        let same : with_component c k.0 ≡ chain = present_is (with_component c k.0) chain k.2 in
+        let k = bind_some (chain_at n (drop (4 + rest_size c.flags) bytes)) (λ rest. just (with_component c rest)) chain e in
+        let same : with_component c k.0 ≡ chain = just_is (with_component c k.0) chain k.2 in
         subst ChainOf same (more c k.0.components is.size (number-small bytes 0 c.flags fit is.flags_is) m (again (drop (4 + rest_size c.flags) bytes) k.0 (IsBytes-drop (4 + rest_size c.flags) bytes fit) k.1))
     into again c is false m e =
-        let same : last_component c (drop (4 + rest_size c.flags) bytes) ≡ chain = present_is (last_component c (drop (4 + rest_size c.flags) bytes)) chain e in
+        let same : last_component c (drop (4 + rest_size c.flags) bytes) ≡ chain = just_is (last_component c (drop (4 + rest_size c.flags) bytes)) chain e in
         subst ChainOf same (last c is.size (number-small bytes 0 c.flags fit is.flags_is) m (λ none. no_tail (has_instructions c.flags) (drop (4 + rest_size c.flags) bytes) none))
 
     by : ((rest : List ℕ) (whole : Chain) → IsBytes rest → chain_at n rest ≡ Some whole → IsChain whole.tail whole.components) → (o : Option Component) → component_at bytes ≡ o → IsChain chain.tail chain.components
@@ -119,8 +118,8 @@ module _ (order : List ℕ) (small : (g : ℕ) → new_number order g < 2 ^ 16) 
       let kept : last_component (again c) (drop (4 + rest_size c.flags) X) ≡ record { components = again c ∷ []; tail = T } =
       ap (λ (l : List ℕ). last_component (again c) l) rest ∙ ap (λ (l : List ℕ). record { components = again c ∷ []; tail = l }) (kept_tail (has_instructions c.flags) long tail none) in
       ap (chain_at (suc n)) whole ∙ chain_more n X (again c) read
-      ∙ ap (λ b. cond b (option_and_then (λ chain. present (with_component (again c) chain)) (chain_at n (drop (4 + rest_size c.flags) X))) (Some (last_component (again c) (drop (4 + rest_size c.flags) X)))) stop
-      ∙ ap present kept
+      ∙ ap (λ b. cond b (option_and_then (λ chain. just (with_component (again c) chain)) (chain_at n (drop (4 + rest_size c.flags) X))) (Some (last_component (again c) (drop (4 + rest_size c.flags) X)))) stop
+      ∙ ap just kept
   chain_back (suc n) long tail (c ∷ cs) (more _ _ len fit go h) le =
       let T = padded long tail in
       let R = flat_map spelled (map again cs) ++ T in
@@ -130,9 +129,9 @@ module _ (order : List ℕ) (small : (g : ℕ) → new_number order g < 2 ^ 16) 
       let rest : drop (4 + rest_size c.flags) X ≡ R = behind (again c) R len in
       let below = chain_back n long tail cs h (omega arith) in
       ap (chain_at (suc n)) whole ∙ chain_more n X (again c) read
-      ∙ ap (λ b. cond b (option_and_then (λ chain. present (with_component (again c) chain)) (chain_at n (drop (4 + rest_size c.flags) X))) (Some (last_component (again c) (drop (4 + rest_size c.flags) X)))) go
-      ∙ ap (λ (l : List ℕ). option_and_then (λ chain. present (with_component (again c) chain)) (chain_at n l)) rest
-      ∙ ap (λ (o : Option Chain). option_and_then (λ chain. present (with_component (again c) chain)) o) below
+      ∙ ap (λ b. cond b (option_and_then (λ chain. just (with_component (again c) chain)) (chain_at n (drop (4 + rest_size c.flags) X))) (Some (last_component (again c) (drop (4 + rest_size c.flags) X)))) go
+      ∙ ap (λ (l : List ℕ). option_and_then (λ chain. just (with_component (again c) chain)) (chain_at n l)) rest
+      ∙ ap (λ (o : Option Chain). option_and_then (λ chain. just (with_component (again c) chain)) o) below
 
   pub chain-even : (tail : List ℕ) (cs : List Component) → IsChain tail cs → length (flat_map spelled (map again cs)) % 2 ≡ 0
   chain-even tail [] h = elim h [ ]

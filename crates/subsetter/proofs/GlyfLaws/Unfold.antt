@@ -1,6 +1,6 @@
 -- Each glyph of a subset unfolds as its source does, to every depth.
 use Rattle.std.proofs.Common.{◌≡◌, ℕ, zero, suc, ◌+◌, ◌-◌, ◌%◌, ◌^◌, ◌<◌, ◌≤◌, Bool, true, false, cond, leb, ltb, List, [], ◌∷◌, ◌++◌, length, get_or, take, drop, Option, Some, None, Ok, refl, sym, ap, subst, ◌∙◌, append_assoc, arith}
-use Rattle.std.specs.Prelude.{map, Contains, is_some}
+use Rattle.std.specs.Prelude.{map, Contains}
 use Rattle.std.specs.Option.{option_and_then, unwrap_or}
 use Rattle.std.specs.List.{flat_map}
 use Rattle.std.proofs.lemmas.Bool.{le-ltb, ltb-false}
@@ -9,11 +9,11 @@ use Rattle.subsetter_base.specs.Bytes.{range, IsBytes}
 use Rattle.subsetter_base.specs.Places.{place}
 use Rattle.subsetter_base.proofs.ByteLemmas.{range-middle, range-fits, range-length, range-take_drop, IsBytes-drop, IsBytes-range}
 use Rattle.subsetter_base.proofs.GlyphLemmas.{place-finds, Contains-place}
-use Rattle.subsetter_base.proofs.Options.{present, present_is, some_of, bind_some}
+use Rattle.subsetter_base.proofs.Options.{just, just_is, some_of, bind_some}
 use Rattle.subsetter_base.proofs.Lists.{Contains-later}
 use Rattle.subsetter.specs.Sfnt.Read.{Font}
 use Rattle.subsetter.specs.Glyf.Read.{Outlines, outlines, outline_in, outline, between, offset}
-use Rattle.subsetter.specs.Glyf.Unfold.{padded, SameComponents, SameParts, UnfoldAlike}
+use Rattle.subsetter.specs.Glyf.Unfold.{padded, SameComponents, SameParts, HaveSameParts, UnfoldAlike}
 use Rattle.subsetter.specs.Glyf.Parts.{Component, Chain, Parts, Empty, Simple, Composite, rest_size, has_more, component_at, with_component, last_component, chain_at, numbers_at, component_numbers, composite_parts, outline_parts, spelled, parts_bytes}
 use Rattle.subsetter.specs.Glyf.Plain.{new_number, renumbered_component, renumbered, kept_all}
 use Rattle.subsetter.specs.Glyf.Reach.{IsGlyphOrder, step}
@@ -46,14 +46,14 @@ each_numbered (suc n) bytes chain h = by (λ rest whole e. each_numbered n rest 
         → cond b (option_and_then (λ rest. Some (with_component c rest)) (chain_at n (drop (4 + rest_size c.flags) bytes))) (Some (last_component c (drop (4 + rest_size c.flags) bytes))) ≡ Some chain → EachGlyph (λ g. Contains (numbers_at (suc n) bytes) g) chain.components
     into again c is true m e =
         let after = drop (4 + rest_size c.flags) bytes in
-        let k = bind_some (chain_at n after) (λ rest. present (with_component c rest)) chain e in
-        let same : with_component c k.0 ≡ chain = present_is (with_component c k.0) chain k.2 in
+        let k = bind_some (chain_at n after) (λ rest. just (with_component c rest)) chain e in
+        let same : with_component c k.0 ≡ chain = just_is (with_component c k.0) chain k.2 in
         let numbers : c.glyph ∷ numbers_at n after ≡ numbers_at (suc n) bytes = sym (numbers_more n bytes c.flags c.glyph is.flags_is is.glyph_is ∙ ap (λ b. c.glyph ∷ cond b (numbers_at n after) []) m) in
         subst (λ (l : List ℕ). EachGlyph (λ g. Contains l g) chain.components) numbers (subst (λ (whole : Chain). EachGlyph (λ g. Contains (c.glyph ∷ numbers_at n after) g) whole.components) same
         (first_number c.glyph (numbers_at n after), each_weaker (λ g. Contains (numbers_at n after) g) (λ g. Contains (c.glyph ∷ numbers_at n after) g) k.0.components (λ g at. Contains-later c.glyph g (numbers_at n after) at) (again after k.0 k.1)))
     into again c is false m e =
         let after = drop (4 + rest_size c.flags) bytes in
-        let same : last_component c after ≡ chain = present_is (last_component c after) chain e in
+        let same : last_component c after ≡ chain = just_is (last_component c after) chain e in
         let numbers : c.glyph ∷ [] ≡ numbers_at (suc n) bytes = sym (numbers_more n bytes c.flags c.glyph is.flags_is is.glyph_is ∙ ap (λ b. c.glyph ∷ cond b (numbers_at n after) []) m) in
         subst (λ (l : List ℕ). EachGlyph (λ g. Contains l g) chain.components) numbers (subst (λ (whole : Chain). EachGlyph (λ g. Contains (c.glyph ∷ []) g) whole.components) same (first_number c.glyph [], tt))
 
@@ -94,7 +94,7 @@ parts_are (a ∷ b ∷ rest) p h = by (ltb a 128) refl h
         let k = bind_some (range bytes 0 10) (λ head. option_and_then (λ chain. parts_there (Composite head chain)) (chain_at (length bytes) (drop 10 bytes))) p e in
         let l = bind_some (chain_at (length bytes) (drop 10 bytes)) (λ chain. parts_there (Composite k.0 chain)) p k.2 in
         let le : 10 ≤ length bytes = range-fits bytes k.0 0 10 k.1 in
-        let head_is : k.0 ≡ take 10 bytes = present_is k.0 (take 10 bytes) (sym k.1 ∙ range-take_drop bytes 0 10 le) in
+        let head_is : k.0 ≡ take 10 bytes = just_is k.0 (take 10 bytes) (sym k.1 ∙ range-take_drop bytes 0 10 le) in
         is_composite k.0 l.0 (record { long = le; high = ltb-false a 128 t; head_is = head_is; size = range-length bytes k.0 0 10 k.1; chain_read = l.1 }) (sym (same_parts_are (Composite k.0 l.0) p l.2))
 
     by : (q : Bool) → ltb a 128 ≡ q → cond q (Some (Simple (a ∷ b ∷ rest))) (composite_parts (a ∷ b ∷ rest)) ≡ Some p → PartsAre (a ∷ b ∷ rest) p
@@ -221,18 +221,17 @@ small_numbers order few g = by (place order g) refl
 
 module _ (font out : Font) (glyphs order : List ℕ) (t u : Outlines) (bs : List (List ℕ)) (read : outlines font ≡ Some t) (again : outlines out ≡ Some u) (closed : IsGlyphOrder font glyphs order) (few : length order < 2 ^ 16) (fit : IsBytes t.glyf)
     (keeps : kept_all t order order ≡ Ok bs) (written : AreWritten bs u) where
-  pub unfolds_alike : (n i : ℕ) → i < length order → UnfoldAlike font out n (get_or order i 0) i
-  unfolds_alike zero i lt = tt
-  unfolds_alike (suc n) i lt =
+  -- each glyph has the parts of its source, if the glyphs of the order are alike under their new numbers
+  parts_alike : (alike : ℕ → ℕ → Type 0) → ((h : ℕ) → Contains order h → alike h (new_number order h)) → (i : ℕ) → i < length order → HaveSameParts font out alike (get_or order i 0) i
+  parts_alike alike numbered i lt =
       let g = get_or order i 0 in
       let k = kept_at t order order bs i keeps lt in
       let source : outline font g ≡ Some k.bytes = outline_is font t g read ∙ k.there in
       let copy : outline out i ≡ Some (padded u.long (parts_bytes (renumbered order k.parts))) =
       outline_is out u i again ∙ read_back bs u i written (omega (arith, length-kept_all t order order bs keeps)) ∙ ap (λ (l : List ℕ). Some (padded u.long l)) (sym k.written) in
-      let each : EachGlyph (λ h. UnfoldAlike font out n h (new_number order h)) (components_of k.parts) =
-      each_weaker (λ h. Contains (component_numbers k.bytes) h) (λ h. UnfoldAlike font out n h (new_number order h)) (components_of k.parts) (λ h c.
-      let at = has_number order h ((closed.members h).1 (step g h k.bytes ((closed.members g).0 (i, lt, get_or_default order i g 0 lt)) source c)) in
-      subst (λ (m : ℕ). UnfoldAlike font out n h m) (sym at.3) (subst (λ (m : ℕ). UnfoldAlike font out n m at.0) at.2 (unfolds_alike n at.0 at.1))) (are_numbered k.bytes k.parts k.parts_are) in
+      let each : EachGlyph (λ h. alike h (new_number order h)) (components_of k.parts) =
+      each_weaker (λ h. Contains (component_numbers k.bytes) h) (λ h. alike h (new_number order h)) (components_of k.parts)
+      (λ h c. numbered h ((closed.members h).1 (step g h k.bytes ((closed.members g).0 (i, lt, get_or_default order i g 0 lt)) source c))) (are_numbered k.bytes k.parts k.parts_are) in
       record {
         tables = u;
         read = again;
@@ -240,5 +239,18 @@ module _ (font out : Font) (glyphs order : List ℕ) (t u : Outlines) (bs : List
         source_is = ap (λ (o : Option (List ℕ)). option_and_then outline_parts o) source ∙ k.parts_are;
         copy = padded_parts u.long (renumbered order k.parts);
         copy_is = ap (λ (o : Option (List ℕ)). option_and_then outline_parts o) copy ∙ parts_back u.long order k.bytes k.parts (small_numbers order few) (outline_bytes t g k.bytes fit k.there) k.parts_are;
-        same = same_parts u.long (UnfoldAlike font out n) order k.parts each;
+        same = same_parts u.long alike order k.parts each;
       }
+
+  pub unfolds_alike : (n i : ℕ) → i < length order → UnfoldAlike font out n (get_or order i 0) i
+  unfolds_alike zero i lt = tt
+  unfolds_alike (suc n) i lt = parts_alike (UnfoldAlike font out n) (alike n (λ j at. unfolds_alike n j at)) i lt
+    where
+      alike : (m : ℕ) → ((j : ℕ) → j < length order → UnfoldAlike font out m (get_or order j 0) j) → (h : ℕ) → Contains order h → UnfoldAlike font out m h (new_number order h)
+      alike m unfolds h c =
+          let at = has_number order h c in
+          subst (λ (k : ℕ). UnfoldAlike font out m h k) (sym at.3) (subst (λ (k : ℕ). UnfoldAlike font out m k at.0) at.2 (unfolds at.0 at.1))
+
+  -- the new number of a component is the place of its glyph
+  pub numbered_alike : (i : ℕ) → i < length order → HaveSameParts font out (λ g h. place order g ≡ Some h) (get_or order i 0) i
+  numbered_alike i lt = parts_alike (λ g h. place order g ≡ Some h) (λ h c. let k = some_number (place order h) (Contains-place order h c) in k.1 ∙ ap (λ (n : ℕ). Some n) (sym (ap (λ (o : Option ℕ). unwrap_or o 0) k.1))) i lt

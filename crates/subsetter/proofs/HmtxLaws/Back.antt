@@ -1,14 +1,14 @@
 -- `hhea` and `hmtx` that were written are read back.
-use Rattle.std.proofs.Common.{◌≡◌, ℕ, zero, suc, ◌+◌, ◌-◌, ◌*◌, ◌^◌, ◌<◌, ◌≤◌, ltb, leb, Bool, true, false, cond, List, [], ◌∷◌, ◌++◌, length, get_or, take, drop, Option, Some, None, refl, sym, ap, subst, ◌∙◌, inl, inr, append_assoc, lit<, arith}
+use Rattle.std.proofs.Common.{◌≡◌, ℕ, zero, suc, ◌+◌, ◌-◌, ◌*◌, ◌^◌, ◌<◌, ◌≤◌, ltb, Bool, true, false, cond, List, [], ◌∷◌, ◌++◌, length, get_or, take, drop, Option, Some, None, refl, sym, ap, subst, ◌∙◌, inl, inr, append_assoc, arith}
 use Rattle.std.specs.Prelude.{◌==◌}
-use Rattle.std.specs.Option.{option_and_then, option_map}
+use Rattle.std.specs.Option.{option_and_then}
 use Rattle.std.specs.List.{flat_map}
 use Rattle.std.specs.Int.{w16, to_be_bytes}
 use Rattle.std.proofs.lemmas.Bool.{lt-ltb, le-ltb, ne_eqb, cases_lt}
 use Rattle.std.proofs.lemmas.List.{length-append, length-take-le, length-drop, take_at, drop_at, get_or-take, get_or-drop}
-use Rattle.subsetter_base.specs.Bytes.{be, range, number, IsBytes}
-use Rattle.subsetter_base.proofs.ByteLemmas.{be-u16, be-fits, range-length, number_at, IsBytes-take, IsBytes-drop, IsBytes-range, number-small}
-use Rattle.subsetter_base.proofs.Options.{present, present_is}
+use Rattle.subsetter_base.specs.Bytes.{number, IsBytes}
+use Rattle.subsetter_base.proofs.ByteLemmas.{be-u16, number_at, number-small}
+use Rattle.subsetter_base.proofs.Options.{just_is}
 use Rattle.subsetter.specs.declared.hmtx.Metric.{Metric}
 use Rattle.subsetter.specs.Hmtx.Read.{number_of_metrics, metric_at, metric_in}
 use Rattle.subsetter.specs.Hmtx.Written.{pair_bytes, bearing_bytes, hmtx_bytes, hhea_bytes}
@@ -31,7 +31,7 @@ at_small hmtx p q m h e = by (number hmtx p 2) (number hmtx q 2) refl refl e
     by (Some a) None x y k = absurd cc
     by (Some a) (Some b) x y k =
         let both : IsSmall (record { advance = a; bearing = b }) = record { advance = number-small hmtx p a h x; bearing = number-small hmtx q b h y } in
-        subst IsSmall (present_is (record { advance = a; bearing = b }) m k) both
+        subst IsSmall (just_is (record { advance = a; bearing = b }) m k) both
 
 pub metric_small : (hmtx : List ℕ) (count g : ℕ) (m : Metric) → IsBytes hmtx → metric_in hmtx count g ≡ Some m → IsSmall m
 unfolding metric_in

@@ -1,15 +1,15 @@
 -- What the plain way to `hhea` and `hmtx` answers keeps the metrics; what it refuses has a fault, and what it answers has none.
-use Rattle.std.proofs.Common.{◌≡◌, ℕ, zero, suc, ◌+◌, ◌-◌, ◌*◌, ◌^◌, ◌<◌, ◌≤◌, leb, Bool, true, false, cond, List, length, get_or, take, drop, Option, Some, None, Result, Ok, Err, refl, sym, ap, subst, ◌∙◌, ◌⊎◌, inl, inr, arith}
+use Rattle.std.proofs.Common.{◌≡◌, ℕ, zero, suc, ◌+◌, ◌-◌, ◌*◌, ◌^◌, ◌<◌, ◌≤◌, Bool, true, false, cond, List, length, get_or, Option, Some, None, Result, Ok, Err, refl, sym, ap, subst, ◌∙◌, ◌⊎◌, inl, inr, arith}
 use Rattle.std.specs.Prelude.{codes, Contains, IsSome, slice_index, ◌==◌}
-use Rattle.std.specs.Option.{option_and_then, option_map, ok_or}
-use Rattle.std.proofs.lemmas.Bool.{eqb-true, eqb-false, lt-ltb, le-ltb, leb-false}
+use Rattle.std.specs.Option.{ok_or}
+use Rattle.std.proofs.lemmas.Bool.{eqb-true, eqb-false, lt-ltb, le-ltb}
 use Rattle.std.proofs.lemmas.List.{get_or_default}
-use Rattle.subsetter_base.specs.Bytes.{be, range, number, IsBytes, ◌>>=◌}
+use Rattle.subsetter_base.specs.Bytes.{number, IsBytes, ◌>>=◌}
 use Rattle.subsetter_base.specs.declared.error.Error.{Error}
 use Rattle.subsetter_base.specs.declared.error.Error.TheVariants.{MalformedFont, OverflowError}
-use Rattle.subsetter_base.proofs.ByteLemmas.{range-fits, number-fits, number-short}
+use Rattle.subsetter_base.proofs.ByteLemmas.{number-fits, number-short}
 use Rattle.subsetter_base.proofs.Results.{done, done_is, failed_is, bind_ok, bind_err, named_ok, named_err}
-use Rattle.subsetter_base.proofs.Options.{some_not_none, present, present_is, is_some_of}
+use Rattle.subsetter_base.proofs.Options.{some_not_none, just_is, is_some_of}
 use Rattle.subsetter.specs.declared.hmtx.Metric.{Metric}
 use Rattle.subsetter.specs.Hmtx.Read.{number_of_metrics, metric_at, metric_in, metric_of, KeepsMetrics, HasMetricsFault, no_hhea, short_hhea, no_pairs, last_advance_outside, metric_outside}
 use Rattle.subsetter.specs.Hmtx.Written.{MetricBytes, least_count, hmtx_bytes, hhea_bytes, if_pairs, metrics_all, source_count, tables_of, metrics_in, metrics_of}
@@ -97,7 +97,7 @@ steps find order t h = by (find (codes "hmtx")) refl h
     by None at k = absurd cc
     by (Some hmtx) at k =
         let a = bind_ok (tables_of (find (codes "hhea")) hmtx order) (λ tables. Ok (Some tables)) (Some t) k in
-        steps_in find order hmtx t at (a.1 ∙ ap Ok (present_is a.0 t (done_is (Some a.0) (Some t) a.2)))
+        steps_in find order hmtx t at (a.1 ∙ ap Ok (just_is a.0 t (done_is (Some a.0) (Some t) a.2)))
 
 -- the tables are written exactly where the source has `hmtx`
 pub no_metrics : (find : List ℕ → Option (List ℕ)) (order : List ℕ) → metrics_of find order ≡ Ok None → find (codes "hmtx") ≡ None
@@ -118,7 +118,7 @@ advance_there hmtx p q m h = by (number hmtx p 2) (number hmtx q 2) h
     by : (a b : Option ℕ) → metric_by a b ≡ Some m → a ≡ Some m.advance
     by None b k = absurd cc
     by (Some a) None k = absurd cc
-    by (Some a) (Some b) k = ap (λ (x : Metric). Some x.advance) (present_is (record { advance = a; bearing = b }) m k)
+    by (Some a) (Some b) k = ap (λ (x : Metric). Some x.advance) (just_is (record { advance = a; bearing = b }) m k)
 
 -- a pair has its own advance
 own_advance : (hmtx : List ℕ) (count g : ℕ) (m : Metric) → metric_in hmtx count g ≡ Some m → g < count → number hmtx (4 * g) 2 ≡ Some m.advance
@@ -153,7 +153,7 @@ no_fewer ms bytes (suc k) some h = least_count_least ms k zeros agree
         let a = shared_advance bytes (suc k) i (get_or ms i zeros) (h i lt) le in
         let b = own_advance bytes (suc k) k (get_or ms k zeros) (h k (omega arith)) (omega arith) in
         let place : 4 * (suc k - 1) ≡ 4 * k = omega arith in
-        present_is (get_or ms i zeros).advance (get_or ms k zeros).advance (sym a ∙ ap (λ p. number bytes p 2) place ∙ b)
+        just_is (get_or ms i zeros).advance (get_or ms k zeros).advance (sym a ∙ ap (λ p. number bytes p 2) place ∙ b)
 
 -- ---- what is answered
 
@@ -274,13 +274,13 @@ module _ (find : List ℕ → Option (List ℕ)) (order : List ℕ) where
 
   -- the header and the count of a fault are those that were found
   same_header : (t : MetricBytes) (s : Steps find order t) (hhea : List ℕ) → find (codes "hhea") ≡ Some hhea → s.hhea ≡ hhea
-  same_header t s hhea h = present_is s.hhea hhea (sym s.hhea_is ∙ h)
+  same_header t s hhea h = just_is s.hhea hhea (sym s.hhea_is ∙ h)
 
   same_hmtx : (t : MetricBytes) (s : Steps find order t) (hmtx : List ℕ) → find (codes "hmtx") ≡ Some hmtx → s.hmtx ≡ hmtx
-  same_hmtx t s hmtx h = present_is s.hmtx hmtx (sym s.hmtx_is ∙ h)
+  same_hmtx t s hmtx h = just_is s.hmtx hmtx (sym s.hmtx_is ∙ h)
 
   same_count : (t : MetricBytes) (s : Steps find order t) (hhea : List ℕ) (count : ℕ) → find (codes "hhea") ≡ Some hhea → number_of_metrics hhea ≡ Some count → s.count ≡ count
-  same_count t s hhea count h k = present_is s.count count (sym s.pairs.count_is ∙ ap number_of_metrics (same_header t s hhea h) ∙ k)
+  same_count t s hhea count h k = just_is s.count count (sym s.pairs.count_is ∙ ap number_of_metrics (same_header t s hhea h) ∙ k)
 
   some_clean : (t : MetricBytes) (e : Error) → Steps find order t → HasMetricsFault find (Contains order) e → ⊥
   some_clean t e s (no_hhea a b) = some_not_none (find (codes "hhea")) s.hhea s.hhea_is b

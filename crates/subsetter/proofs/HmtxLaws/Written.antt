@@ -1,17 +1,16 @@
 -- Metrics of a list of glyphs: read in turn, and the least number of pairs.
-use Rattle.std.proofs.Common.{◌≡◌, ℕ, zero, suc, ◌+◌, ◌<◌, ◌≤◌, Bool, true, false, cond, List, [], ◌∷◌, ◌++◌, length, get_or, take, drop, Option, Some, None, Result, Ok, Err, refl, sym, ap, ◌∙◌, inl, inr, ◌⊎◌, arith}
-use Rattle.std.specs.Prelude.{Contains, ◌&&◌, ◌==◌}
+use Rattle.std.proofs.Common.{◌≡◌, ℕ, zero, suc, ◌+◌, ◌<◌, ◌≤◌, Bool, true, false, cond, List, [], ◌∷◌, ◌++◌, length, get_or, take, drop, Some, None, Result, Ok, Err, refl, sym, ap, ◌∙◌, inl, inr, ◌⊎◌, arith}
+use Rattle.std.specs.Prelude.{Contains, ◌==◌}
 use Rattle.std.specs.Option.{ok_or}
 use Rattle.std.specs.Int.{w16, to_be_bytes}
 use Rattle.subsetter_base.specs.Bytes.{◌>>=◌}
 use Rattle.subsetter_base.specs.declared.error.Error.{Error}
 use Rattle.subsetter_base.specs.declared.error.Error.TheVariants.{MalformedFont}
-use Rattle.subsetter_base.proofs.Results.{done, done_is, failed, bind_ok, bind_err, named_ok, named_err}
+use Rattle.subsetter_base.proofs.Results.{done_is, bind_ok, bind_err, named_ok, named_err}
 use Rattle.subsetter_base.proofs.Lists.{and_parts}
 use Rattle.subsetter.specs.declared.hmtx.Metric.{Metric}
 use Rattle.subsetter.specs.Hmtx.Read.{metric_in}
 use Rattle.subsetter.specs.Hmtx.Written.{hhea_bytes, all_advance, least_count, metrics_all}
-
 
 -- `hhea`, written in three parts
 pub header_written : (count : ℕ) (hhea w w1 w2 w3 out : List ℕ) → w ≡ [] → w1 ≡ w ++ take 34 hhea → w2 ≡ w1 ++ to_be_bytes w16 count → w3 ≡ w2 ++ drop 36 hhea → out ≡ w3 → out ≡ hhea_bytes count hhea

@@ -9,7 +9,7 @@ use Rattle.subsetter_base.specs.declared.error.Error.{Error}
 use Rattle.subsetter_base.specs.declared.error.Error.TheVariants.{MalformedFont}
 use Rattle.subsetter_base.proofs.ByteLemmas.{be-u16, be-u32, number_at}
 use Rattle.subsetter_base.proofs.Results.{done_is, failed_is}
-use Rattle.subsetter_base.proofs.Options.{some_not_none, present, present_is}
+use Rattle.subsetter_base.proofs.Options.{some_not_none, just_is}
 use Rattle.subsetter.specs.declared.sfnt.flavor.FontFlavor.{FontFlavor}
 use Rattle.subsetter.specs.declared.sfnt.flavor.FontFlavor.TheVariants.{TrueType, Cff}
 use Rattle.subsetter.specs.Maxp.Read.{number_of_glyphs, version_of, further_fields, IsMaxProfile, HasMaxProfileFault, short_maxp}
@@ -53,7 +53,7 @@ steps find flavor n maxp h = by (find (codes "maxp")) refl h
     tested : (source : List ℕ) (b : Bool) → find (codes "maxp") ≡ Some source → ltb (length source) 6 ≡ b → cond b (Err MalformedFont) (Ok (Some (maxp_bytes flavor n source))) ≡ Ok (Some maxp) → Steps find flavor n maxp
     tested source true at t k = absurd cc
     tested source false at t k =
-        record { source = source; source_is = at; long = ltb-false (length source) 6 t; is = sym (present_is (maxp_bytes flavor n source) maxp (done_is (Some (maxp_bytes flavor n source)) (Some maxp) k)) }
+        record { source = source; source_is = at; long = ltb-false (length source) 6 t; is = sym (just_is (maxp_bytes flavor n source) maxp (done_is (Some (maxp_bytes flavor n source)) (Some maxp) k)) }
 
     by : (o : Option (List ℕ)) → find (codes "maxp") ≡ o → maxp_in o flavor n ≡ Ok (Some maxp) → Steps find flavor n maxp
     by None at k = absurd cc
@@ -104,5 +104,5 @@ pub maxp_clean : (find : List ℕ → Option (List ℕ)) (flavor : FontFlavor) (
 maxp_clean find flavor n None e h (short_maxp maxp at lt) = some_not_none (find (codes "maxp")) maxp at (no_maxp find flavor n h)
 maxp_clean find flavor n (Some out) e h (short_maxp maxp at lt) =
     let s = steps find flavor n out h in
-    let same : s.source ≡ maxp = present_is s.source maxp (sym s.source_is ∙ at) in
+    let same : s.source ≡ maxp = just_is s.source maxp (sym s.source_is ∙ at) in
     omega (arith, ap length same, s.long, lt)

@@ -4,9 +4,8 @@ use Rattle.std.specs.Prelude.{filter, flat_map}
 use Rattle.std.specs.Option.{option_map}
 use Rattle.std.specs.List.{AllByRecursion}
 use Rattle.std.specs.Int.{w16, to_be_bytes}
-use Rattle.std.proofs.lemmas.Bool.{le-leb, leb-true, leb-false}
-use Rattle.std.proofs.lemmas.Nat.{from_be_bytes-to_be_bytes_2}
-use Rattle.std.proofs.lemmas.List.{take_at, drop_at, length-append, length-take, length-drop}
+use Rattle.std.proofs.lemmas.Bool.{le-leb, leb-true}
+use Rattle.std.proofs.lemmas.List.{drop_at, length-append, length-take, length-drop}
 use Rattle.subsetter_base.specs.Bytes.{IsBytes, be, range, number}
 use Rattle.subsetter_base.proofs.ByteLemmas.{range-middle, be-u16}
 use Rattle.subsetter.specs.declared.name.NameRecord.{NameRecord}
@@ -47,8 +46,8 @@ pub record There (bytes : List ℕ) (at size : ℕ) (x : List ℕ) : Type 0 wher
   pub is : x ≡ take size (drop at bytes)
   pub long : length x ≡ size
 
-pub there : (bytes : List ℕ) (at size : ℕ) (x : List ℕ) → range bytes at size ≡ Some x → There bytes at size x
-there bytes at size x h = by (leb (at + size) (length bytes)) refl h
+pub range_found : (bytes : List ℕ) (at size : ℕ) (x : List ℕ) → range bytes at size ≡ Some x → There bytes at size x
+range_found bytes at size x h = by (leb (at + size) (length bytes)) refl h
   where
     by : (b : Bool) → leb (at + size) (length bytes) ≡ b → cond b (Some (take size (drop at bytes))) None ≡ Some x → There bytes at size x
     by true t k =

@@ -5,7 +5,7 @@ use Rattle.std.specs.Option.{option_and_then, option_map, ok_or}
 use Rattle.std.specs.List.{AllByRecursion, cons_option}
 use Rattle.std.proofs.lemmas.Bool.{leb-true, eqb-true}
 use Rattle.std.proofs.lemmas.List.{length-map}
-use Rattle.subsetter_base.specs.Bytes.{IsBytes, be, range, number, ◌>>=◌}
+use Rattle.subsetter_base.specs.Bytes.{IsBytes, range, number, ◌>>=◌}
 use Rattle.subsetter_base.specs.declared.error.Error.{Error}
 use Rattle.subsetter_base.specs.declared.error.Error.TheVariants.{MalformedFont}
 use Rattle.subsetter_base.proofs.Results.{bind_ok, named_ok}
@@ -15,10 +15,9 @@ use Rattle.subsetter.specs.declared.name.NameRecord.{NameRecord}
 use Rattle.subsetter.specs.Name.Read.{Name, NameTable, name_records_in, bytes_from, name_parts, name_table, name_records, string_of, name_bytes, is_kept_record, is_kept_name, distinct, string_place}
 use Rattle.subsetter.specs.Name.Plain.{subset_names, name_of_table, new_name, name_of}
 use Rattle.subsetter.specs.Name.Fault.{HasNameFault, kept_strings, name_without_version, name_header_cut, name_records_cut, name_storage_outside, name_string_outside, too_many_names, name_string_too_far}
-use Rattle.subsetter.proofs.NameLaws.Back.{there, all_bytes, fits_kept}
+use Rattle.subsetter.proofs.NameLaws.Back.{range_found, all_bytes, fits_kept}
 use Rattle.subsetter.proofs.NameLaws.Kept.{kept_alike, subsetted, placed_as, fit_table, has_kept_names, read_by_version}
 use Rattle.subsetter.proofs.NameLaws.Fault.{names_of, records_are, readable, kept_strings_are, placed_length}
-
 
 -- a table that was answered for
 answered : (find : List ℕ → Option (List ℕ)) (bytes : List ℕ) (x : Option (List ℕ)) → find (codes "name") ≡ Some bytes → name_of find ≡ Ok x → (y : List ℕ) × (name_of_table bytes ≡ Ok y)
@@ -85,7 +84,7 @@ parts_there bytes t h =
     let b = bind_some (number bytes 4 2) (λ offset. option_and_then (λ records. option_and_then (λ storage. Some (record { records = name_records_in a.0 records; storage = storage })) (bytes_from bytes offset)) (range bytes 6 (a.0 * 12))) t a.2 in
     let c = bind_some (range bytes 6 (a.0 * 12)) (λ records. option_and_then (λ storage. Some (record { records = name_records_in a.0 records; storage = storage })) (bytes_from bytes b.0)) t b.2 in
     let d = bind_some (bytes_from bytes b.0) (λ storage. Some (record { records = name_records_in a.0 c.0; storage = storage })) t c.2 in
-    record { count = a.0; offset = b.0; count_is = a.1; offset_is = b.1; records = (there bytes 6 (a.0 * 12) c.0 c.1).within; storage = storage_there bytes b.0 d.0 d.1 }
+    record { count = a.0; offset = b.0; count_is = a.1; offset_is = b.1; records = (range_found bytes 6 (a.0 * 12) c.0 c.1).within; storage = storage_there bytes b.0 d.0 d.1 }
 
 abbrev some_number : ℕ → Option ℕ
 some_number n = Some n

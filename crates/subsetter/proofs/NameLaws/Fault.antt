@@ -1,21 +1,20 @@
 -- What a subset of `name` refuses has a fault of that name, and where it answers none stands.
-use Rattle.std.proofs.Common.{◌≡◌, ℕ, zero, suc, ◌+◌, ◌*◌, ◌<◌, ◌≤◌, Bool, true, false, cond, leb, ltb, eqb, List, [], ◌∷◌, length, Option, Some, None, Result, Ok, Err, refl, sym, ap, subst, ◌∙◌, ◌⊎◌, inl, inr, arith}
+use Rattle.std.proofs.Common.{◌≡◌, ℕ, zero, suc, ◌*◌, ◌<◌, ◌≤◌, Bool, true, false, cond, leb, ltb, eqb, List, [], ◌∷◌, length, Option, Some, None, Result, Ok, Err, refl, sym, ap, subst, ◌∙◌, ◌⊎◌, inl, inr, arith}
 use Rattle.std.specs.Prelude.{map, drop, filter, filter_map, slice_index_or, codes, Contains}
 use Rattle.std.specs.Option.{option_and_then, option_map, ok_or}
 use Rattle.std.specs.List.{cons_option}
 use Rattle.std.proofs.lemmas.Bool.{leb-false, ltb-false, eqb-true}
 use Rattle.std.proofs.lemmas.List.{length-map}
-use Rattle.subsetter_base.specs.Bytes.{be, range, number, ◌>>=◌}
+use Rattle.subsetter_base.specs.Bytes.{range, number, ◌>>=◌}
 use Rattle.subsetter_base.specs.declared.error.Error.{Error}
 use Rattle.subsetter_base.specs.declared.error.Error.TheVariants.{MalformedFont, SubsetError}
-use Rattle.subsetter_base.proofs.Results.{bind_ok, named_ok, done_is, failed, failed_is, bind_err, named_err}
+use Rattle.subsetter_base.proofs.Results.{bind_ok, named_ok, done_is, failed_is, bind_err, named_err}
 use Rattle.subsetter_base.proofs.ByteLemmas.{number-short, range-short}
 use Rattle.subsetter.specs.declared.name.NameRecord.{NameRecord}
 use Rattle.subsetter.specs.Name.Read.{Name, NameTable, name_records_in, bytes_from, name_parts, name_table, name_records, string_of, name_of_record, name_bytes, is_kept_record, is_kept_name, with_string, with_strings, distinct, string_place, joined}
 use Rattle.subsetter.specs.Name.Plain.{Placed, placed, placed_string, with_name, few_names, subset_names, name_of_table, new_name, name_of}
 use Rattle.subsetter.specs.Name.Fault.{HasNameFault, kept_strings, name_without_version, name_header_cut, name_records_cut, name_storage_outside, name_string_outside, too_many_names, name_string_too_far}
 use Rattle.subsetter.proofs.NameLaws.Kept.{stored, kept_alike, read_by_version}
-
 
 -- ---- parts that aren't there
 

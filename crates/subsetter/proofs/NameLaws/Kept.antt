@@ -1,5 +1,5 @@
 -- A subset of `name` has the kept names.
-use Rattle.std.proofs.Common.{◌≡◌, ℕ, suc, ◌+◌, ◌*◌, ◌<◌, ◌≤◌, Bool, true, false, cond, leb, ltb, eqb, ◌||◌, List, [], ◌∷◌, ◌++◌, length, drop, Option, Some, None, Result, Ok, Err, refl, sym, ap, subst, ◌∙◌, append_assoc, arith}
+use Rattle.std.proofs.Common.{◌≡◌, ℕ, suc, ◌+◌, ◌*◌, ◌<◌, ◌≤◌, Bool, true, false, cond, leb, ltb, eqb, ◌||◌, List, [], ◌∷◌, ◌++◌, length, drop, Option, Some, None, Ok, Err, refl, sym, ap, subst, ◌∙◌, append_assoc, arith}
 use Rattle.std.specs.Prelude.{map, filter, codes}
 use Rattle.std.specs.Option.{option_and_then, option_map, ok_or}
 use Rattle.std.specs.List.{AllByRecursion}
@@ -7,9 +7,8 @@ use Rattle.std.specs.Str.{bytes_eq}
 use Rattle.std.proofs.lemmas.Bool.{leb-true, ltb-true, false≢true}
 use Rattle.std.proofs.lemmas.List.{append-nil, length-append}
 use Rattle.subsetter_base.specs.Bytes.{IsBytes, range, number, ◌>>=◌}
-use Rattle.subsetter_base.specs.declared.error.Error.{Error}
 use Rattle.subsetter_base.specs.declared.error.Error.TheVariants.{MalformedFont, SubsetError}
-use Rattle.subsetter_base.proofs.Results.{bind_ok, named_ok, done, done_is}
+use Rattle.subsetter_base.proofs.Results.{bind_ok, named_ok, done_is}
 use Rattle.subsetter_base.proofs.Options.{bind_some}
 use Rattle.subsetter_base.proofs.Lists.{bytes_eq_is, bytes_eq_self}
 use Rattle.subsetter_base.proofs.ByteLemmas.{range-middle}
@@ -17,7 +16,7 @@ use Rattle.subsetter.specs.declared.name.NameRecord.{NameRecord}
 use Rattle.subsetter.specs.Name.Read.{Name, NameTable, name_records_in, bytes_from, name_parts, name_table, name_records, name_storage, string_of, name_of_record, name_bytes, is_kept_record, is_kept_name, among, with_string, with_strings, string_place, joined, HasKeptNames, KeepsNames, rewritten, copied}
 use Rattle.subsetter.specs.Name.Plain.{Placed, placed, placed_string, with_name, few_names, subset_names, name_of_table, new_name, name_of}
 use Rattle.subsetter.proofs.NameLaws.Written.{among-append, place_before, place_behind, place_new}
-use Rattle.subsetter.proofs.NameLaws.Back.{AllBytes, all_bytes, all_drop, all_take, there, FitsRecord, fit_records, fits_kept, table_back}
+use Rattle.subsetter.proofs.NameLaws.Back.{AllBytes, all_bytes, all_drop, all_take, range_found, FitsRecord, fit_records, fits_kept, table_back}
 
 -- ---- steps that answered
 
@@ -93,7 +92,7 @@ same_name storage bytes r at h = ap (λ (s : Option (List ℕ)). record { platfo
 one_placed : (storage : List ℕ) (seen : List (List ℕ)) (r : NameRecord) (rs : List NameRecord) (s : List ℕ) (at : ℕ) (q : Placed) → FitsRecord r → string_of storage r ≡ Some s → placed_string seen s ≡ Ok at → PlacedAs storage (with_string seen s) rs q → PlacedAs storage seen (r ∷ rs) (with_name r at q)
 one_placed storage seen r rs s at q fit h k later =
     let near = near_enough seen s at k in
-    let size : length s ≡ r.length = (there storage r.string_offset r.length s h).long in
+    let size : length s ≡ r.length = (range_found storage r.string_offset r.length s h).long in
     let st = stored seen later.strings s in
     let where_is : range (joined q.strings) at r.length ≡ Some s = ap (λ (l : List (List ℕ)). range (joined l) at r.length) later.all ∙ ap (λ (n : ℕ). range (joined (with_strings (with_string seen s) later.strings)) n r.length) (sym near.1) ∙ ap (range (joined (with_strings (with_string seen s) later.strings)) (string_place seen s)) (sym size) ∙ st.bytes in
     let place : string_place q.strings s ≡ string_place seen s = ap (λ (l : List (List ℕ)). string_place l s) later.all ∙ st.place in
@@ -160,7 +159,7 @@ fit_table source t all h =
     let c = bind_some (range source 6 (a.0 * 12)) (λ records. option_and_then (λ storage. Some (record { records = name_records_in a.0 records; storage = storage })) (bytes_from source b.0)) t b.2 in
     let d = bind_some (bytes_from source b.0) (λ storage. Some (record { records = name_records_in a.0 c.0; storage = storage })) t c.2 in
     let is : name_records_in a.0 c.0 ≡ t.records = cc in
-    let bytes : AllBytes c.0 = subst AllBytes (sym (there source 6 (a.0 * 12) c.0 c.1).is) (all_take (a.0 * 12) (drop 6 source) (all_drop 6 source all)) in
+    let bytes : AllBytes c.0 = subst AllBytes (sym (range_found source 6 (a.0 * 12) c.0 c.1).is) (all_take (a.0 * 12) (drop 6 source) (all_drop 6 source all)) in
     subst (λ (l : List NameRecord). AllByRecursion FitsRecord l) is (fit_records a.0 c.0 bytes)
 
 pub has_kept_names : (source : List ℕ) (t n : NameTable) → AllBytes source → name_parts source ≡ Some t → name_table source ≡ Some t → subset_names t ≡ Ok n → HasKeptNames source (name_bytes n.records n.storage)

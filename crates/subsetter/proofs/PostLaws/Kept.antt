@@ -16,7 +16,7 @@ use Rattle.subsetter_base.proofs.ByteLemmas.{range-middle, be-u16}
 use Rattle.subsetter.specs.Name.Read.{bytes_from}
 use Rattle.subsetter.specs.Post.Read.{GlyphName, Standard, Custom, PostTable, pascal_strings, names_in, post_parts, post_table, glyph_index, name_of_index, index_bytes, entry_bytes, post_bytes, HasGlyphNames, KeepsGlyphNames, rewritten, copied}
 use Rattle.subsetter.specs.Post.Plain.{indexes_of, custom_count, post_of_indexes, subset_glyph_names, post_of_table, new_post, post_of}
-use Rattle.subsetter.proofs.NameLaws.Back.{AllBytes, all_bytes, all_drop, tail_at, there}
+use Rattle.subsetter.proofs.NameLaws.Back.{AllBytes, all_bytes, all_drop, tail_at, range_found}
 use Rattle.subsetter.proofs.PostLaws.Indexes.{first_name, customs}
 
 -- a standard name is one of 258, and a name of the font's own has at most 255 bytes
@@ -195,7 +195,7 @@ headed source t h =
     let c = bind_some (range source 34 (b.0 * 2)) (λ indexes. option_and_then (λ names. Some (record { header = a.0; indexes = record { bytes = indexes; count = b.0 }; names_data = names })) (bytes_from source (34 + b.0 * 2))) t b.2 in
     let d = bind_some (bytes_from source (34 + b.0 * 2)) (λ names. Some (record { header = a.0; indexes = record { bytes = c.0; count = b.0 }; names_data = names })) t c.2 in
     let same : a.0 ≡ t.header = cc in
-    let w = there source 0 32 a.0 a.1 in
+    let w = range_found source 0 32 a.0 a.1 in
     let four : take 4 t.header ≡ take 4 source = ap (take 4) (sym same ∙ w.is) ∙ take-take 4 32 source (omega arith) in
     let v : range source 0 4 ≡ Some (take 4 source) = ap (λ b. cond b (Some (take 4 source)) None) (le-leb _ _ (omega (arith, w.within))) in
     record { header = a.1 ∙ ap Some same; long = ap length (sym same) ∙ w.long; version = ap (option_map be) v ∙ ap (λ (l : List ℕ). Some (be l)) (sym four) }

@@ -6,7 +6,7 @@ use Rattle.std.proofs.lemmas.Bool.{leb-true}
 use Rattle.subsetter_base.specs.Bytes.{◌>>=◌}
 use Rattle.subsetter_base.specs.declared.error.Error.{Error}
 use Rattle.subsetter_base.specs.declared.error.Error.TheVariants.{UnknownKind, MalformedFont, Unimplemented}
-use Rattle.subsetter_base.proofs.Results.{failed, failed_is, done, done_is, ok_not_err}
+use Rattle.subsetter_base.proofs.Results.{failed_is, done_is, ok_not_err}
 use Rattle.subsetter_base.proofs.Options.{some_not_none}
 use Rattle.subsetter.specs.declared.sfnt.face.FontKind.{FontKind}
 use Rattle.subsetter.specs.declared.sfnt.face.FontKind.TheVariants.{Collection, Single}
@@ -15,7 +15,6 @@ use Rattle.subsetter.specs.declared.sfnt.flavor.FontFlavor.TheVariants.{TrueType
 use Rattle.subsetter.specs.Sfnt.Read.{Font, kind_at, collection_entry, if_single, header_place, records_at, records, table, table_in}
 use Rattle.subsetter.specs.Sfnt.Plain.{opened_by_kind, opened_header, opened, flavored}
 use Rattle.subsetter.specs.Sfnt.Fault.{HasOpeningFault, no_kind, no_entry, entry_outside, no_face, nested, cut_directory, no_outlines, lone_cff2}
-
 
 -- ---- the header
 

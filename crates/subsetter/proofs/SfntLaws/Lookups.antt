@@ -4,13 +4,11 @@ use Rattle.std.specs.Prelude.{codes}
 use Rattle.std.specs.List.{AllByRecursion}
 use Rattle.std.specs.Str.{bytes_eq}
 use Rattle.std.proofs.lemmas.Bool.{false≢true}
-use Rattle.std.proofs.lemmas.Slice.Eq.{bytes_eq-Decides}
 use Rattle.subsetter_base.specs.Bytes.{be}
 use Rattle.subsetter_base.proofs.Lists.{bytes_eq_is, bytes_eq_self}
 use Rattle.subsetter.specs.Sfnt.Container.{AscendFrom}
 use Rattle.subsetter.specs.Sfnt.Written.{Table, IsTable}
-use Rattle.subsetter.specs.Sfnt.View.{opt, lookup, tags}
-
+use Rattle.subsetter.specs.Sfnt.Rows.{opt, lookup, tags}
 
 -- tags of different numbers are different
 pub apart_by : (a b : List ℕ) → be a < be b → bytes_eq b a ≡ false

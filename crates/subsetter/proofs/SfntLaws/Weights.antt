@@ -1,7 +1,7 @@
 -- The checksum by the weights of the bytes.
 use Rattle.std.proofs.Common.{◌≡◌, ℕ, zero, suc, ◌+◌, ◌-◌, ◌*◌, ◌%◌, ◌^◌, ◌<◌, ◌≤◌, Bool, true, false, List, [], ◌∷◌, ◌++◌, length, get_or, take, drop, refl, sym, ap, ◌∙◌, ◌⊎◌, inl, inr, arith}
 use Rattle.std.specs.Prelude.{sum, replicate}
-use Rattle.std.proofs.lemmas.List.{drop_more, length-take, length-drop, drop_all, take_all, take-append-drop}
+use Rattle.std.proofs.lemmas.List.{drop_more, length-take, drop_all, take-append-drop}
 use Rattle.std.proofs.lemmas.List.Sums.{sum_by-cons}
 use Rattle.subsetter_base.specs.Bytes.{be, aligned}
 use Rattle.subsetter_base.proofs.Lists.{rest_of}

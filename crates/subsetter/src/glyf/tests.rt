@@ -1,7 +1,7 @@
 //! Which glyphs follow the given ones, and in which order: no clause says it.
 
-use crate::glyf::{Table, closure};
 use crate::GlyphRemapper;
+use crate::glyf::{Table, closure};
 use std::alloc::Global;
 use std::test::*;
 

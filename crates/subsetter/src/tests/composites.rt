@@ -43,8 +43,16 @@ fn composites_get_new_numbers_and_keep_the_rest(rt: HostRuntime) -> Result<(), F
     ];
     let rows: [(&[u8], &[u8], &[u8]); 5] = [
         (&WITH_INSTRUCTION, &padded, &[0, 0, 0, 0, 0, 9]),
-        (&WITHOUT_INSTRUCTIONS, &WITHOUT_INSTRUCTIONS[..16], &[0, 0, 0, 0, 0, 8]),
-        (&FIVE_AND_SIX, &three_and_two, &[0, 0, 0, 0, 0, 11, 0, 11, 0, 11]),
+        (
+            &WITHOUT_INSTRUCTIONS,
+            &WITHOUT_INSTRUCTIONS[..16],
+            &[0, 0, 0, 0, 0, 8],
+        ),
+        (
+            &FIVE_AND_SIX,
+            &three_and_two,
+            &[0, 0, 0, 0, 0, 11, 0, 11, 0, 11],
+        ),
         (&SCALED, &still_scaled, &[0, 0, 0, 0, 0, 13, 0, 13, 0, 13]),
         (&ITSELF, &ITSELF, &[0, 0, 0, 0, 0, 14]),
     ];

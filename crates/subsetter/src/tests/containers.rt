@@ -57,7 +57,10 @@ fn a_collection_and_the_order_of_records_change_nothing(rt: HostRuntime) -> Resu
     let single = subset_of(alloc, &two_glyphs(alloc)?, &[2])?;
     let file = collection(&rt)?;
     assert_eq!(rt; file.len(), 172);
-    assert_eq!(rt; subset_of(alloc, &file, &[2])?.as_slice(), single.as_slice());
+    assert_eq!(rt;
+        subset_of(alloc, &file, &[2])?.as_slice(),
+        single.as_slice()
+    );
     // The entry of index 1 is the word 00010000, an offset past the end.
     assert_eq!(rt; refusal(alloc, &file, 1, &[2])?, Error::MalformedFont);
     let mut head = [0; 54];
@@ -69,7 +72,10 @@ fn a_collection_and_the_order_of_records_change_nothing(rt: HostRuntime) -> Resu
         part(Tag::GLYF, &[0; 23]),
     ];
     let file = font(alloc, &[0, 1, 0, 0], &parts)?;
-    assert_eq!(rt; subset_of(alloc, &file, &[2])?.as_slice(), single.as_slice());
+    assert_eq!(rt;
+        subset_of(alloc, &file, &[2])?.as_slice(),
+        single.as_slice()
+    );
     Ok(())
 }
 

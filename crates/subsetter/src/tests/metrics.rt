@@ -33,6 +33,7 @@ fn measured(alloc: Global, count: &[u8], hmtx: &[u8]) -> Result<Vec<u8>, Fail> {
 const LAST_TWO_ALIKE: [u8; 12] = [
     0x01, 0xF4, 0x00, 0x01, 0x02, 0x58, 0x00, 0x02, 0x02, 0x58, 0x00, 0x03,
 ];
+
 const ALL_ALIKE: [u8; 12] = [
     0x01, 0xF4, 0x00, 0x01, 0x01, 0xF4, 0x00, 0x02, 0x01, 0xF4, 0x00, 0x03,
 ];
@@ -60,11 +61,20 @@ fn metrics_take_the_least_number_of_pairs(rt: HostRuntime) -> Result<(), Fail> {
             &[0x01, 0xF4, 0x00, 0x01, 0x00, 0x02, 0x00, 0x03],
         ),
         // The bytes behind the number are kept.
-        (&[0, 2, 0xAB, 0xCD], &TWO_PAIRS, &[], &[0, 1, 0xAB, 0xCD], &TWO_PAIRS[..4]),
+        (
+            &[0, 2, 0xAB, 0xCD],
+            &TWO_PAIRS,
+            &[],
+            &[0, 1, 0xAB, 0xCD],
+            &TWO_PAIRS[..4],
+        ),
     ];
     for (count, hmtx, glyphs, new_count, new_hmtx) in rows {
         let out = subset_of(alloc, &measured(alloc, count, hmtx)?, glyphs)?;
-        assert_eq!(rt; table(&out, Tag::HHEA)?, header(alloc, new_count)?.as_slice());
+        assert_eq!(rt;
+            table(&out, Tag::HHEA)?,
+            header(alloc, new_count)?.as_slice()
+        );
         assert_eq!(rt; table(&out, Tag::HMTX)?, new_hmtx);
     }
     Ok(())

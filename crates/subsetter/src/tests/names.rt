@@ -69,8 +69,8 @@ fn unicode_records_are_kept_with_their_strings_once(rt: HostRuntime) -> Result<(
             ],
             &[0, 0x41],
             &[
-                0, 0, 0, 2, 0, 30, 0, 3, 0, 1, 4, 9, 0, 1, 0, 2, 0, 0, 0, 3, 0, 1, 4, 9, 0, 4, 0, 2,
-                0, 0, 0, 0x41,
+                0, 0, 0, 2, 0, 30, 0, 3, 0, 1, 4, 9, 0, 1, 0, 2, 0, 0, 0, 3, 0, 1, 4, 9, 0, 4, 0,
+                2, 0, 0, 0, 0x41,
             ],
         ),
         // The string of a record that goes may lie outside of the storage.
@@ -95,7 +95,10 @@ fn unicode_records_are_kept_with_their_strings_once(rt: HostRuntime) -> Result<(
     ];
     for (place, records, storage, wanted) in rows {
         let source = names_at(alloc, place, records, storage)?;
-        assert_eq!(rt; rewritten(alloc, Tag::NAME, &source, &[])?.as_slice(), wanted);
+        assert_eq!(rt;
+            rewritten(alloc, Tag::NAME, &source, &[])?.as_slice(),
+            wanted
+        );
     }
     Ok(())
 }
@@ -197,7 +200,11 @@ fn other_versions_are_copied_and_glyphs_are_counted_anew(rt: HostRuntime) -> Res
     let rows: [(Tag, &[u8], &[u8]); 4] = [
         (Tag::NAME, &[0, 1], &[0, 1]),
         (Tag::POST, &post, &post),
-        (Tag::MAXP, &[0, 1, 0, 0, 0, 3, 0xAA, 0xBB], &[0, 1, 0, 0, 0, 2, 0xAA, 0xBB]),
+        (
+            Tag::MAXP,
+            &[0, 1, 0, 0, 0, 3, 0xAA, 0xBB],
+            &[0, 1, 0, 0, 0, 2, 0xAA, 0xBB],
+        ),
         (Tag::MAXP, &[0, 0, 0x50, 0, 0, 3], &[0, 1, 0, 0, 0, 2]),
     ];
     for (tag, source, wanted) in rows {

@@ -19,13 +19,16 @@ fn values_are_laid_out_as_opentype_says(rt: HostRuntime) -> Result<(), Fail> {
     })?;
     w.write(&FontFlavor::Cff)?;
     let wanted = [
-        0x70, 0x01, b'h', b'e', b'a', b'd', 1, 2, 3, 4, 5, 6, 7, 8, 9, 10, 11, 12, b'O', b'T', b'T',
-        b'O',
+        0x70, 0x01, b'h', b'e', b'a', b'd', 1, 2, 3, 4, 5, 6, 7, 8, 9, 10, 11, 12, b'O', b'T',
+        b'T', b'O',
     ];
     assert_eq!(rt; w.finish().as_slice(), wanted.as_slice());
     // With CFF outlines `maxp` has the number of glyphs alone.
     let source = [0, 1, 0, 0, 0, 3, 0xAA, 0xBB];
     let short = maxp::subset(rt.alloc(), Some(&source), FontFlavor::Cff, 2)?;
-    assert_eq!(rt; short.ok_or("a table")?.as_slice(), [0, 0, 0x50, 0, 0, 2].as_slice());
+    assert_eq!(rt;
+        short.ok_or("a table")?.as_slice(),
+        [0, 0, 0x50, 0, 0, 2].as_slice()
+    );
     Ok(())
 }
