@@ -250,15 +250,18 @@ struct Left {
 
 /// Runs the program on these words, with a standard output that takes what is printed or fails.
 fn run_on(rt: &HostRuntime, words: &[&str], prints: bool) -> Left {
-    let stage = Stage {
-        rt,
-        words,
-        prints,
-        printed: RefCell::new(Vec::new(rt.alloc())),
-        told: RefCell::new(Vec::new(rt.alloc())),
+    let printed = RefCell::new(Vec::new(rt.alloc()));
+    let told = RefCell::new(Vec::new(rt.alloc()));
+    let status = {
+        let stage = Stage {
+            rt,
+            words,
+            prints,
+            printed: &printed,
+            told: &told,
+        };
+        running::run(&stage).report(rt)
     };
-    let status = running::run(&stage).report(rt);
-    let Stage { printed, told, .. } = stage;
     Left {
         status,
         printed: printed.into_inner(),

@@ -11,6 +11,7 @@ use std::path::PathBuf;
 use std::rt::{Env, Files};
 
 /// A run with words of its own, whose standard output and standard error are kept. Its files are the system's.
+#[derive(Drop)]
 pub struct Stage<'a, R: Files + AllocGlobal> {
     /// What gives files and memory.
     pub rt: &'a R,
@@ -19,9 +20,9 @@ pub struct Stage<'a, R: Files + AllocGlobal> {
     /// Whether the standard output takes what is printed.
     pub prints: bool,
     /// What was printed.
-    pub printed: RefCell<Vec<u8>>,
+    pub printed: &'a RefCell<Vec<u8>>,
     /// What the standard error was told.
-    pub told: RefCell<Vec<u8>>,
+    pub told: &'a RefCell<Vec<u8>>,
 }
 
 /// Keeps what is written.
@@ -80,28 +81,28 @@ impl<R: Files + AllocGlobal> Env for Stage<'_, R> {
 
 impl<R: Files + AllocGlobal> Print for Stage<'_, R> {
     fn print<D: Display + Drop>(&self, value: D) -> io::Result<()> {
-        keep_text(self.rt.alloc(), &self.printed, value, "")
+        keep_text(self.rt.alloc(), self.printed, value, "")
     }
 
     fn println<D: Display + Drop>(&self, value: D) -> io::Result<()> {
-        keep_text(self.rt.alloc(), &self.printed, value, "\n")
+        keep_text(self.rt.alloc(), self.printed, value, "\n")
     }
 
     fn write_all(&self, bytes: &[u8]) -> io::Result<()> {
         if !self.prints {
             return Err(io::Error::from(ErrorKind::Other));
         }
-        keep(&self.printed, bytes)
+        keep(self.printed, bytes)
     }
 }
 
 impl<R: Files + AllocGlobal> Eprint for Stage<'_, R> {
     fn eprint<D: Display + Drop>(&self, value: D) -> io::Result<()> {
-        keep_text(self.rt.alloc(), &self.told, value, "")
+        keep_text(self.rt.alloc(), self.told, value, "")
     }
 
     fn eprintln<D: Display + Drop>(&self, value: D) -> io::Result<()> {
-        keep_text(self.rt.alloc(), &self.told, value, "\n")
+        keep_text(self.rt.alloc(), self.told, value, "\n")
     }
 }
 
