@@ -1,6 +1,7 @@
 //! A run of the program.
 
 ghost use Rattle.std.specs.Prelude.{◌≡◌, ◌≤◌, [], ◌∷◌, IfOk};
+ghost use Rattle.subsetter.specs.Limits.{token_limit, depth_limit};
 ghost use Rattle.subsetter.specs.Subset.{IsSubset};
 ghost use Rattle.subsetter_base.specs.Places.{with_glyphs};
 ghost use Rattle.subset_bench.specs.Failure.{status_of_end};
@@ -25,7 +26,7 @@ fn measure_call<R: Clock>(
     index: u32,
     mapper: &GlyphRemapper,
 ) -> Result<(u64, Vec<u8>), Failure>
-    ensures { IfOk result (λ call. IsSubset (record { bytes = font.now; index = index }) mapper.now call.1.items) }
+    ensures { IfOk result (λ call. IsSubset token_limit depth_limit (record { bytes = font.now; index = index }) mapper.now call.1.items) }
 {
     let start = Instant::now(rt).map_err(|_| Failure::Clock)?;
     let output = subset(alloc, font, index, mapper)?;
@@ -41,7 +42,7 @@ fn measure<R: Clock>(
     task: &Task,
 ) -> Result<(Times, Vec<u8>), Failure>
     // What is measured is the subset of the font that the task asks for.
-    ensures { IfOk result (λ measured. IsSubset (record { bytes = font.now; index = task.now.index }) (with_glyphs (0 ∷ []) task.now.glyphs.items) measured.1.items) }
+    ensures { IfOk result (λ measured. IsSubset token_limit depth_limit (record { bytes = font.now; index = task.now.index }) (with_glyphs (0 ∷ []) task.now.glyphs.items) measured.1.items) }
 {
     let mapper = GlyphRemapper::new_from_glyphs(alloc, &task.glyphs)?;
     let mut times = Vec::new(alloc);

@@ -2,6 +2,7 @@
 
 ghost use Rattle.std.specs.Prelude.{◌≡◌, ◌⊎◌, [], ◌∷◌, IfOk, OnOk, IfErr, IfSome};
 ghost use Rattle.std.specs.Io.KnownBytes.{IsAtEnd};
+ghost use Rattle.subsetter.specs.Limits.{token_limit, depth_limit};
 ghost use Rattle.subsetter.specs.Subset.{IsSubset};
 ghost use Rattle.subsetter_base.specs.Places.{with_glyphs, HasAllAboveZero};
 ghost use Rattle.subset_font.specs.Made.{IsFaultless, IsFailureToMake};
@@ -24,7 +25,7 @@ pub fn make<R: Read>(
     // The font is read whole.
     ensures end { OnOk result (IsAtEnd (R.remaining reader.new)) }
     // Where the reader's bytes are known, the font is the subset of them.
-    ensures font { IfOk result (λ made. IfSome (R.remaining reader.old) (λ bytes. IsSubset (record { bytes = bytes; index = index }) made.1 made.0.items)) }
+    ensures font { IfOk result (λ made. IfSome (R.remaining reader.old) (λ bytes. IsSubset token_limit depth_limit (record { bytes = bytes; index = index }) made.1 made.0.items)) }
     // And then no fault stands in them, and the glyphs leave a number for glyph 0.
     ensures clean { IfOk result (λ made. IfSome (R.remaining reader.old) (λ bytes. IsFaultless (record { bytes = bytes; index = index }) made.1 made.0.items)) }
     ensures room { OnOk result (HasAllAboveZero glyphs.now → ⊥) }

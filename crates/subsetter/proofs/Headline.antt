@@ -56,27 +56,27 @@ not_memory font e (cut_directory at a b) h = cc
 not_memory font e (no_outlines a b c d) h = cc
 not_memory font e (lone_cff2 a b c) h = cc
 
-module _ (font : Font) (glyphs : List ℕ) where
-  pub unopened : (e : Error) → opened font ≡ Err e → (e ≡ OutOfMemory) ⊎ Stands font glyphs e
+module _ (tokens depth : ℕ) (font : Font) (glyphs : List ℕ) where
+  pub unopened : (e : Error) → opened font ≡ Err e → (e ≡ OutOfMemory) ⊎ Stands tokens depth font glyphs e
   unopened e h = inr ([], faults.in_opening (opened_refused font e h))
 
-  pub unflavored : (d : List ℕ) (e : Error) → opened font ≡ Ok d → flavored (table_in font.bytes d) ≡ Err e → (e ≡ OutOfMemory) ⊎ Stands font glyphs e
+  pub unflavored : (d : List ℕ) (e : Error) → opened font ≡ Ok d → flavored (table_in font.bytes d) ≡ Err e → (e ≡ OutOfMemory) ⊎ Stands tokens depth font glyphs e
   unflavored d e o h = inr ([], faults.in_opening (flavored_refused font d e o h))
 
-  pub cff_refused : (d : List ℕ) → opened font ≡ Ok d → flavored (table_in font.bytes d) ≡ Ok Cff → (Unimplemented ≡ OutOfMemory) ⊎ Stands font glyphs Unimplemented
+  pub cff_refused : (d : List ℕ) → opened font ≡ Ok d → flavored (table_in font.bytes d) ≡ Ok Cff → (Unimplemented ≡ OutOfMemory) ⊎ Stands tokens depth font glyphs Unimplemented
   cff_refused d o h = inr ([], faults.cff_not_yet (has_flavor font d Cff o h))
 
   module _ (d : List ℕ) (o : opened font ≡ Ok d) (h : flavored (table_in font.bytes d) ≡ Ok TrueType) where
     glyf_there : IsSome (table font (codes "glyf"))
     glyf_there = has_glyf (table font (codes "glyf")) (table font (codes "CFF ")) (has_flavor font d TrueType o h)
 
-    pub truetype_subset : (out : List ℕ) → IsBytes font.bytes → slice_get glyphs 0 ≡ Some 0 → IsAnswered (table_in font.bytes d) glyphs out → IsClean font glyphs out
+    pub truetype_subset : (out : List ℕ) → IsBytes font.bytes → slice_get glyphs 0 ≡ Some 0 → IsAnswered (table_in font.bytes d) glyphs out → IsClean tokens depth font glyphs out
     truetype_subset out bytes first a =
         let b : IsAnswered (table font) glyphs out = subst (λ (find : List ℕ → Option (List ℕ)). IsAnswered find glyphs out) (find_is font d o) a in
-        is_subset font glyphs out bytes (some_given glyphs first) b (no_fault font glyphs out bytes glyf_there (λ e. opened_clean font d TrueType e o h) b)
+        is_subset tokens depth font glyphs out bytes (some_given glyphs first) (has_flavor font d TrueType o h) b (no_fault tokens depth font glyphs out bytes glyf_there (λ e. opened_clean font d TrueType e o h) b)
 
-    pub truetype_refused : (e : Error) → IsRefused (table_in font.bytes d) glyphs e → (e ≡ OutOfMemory) ⊎ Stands font glyphs e
-    truetype_refused e r = has_fault font glyphs e glyf_there (subst (λ (find : List ℕ → Option (List ℕ)). IsRefused find glyphs e) (find_is font d o) r)
+    pub truetype_refused : (e : Error) → IsRefused (table_in font.bytes d) glyphs e → (e ≡ OutOfMemory) ⊎ Stands tokens depth font glyphs e
+    truetype_refused e r = has_fault tokens depth font glyphs e glyf_there (subst (λ (find : List ℕ → Option (List ℕ)). IsRefused find glyphs e) (find_is font d o) r)
 
     pub opening_clean : (e : Error) → HasOpeningFault font e → ⊥
     opening_clean e f = opened_clean font d TrueType e o h f

@@ -5,5 +5,6 @@ pub mod HmtxLaws
 pub mod NameLaws
 pub mod PostLaws
 pub mod MaxpLaws
+pub mod SharedLaws
 pub mod TruetypeLaws
 pub mod Headline

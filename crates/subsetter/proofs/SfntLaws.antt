@@ -6,5 +6,6 @@ pub mod Written
 pub mod Back
 pub mod Fault
 pub mod Lookups
+pub mod Rows
 pub mod Container
 pub mod TableBytes

@@ -1,5 +1,4 @@
 -- A TrueType subset as a whole.
-pub mod Laid
 pub mod Steps
 pub mod Subset
 pub mod Fault

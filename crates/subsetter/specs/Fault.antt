@@ -2,6 +2,7 @@
 use Rattle.std.specs.Prelude.{◌≡◌, ◌≤◌, ◌^◌, ℕ, List, length, false, Some, Ok}
 use Rattle.subsetter_base.specs.declared.error.Error.{Error}
 use Rattle.subsetter_base.specs.declared.error.Error.TheVariants.{OverflowError, Unimplemented}
+use Rattle.subsetter.specs.declared.sfnt.flavor.FontFlavor.{FontFlavor}
 use Rattle.subsetter.specs.declared.sfnt.flavor.FontFlavor.TheVariants.{Cff}
 use Rattle.subsetter.specs.Sfnt.Read.{Font, flavor, table}
 use Rattle.subsetter.specs.Glyf.Read.{Outlines, outlines}
@@ -12,28 +13,28 @@ use Rattle.subsetter.specs.Hmtx.Read.{HasMetricsFault}
 use Rattle.subsetter.specs.Name.Fault.{HasNameFault}
 use Rattle.subsetter.specs.Sfnt.Fault.{HasOpeningFault}
 use Rattle.subsetter.specs.Glyf.Fault.{HasOutlineFault}
-use Rattle.subsetter.specs.Truetype.Plain.{truetype_tables}
+use Rattle.subsetter.specs.Laid.{AreMade}
 use Rattle.subsetter.specs.Glyf.Plain.{kept_all}
 use Rattle.subsetter.specs.Glyf.Reach.{IsReachable, IsGlyphOrder}
 use Rattle.subsetter.specs.Glyf.Written.{is_long, glyf_bytes}
 
--- a fault stands in a font, for a list of glyphs; the size limits are judged for an order of the new font's glyphs
-pub data HasFault (font : Font) (glyphs order : List ℕ) : Error → Type 0 where
+-- a fault stands in a font, for a list of glyphs; the size limits are judged for an order of the new font's glyphs, and charstrings are run within two limits
+pub data HasFault (tokens depth : ℕ) (font : Font) (glyphs order : List ℕ) : Error → Type 0 where
   -- no known kind, a bad collection, a cut directory, or no outlines that are known
-  in_opening : {e : Error} → HasOpeningFault font e → HasFault font glyphs order e
+  in_opening : {e : Error} → HasOpeningFault font e → HasFault tokens depth font glyphs order e
   -- CFF outlines aren't taken yet
-  cff_not_yet : flavor font ≡ Some Cff → HasFault font glyphs order Unimplemented
+  cff_not_yet : flavor font ≡ Some Cff → HasFault tokens depth font glyphs order Unimplemented
   -- loca, glyf and head, and the outlines that are reached
-  in_outlines : {e : Error} → HasOutlineFault font glyphs e → HasFault font glyphs order e
+  in_outlines : {e : Error} → HasOutlineFault font glyphs e → HasFault tokens depth font glyphs order e
   -- hmtx and hhea
-  in_metrics : {e : Error} → HasMetricsFault (table font) (IsReachable font glyphs) e → HasFault font glyphs order e
+  in_metrics : {e : Error} → HasMetricsFault (table font) (IsReachable font glyphs) e → HasFault tokens depth font glyphs order e
   -- maxp
-  in_max_profile : {e : Error} → HasMaxProfileFault (table font) e → HasFault font glyphs order e
+  in_max_profile : {e : Error} → HasMaxProfileFault (table font) e → HasFault tokens depth font glyphs order e
   -- name
-  in_names : {e : Error} → HasNameFault (table font) e → HasFault font glyphs order e
+  in_names : {e : Error} → HasNameFault (table font) e → HasFault tokens depth font glyphs order e
   -- post
-  in_glyph_names : {e : Error} → HasGlyphNameFault (table font) (IsReachable font glyphs) e → HasFault font glyphs order e
+  in_glyph_names : {e : Error} → HasGlyphNameFault (table font) (IsReachable font glyphs) e → HasFault tokens depth font glyphs order e
   -- glyf has 2 ^ 32 bytes or more
-  long_glyf : (source : Outlines) (bs : List (List ℕ)) → IsGlyphOrder font glyphs order → outlines font ≡ Some source → kept_all source order order ≡ Ok bs → 2 ^ 32 ≤ length (glyf_bytes (is_long bs) bs) → HasFault font glyphs order OverflowError
+  long_glyf : (source : Outlines) (bs : List (List ℕ)) → IsGlyphOrder font glyphs order → outlines font ≡ Some source → kept_all source order order ≡ Ok bs → 2 ^ 32 ≤ length (glyf_bytes (is_long bs) bs) → HasFault tokens depth font glyphs order OverflowError
   -- a table's place or length doesn't fit 32 bits
-  large_file : (source : Outlines) (ts : List Table) → IsGlyphOrder font glyphs order → outlines font ≡ Some source → truetype_tables (table font) source order ≡ Ok ts → fits (start_of ts) ts ≡ false → HasFault font glyphs order OverflowError
+  large_file : (kind : FontFlavor) (ts : List Table) → IsGlyphOrder font glyphs order → AreMade tokens depth font order ts kind → fits (start_of ts) ts ≡ false → HasFault tokens depth font glyphs order OverflowError

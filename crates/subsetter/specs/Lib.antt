@@ -1,10 +1,14 @@
 pub mod Optional
 pub mod Sfnt
 pub mod Glyf
+pub mod Head
 pub mod Hmtx
 pub mod Maxp
 pub mod Name
 pub mod Post
+pub mod Shared
 pub mod Truetype
+pub mod Laid
+pub mod Limits
 pub mod Fault
 pub mod Subset

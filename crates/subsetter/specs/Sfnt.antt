@@ -5,6 +5,7 @@ pub mod Checksum
 pub mod Written
 pub mod Container
 pub mod Weights
+pub mod Rows
 pub mod View
 pub mod PlainFile
 pub mod Fault

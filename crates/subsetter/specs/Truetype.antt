@@ -2,3 +2,4 @@
 pub mod Plain
 pub mod View
 pub mod Answered
+pub mod Read

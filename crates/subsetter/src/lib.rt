@@ -9,6 +9,7 @@ mod maxp;
 mod name;
 mod post;
 mod sfnt;
+mod shared;
 mod subsetting;
 mod truetype;
 

@@ -2,8 +2,8 @@
 
 pub mod checksum;
 pub mod construct;
-pub mod context;
 pub mod face;
 pub mod flavor;
 pub mod parse;
 pub mod room;
+pub mod tables;

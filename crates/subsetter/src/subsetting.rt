@@ -7,6 +7,7 @@ ghost use Rattle.subsetter.specs.Sfnt.Read.{table_in};
 ghost use Rattle.subsetter.specs.Truetype.Answered.{IsAnswered, IsRefused};
 ghost use Rattle.subsetter.specs.Fault.{HasFault};
 ghost use Rattle.subsetter.specs.Sfnt.Fault.{HasOpeningFault};
+ghost use Rattle.subsetter.specs.Limits.{token_limit, depth_limit};
 ghost use Rattle.subsetter.specs.Subset.{IsSubset};
 
 use crate::glyf::{self, Table};
@@ -14,7 +15,8 @@ use crate::sfnt::construct::finish;
 use crate::sfnt::face::Face;
 use crate::sfnt::flavor::{FontFlavor, flavor};
 use crate::sfnt::parse::parse;
-use crate::truetype::{fill, make};
+use crate::sfnt::tables::in_order;
+use crate::truetype::{font_tables, make};
 use std::alloc::Global;
 use subsetter_base::{Error, GlyphRemapper};
 
@@ -29,8 +31,8 @@ fn truetype(alloc: Global, face: &Face<'_>, mapper: &GlyphRemapper) -> Result<Ve
     let made = make(alloc, face, &table, &order)?;
     // Its memory is free before room for the output is taken.
     drop(order);
-    let context = fill(alloc, face, made)?;
-    finish(alloc, FontFlavor::TrueType, context.tables())
+    let list = in_order(alloc, font_tables(face, made))?;
+    finish(alloc, FontFlavor::TrueType, &list)
 }
 
 /// A font that holds the glyphs of the mapper under their new numbers, then each further glyph that these reach through components, once.
@@ -75,11 +77,11 @@ pub fn subset(
     mapper: &GlyphRemapper,
 ) -> Result<Vec<u8>, Error>
     // What is answered is a subset of the font.
-    ensures ok { IfOk result (λ out. IsSubset (record { bytes = «data».now; index = index }) mapper.now out.items) }
+    ensures ok { IfOk result (λ out. IsSubset token_limit depth_limit (record { bytes = «data».now; index = index }) mapper.now out.items) }
     // And then no fault stands in the source, the size limits being judged for the answer's order of glyphs.
-    ensures clean { IfOk result (λ out. (s : IsSubset (record { bytes = «data».now; index = index }) mapper.now out.items) × ((e : SpecError) → ¬ (HasFault (record { bytes = «data».now; index = index }) mapper.now s.order e))) }
+    ensures clean { IfOk result (λ out. (s : IsSubset token_limit depth_limit (record { bytes = «data».now; index = index }) mapper.now out.items) × ((e : SpecError) → ¬ (HasFault token_limit depth_limit (record { bytes = «data».now; index = index }) mapper.now s.keeps.order e))) }
     // What is refused has a fault of that name.
-    ensures err { IfErr result (λ e. (e ≡ OutOfMemory) ⊎ ((order : List ℕ) × HasFault (record { bytes = «data».now; index = index }) mapper.now order e)) }
+    ensures err { IfErr result (λ e. (e ≡ OutOfMemory) ⊎ ((order : List ℕ) × HasFault token_limit depth_limit (record { bytes = «data».now; index = index }) mapper.now order e)) }
     // Where a fault stands that is found before memory is taken, the answer isn't want of memory.
     ensures before_memory { (e : SpecError) → HasOpeningFault (record { bytes = «data».now; index = index }) e → result ≢ Err OutOfMemory }
 {

@@ -11,7 +11,7 @@ use Rattle.subsetter_base.proofs.ByteLemmas.{range-middle, range-fits, range-len
 use Rattle.subsetter_base.proofs.GlyphLemmas.{place-finds, Contains-place}
 use Rattle.subsetter.specs.Sfnt.Read.{Font}
 use Rattle.subsetter.specs.Glyf.Read.{Outlines, outlines, outline_in, outline, between, offset}
-use Rattle.subsetter.specs.Glyf.Unfold.{padded, SameComponents, SameParts, UnfoldAlike}
+use Rattle.subsetter.specs.Glyf.Unfold.{padded, SameComponents, SameParts, HaveSameParts, UnfoldAlike}
 use Rattle.subsetter.specs.Glyf.Parts.{Component, Chain, Parts, Empty, Simple, Composite, rest_size, has_more, component_at, with_component, last_component, chain_at, numbers_at, component_numbers, composite_parts, outline_parts, spelled, parts_bytes}
 use Rattle.subsetter.specs.Glyf.Plain.{new_number, renumbered_component, renumbered, kept_all}
 use Rattle.subsetter.specs.Glyf.Reach.{IsGlyphOrder, step}
@@ -238,18 +238,17 @@ small_numbers order few g = by (place order g) refl
 
 module _ (font out : Font) (glyphs order : List ℕ) (t u : Outlines) (bs : List (List ℕ)) (read : outlines font ≡ Some t) (again : outlines out ≡ Some u) (closed : IsGlyphOrder font glyphs order) (few : length order < 2 ^ 16) (fit : IsBytes t.glyf)
     (keeps : kept_all t order order ≡ Ok bs) (written : AreWritten bs u) where
-  pub unfolds_alike : (n i : ℕ) → i < length order → UnfoldAlike font out n (get_or order i 0) i
-  unfolds_alike zero i lt = tt
-  unfolds_alike (suc n) i lt =
+  -- each glyph has the parts of its source, if the glyphs of the order are alike under their new numbers
+  parts_alike : (alike : ℕ → ℕ → Type 0) → ((h : ℕ) → Contains order h → alike h (new_number order h)) → (i : ℕ) → i < length order → HaveSameParts font out alike (get_or order i 0) i
+  parts_alike alike numbered i lt =
       let g = get_or order i 0 in
       let k = kept_at t order order bs i keeps lt in
       let source : outline font g ≡ Some k.bytes = outline_is font t g read ∙ k.there in
       let copy : outline out i ≡ Some (padded u.long (parts_bytes (renumbered order k.parts))) =
       outline_is out u i again ∙ read_back bs u i written (omega (arith, length-kept_all t order order bs keeps)) ∙ ap (λ (l : List ℕ). Some (padded u.long l)) (sym k.written) in
-      let each : EachGlyph (λ h. UnfoldAlike font out n h (new_number order h)) (components_of k.parts) =
-      each_weaker (λ h. Contains (component_numbers k.bytes) h) (λ h. UnfoldAlike font out n h (new_number order h)) (components_of k.parts) (λ h c.
-      let at = has_number order h ((closed.members h).1 (step g h k.bytes ((closed.members g).0 (i, lt, get_or_default order i g 0 lt)) source c)) in
-      subst (λ (m : ℕ). UnfoldAlike font out n h m) (sym at.3) (subst (λ (m : ℕ). UnfoldAlike font out n m at.0) at.2 (unfolds_alike n at.0 at.1))) (are_numbered k.bytes k.parts k.parts_are) in
+      let each : EachGlyph (λ h. alike h (new_number order h)) (components_of k.parts) =
+      each_weaker (λ h. Contains (component_numbers k.bytes) h) (λ h. alike h (new_number order h)) (components_of k.parts)
+      (λ h c. numbered h ((closed.members h).1 (step g h k.bytes ((closed.members g).0 (i, lt, get_or_default order i g 0 lt)) source c))) (are_numbered k.bytes k.parts k.parts_are) in
       record {
         tables = u;
         read = again;
@@ -257,5 +256,18 @@ module _ (font out : Font) (glyphs order : List ℕ) (t u : Outlines) (bs : List
         source_is = ap (λ (o : Option (List ℕ)). option_and_then outline_parts o) source ∙ k.parts_are;
         copy = padded_parts u.long (renumbered order k.parts);
         copy_is = ap (λ (o : Option (List ℕ)). option_and_then outline_parts o) copy ∙ parts_back u.long order k.bytes k.parts (small_numbers order few) (outline_bytes t g k.bytes fit k.there) k.parts_are;
-        same = same_parts u.long (UnfoldAlike font out n) order k.parts each;
+        same = same_parts u.long alike order k.parts each;
       }
+
+  pub unfolds_alike : (n i : ℕ) → i < length order → UnfoldAlike font out n (get_or order i 0) i
+  unfolds_alike zero i lt = tt
+  unfolds_alike (suc n) i lt = parts_alike (UnfoldAlike font out n) (alike n (λ j at. unfolds_alike n j at)) i lt
+    where
+      alike : (m : ℕ) → ((j : ℕ) → j < length order → UnfoldAlike font out m (get_or order j 0) j) → (h : ℕ) → Contains order h → UnfoldAlike font out m h (new_number order h)
+      alike m unfolds h c =
+          let at = has_number order h c in
+          subst (λ (k : ℕ). UnfoldAlike font out m h k) (sym at.3) (subst (λ (k : ℕ). UnfoldAlike font out m k at.0) at.2 (unfolds at.0 at.1))
+
+  -- the new number of a component is the place of its glyph
+  pub numbered_alike : (i : ℕ) → i < length order → HaveSameParts font out (λ g h. place order g ≡ Some h) (get_or order i 0) i
+  numbered_alike i lt = parts_alike (λ g h. place order g ≡ Some h) (λ h c. let k = some_number (place order h) (Contains-place order h c) in k.1 ∙ ap (λ (n : ℕ). Some n) (sym (ap (λ (o : Option ℕ). unwrap_or o 0) k.1))) i lt

@@ -7,7 +7,7 @@ use Rattle.subsetter_base.specs.Bytes.{be, number}
 use Rattle.subsetter_base.proofs.ByteLemmas.{number_at}
 use Rattle.subsetter.specs.Glyf.Read.{outlines_in}
 use Rattle.subsetter.specs.Sfnt.Written.{with_adjustment}
-use Rattle.subsetter.specs.Glyf.Written.{format_bytes, head_bytes}
+use Rattle.subsetter.specs.Head.Written.{format_bytes, head_bytes}
 
 module _ (w : ℕ) (long : Bool) (head : List ℕ) (le : 52 ≤ length head) where
   abbrev front : List ℕ

@@ -13,7 +13,7 @@ use Rattle.subsetter.specs.Sfnt.Read.{as_font, table}
 use Rattle.subsetter.specs.Sfnt.Checksum.{checksum}
 use Rattle.subsetter.specs.Sfnt.Container.{summed, padded_size, NameTablesFrom, AscendFrom, IsSoundContainer}
 use Rattle.subsetter.specs.Sfnt.Written.{Table, selector, body, front, with_adjustment, adjusted, file, fits, start_of, IsTable}
-use Rattle.subsetter.specs.Sfnt.View.{lookup, tags}
+use Rattle.subsetter.specs.Sfnt.Rows.{lookup, tags}
 use Rattle.subsetter.proofs.SfntLaws.Checksum.{checksum-append, checksum-body, checksum_fits}
 use Rattle.subsetter.proofs.SfntLaws.Written.{length-front, length-adjusted, aligned_len, adjusted_head, adjusted_other}
 use Rattle.subsetter.proofs.SfntLaws.Lookups.{same_bytes, apart_by}

@@ -8,7 +8,7 @@ use Rattle.std.proofs.lemmas.Slice.Eq.{bytes_eq-Decides}
 use Rattle.subsetter_base.specs.Bytes.{be}
 use Rattle.subsetter.specs.Sfnt.Container.{AscendFrom}
 use Rattle.subsetter.specs.Sfnt.Written.{Table, IsTable}
-use Rattle.subsetter.specs.Sfnt.View.{opt, lookup, tags}
+use Rattle.subsetter.specs.Sfnt.Rows.{opt, lookup, tags}
 
 pub same_bytes : (a b : List ℕ) → bytes_eq a b ≡ true → a ≡ b
 same_bytes a b h = (bytes_eq-Decides a b).0 h

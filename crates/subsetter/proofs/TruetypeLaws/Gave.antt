@@ -7,18 +7,19 @@ use Rattle.subsetter_base.specs.Bytes.{◌>>=◌}
 use Rattle.subsetter_base.specs.Gives.{Fails, Gives}
 use Rattle.subsetter_base.specs.declared.error.Error.{Error}
 use Rattle.subsetter_base.specs.declared.error.Error.TheVariants as errors
-use Rattle.subsetter.specs.declared.sfnt.context.NewTable.{NewTable}
+use Rattle.subsetter.specs.declared.sfnt.tables.NewTable.{NewTable}
+use Rattle.subsetter.specs.declared.sfnt.flavor.FontFlavor.TheVariants.{TrueType}
+use Rattle.subsetter.specs.Sfnt.Rows.{rows, present}
 use Rattle.subsetter.specs.Truetype.Answered.{IsAnswered, IsRefused, no_memory, unmade, unlaid}
 use Rattle.subsetter.specs.Glyf.Read.{Outlines, outline_in}
-use Rattle.subsetter.specs.Sfnt.Written.{Table, IsTable}
-use Rattle.subsetter.specs.Truetype.Plain.{Made, made_of, laid, truetype_tables}
+use Rattle.subsetter.specs.Sfnt.Written.{Table, IsTable, kind_word}
+use Rattle.subsetter.specs.Truetype.Plain.{Made, made_of, font_of, laid, truetype_tables}
 use Rattle.subsetter.specs.Sfnt.PlainFile.{file_of}
 use Rattle.subsetter.specs.Glyf.Plain.{outlines_read}
 use Rattle.subsetter.specs.Glyf.Reach.{IsGlyphOrderBy}
 use Rattle.subsetter.specs.Sfnt.View.{view, views}
-use Rattle.subsetter.proofs.TruetypeLaws.Laid.{laid_few}
 use Rattle.subsetter.proofs.TruetypeLaws.Steps.{made_steps}
-use Rattle.subsetter.proofs.TruetypeLaws.Subset.{laid_all}
+use Rattle.subsetter.proofs.TruetypeLaws.Subset.{laid_is, laid_few, laid_all}
 
 -- a failure is want of memory, or the plain function's
 failing : {Y : Type 0} (e : Error) (read : Result Y Error) → Fails e read → (e ≡ errors.OutOfMemory) ⊎ (read ≡ Err e)
@@ -59,14 +60,17 @@ module _ (find : List ℕ → Option (List ℕ)) (glyphs order : List ℕ) (t : 
         | inr k ↦ unmade t order read closed (unmade_tables e k)
       ]
 
-  module _ (m : Made) (made : made_of find t order ≡ Ok m) (ts : List NewTable) (are : views ts ≡ laid find m) where
+  module _ (m : Made) (made : made_of find t order ≡ Ok m) (ts : List NewTable) (there : views ts ≡ present (rows (font_of find m))) where
+    are : views ts ≡ laid find m
+    are = there ∙ sym (laid_is find m)
+
     pub few_tables : length ts < 16
     few_tables = omega (arith, length-map ts view, ap length are, laid_few find m)
 
     pub all_tables : AllByRecursion IsTable (views ts)
     all_tables = subst (λ (l : List Table). AllByRecursion IsTable l) (sym are) (laid_all find t order m (made_steps find t order m made))
 
-    pub answered : (out : List ℕ) → length order < 2 ^ 16 → file_of 0x00010000 (views ts) ≡ Ok out → IsAnswered find glyphs out
+    pub answered : (out : List ℕ) → length order < 2 ^ 16 → file_of (kind_word TrueType) (views ts) ≡ Ok out → IsAnswered find glyphs out
     answered out few h = record {
       source = t;
       read = read;
@@ -75,8 +79,8 @@ module _ (find : List ℕ → Option (List ℕ)) (glyphs order : List ℕ) (t : 
       few = few;
       tables = laid find m;
       tables_are = made_tables m made;
-      laid_out = ap (file_of 0x00010000) (sym are) ∙ h;
+      laid_out = ap (file_of (kind_word TrueType)) (sym are) ∙ h;
     }
 
-    pub refused_file : (e : Error) → file_of 0x00010000 (views ts) ≡ Err e → IsRefused find glyphs e
-    refused_file e h = unlaid t order (laid find m) read closed (made_tables m made) (ap (file_of 0x00010000) (sym are) ∙ h)
+    pub refused_file : (e : Error) → file_of (kind_word TrueType) (views ts) ≡ Err e → IsRefused find glyphs e
+    refused_file e h = unlaid t order (laid find m) read closed (made_tables m made) (ap (file_of (kind_word TrueType)) (sym are) ∙ h)

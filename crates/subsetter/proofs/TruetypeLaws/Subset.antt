@@ -1,202 +1,200 @@
 -- What subsetting answers is a subset.
-use Rattle.std.proofs.Common.{◌≡◌, ℕ, ◌+◌, ◌*◌, ◌^◌, ◌<◌, ◌≤◌, true, false, cond, List, [], ◌∷◌, ◌++◌, length, get_or, Option, Some, None, Ok, refl, sym, ap, subst, ◌∙◌, arith, inl}
+use Rattle.std.proofs.Common.{◌≡◌, ℕ, ◌+◌, ◌*◌, ◌^◌, ◌<◌, ◌≤◌, true, false, cond, List, [], ◌∷◌, ◌++◌, length, Option, Some, None, Ok, refl, sym, ap, subst, ◌∙◌, arith, inl}
 use Rattle.std.specs.Prelude.{codes, is_some, IsSome}
 use Rattle.std.specs.Option.{option_map}
 use Rattle.std.specs.List.{AllByRecursion}
 use Rattle.std.specs.Str.{bytes_eq}
+use Rattle.std.proofs.lemmas.List.{length-append}
 use Rattle.subsetter_base.specs.Bytes.{IsBytes}
 use Rattle.subsetter_base.specs.declared.error.Error.{Error}
 use Rattle.subsetter_base.specs.declared.error.Error.TheVariants.{MalformedFont}
 use Rattle.subsetter.specs.declared.sfnt.flavor.FontFlavor.TheVariants.{TrueType}
-use Rattle.subsetter.specs.Truetype.Answered.{IsAnswered}
-use Rattle.subsetter.specs.Sfnt.Container.{IsSoundContainer}
-use Rattle.subsetter.specs.Fault.{HasFault}
-use Rattle.subsetter.specs.Sfnt.Read.{Font, as_font, table}
+use Rattle.subsetter.specs.Sfnt.Container.{IsSoundContainer, AscendFrom}
+use Rattle.subsetter.specs.Sfnt.Read.{Font, as_font, table, flavor}
+use Rattle.subsetter.specs.Sfnt.Rows.{bytes_of, present, lookup, tags, FontTables, rows, called_for, tags_of}
+use Rattle.subsetter.specs.Sfnt.Written.{Table, IsTable, with_adjustment, fits, file, start_of, kind_word}
 use Rattle.subsetter.specs.Glyf.Read.{Outlines, outlines}
-use Rattle.subsetter.specs.Post.Read.{KeepsGlyphNames}
-use Rattle.subsetter.specs.Sfnt.Written.{Table, IsTable, with_adjustment, fits, file, start_of}
-use Rattle.subsetter.specs.Maxp.Read.{IsMaxProfile}
-use Rattle.subsetter.specs.Hmtx.Read.{KeepsMetrics}
-use Rattle.subsetter.specs.Hmtx.Written.{MetricBytes}
-use Rattle.subsetter.specs.Name.Read.{KeepsNames}
-use Rattle.subsetter.specs.Truetype.Plain.{Made, laid}
 use Rattle.subsetter.specs.Glyf.Reach.{IsGlyphOrder}
-use Rattle.subsetter.specs.Subset.{HasGlyphCount, KeepsHead, KeepsPrograms, KeepsTable, if_there, tags_of, IsSubset}
-use Rattle.subsetter.specs.Sfnt.View.{opt, lookup, tags}
-use Rattle.subsetter.specs.Glyf.Unfold.{UnfoldAlike}
-use Rattle.subsetter.specs.Glyf.Written.{is_long, glyf_bytes, head_bytes}
-use Rattle.subsetter.proofs.SfntLaws.Container.{sound, table_of, head_of}
-use Rattle.subsetter.proofs.PostLaws.Kept.{keeps_post}
-use Rattle.subsetter.proofs.HeadLaws.Back.{head_length, head_front, head_middle, head_end, outlines_afresh, head_room, head_zeros}
-use Rattle.subsetter.proofs.GlyfLaws.Kept.{length-kept_all, named}
-use Rattle.std.proofs.lemmas.List.{length-append}
-use Rattle.subsetter.proofs.TruetypeLaws.Laid as laid_tables
-use Rattle.subsetter.proofs.MaxpLaws.Kept.{is_max_profile}
-use Rattle.subsetter.proofs.HmtxLaws.Kept.{keeps_metrics}
-use Rattle.subsetter.proofs.NameLaws.Kept.{keeps_table}
-use Rattle.subsetter.proofs.GlyfLaws.Fault.{has_tables, order_in}
-use Rattle.subsetter.proofs.GlyfLaws.Back.{AreWritten, entry_count}
+use Rattle.subsetter.specs.Glyf.Written.{is_long, glyf_bytes}
+use Rattle.subsetter.specs.Head.Written.{head_bytes}
+use Rattle.subsetter.specs.Hmtx.Written.{MetricBytes}
+use Rattle.subsetter.specs.Truetype.Answered.{IsAnswered}
+use Rattle.subsetter.specs.Truetype.Plain.{Made, font_of, laid, truetype_tables}
+use Rattle.subsetter.specs.Truetype.Read.{HasGlyphCount, KeepsPrograms, KeepsOutlines}
+use Rattle.subsetter.specs.Fault.{HasFault}
+use Rattle.subsetter.specs.Laid.{of_outlines}
+use Rattle.subsetter.specs.Subset.{by_outlines, IsSubset}
 use Rattle.subsetter.proofs.SfntLaws.Back.{word_of}
-use Rattle.subsetter.proofs.TruetypeLaws.Steps.{MadeSteps, made_steps, tables_steps, file_steps, maxp_there, metrics_there, name_there, post_there, name_tables, glyph_name_tables}
+use Rattle.subsetter.proofs.SfntLaws.Container.{sound, table_of, head_of}
+use Rattle.subsetter.proofs.SfntLaws.Rows.{rows_ascend, present_ascends, lookup_row, rows_few, some_table, rows_tables, AreAlike, same_tags}
 use Rattle.subsetter.proofs.SfntLaws.TableBytes.{table_bytes}
-use Rattle.subsetter.proofs.GlyfLaws.Unfold.{unfolds_alike}
-
--- the tags of optional tables
-tag_there : (tag : List ℕ) (o : Option (List ℕ)) (rest : List Table) (p : Option (List ℕ)) → is_some o ≡ is_some p → tags (opt tag o ++ rest) ≡ if_there tag p ++ tags rest
-tag_there tag None rest p h = ap (λ b. cond b (tag ∷ []) [] ++ tags rest) h
-tag_there tag (Some x) rest p h = ap (λ b. cond b (tag ∷ []) [] ++ tags rest) h
+use Rattle.subsetter.proofs.HeadLaws.Back.{outlines_afresh}
+use Rattle.subsetter.proofs.GlyfLaws.Back.{AreWritten, entry_count}
+use Rattle.subsetter.proofs.GlyfLaws.Fault.{HasTables, has_tables, order_in}
+use Rattle.subsetter.proofs.GlyfLaws.Kept.{length-kept_all, named}
+use Rattle.subsetter.proofs.GlyfLaws.Unfold.{unfolds_alike, numbered_alike}
+use Rattle.subsetter.proofs.SharedLaws.Steps.{head_there, maxp_there, metrics_there, name_there, post_there, HeadFrom, head_from}
+use Rattle.subsetter.proofs.SharedLaws.Kept.{shared_room, AreBack, keeps_shared}
+use Rattle.subsetter.proofs.TruetypeLaws.Steps.{MadeSteps, made_steps, tables_steps, file_steps}
 
 some_map : {A B : Type 0} (f : A → B) (o : Option A) → is_some (option_map f o) ≡ is_some o
 some_map f None = refl
 some_map f (Some x) = refl
 
-is_some_of : {A : Type 0} (o : Option A) (x : A) → o ≡ Some x → IsSome o
-is_some_of o x h = rw h refl
-
--- a part that is there
-there : {A : Type 0} (o : Option A) → IsSome o → (x : A) × (o ≡ Some x)
-there None h = absurd cc
-there (Some x) h = (x, refl)
-
--- the tables that were laid out are those that the source calls for
-pub laid_tags : (font : Font) (t : Outlines) (order : List ℕ) (m : Made) → MadeSteps (table font) t order m → tags (laid (table font) m) ≡ tags_of font
-laid_tags font t order m s =
-    let find = table font in
-    let metrics = metrics_there find order m.metrics s.metrics_are in
-    let hhea = some_map (λ (x : MetricBytes). x.hhea) m.metrics ∙ metrics in
-    let hmtx = some_map (λ (x : MetricBytes). x.hmtx) m.metrics ∙ metrics in
-    let prep = tag_there (codes "prep") (find (codes "prep")) [] (find (codes "prep")) refl in
-    let post = tag_there (codes "post") m.post (laid_tables.from_prep find m) (find (codes "post")) (post_there find order m.post s.post_is) ∙ ap (λ l. if_there (codes "post") (find (codes "post")) ++ l) prep in
-    let name = tag_there (codes "name") m.name (laid_tables.from_post find m) (find (codes "name")) (name_there find m.name s.name_is) ∙ ap (λ l. if_there (codes "name") (find (codes "name")) ++ l) post in
-    let maxp = tag_there (codes "maxp") m.maxp (laid_tables.from_name find m) (find (codes "maxp")) (maxp_there find TrueType (length order) m.maxp s.maxp_is) ∙ ap (λ l. if_there (codes "maxp") (find (codes "maxp")) ++ l) name in
-    let hmtx_on = tag_there (codes "hmtx") (option_map (λ (x : MetricBytes). x.hmtx) m.metrics) (laid_tables.from_loca find m) (find (codes "hmtx")) hmtx ∙ ap (λ l. if_there (codes "hmtx") (find (codes "hmtx")) ++ (codes "loca" ∷ l)) maxp in
-    let hhea_on = tag_there (codes "hhea") (option_map (λ (x : MetricBytes). x.hhea) m.metrics) (laid_tables.from_hmtx find m) (find (codes "hmtx")) hhea ∙ ap (λ l. if_there (codes "hhea") (find (codes "hmtx")) ++ l) hmtx_on in
-    let fpgm = tag_there (codes "fpgm") (find (codes "fpgm")) (laid_tables.from_glyf find m) (find (codes "fpgm")) refl ∙ ap (λ l. if_there (codes "fpgm") (find (codes "fpgm")) ++ (codes "glyf" ∷ codes "head" ∷ l)) hhea_on in
-    let cvt = tag_there (codes "cvt ") (find (codes "cvt ")) (laid_tables.from_fpgm find m) (find (codes "cvt ")) refl ∙ ap (λ l. if_there (codes "cvt ") (find (codes "cvt ")) ++ l) fpgm in
-    ap tags (laid_tables.laid_is find m) ∙ cvt
+-- the rows that are laid out
+pub laid_is : (find : List ℕ → Option (List ℕ)) (m : Made) → laid find m ≡ present (rows (font_of find m))
+unfolding laid
+laid_is find m = refl
 
 -- each has a tag of four bytes, and head has room
 pub laid_all : (find : List ℕ → Option (List ℕ)) (t : Outlines) (order : List ℕ) (m : Made) → MadeSteps find t order m → AllByRecursion IsTable (laid find m)
-laid_all find t order m s =
-    laid_tables.laid_tables find m (subst (λ (h : List ℕ). 12 ≤ length h) (sym s.head_is) (head_room (is_long m.outlines) t.head s.head_len))
-    (subst (λ (h : List ℕ). with_adjustment 0 h ≡ h) (sym s.head_is) (head_zeros (is_long m.outlines) t.head s.head_len))
+laid_all find t order m s = subst (λ (ts : List Table). AllByRecursion IsTable ts) (sym (laid_is find m)) (rows_tables (font_of find m) (shared_room find TrueType (is_long m.outlines) order m.shared s.shared))
+
+pub laid_few : (find : List ℕ → Option (List ℕ)) (m : Made) → length (laid find m) < 16
+laid_few find m = omega (arith, ap length (laid_is find m), rows_few (font_of find m))
+
+-- each table, looked up
+lookup_laid : (find : List ℕ → Option (List ℕ)) (m : Made) (tag : List ℕ) → lookup tag (laid find m) ≡ bytes_of tag (rows (font_of find m))
+lookup_laid find m tag = ap (lookup tag) (laid_is find m) ∙ lookup_row (font_of find m) tag
+
+-- the tables that were laid out are those that the source calls for
+laid_tags : (find : List ℕ → Option (List ℕ)) (t : Outlines) (order : List ℕ) (m : Made) → HasTables find t → MadeSteps find t order m → tags (laid find m) ≡ tags_of TrueType find
+laid_tags find t order m h s =
+    let metrics = metrics_there find order m.shared.metrics s.shared.metrics_are in
+    let alike : AreAlike (font_of find m) (called_for TrueType find) = record {
+      cff = refl;
+      cvt = refl;
+      fpgm = refl;
+      glyf = sym (ap (λ (o : Option (List ℕ)). is_some o) h.glyf_is);
+      head = head_there find (is_long m.outlines) m.shared.head s.shared.head_is;
+      hhea = some_map (λ (x : MetricBytes). x.hhea) m.shared.metrics ∙ metrics;
+      hmtx = some_map (λ (x : MetricBytes). x.hmtx) m.shared.metrics ∙ metrics;
+      loca = sym (ap (λ (o : Option (List ℕ)). is_some o) h.loca_is);
+      maxp = maxp_there find TrueType (length order) m.shared.maxp s.shared.maxp_is;
+      name = name_there find m.shared.name s.shared.name_is;
+      post = post_there find order m.shared.post s.shared.post_is;
+      prep = refl;
+    } in
+    ap tags (laid_is find m) ∙ same_tags (font_of find m) (called_for TrueType find) alike
 
 -- the order of the glyphs has one at least
 some_glyph : (glyphs others order : List ℕ) → order ≡ glyphs ++ others → 0 < length glyphs → 0 < length order
 some_glyph glyphs others order e lt = omega (arith, ap length e, length-append glyphs others)
+
+abbrev bytes_there : List ℕ → Option (List ℕ)
+bytes_there b = Some b
+
+same_bytes : (a b : List ℕ) → bytes_there a ≡ bytes_there b → a ≡ b
+same_bytes a b h = cc
+
+-- head was made of the head that the outlines were read with
+made_head : (find : List ℕ → Option (List ℕ)) (t : Outlines) (order : List ℕ) (m : Made) → HasTables find t → MadeSteps find t order m → m.shared.head ≡ Some (head_bytes (is_long m.outlines) t.head)
+made_head find t order m h s = by m.shared.head refl
+  where
+    by : (o : Option (List ℕ)) → m.shared.head ≡ o → m.shared.head ≡ Some (head_bytes (is_long m.outlines) t.head)
+    by None e =
+        let there = head_there find (is_long m.outlines) m.shared.head s.shared.head_is in
+        absurd (let f = sym (ap (λ (o : Option (List ℕ)). is_some o) e) ∙ there ∙ ap (λ (o : Option (List ℕ)). is_some o) h.head_is in cc)
+    by (Some new) e =
+        let n = head_from find (is_long m.outlines) new (s.shared.head_is ∙ ap (λ (o : Option (List ℕ)). Ok o) e) in
+        let same : n.source ≡ t.head = same_bytes n.source t.head (sym n.source_is ∙ h.head_is) in
+        e ∙ ap (λ (b : List ℕ). Some b) (n.new_is ∙ ap (λ (b : List ℕ). head_bytes (is_long m.outlines) b) same)
 
 module _ (font : Font) (t : Outlines) (order : List ℕ) (m : Made) (read : outlines font ≡ Some t) (s : MadeSteps (table font) t order m) (fit : fits (start_of (laid (table font) m)) (laid (table font) m) ≡ true) where
   abbrev ts : List Table
   ts = laid (table font) m
 
   abbrev made_file : List ℕ
-  made_file = file 0x00010000 ts
+  made_file = file (kind_word TrueType) ts
 
   abbrev word : ℕ
-  word = word_of 0x00010000 ts
+  word = word_of (kind_word TrueType) ts
 
   abbrev out : Font
   out = as_font made_file
 
-  pub back : (tag : List ℕ) → bytes_eq tag (codes "head") ≡ false → table out tag ≡ lookup tag ts
-  back tag other = table_of 0x00010000 ts (inl refl) (laid_tables.laid_few (table font) m) (laid_all (table font) t order m s) fit tag other
+  source : HasTables (table font) t
+  source = has_tables (table font) t read
 
-  pub head_back : table out (codes "head") ≡ Some (with_adjustment word (head_bytes (is_long m.outlines) t.head))
-  head_back = head_of 0x00010000 ts (inl refl) (laid_tables.laid_few (table font) m) (laid_all (table font) t order m s) fit ∙ ap (option_map (with_adjustment word)) (laid_tables.lookup_head (table font) m) ∙ ap (λ (h : List ℕ). Some (with_adjustment word h)) s.head_is
+  back : (tag : List ℕ) → bytes_eq tag (codes "head") ≡ false → table out tag ≡ bytes_of tag (rows (font_of (table font) m))
+  back tag other = table_of (kind_word TrueType) ts (inl refl) (laid_few (table font) m) (laid_all (table font) t order m s) fit tag other ∙ lookup_laid (table font) m tag
 
-  pub container : IsSoundContainer made_file 0x00010000 (tags_of font)
-  container = subst (λ (l : List (List ℕ)). IsSoundContainer made_file 0x00010000 l) (laid_tags font t order m s) (sound 0x00010000 ts (inl refl) (laid_tables.laid_some (table font) m) (laid_tables.laid_few (table font) m) (laid_all (table font) t order m s) fit (laid_tables.laid_ascends (table font) m))
+  shared_back : AreBack out word m.shared
+  shared_back = record {
+    head = head_of (kind_word TrueType) ts (inl refl) (laid_few (table font) m) (laid_all (table font) t order m s) fit ∙ ap (option_map (with_adjustment word)) (lookup_laid (table font) m (codes "head"));
+    hhea = back (codes "hhea") refl;
+    hmtx = back (codes "hmtx") refl;
+    maxp = back (codes "maxp") refl;
+    name = back (codes "name") refl;
+    post = back (codes "post") refl;
+  }
+
+  head_back : table out (codes "head") ≡ Some (with_adjustment word (head_bytes (is_long m.outlines) t.head))
+  head_back = shared_back.head ∙ ap (option_map (with_adjustment word)) (made_head (table font) t order m source s)
+
+  container : IsSoundContainer made_file (kind_word TrueType) (tags_of TrueType (table font))
+  container =
+      let some = some_table (codes "loca") m.loca ts (lookup_laid (table font) m (codes "loca")) in
+      let up = subst (λ (l : List Table). AscendFrom 0 (tags l)) (sym (laid_is (table font) m)) (present_ascends 0 (rows (font_of (table font) m)) (rows_ascend (font_of (table font) m))) in
+      subst (λ (l : List (List ℕ)). IsSoundContainer made_file (kind_word TrueType) l) (laid_tags (table font) t order m source s) (sound (kind_word TrueType) ts (inl refl) some (laid_few (table font) m) (laid_all (table font) t order m s) fit up)
 
   -- the tables of outlines, read afresh
   abbrev afresh : Outlines
   afresh = record { loca = m.loca; glyf = glyf_bytes (is_long m.outlines) m.outlines; head = with_adjustment word (head_bytes (is_long m.outlines) t.head); long = is_long m.outlines }
 
-  pub outlines_back : outlines out ≡ Some afresh
-  outlines_back = outlines_afresh (table out) m.loca (glyf_bytes (is_long m.outlines) m.outlines) word (is_long m.outlines) t.head s.head_len (back (codes "loca") refl ∙ laid_tables.lookup_loca (table font) m) (back (codes "glyf") refl ∙ laid_tables.lookup_glyf (table font) m) head_back
+  outlines_back : outlines out ≡ Some afresh
+  outlines_back = outlines_afresh (table out) m.loca (glyf_bytes (is_long m.outlines) m.outlines) word (is_long m.outlines) t.head source.head_len (back (codes "loca") refl) (back (codes "glyf") refl) head_back
 
   written : AreWritten m.outlines afresh
   written = record { long_is = refl; glyf_is = refl; loca_is = s.loca_is; small = s.small }
 
-  pub count : HasGlyphCount out (length order)
+  count : HasGlyphCount out (length order)
   count = record { tables = afresh; read = outlines_back; entries = entry_count m.outlines afresh written ∙ ap (λ (n : ℕ). cond (is_long m.outlines) 4 2 * (n + 1)) (length-kept_all t order order m.outlines s.kept) }
 
-  pub head : KeepsHead font out
-  head =
-      let h = has_tables (table font) t read in
+  programs : KeepsPrograms font out
+  programs = record { control_values = back (codes "cvt ") refl; font_program = back (codes "fpgm") refl; control_program = back (codes "prep") refl }
+
+  outlines_kept : (glyphs : List ℕ) → IsBytes font.bytes → IsGlyphOrder font glyphs order → length order < 2 ^ 16 → KeepsOutlines font order out
+  outlines_kept glyphs bytes closed few =
+      let glyf = table_bytes font (codes "glyf") t.glyf bytes source.glyf_is in
       record {
-        source = t.head;
-        source_is = h.head_is;
-        copy = with_adjustment word (head_bytes (is_long m.outlines) t.head);
-        copy_is = head_back;
-        same_length = head_length word (is_long m.outlines) t.head s.head_len;
-        front = head_front word (is_long m.outlines) t.head s.head_len;
-        middle = head_middle word (is_long m.outlines) t.head s.head_len;
-        end = head_end word (is_long m.outlines) t.head s.head_len;
+        has_head = ap (λ (o : Option (List ℕ)). is_some o) source.head_is;
+        count = count;
+        drawing = unfolds_alike font out glyphs order t afresh m.outlines read outlines_back closed few glyf s.kept written;
+        numbering = numbered_alike font out glyphs order t afresh m.outlines read outlines_back closed few glyf s.kept written;
+        programs = programs;
       }
 
-  pub programs : KeepsPrograms font out
-  programs = record {
-    control_values = back (codes "cvt ") refl ∙ laid_tables.lookup_cvt (table font) m;
-    font_program = back (codes "fpgm") refl ∙ laid_tables.lookup_fpgm (table font) m;
-    control_program = back (codes "prep") refl ∙ laid_tables.lookup_prep (table font) m;
+  pub made_subset : (tokens depth : ℕ) (glyphs : List ℕ) → IsBytes font.bytes → IsGlyphOrder font glyphs order → 0 < length order → length order < 2 ^ 16 → flavor font ≡ Some TrueType → (tables : List Table) → (tables ≡ ts) → truetype_tables (table font) t order ≡ Ok tables
+      → IsSubset tokens depth font glyphs made_file
+  made_subset tokens depth glyphs bytes closed some few kind tables same made = record {
+    keeps = record {
+      order = order;
+      is_order = closed;
+      few = few;
+      kind = TrueType;
+      kind_is = kind;
+      container = container;
+      shared = keeps_shared font out TrueType (is_long m.outlines) order m.shared word s.shared shared_back bytes some few;
+      drawing = by_outlines (outlines_kept glyphs bytes closed few);
+    };
+    layout = record { tables = tables; made = of_outlines t read made; bytes = ap (λ (l : List Table). file (kind_word TrueType) l) (sym same); room = subst (λ (l : List Table). fits (start_of l) l ≡ true) (sym same) fit };
   }
 
-  pub max_profile : length order < 2 ^ 16 → IsSome (table font (codes "maxp")) → IsMaxProfile (table font) TrueType (length order) (table out)
-  max_profile few h =
-      let x = there m.maxp (maxp_there (table font) TrueType (length order) m.maxp s.maxp_is ∙ h) in
-      is_max_profile (table font) (table out) TrueType (length order) x.0 few (s.maxp_is ∙ ap (λ (o : Option (List ℕ)). Ok o) x.1) (back (codes "maxp") refl ∙ laid_tables.lookup_maxp (table font) m ∙ x.1)
-
-  pub metrics : IsBytes font.bytes → 0 < length order → length order < 2 ^ 16 → IsSome (table font (codes "hmtx")) → KeepsMetrics (table font) order (table out)
-  metrics bytes some few h =
-      let x = there m.metrics (metrics_there (table font) order m.metrics s.metrics_are ∙ h) in
-      keeps_metrics (table font) (table out) order x.0 (λ hmtx is. table_bytes font (codes "hmtx") hmtx bytes is) some few (s.metrics_are ∙ ap (λ (o : Option MetricBytes). Ok o) x.1)
-      (back (codes "hhea") refl ∙ laid_tables.lookup_hhea (table font) m ∙ ap (option_map (λ (y : MetricBytes). y.hhea)) x.1) (back (codes "hmtx") refl ∙ laid_tables.lookup_hmtx (table font) m ∙ ap (option_map (λ (y : MetricBytes). y.hmtx)) x.1)
-
-  pub names : IsBytes font.bytes → IsSome (table font (codes "name")) → KeepsTable font out (codes "name") KeepsNames
-  names bytes h =
-      let x = there m.name (name_there (table font) m.name s.name_is ∙ h) in
-      let n = name_tables (table font) x.0 (s.name_is ∙ ap (λ (o : Option (List ℕ)). Ok o) x.1) in
-      record { source = n.0; source_is = n.1; copy = x.0; copy_is = back (codes "name") refl ∙ laid_tables.lookup_name (table font) m ∙ x.1; kept = keeps_table n.0 x.0 (table_bytes font (codes "name") n.0 bytes n.1) n.2 }
-
-  pub glyph_names : IsBytes font.bytes → length order < 2 ^ 16 → IsSome (table font (codes "post")) → KeepsTable font out (codes "post") (λ source copy. KeepsGlyphNames source copy order)
-  glyph_names bytes few h =
-      let x = there m.post (post_there (table font) order m.post s.post_is ∙ h) in
-      let n = glyph_name_tables (table font) order x.0 (s.post_is ∙ ap (λ (o : Option (List ℕ)). Ok o) x.1) in
-      record { source = n.0; source_is = n.1; copy = x.0; copy_is = back (codes "post") refl ∙ laid_tables.lookup_post (table font) m ∙ x.1; kept = keeps_post n.0 x.0 order (table_bytes font (codes "post") n.0 bytes n.1) few n.2 }
-
-  pub drawing : (glyphs : List ℕ) → IsBytes font.bytes → IsGlyphOrder font glyphs order → length order < 2 ^ 16 → (n i : ℕ) → i < length order → UnfoldAlike font out n (get_or order i 0) i
-  drawing glyphs bytes closed few =
-      unfolds_alike font out glyphs order t afresh m.outlines read outlines_back closed few (table_bytes font (codes "glyf") t.glyf bytes (has_tables (table font) t read).glyf_is) s.kept written
-
 -- a subset, and no fault of its order
-abbrev pub IsClean : Font → List ℕ → List ℕ → Type 0
-IsClean font glyphs out = (s : IsSubset font glyphs out) × ((e : Error) → HasFault font glyphs s.order e → ⊥)
+abbrev pub IsClean : ℕ → ℕ → Font → List ℕ → List ℕ → Type 0
+IsClean tokens depth font glyphs out = (s : IsSubset tokens depth font glyphs out) × ((e : Error) → HasFault tokens depth font glyphs s.keeps.order e → ⊥)
 
 -- what is answered is a subset
-pub is_subset : (font : Font) (glyphs out : List ℕ) → IsBytes font.bytes → 0 < length glyphs → (a : IsAnswered (table font) glyphs out) → ((e : Error) → HasFault font glyphs a.order e → ⊥) → IsClean font glyphs out
-is_subset font glyphs out bytes some a clean =
+pub is_subset : (tokens depth : ℕ) (font : Font) (glyphs out : List ℕ) → IsBytes font.bytes → 0 < length glyphs → flavor font ≡ Some TrueType → (a : IsAnswered (table font) glyphs out) → ((e : Error) → HasFault tokens depth font glyphs a.order e → ⊥) → IsClean tokens depth font glyphs out
+unfolding made_subset
+is_subset tokens depth font glyphs out bytes some kind a clean =
     let read : outlines font ≡ Some a.source = named (outlines font) MalformedFont a.source a.read in
     let closed : IsGlyphOrder font glyphs a.order = order_in font glyphs a.order a.source read a.is_order in
     let more = some_glyph glyphs closed.others a.order closed.begins some in
     let made = tables_steps (table font) a.source a.order a.tables a.tables_are in
     let s = made_steps (table font) a.source a.order made.0 made.1 in
-    let laid_out = file_steps 0x00010000 a.tables out a.laid_out in
+    let laid_out = file_steps (kind_word TrueType) a.tables out a.laid_out in
     let fit : fits (start_of (laid (table font) made.0)) (laid (table font) made.0) ≡ true = subst (λ (l : List Table). fits (start_of l) l ≡ true) (sym made.2) laid_out.0 in
-    let same : file 0x00010000 (laid (table font) made.0) ≡ out = ap (file 0x00010000) made.2 ∙ laid_out.1 in
-    subst (IsClean font glyphs) same (
-      record {
-        order = a.order;
-        is_order = closed;
-        container = container font a.source a.order made.0 read s fit;
-        count = count font a.source a.order made.0 read s fit;
-        drawing = drawing font a.source a.order made.0 read s fit glyphs bytes closed a.few;
-        head = head font a.source a.order made.0 read s fit;
-        metrics = metrics font a.source a.order made.0 read s fit bytes more a.few;
-        max_profile = max_profile font a.source a.order made.0 read s fit a.few;
-        names = names font a.source a.order made.0 read s fit bytes;
-        glyph_names = glyph_names font a.source a.order made.0 read s fit bytes a.few;
-        programs = programs font a.source a.order made.0 read s fit;
-        layout = record { source = a.source; read = read; tables = a.tables; tables_are = a.tables_are; bytes = ap (file 0x00010000) made.2 };
-      },
-      clean,
-    )
+    let same : file (kind_word TrueType) (laid (table font) made.0) ≡ out = ap (file (kind_word TrueType)) made.2 ∙ laid_out.1 in
+    subst (IsClean tokens depth font glyphs) same (made_subset font a.source a.order made.0 read s fit tokens depth glyphs bytes closed more a.few kind a.tables (sym made.2) a.tables_are, clean)

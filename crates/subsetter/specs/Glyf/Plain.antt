@@ -1,5 +1,5 @@
 -- The plain way to take the outlines of the kept glyphs, with the error that is answered where one can't be taken.
-use Rattle.std.specs.Prelude.{ℕ, Bool, List, [], ◌∷◌, length, map, Option, Result, Ok, Err, nat_lt, if◌then◌else◌}
+use Rattle.std.specs.Prelude.{ℕ, List, [], ◌∷◌, map, Option, Result, Ok}
 use Rattle.std.specs.Option.{option_map, unwrap_or, ok_or}
 use Rattle.subsetter_base.specs.Bytes.{◌>>=◌}
 use Rattle.subsetter_base.specs.Places.{place}
@@ -7,7 +7,6 @@ use Rattle.subsetter_base.specs.declared.error.Error.{Error}
 use Rattle.subsetter_base.specs.declared.error.Error.TheVariants.{MalformedFont}
 use Rattle.subsetter.specs.Glyf.Read.{Outlines, outlines_in, outline_in}
 use Rattle.subsetter.specs.Glyf.Parts.{Component, Chain, Parts, Empty, Simple, Composite, composite_parts, outline_parts, parts_bytes}
-use Rattle.subsetter.specs.Glyf.Written.{head_bytes}
 
 -- the tables of the outlines
 abbrev pub outlines_read : (List ℕ → Option (List ℕ)) → Result Outlines Error
@@ -51,7 +50,3 @@ kept_all t order (g ∷ gs) = do
   first ← kept t order g
   rest ← kept_all t order gs
   Ok (first ∷ rest)
-
--- `head` with the format of loca
-abbrev pub head_kept : Bool → List ℕ → Result (List ℕ) Error
-head_kept long head = if nat_lt (length head) 52 then Err MalformedFont else Ok (head_bytes long head)

@@ -1,5 +1,5 @@
--- `glyf`, `loca` and `head` of a subset, from the outlines that it holds (OpenType, "glyf", "loca", "head").
-use Rattle.std.specs.Prelude.{ℕ, ◌+◌, ◌/◌, ◌%◌, Bool, List, [], ◌∷◌, ◌++◌, length, take, drop, slice_range, nat_lt, if◌then◌else◌, sum_by}
+-- `glyf` and `loca` of a subset, from the outlines that it holds (OpenType, "glyf", "loca").
+use Rattle.std.specs.Prelude.{ℕ, ◌+◌, ◌/◌, ◌%◌, Bool, List, [], ◌∷◌, ◌++◌, length, nat_lt, if◌then◌else◌, sum_by}
 use Rattle.std.specs.List.{flat_map}
 use Rattle.std.specs.Int.{w16, w32, to_be_bytes}
 use Rattle.subsetter.specs.Glyf.Unfold.{padded}
@@ -22,11 +22,3 @@ offset_bytes long at = if long then to_be_bytes w32 at else to_be_bytes w16 (at 
 abbrev pub loca_bytes : Bool → ℕ → List (List ℕ) → List ℕ
 loca_bytes long at [] = offset_bytes long at
 loca_bytes long at (b ∷ bs) = offset_bytes long at ++ loca_bytes long (at + length (padded long b)) bs
-
--- indexToLocFormat: 0 for halves of offsets, 1 for offsets
-abbrev pub format_bytes : Bool → List ℕ
-format_bytes long = 0 ∷ (if long then 1 else 0) ∷ []
-
--- `head` with zeros in checksumAdjustment (bytes 8..12), and the format of loca in bytes 50..52
-abbrev pub head_bytes : Bool → List ℕ → List ℕ
-head_bytes long head = take 8 head ++ (0 ∷ 0 ∷ 0 ∷ 0 ∷ []) ++ slice_range head 12 50 ++ format_bytes long ++ drop 52 head

@@ -5,6 +5,13 @@ use Rattle.std.specs.Str.{bytes_eq}
 use Rattle.std.specs.Int.{w16, w32, to_be_bytes}
 use Rattle.subsetter_base.specs.Bytes.{aligned}
 use Rattle.subsetter.specs.Sfnt.Checksum.{checksum}
+use Rattle.subsetter.specs.declared.sfnt.flavor.FontFlavor.{FontFlavor}
+use Rattle.subsetter.specs.declared.sfnt.flavor.FontFlavor.TheVariants.{TrueType, Cff}
+
+-- the word that begins a file of a kind of outlines: 0x00010000, or `OTTO`
+abbrev pub kind_word : FontFlavor → ℕ
+kind_word TrueType = 0x00010000
+kind_word Cff = 0x4F54544F
 
 -- a table by its tag and its bytes
 pub record Table : Type 0 where

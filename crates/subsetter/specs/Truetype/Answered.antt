@@ -2,9 +2,10 @@
 use Rattle.std.specs.Prelude.{◌≡◌, ◌<◌, ◌^◌, ℕ, List, length, Option, Ok, Err}
 use Rattle.subsetter_base.specs.declared.error.Error.{Error}
 use Rattle.subsetter_base.specs.declared.error.Error.TheVariants.{OutOfMemory}
+use Rattle.subsetter.specs.declared.sfnt.flavor.FontFlavor.TheVariants.{TrueType}
 use Rattle.subsetter.specs.Glyf.Closure.{StopsClosure}
 use Rattle.subsetter.specs.Glyf.Read.{Outlines, outline_in}
-use Rattle.subsetter.specs.Sfnt.Written.{Table}
+use Rattle.subsetter.specs.Sfnt.Written.{Table, kind_word}
 use Rattle.subsetter.specs.Truetype.Plain.{truetype_tables}
 use Rattle.subsetter.specs.Sfnt.PlainFile.{file_of}
 use Rattle.subsetter.specs.Glyf.Plain.{outlines_read}
@@ -19,7 +20,7 @@ pub record IsAnswered (find : List ℕ → Option (List ℕ)) (glyphs out : List
   pub few : length order < 2 ^ 16
   pub tables : List Table
   pub tables_are : truetype_tables find source order ≡ Ok tables
-  pub laid_out : file_of 0x00010000 tables ≡ Ok out
+  pub laid_out : file_of (kind_word TrueType) tables ≡ Ok out
 
 -- the step that fails
 pub data IsRefused (find : List ℕ → Option (List ℕ)) (glyphs : List ℕ) : Error → Type 0 where
@@ -27,4 +28,4 @@ pub data IsRefused (find : List ℕ → Option (List ℕ)) (glyphs : List ℕ) :
   unread : {e : Error} → outlines_read find ≡ Err e → IsRefused find glyphs e
   unclosed : {e : Error} (source : Outlines) → outlines_read find ≡ Ok source → StopsClosure source glyphs e → IsRefused find glyphs e
   unmade : {e : Error} (source : Outlines) (order : List ℕ) → outlines_read find ≡ Ok source → IsGlyphOrderBy (outline_in source) glyphs order → truetype_tables find source order ≡ Err e → IsRefused find glyphs e
-  unlaid : {e : Error} (source : Outlines) (order : List ℕ) (tables : List Table) → outlines_read find ≡ Ok source → IsGlyphOrderBy (outline_in source) glyphs order → truetype_tables find source order ≡ Ok tables → file_of 0x00010000 tables ≡ Err e → IsRefused find glyphs e
+  unlaid : {e : Error} (source : Outlines) (order : List ℕ) (tables : List Table) → outlines_read find ≡ Ok source → IsGlyphOrderBy (outline_in source) glyphs order → truetype_tables find source order ≡ Ok tables → file_of (kind_word TrueType) tables ≡ Err e → IsRefused find glyphs e

@@ -5,13 +5,13 @@ ghost use Rattle.std.specs.Int.{w16, w32, to_be_bytes};
 ghost use Rattle.std.specs.List.{AllByRecursion};
 ghost use Rattle.subsetter_base.specs.Bytes.{aligned};
 ghost use Rattle.subsetter_base.specs.Gives.{Gives};
-ghost use Rattle.subsetter.specs.Sfnt.Written.{selector, header_bytes, directory_bytes, record_bytes, body, adjusted, fits, file, start_of, IsTable};
+ghost use Rattle.subsetter.specs.Sfnt.Written.{selector, header_bytes, directory_bytes, record_bytes, body, adjusted, fits, file, start_of, kind_word, IsTable};
 ghost use Rattle.subsetter.specs.Sfnt.Checksum.{checksum};
 ghost use Rattle.subsetter.specs.Sfnt.PlainFile.{file_of};
-ghost use Rattle.subsetter.specs.Sfnt.View.{view, views, kind_word};
+ghost use Rattle.subsetter.specs.Sfnt.View.{view, views};
 
 use crate::sfnt::checksum::checksum;
-use crate::sfnt::context::NewTable;
+use crate::sfnt::tables::NewTable;
 use crate::sfnt::flavor::FontFlavor;
 use crate::sfnt::room::{align, patch, put};
 use std::alloc::Global;
@@ -229,7 +229,7 @@ pub fn finish(alloc: Global, flavor: FontFlavor, tables: &[NewTable<'_>]) -> Res
 mod tests {
     use super::*;
     use crate::glyf::outlines::OutlineList;
-    use crate::sfnt::context::TableData;
+    use crate::sfnt::tables::TableData;
     use std::borrow::CowSlice;
     use std::test::*;
 
@@ -242,7 +242,7 @@ mod tests {
             NewTable {
                 tag: Tag::GLYF,
                 data: TableData::Outlines {
-                    outlines: Box::new(rt.alloc(), outlines)?,
+                    outlines,
                     long: false,
                 },
             },

@@ -3,7 +3,7 @@
 ghost use Rattle.std.specs.Prelude.{◌≡◌};
 ghost use Rattle.subsetter.specs.Sfnt.Read.{table_in};
 ghost use Rattle.subsetter.specs.Sfnt.Plain.{flavored};
-ghost use Rattle.subsetter.specs.Sfnt.View.{kind_word};
+ghost use Rattle.subsetter.specs.Sfnt.Written.{kind_word};
 
 use crate::sfnt::face::Face;
 use subsetter_base::write::{Writeable, Writer};
@@ -32,7 +32,7 @@ impl FontFlavor {
 
 impl Writeable for FontFlavor {
     ghost use Rattle.std.specs.Int.{w32, to_be_bytes};
-    ghost use Rattle.subsetter.specs.Sfnt.View.{kind_word};
+    ghost use Rattle.subsetter.specs.Sfnt.Written.{kind_word};
 
     ghost bytes_of = { λ flavor. to_be_bytes w32 (kind_word flavor) };
 

@@ -3,6 +3,7 @@ use Rattle.std.specs.Prelude.{OnOk, IfSome}
 use Rattle.std.specs.Io.KnownBytes.{Appends}
 use Rattle.std.proofs.lemmas.Result.{err_from_is_err_and}
 use Rattle.subsetter_base.specs.Places.{with_glyphs}
+use Rattle.subsetter.specs.Limits.{token_limit, depth_limit}
 use Rattle.subsetter.specs.Subset.{IsSubset}
 use Rattle.subset_font.specs.Carried.{WritesSubset}
 use Rattle.subset_font.specs.Made.{IsFailureToMake}
@@ -10,9 +11,9 @@ use Rattle.subset_font.specs.declared.words.Job.{Job}
 use Rattle.subset_font.proofs.carrying.carry_out.Goals as goal
 
 -- what was made is what is written
-wrote : (job : Job) (known old new : Option (List ℕ)) (glyphs mapper font written : List ℕ) → mapper ≡ with_glyphs (0 ∷ []) glyphs → glyphs ≡ job.glyphs.items → IfSome known (λ bytes. IsSubset (record { bytes = bytes; index = job.index }) mapper font) → written ≡ font → Appends old new written → WritesSubset job known old new
+wrote : (job : Job) (known old new : Option (List ℕ)) (glyphs mapper font written : List ℕ) → mapper ≡ with_glyphs (0 ∷ []) glyphs → glyphs ≡ job.glyphs.items → IfSome known (λ bytes. IsSubset token_limit depth_limit (record { bytes = bytes; index = job.index }) mapper font) → written ≡ font → Appends old new written → WritesSubset job known old new
 wrote job known old new glyphs mapper font written m g s w a =
-    let P : List ℕ → Type 0 = λ list. IfSome known (λ bytes. IsSubset (record { bytes = bytes; index = job.index }) list font) in
+    let P : List ℕ → Type 0 = λ list. IfSome known (λ bytes. IsSubset token_limit depth_limit (record { bytes = bytes; index = job.index }) list font) in
     record {
       font = font;
       is_subset = subst P (m ∙ ap (with_glyphs (0 ∷ [])) g) s;

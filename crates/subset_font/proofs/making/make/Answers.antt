@@ -4,6 +4,7 @@ use Rattle.subsetter_base.specs.declared.error.Error.{Error as Refusal}
 use Rattle.subsetter_base.specs.declared.error.Error.TheVariants.{OutOfMemory}
 use Rattle.subsetter_base.specs.Places.{with_glyphs}
 use Rattle.subsetter.specs.Fault.{HasFault}
+use Rattle.subsetter.specs.Limits.{token_limit, depth_limit}
 use Rattle.subsetter.specs.Subset.{IsSubset}
 use Rattle.subset_font.specs.Made.{IsFaultless, IsFailureToMake}
 use Rattle.subset_font.specs.declared.failure.Failure.TheVariants.{Error as Refused}
@@ -21,10 +22,10 @@ all_read (Some xs) items front P h e p = subst P (h ∙ ap (λ (l : List ℕ). l
 
 -- there is a fault of this name
 IsFaulty : ℕ → List ℕ → Refusal → List ℕ → Type 0
-IsFaulty index mapper why bytes = (order : List ℕ) × HasFault (record { bytes = bytes; index = index }) mapper order why
+IsFaulty index mapper why bytes = (order : List ℕ) × HasFault token_limit depth_limit (record { bytes = bytes; index = index }) mapper order why
 
 -- a font that was read is refused
-refused : (known : Option (List ℕ)) (index : ℕ) (glyphs mapper bytes items front : List ℕ) (why : Refusal) → IfSome known (λ xs. items ≡ front ++ xs) → front ≡ [] → bytes ≡ items → mapper ≡ with_glyphs (0 ∷ []) glyphs → (why ≡ OutOfMemory) ⊎ ((order : List ℕ) × HasFault (record { bytes = bytes; index = index }) mapper order why) → IsFailureToMake known index glyphs (Refused why)
+refused : (known : Option (List ℕ)) (index : ℕ) (glyphs mapper bytes items front : List ℕ) (why : Refusal) → IfSome known (λ xs. items ≡ front ++ xs) → front ≡ [] → bytes ≡ items → mapper ≡ with_glyphs (0 ∷ []) glyphs → (why ≡ OutOfMemory) ⊎ ((order : List ℕ) × HasFault token_limit depth_limit (record { bytes = bytes; index = index }) mapper order why) → IsFailureToMake known index glyphs (Refused why)
 unfolding IsFaulty
 refused known index glyphs mapper bytes items front why h e b m (inl k) = inr (inl (ap Refused k))
 refused known index glyphs mapper bytes items front why h e b m (inr f) =
@@ -33,7 +34,7 @@ refused known index glyphs mapper bytes items front why h e b m (inr f) =
 pub returns-in-Ok-subset-clause-font : goal.returns-in-Ok-subset-clause-font
 returns-in-Ok-subset-clause-font g c =
     let there = succeeded c.read_to_end.result _ (sym c.is_err.ensures.value ∙ c.if-is_err.false) c.read_to_end.ensures.bytes in
-    let P : List ℕ → Type 0 = λ bytes. IsSubset (record { bytes = bytes; index = c.args.index }) c.in-Ok.mapper c.in-Ok-subset.subset.items in
+    let P : List ℕ → Type 0 = λ bytes. IsSubset token_limit depth_limit (record { bytes = bytes; index = c.args.index }) c.in-Ok.mapper c.in-Ok-subset.subset.items in
     all_read (g.R.Read.remaining c.args.reader.now) c.read_to_end.new.buf.items c.new-font.result.items P there c.new-font.ensures.items (subst P c.deref.ensures.value c.in-Ok-subset.ensures.ok)
 
 pub returns-in-Ok-subset-clause-clean : goal.returns-in-Ok-subset-clause-clean

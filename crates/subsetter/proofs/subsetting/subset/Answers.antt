@@ -7,6 +7,7 @@ use Rattle.subsetter.specs.Truetype.Answered.{IsAnswered, IsRefused}
 use Rattle.subsetter.specs.declared.sfnt.flavor.FontFlavor.{FontFlavor}
 use Rattle.subsetter.specs.Sfnt.Read.{Font, table_in}
 use Rattle.subsetter.specs.Sfnt.Plain.{flavored}
+use Rattle.subsetter.specs.Limits.{token_limit, depth_limit}
 use Rattle.subsetter.specs.Subset.{IsSubset}
 use Rattle.subsetter.proofs.TruetypeLaws.Fault.{Stands}
 use Rattle.subsetter.proofs.SfntLaws.Fault.{opened_refused, flavored_refused}
@@ -31,7 +32,7 @@ pub returns-in_err-face-clause-err : goal.returns-in_err-face-clause-err
 returns-in_err-face-clause-err c =
     let font : Font = record { bytes = c.args.«data».now; index = c.args.index } in
     let p = err_from_is_err_and c.from_residual.result c.from_residual.ensures.1 in
-    rw (p.1, p.2) (unopened font c.args.mapper.now c.in_err-face.field-0.0 c.in_err-face.ensures.err)
+    rw (p.1, p.2) (unopened token_limit depth_limit font c.args.mapper.now c.in_err-face.field-0.0 c.in_err-face.ensures.err)
 
 pub returns-in_err-face-clause-before_memory : goal.returns-in_err-face-clause-before_memory
 returns-in_err-face-clause-before_memory c = λ e f.
@@ -48,7 +49,7 @@ returns-in_err-flavor-clause-err c =
     let font : Font = record { bytes = c.args.«data».now; index = c.args.index } in
     let p = err_from_is_err_and c.from_residual-in_err-flavor.result c.from_residual-in_err-flavor.ensures.1 in
     let f = same_flavor c.in_ok-face.face.«data».now c.args.«data».now c.in_ok-face.face.records.now (Err c.in_err-flavor.field-0.0) c.in_ok-face.ensures.ok.0 c.in_err-flavor.ensures in
-    rw (p.1, p.2) (unflavored font c.args.mapper.now c.in_ok-face.face.records.now c.in_err-flavor.field-0.0 c.in_ok-face.ensures.ok.1 f)
+    rw (p.1, p.2) (unflavored token_limit depth_limit font c.args.mapper.now c.in_ok-face.face.records.now c.in_err-flavor.field-0.0 c.in_ok-face.ensures.ok.1 f)
 
 pub returns-in_err-flavor-clause-before_memory : goal.returns-in_err-flavor-clause-before_memory
 returns-in_err-flavor-clause-before_memory c = λ e g.
@@ -61,31 +62,31 @@ pub returns-in-TrueType-clause-clean : goal.returns-in-TrueType-clause-clean
 returns-in-TrueType-clause-clean c =
     let font : Font = record { bytes = c.args.«data».now; index = c.args.index } in
     let f = same_flavor c.in_ok-face.face.«data».now c.args.«data».now c.in_ok-face.face.records.now (Ok c.in_ok-flavor.field-0) c.in_ok-face.ensures.ok.0 c.in_ok-flavor.ensures ∙ ap (λ (x : FontFlavor). Ok x) c.in-TrueType.is in
-    for_ok c.truetype.result (λ v. IsAnswered (table_in c.in_ok-face.face.«data».now c.in_ok-face.face.records.now) c.args.mapper.now v.items) (λ v. IsClean font c.args.mapper.now v.items)
-    (λ v a. truetype_subset font c.args.mapper.now c.in_ok-face.face.records.now c.in_ok-face.ensures.ok.1 f v.items c.parse.ensures.bytes c.num_gids-count.ensures.first
+    for_ok c.truetype.result (λ v. IsAnswered (table_in c.in_ok-face.face.«data».now c.in_ok-face.face.records.now) c.args.mapper.now v.items) (λ v. IsClean token_limit depth_limit font c.args.mapper.now v.items)
+    (λ v a. truetype_subset token_limit depth_limit font c.args.mapper.now c.in_ok-face.face.records.now c.in_ok-face.ensures.ok.1 f v.items c.parse.ensures.bytes c.num_gids-count.ensures.first
     (subst (λ (b : List ℕ). IsAnswered (table_in b c.in_ok-face.face.records.now) c.args.mapper.now v.items) c.in_ok-face.ensures.ok.0 a)) c.truetype.ensures.ok
 
 pub returns-in-TrueType-clause-ok : goal.returns-in-TrueType-clause-ok
 returns-in-TrueType-clause-ok c =
     let font : Font = record { bytes = c.args.«data».now; index = c.args.index } in
-    for_ok c.truetype.result (λ v. IsClean font c.args.mapper.now v.items) (λ v. IsSubset font c.args.mapper.now v.items) (λ v s. s.0) (returns-in-TrueType-clause-clean c)
+    for_ok c.truetype.result (λ v. IsClean token_limit depth_limit font c.args.mapper.now v.items) (λ v. IsSubset token_limit depth_limit font c.args.mapper.now v.items) (λ v s. s.0) (returns-in-TrueType-clause-clean c)
 
 pub returns-in-TrueType-clause-err : goal.returns-in-TrueType-clause-err
 returns-in-TrueType-clause-err c =
     let font : Font = record { bytes = c.args.«data».now; index = c.args.index } in
     let f = same_flavor c.in_ok-face.face.«data».now c.args.«data».now c.in_ok-face.face.records.now (Ok c.in_ok-flavor.field-0) c.in_ok-face.ensures.ok.0 c.in_ok-flavor.ensures ∙ ap (λ (x : FontFlavor). Ok x) c.in-TrueType.is in
-    for_err c.truetype.result (λ e. IsRefused (table_in c.in_ok-face.face.«data».now c.in_ok-face.face.records.now) c.args.mapper.now e) (λ e. (e ≡ OutOfMemory) ⊎ Stands font c.args.mapper.now e)
-    (λ e r. truetype_refused font c.args.mapper.now c.in_ok-face.face.records.now c.in_ok-face.ensures.ok.1 f e
+    for_err c.truetype.result (λ e. IsRefused (table_in c.in_ok-face.face.«data».now c.in_ok-face.face.records.now) c.args.mapper.now e) (λ e. (e ≡ OutOfMemory) ⊎ Stands token_limit depth_limit font c.args.mapper.now e)
+    (λ e r. truetype_refused token_limit depth_limit font c.args.mapper.now c.in_ok-face.face.records.now c.in_ok-face.ensures.ok.1 f e
     (subst (λ (b : List ℕ). IsRefused (table_in b c.in_ok-face.face.records.now) c.args.mapper.now e) c.in_ok-face.ensures.ok.0 r)) c.truetype.ensures.err
 
 pub returns-in-TrueType-clause-before_memory : goal.returns-in-TrueType-clause-before_memory
 returns-in-TrueType-clause-before_memory c = λ e g k.
     let font : Font = record { bytes = c.args.«data».now; index = c.args.index } in
     let f = same_flavor c.in_ok-face.face.«data».now c.args.«data».now c.in_ok-face.face.records.now (Ok c.in_ok-flavor.field-0) c.in_ok-face.ensures.ok.0 c.in_ok-flavor.ensures ∙ ap (λ (x : FontFlavor). Ok x) c.in-TrueType.is in
-    opening_clean font c.args.mapper.now c.in_ok-face.face.records.now c.in_ok-face.ensures.ok.1 f e g
+    opening_clean token_limit depth_limit font c.args.mapper.now c.in_ok-face.face.records.now c.in_ok-face.ensures.ok.1 f e g
 
 pub returns-in-Cff-clause-err : goal.returns-in-Cff-clause-err
 returns-in-Cff-clause-err c =
     let font : Font = record { bytes = c.args.«data».now; index = c.args.index } in
     let f = same_flavor c.in_ok-face.face.«data».now c.args.«data».now c.in_ok-face.face.records.now (Ok c.in_ok-flavor.field-0) c.in_ok-face.ensures.ok.0 c.in_ok-flavor.ensures ∙ ap (λ (x : FontFlavor). Ok x) c.in-Cff.is in
-    cff_refused font c.args.mapper.now c.in_ok-face.face.records.now c.in_ok-face.ensures.ok.1 f
+    cff_refused token_limit depth_limit font c.args.mapper.now c.in_ok-face.face.records.now c.in_ok-face.ensures.ok.1 f

@@ -6,6 +6,9 @@ use Rattle.subsetter.specs.Glyf.View.{seen}
 use Rattle.subsetter.specs.Sfnt.PlainFile.{file_of}
 use Rattle.subsetter.specs.Truetype.View.{made_seen}
 use Rattle.subsetter.specs.Sfnt.View.{views}
+use Rattle.subsetter.specs.Sfnt.Rows.{FontTables, rows, present}
+use Rattle.subsetter.specs.Sfnt.Written.{kind_word}
+use Rattle.subsetter.specs.declared.sfnt.flavor.FontFlavor.TheVariants.{TrueType}
 use Rattle.subsetter.proofs.TruetypeLaws.Gave.{gave_ok, gave_err, refused_made, few_tables, all_tables, answered, refused_file}
 use Rattle.subsetter.proofs.subsetting.truetype.Goals as goal
 
@@ -25,29 +28,29 @@ returns-in_err-made-clause-err c =
     let find : List ℕ → Option (List ℕ) = table_in c.args.face.now.«data».now c.args.face.now.records.now in
     rw (p.1, p.2) (refused_made find c.args.mapper.now c.in_ok-order.order (seen c.in_ok-table.table) c.in_ok-table.ensures.ok c.in_ok-order.ensures.ok c.in_err-made.field-0.0 c.in_err-made.ensures.exact)
 
-pub returns-in_err-context-clause-err : goal.returns-in_err-context-clause-err
-returns-in_err-context-clause-err c =
-    let p = err_from_is_err_and c.from_residual-in_err-context.result c.from_residual-in_err-context.ensures.1 in
-    rw (p.1, p.2, c.in_err-context.ensures.err) no_memory
+pub returns-in_err-list-clause-err : goal.returns-in_err-list-clause-err
+returns-in_err-list-clause-err c =
+    let p = err_from_is_err_and c.from_residual-in_err-list.result c.from_residual-in_err-list.ensures.1 in
+    rw (p.1, p.2, c.in_err-list.ensures.err) no_memory
 
 pub finish-requires-clause-few : goal.finish-requires-clause-few
 finish-requires-clause-few c =
     let find : List ℕ → Option (List ℕ) = table_in c.args.face.now.«data».now c.args.face.now.records.now in
-    few_tables find c.args.mapper.now c.in_ok-order.order (seen c.in_ok-table.table) c.in_ok-table.ensures.ok c.in_ok-order.ensures.ok (made_seen c.in_ok-made.made) c.in_ok-made.ensures.exact c.tables.result.now (ap views c.tables.ensures ∙ c.in_ok-context.ensures.ok)
+    few_tables find c.args.mapper.now c.in_ok-order.order (seen c.in_ok-table.table) c.in_ok-table.ensures.ok c.in_ok-order.ensures.ok (made_seen c.in_ok-made.made) c.in_ok-made.ensures.exact c.deref.result.now (ap views c.deref.ensures.value ∙ c.in_ok-list.ensures.ok ∙ ap (λ (t : FontTables). present (rows t)) c.font_tables.ensures)
 
 pub finish-requires-clause-tables : goal.finish-requires-clause-tables
 finish-requires-clause-tables c =
     let find : List ℕ → Option (List ℕ) = table_in c.args.face.now.«data».now c.args.face.now.records.now in
-    all_tables find c.args.mapper.now c.in_ok-order.order (seen c.in_ok-table.table) c.in_ok-table.ensures.ok c.in_ok-order.ensures.ok (made_seen c.in_ok-made.made) c.in_ok-made.ensures.exact c.tables.result.now (ap views c.tables.ensures ∙ c.in_ok-context.ensures.ok)
+    all_tables find c.args.mapper.now c.in_ok-order.order (seen c.in_ok-table.table) c.in_ok-table.ensures.ok c.in_ok-order.ensures.ok (made_seen c.in_ok-made.made) c.in_ok-made.ensures.exact c.deref.result.now (ap views c.deref.ensures.value ∙ c.in_ok-list.ensures.ok ∙ ap (λ (t : FontTables). present (rows t)) c.font_tables.ensures)
 
 pub returns-clause-ok : goal.returns-clause-ok
 returns-clause-ok c =
     let find : List ℕ → Option (List ℕ) = table_in c.args.face.now.«data».now c.args.face.now.records.now in
-    gave_ok (λ v. v.items) c.finish.result (file_of 0x00010000 (views c.tables.result.now)) (IsAnswered find c.args.mapper.now) c.finish.ensures
-    (λ out h. answered find c.args.mapper.now c.in_ok-order.order (seen c.in_ok-table.table) c.in_ok-table.ensures.ok c.in_ok-order.ensures.ok (made_seen c.in_ok-made.made) c.in_ok-made.ensures.exact c.tables.result.now (ap views c.tables.ensures ∙ c.in_ok-context.ensures.ok) out (omega (arith, c.num_gids-count.ensures.few)) h)
+    gave_ok (λ v. v.items) c.finish.result (file_of (kind_word TrueType) (views c.deref.result.now)) (IsAnswered find c.args.mapper.now) c.finish.ensures
+    (λ out h. answered find c.args.mapper.now c.in_ok-order.order (seen c.in_ok-table.table) c.in_ok-table.ensures.ok c.in_ok-order.ensures.ok (made_seen c.in_ok-made.made) c.in_ok-made.ensures.exact c.deref.result.now (ap views c.deref.ensures.value ∙ c.in_ok-list.ensures.ok ∙ ap (λ (t : FontTables). present (rows t)) c.font_tables.ensures) out (omega (arith, c.num_gids-count.ensures.few)) h)
 
 pub returns-clause-err : goal.returns-clause-err
 returns-clause-err c =
     let find : List ℕ → Option (List ℕ) = table_in c.args.face.now.«data».now c.args.face.now.records.now in
-    gave_err (λ v. v.items) c.finish.result (file_of 0x00010000 (views c.tables.result.now)) (IsRefused find c.args.mapper.now) c.finish.ensures no_memory
-    (refused_file find c.args.mapper.now c.in_ok-order.order (seen c.in_ok-table.table) c.in_ok-table.ensures.ok c.in_ok-order.ensures.ok (made_seen c.in_ok-made.made) c.in_ok-made.ensures.exact c.tables.result.now (ap views c.tables.ensures ∙ c.in_ok-context.ensures.ok))
+    gave_err (λ v. v.items) c.finish.result (file_of (kind_word TrueType) (views c.deref.result.now)) (IsRefused find c.args.mapper.now) c.finish.ensures no_memory
+    (refused_file find c.args.mapper.now c.in_ok-order.order (seen c.in_ok-table.table) c.in_ok-table.ensures.ok c.in_ok-order.ensures.ok (made_seen c.in_ok-made.made) c.in_ok-made.ensures.exact c.deref.result.now (ap views c.deref.ensures.value ∙ c.in_ok-list.ensures.ok ∙ ap (λ (t : FontTables). present (rows t)) c.font_tables.ensures))

@@ -2,7 +2,7 @@ use Rattle.std.proofs.Common.{◌≡◌, ◌+◌, ◌*◌, ◌/◌, ◌∷◌, �
 use Rattle.std.specs.List.{AllByRecursion}
 use Rattle.std.proofs.lemmas.List.{drop_more}
 use Rattle.subsetter_base.specs.Bytes.{aligned}
-use Rattle.subsetter.specs.declared.sfnt.context.NewTable.{NewTable}
+use Rattle.subsetter.specs.declared.sfnt.tables.NewTable.{NewTable}
 use Rattle.subsetter.specs.Sfnt.Written.{body, adjusted, fits, IsTable}
 use Rattle.subsetter.specs.Sfnt.View.{view, views}
 use Rattle.subsetter.proofs.SfntLaws.Written.{fitting, rounded, stands, past, length-adjusted}

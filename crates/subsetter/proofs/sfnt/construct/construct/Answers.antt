@@ -2,7 +2,8 @@ use Rattle.std.proofs.Common.{◌≡◌, ◌+◌, ◌*◌, ◌++◌, ◌%◌, �
 use Rattle.std.proofs.lemmas.List.{length-map, length-append, drop_at}
 use Rattle.subsetter.specs.Sfnt.Checksum.{checksum}
 use Rattle.subsetter.specs.Sfnt.Written.{header_bytes, body, front, adjustment}
-use Rattle.subsetter.specs.Sfnt.View.{view, views, kind_word}
+use Rattle.subsetter.specs.Sfnt.View.{view, views}
+use Rattle.subsetter.specs.Sfnt.Written.{kind_word}
 use Rattle.subsetter.proofs.SfntLaws.Checksum.{checksum-append}
 use Rattle.subsetter.proofs.SfntLaws.Written.{length-header, length-front, length-file, front_is, body_left, made}
 use Rattle.subsetter.proofs.sfnt.construct.construct.Goals as goal

@@ -1,5 +1,6 @@
 use Rattle.std.proofs.Common.{arith}
-use Rattle.subsetter.specs.Sfnt.View.{views, kind_word}
+use Rattle.subsetter.specs.Sfnt.View.{views}
+use Rattle.subsetter.specs.Sfnt.Written.{kind_word}
 use Rattle.subsetter.proofs.SfntLaws.Written.{length-file}
 use Rattle.subsetter.proofs.sfnt.construct.finish.Goals as goal
 

@@ -1,7 +1,7 @@
 use Rattle.std.proofs.Common.{◌≡◌, ◌+◌, ◌*◌, ◌/◌, ◌∷◌, ◌++◌, take, drop, length, refl, ap, sym, ◌∙◌, arith}
 use Rattle.std.proofs.lemmas.List.{take_at, drop_at, drop_all, drop_more, length-append, length-drop}
 use Rattle.subsetter_base.specs.Bytes.{aligned}
-use Rattle.subsetter.specs.declared.sfnt.context.NewTable.{NewTable}
+use Rattle.subsetter.specs.declared.sfnt.tables.NewTable.{NewTable}
 use Rattle.subsetter.specs.Sfnt.Checksum.{checksum}
 use Rattle.subsetter.specs.Sfnt.Written.{body, record_bytes, directory_bytes, fits, IsTable}
 use Rattle.subsetter.specs.Sfnt.View.{view, views}

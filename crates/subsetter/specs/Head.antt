@@ -1,0 +1,3 @@
+-- The font header: `head`.
+pub mod Written
+pub mod Read

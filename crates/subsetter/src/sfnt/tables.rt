@@ -1,0 +1,180 @@
+//! The tables of a new font.
+
+ghost use Rattle.std.specs.Prelude.{◌≡◌, ◌+◌, ◌<◌, ◌≤◌, ◌^◌, ◌++◌, length, vec_capacity, IfOk, IfErr};
+ghost use Rattle.std.specs.Option.{option_copied, option_map};
+ghost use Rattle.std.specs.Cow.{cow_slice_items};
+ghost use Rattle.subsetter.specs.Sfnt.Checksum.{checksum};
+ghost use Rattle.subsetter.specs.Sfnt.Rows.{opt, rows, present};
+ghost use Rattle.subsetter.specs.Sfnt.View.{table_bytes, views, font_seen};
+ghost use Rattle.subsetter_base.specs.declared.error.Error.TheVariants.{OutOfMemory};
+
+use crate::glyf::outlines::{OutlineList, outlines_checksum, outlines_len, write_outlines};
+use crate::sfnt::checksum::checksum;
+use crate::sfnt::room::put;
+use std::alloc::Global;
+use std::borrow::CowSlice;
+use subsetter_base::{Error, Tag};
+
+/// The bytes of a table.
+#[derive(Drop)]
+pub enum TableData<'a> {
+    /// A table as one piece.
+    Whole(CowSlice<'a, u8>),
+    /// `glyf` as its outlines, in the long or the short format of `loca`.
+    Outlines {
+        outlines: OutlineList<'a>,
+        long: bool,
+    },
+}
+
+impl<'a> TableData<'a> {
+    /// How many bytes there are; where these are 2^32 or more, some number from 2^32 on.
+    pub fn len(&self) -> usize
+        ensures exact { length (table_bytes self.now) < 2 ^ 32 → result ≡ length (table_bytes self.now) }
+        ensures past { 2 ^ 32 ≤ length (table_bytes self.now) → 2 ^ 32 ≤ result }
+    {
+        match self {
+            TableData::Whole(bytes) => bytes.len(),
+            TableData::Outlines { outlines, long } => outlines_len(outlines, *long),
+        }
+    }
+
+    /// The checksum, taken over the parts.
+    pub fn checksum(&self) -> u32
+        ensures { result ≡ checksum (table_bytes self.now) }
+    {
+        match self {
+            TableData::Whole(bytes) => checksum(bytes),
+            TableData::Outlines { outlines, long } => outlines_checksum(outlines, *long),
+        }
+    }
+
+    /// Writes the bytes.
+    pub fn write(&self, out: &mut Vec<u8>)
+        requires { length out.old.items + length (table_bytes self.now) ≤ vec_capacity out.old }
+        ensures items { out.new.items ≡ out.old.items ++ table_bytes self.now }
+        ensures capacity { vec_capacity out.old ≤ vec_capacity out.new }
+    {
+        match self {
+            TableData::Whole(bytes) => put(out, bytes),
+            TableData::Outlines { outlines, long } => write_outlines(out, outlines, *long),
+        }
+    }
+}
+
+/// A table that stays as it is in the source.
+pub fn borrowed<'a>(bytes: Option<&'a [u8]>) -> Option<TableData<'a>>
+    ensures { option_map table_bytes result ≡ option_copied bytes.entry }
+{
+    match bytes {
+        Some(bytes) => Some(TableData::Whole(CowSlice::Borrowed(bytes))),
+        None => None,
+    }
+}
+
+/// A table that was made.
+pub fn owned<'a>(bytes: Option<Vec<u8>>) -> Option<TableData<'a>>
+    ensures { option_map table_bytes result ≡ option_map (λ v. v.items) bytes }
+{
+    match bytes {
+        Some(bytes) => Some(TableData::Whole(CowSlice::Owned(bytes))),
+        None => None,
+    }
+}
+
+/// A table that was made or stays as it is.
+pub fn whole<'a>(bytes: Option<CowSlice<'a, u8>>) -> Option<TableData<'a>>
+    ensures { option_map table_bytes result ≡ option_map cow_slice_items bytes.entry }
+{
+    match bytes {
+        Some(bytes) => Some(TableData::Whole(bytes)),
+        None => None,
+    }
+}
+
+/// The tables that a new font can have, whichever its kind of outlines is, each if it is there.
+#[derive(Drop)]
+pub struct FontTables<'a> {
+    pub cff: Option<TableData<'a>>,
+    pub cvt: Option<TableData<'a>>,
+    pub fpgm: Option<TableData<'a>>,
+    pub glyf: Option<TableData<'a>>,
+    pub head: Option<TableData<'a>>,
+    pub hhea: Option<TableData<'a>>,
+    pub hmtx: Option<TableData<'a>>,
+    pub loca: Option<TableData<'a>>,
+    pub maxp: Option<TableData<'a>>,
+    pub name: Option<TableData<'a>>,
+    pub post: Option<TableData<'a>>,
+    pub prep: Option<TableData<'a>>,
+}
+
+/// A table of the new font.
+#[derive(Drop)]
+pub struct NewTable<'a> {
+    pub tag: Tag,
+    pub data: TableData<'a>,
+}
+
+/// Puts a table last, if it is there, in room that was reserved before.
+fn push<'a>(list: &mut Vec<NewTable<'a>>, tag: Tag, data: Option<TableData<'a>>)
+    requires { length list.old.items < vec_capacity list.old }
+    ensures items { views list.new.items ≡ views list.old.items ++ opt tag.0 (option_map table_bytes «data».entry) }
+    ensures length { length list.new.items ≤ length list.old.items + 1 }
+    ensures capacity { vec_capacity list.old ≤ vec_capacity list.new }
+{
+    if let Some(data) = data {
+        list.push(NewTable { tag, data }).unwrap();
+    }
+}
+
+/// The tables that are there, in ascending order of their tags.
+pub fn in_order<'a>(alloc: Global, tables: FontTables<'a>) -> Result<Vec<NewTable<'a>>, Error>
+    ensures ok { IfOk result (λ list. views list.items ≡ present (rows (font_seen tables.entry))) }
+    ensures err { IfErr result (λ e. e ≡ OutOfMemory) }
+{
+    let mut list = Vec::with_capacity(alloc, 12)?;
+    push(&mut list, Tag::CFF, tables.cff);
+    push(&mut list, Tag::CVT, tables.cvt);
+    push(&mut list, Tag::FPGM, tables.fpgm);
+    push(&mut list, Tag::GLYF, tables.glyf);
+    push(&mut list, Tag::HEAD, tables.head);
+    push(&mut list, Tag::HHEA, tables.hhea);
+    push(&mut list, Tag::HMTX, tables.hmtx);
+    push(&mut list, Tag::LOCA, tables.loca);
+    push(&mut list, Tag::MAXP, tables.maxp);
+    push(&mut list, Tag::NAME, tables.name);
+    push(&mut list, Tag::POST, tables.post);
+    push(&mut list, Tag::PREP, tables.prep);
+    Ok(list)
+}
+
+#[cfg(test)]
+mod tests {
+    use super::*;
+    use std::test::Fail;
+
+    #[test]
+    fn tables_are_held_in_order_whole_or_in_parts(rt: HostRuntime) -> Result<(), Fail> {
+        let mut outlines = OutlineList::with_capacity(rt.alloc(), 2)?;
+        outlines.push(CowSlice::Borrowed(&[1, 2, 3]))?;
+        outlines.push(CowSlice::Borrowed(&[4]))?;
+        let mut list = Vec::with_capacity(rt.alloc(), 12)?;
+        assert!(rt; list.is_empty());
+        let glyf = TableData::Outlines {
+            outlines,
+            long: false,
+        };
+        push(&mut list, Tag::GLYF, Some(glyf));
+        push(&mut list, Tag::HEAD, None);
+        push(&mut list, Tag::PREP, borrowed(Some(&[5, 6])));
+        let [glyf, prep] = list.as_slice() else {
+            return Err(Fail::from("two tables"));
+        };
+        assert_eq!(rt; (glyf.tag, glyf.data.len()), (Tag::GLYF, 6));
+        assert_eq!(rt; glyf.data.checksum(), 0x05020300);
+        assert_eq!(rt; (prep.tag, prep.data.len()), (Tag::PREP, 2));
+        assert_eq!(rt; prep.data.checksum(), 0x05060000);
+        Ok(())
+    }
+}
