@@ -10,7 +10,6 @@ use Rattle.subsetter_base.specs.Gives.{Fails}
 use Rattle.subsetter_base.specs.Places.{place}
 use Rattle.subsetter_base.specs.declared.error.Error.{Error}
 use Rattle.subsetter_base.specs.declared.error.Error.TheVariants.{MalformedFont, SubsetError}
-
 use Rattle.subsetter_cffdata.specs.Dict.{Entry, entries}
 use Rattle.subsetter_cffdata.specs.Numbers.{Number}
 use Rattle.subsetter_cffdata.specs.Operands.{just}
@@ -19,8 +18,7 @@ use Rattle.subsetter_cff.specs.declared.font_dict.FontDict.{FontDict as StoredDi
 use Rattle.subsetter_cff.specs.declared.source.CidParts.{CidParts}
 use Rattle.subsetter_cff.specs.declared.source.Source.{Source}
 use Rattle.subsetter_cff.specs.declared.new_table.NewTable.{NewTable}
-use Rattle.subsetter_cff.specs.Cff.{Cff, is_cid_keyed}
-use Rattle.subsetter_cff.specs.FontDicts.{font_dicts}
+use Rattle.subsetter_cff.specs.Cff.{Cff}
 use Rattle.subsetter_cff.specs.FontDictFaults.{IsFontDictIn}
 use Rattle.subsetter_cff.specs.FontDictList.{AreFontDicts}
 use Rattle.subsetter_cff.specs.KeptView.{numbers_of, texts_of}
