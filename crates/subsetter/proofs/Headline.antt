@@ -1,13 +1,15 @@
 -- The promises of `subset`: what is answered is a subset, what is refused has a fault, and a fault that is found before memory is taken is never answered by want of memory.
-use Rattle.std.proofs.Common.{◌≡◌, ℕ, ◌<◌, cond, List, [], ◌∷◌, length, Option, Some, None, Ok, Err, refl, sym, ap, subst, ◌∙◌, ◌⊎◌, inr, arith}
+use Rattle.std.proofs.Common.{◌≡◌, ℕ, ◌<◌, ◌≤◌, cond, List, [], ◌∷◌, length, Option, Some, None, Ok, Err, refl, sym, ap, subst, ◌∙◌, ◌⊎◌, inr, arith}
 use Rattle.std.specs.Prelude.{codes, is_some, IsSome, slice_get}
 use Rattle.std.specs.Option.{option_and_then}
 use Rattle.subsetter_base.specs.Bytes.{IsBytes}
+use Rattle.subsetter_base.specs.Places.{IsWithoutRepeats}
 use Rattle.subsetter_base.specs.declared.error.Error.{Error}
 use Rattle.subsetter_base.specs.declared.error.Error.TheVariants.{UnknownKind, Unimplemented, OutOfMemory}
 use Rattle.subsetter.specs.declared.sfnt.flavor.FontFlavor.{FontFlavor}
 use Rattle.subsetter.specs.declared.sfnt.flavor.FontFlavor.TheVariants.{TrueType, Cff}
 use Rattle.subsetter.specs.Truetype.Answered.{IsAnswered, IsRefused}
+use Rattle.subsetter.specs.Cff.Plain.{cff_file}
 use Rattle.subsetter.specs.Fault as faults
 use Rattle.subsetter.specs.Sfnt.Read.{Font, table, table_in, flavor}
 use Rattle.subsetter.specs.Sfnt.Plain.{opened, flavored}
@@ -15,6 +17,7 @@ use Rattle.subsetter.specs.Sfnt.Fault.{HasOpeningFault, no_kind, no_entry, entry
 use Rattle.subsetter.proofs.TruetypeLaws.Fault.{Stands, has_fault, no_fault}
 use Rattle.subsetter.proofs.SfntLaws.Fault.{opened_refused, opened_records, flavored_refused, opened_clean}
 use Rattle.subsetter.proofs.TruetypeLaws.Subset.{IsClean, is_subset}
+use Rattle.subsetter.proofs.CffLaws.Fault.{cff_has_fault, is_cff_subset}
 
 -- the tables of a font that was opened
 find_is : (font : Font) (d : List ℕ) → opened font ≡ Ok d → table_in font.bytes d ≡ table font
@@ -40,6 +43,11 @@ has_glyf (Some a) p h = refl
 has_glyf None (Some b) h = absurd cc
 has_glyf None None h = absurd cc
 
+has_cff : (o p : Option (List ℕ)) → cond (is_some o) (Some TrueType) (cond (is_some p) (Some Cff) None) ≡ Some Cff → IsSome p
+has_cff (Some a) p h = absurd cc
+has_cff None (Some b) h = refl
+has_cff None None h = absurd cc
+
 some_given : (glyphs : List ℕ) → slice_get glyphs 0 ≡ Some 0 → 0 < length glyphs
 some_given [] h = absurd cc
 some_given (g ∷ gs) h = omega arith
@@ -62,9 +70,6 @@ module _ (tokens depth : ℕ) (font : Font) (glyphs : List ℕ) where
   pub unflavored : (d : List ℕ) (e : Error) → opened font ≡ Ok d → flavored (table_in font.bytes d) ≡ Err e → (e ≡ OutOfMemory) ⊎ Stands tokens depth font glyphs e
   unflavored d e o h = inr ([], faults.in_opening (flavored_refused font d e o h))
 
-  pub cff_refused : (d : List ℕ) → opened font ≡ Ok d → flavored (table_in font.bytes d) ≡ Ok Cff → (Unimplemented ≡ OutOfMemory) ⊎ Stands tokens depth font glyphs Unimplemented
-  cff_refused d o h = inr ([], faults.cff_not_yet (has_flavor font d Cff o h))
-
   module _ (d : List ℕ) (o : opened font ≡ Ok d) (h : flavored (table_in font.bytes d) ≡ Ok TrueType) where
     glyf_there : IsSome (table font (codes "glyf"))
     glyf_there = has_glyf (table font (codes "glyf")) (table font (codes "CFF ")) (has_flavor font d TrueType o h)
@@ -79,3 +84,19 @@ module _ (tokens depth : ℕ) (font : Font) (glyphs : List ℕ) where
 
     pub opening_clean : (e : Error) → HasOpeningFault font e → ⊥
     opening_clean e f = opened_clean font d TrueType e o h f
+
+  module _ (d : List ℕ) (o : opened font ≡ Ok d) (h : flavored (table_in font.bytes d) ≡ Ok Cff) where
+    kind : flavor font ≡ Some Cff
+    kind = has_flavor font d Cff o h
+
+    pub cff_subset : (out : List ℕ) → IsBytes font.bytes → 1 ≤ depth → slice_get glyphs 0 ≡ Some 0 → length glyphs ≤ 65535 → IsWithoutRepeats glyphs → cff_file (table_in font.bytes d) tokens depth glyphs ≡ Ok out → IsClean tokens depth font glyphs out
+    cff_subset out bytes deep first few once a =
+        let b : cff_file (table font) tokens depth glyphs ≡ Ok out = subst (λ (find : List ℕ → Option (List ℕ)). cff_file find tokens depth glyphs ≡ Ok out) (find_is font d o) a in
+        is_cff_subset tokens depth font glyphs out bytes deep (some_given glyphs first) few once kind (λ e. opened_clean font d Cff e o h) b
+
+    pub cff_refused : (e : Error) → IsBytes font.bytes → IsWithoutRepeats glyphs → cff_file (table_in font.bytes d) tokens depth glyphs ≡ Err e → (e ≡ OutOfMemory) ⊎ Stands tokens depth font glyphs e
+    cff_refused e bytes once r =
+        inr (glyphs, cff_has_fault tokens depth font glyphs bytes kind (has_cff (table font (codes "glyf")) (table font (codes "CFF ")) kind) once e (subst (λ (find : List ℕ → Option (List ℕ)). cff_file find tokens depth glyphs ≡ Err e) (find_is font d o) r))
+
+    pub cff_opening_clean : (e : Error) → HasOpeningFault font e → ⊥
+    cff_opening_clean e f = opened_clean font d Cff e o h f

@@ -7,4 +7,5 @@ pub mod PostLaws
 pub mod MaxpLaws
 pub mod SharedLaws
 pub mod TruetypeLaws
+pub mod CffLaws
 pub mod Headline

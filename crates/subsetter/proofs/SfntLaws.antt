@@ -9,3 +9,4 @@ pub mod Lookups
 pub mod Rows
 pub mod Container
 pub mod TableBytes
+pub mod Laid

@@ -1,7 +1,8 @@
 -- What can stand against a subset, under the name of the error that it is answered by.
-use Rattle.std.specs.Prelude.{◌≡◌, ◌≤◌, ◌^◌, ℕ, List, length, false, Some, Ok}
+use Rattle.std.specs.Prelude.{◌≡◌, ◌≤◌, ◌^◌, ℕ, List, codes, length, false, Some, Ok}
 use Rattle.subsetter_base.specs.declared.error.Error.{Error}
-use Rattle.subsetter_base.specs.declared.error.Error.TheVariants.{OverflowError, Unimplemented}
+use Rattle.subsetter_base.specs.declared.error.Error.TheVariants.{OverflowError}
+use Rattle.subsetter_cff.specs.CffFault.{HasCffFault}
 use Rattle.subsetter.specs.declared.sfnt.flavor.FontFlavor.{FontFlavor}
 use Rattle.subsetter.specs.declared.sfnt.flavor.FontFlavor.TheVariants.{Cff}
 use Rattle.subsetter.specs.Sfnt.Read.{Font, flavor, table}
@@ -22,9 +23,9 @@ use Rattle.subsetter.specs.Glyf.Written.{is_long, glyf_bytes}
 pub data HasFault (tokens depth : ℕ) (font : Font) (glyphs order : List ℕ) : Error → Type 0 where
   -- no known kind, a bad collection, a cut directory, or no outlines that are known
   in_opening : {e : Error} → HasOpeningFault font e → HasFault tokens depth font glyphs order e
-  -- CFF outlines aren't taken yet
-  cff_not_yet : flavor font ≡ Some Cff → HasFault tokens depth font glyphs order Unimplemented
-  -- loca, glyf and head, and the outlines that are reached
+  -- the CFF table, and the charstrings of the given glyphs
+  in_cff : {e : Error} (bytes : List ℕ) → flavor font ≡ Some Cff → table font (codes "CFF ") ≡ Some bytes → HasCffFault bytes tokens depth glyphs e → HasFault tokens depth font glyphs order e
+  -- loca, glyf and head (which a font with a CFF table may have too), and the outlines that are reached
   in_outlines : {e : Error} → HasOutlineFault font glyphs e → HasFault tokens depth font glyphs order e
   -- hmtx and hhea
   in_metrics : {e : Error} → HasMetricsFault (table font) (IsReachable font glyphs) e → HasFault tokens depth font glyphs order e

@@ -8,6 +8,7 @@ pub mod Name
 pub mod Post
 pub mod Shared
 pub mod Truetype
+pub mod Cff
 pub mod Laid
 pub mod Limits
 pub mod Fault

@@ -1,7 +1,7 @@
 -- What a subset of a font is.
 use Rattle.std.specs.Prelude.{◌≡◌, ℕ, ◌<◌, ◌^◌, List, length, codes, Some, IsSome}
 use Rattle.subsetter.specs.declared.sfnt.flavor.FontFlavor.{FontFlavor}
-use Rattle.subsetter.specs.declared.sfnt.flavor.FontFlavor.TheVariants.{TrueType}
+use Rattle.subsetter.specs.declared.sfnt.flavor.FontFlavor.TheVariants.{TrueType, Cff}
 use Rattle.subsetter.specs.Sfnt.Read.{Font, as_font, table, flavor}
 use Rattle.subsetter.specs.Sfnt.Container.{IsSoundContainer}
 use Rattle.subsetter.specs.Sfnt.Rows.{tags_of}
@@ -13,6 +13,7 @@ use Rattle.subsetter.specs.Maxp.Read.{IsMaxProfile}
 use Rattle.subsetter.specs.Name.Read.{KeepsNames}
 use Rattle.subsetter.specs.Post.Read.{KeepsGlyphNames}
 use Rattle.subsetter.specs.Truetype.Read.{KeepsOutlines}
+use Rattle.subsetter.specs.Cff.Read.{KeepsCharStrings}
 use Rattle.subsetter.specs.Laid.{IsLaidOut}
 
 -- both have their table, and one keeps what the other says
@@ -38,6 +39,7 @@ pub record KeepsShared (font : Font) (kind : FontFlavor) (order : List ℕ) (out
 -- what is drawn, by the kind of outlines, where a charstring is run within two limits
 pub data KeepsDrawing (tokens depth : ℕ) (font : Font) (order : List ℕ) (out : Font) : FontFlavor → Type 0 where
   by_outlines : KeepsOutlines font order out → KeepsDrawing tokens depth font order out TrueType
+  by_charstrings : KeepsCharStrings tokens depth font order out → KeepsDrawing tokens depth font order out Cff
 
 -- what a file keeps of a font for a list of glyphs, read afresh
 pub record KeepsFont (tokens depth : ℕ) (font : Font) (glyphs out : List ℕ) : Type 0 where

@@ -1,6 +1,7 @@
 //! A subsetter for OpenType fonts.
 #![tactic(auto)]
 
+mod cff;
 mod glyf;
 mod head;
 mod hmtx;

@@ -3,6 +3,8 @@
 ghost use Rattle.std.specs.Prelude.{◌≡◌, ◌≢◌, ◌⊎◌, ℕ, List, IfOk, IfErr, Err};
 ghost use Rattle.subsetter_base.specs.declared.error.Error.TheVariants.{OutOfMemory};
 ghost use Rattle.subsetter_base.specs.declared.error.Error.{Error as SpecError};
+ghost use Rattle.subsetter_base.specs.Gives.{Gives};
+ghost use Rattle.subsetter.specs.Cff.Plain.{cff_file};
 ghost use Rattle.subsetter.specs.Sfnt.Read.{table_in};
 ghost use Rattle.subsetter.specs.Truetype.Answered.{IsAnswered, IsRefused};
 ghost use Rattle.subsetter.specs.Fault.{HasFault};
@@ -10,6 +12,7 @@ ghost use Rattle.subsetter.specs.Sfnt.Fault.{HasOpeningFault};
 ghost use Rattle.subsetter.specs.Limits.{token_limit, depth_limit};
 ghost use Rattle.subsetter.specs.Subset.{IsSubset};
 
+use crate::cff;
 use crate::glyf::{self, Table};
 use crate::sfnt::construct::finish;
 use crate::sfnt::face::Face;
@@ -18,7 +21,8 @@ use crate::sfnt::parse::parse;
 use crate::sfnt::tables::in_order;
 use crate::truetype::{font_tables, make};
 use std::alloc::Global;
-use subsetter_base::{Error, GlyphRemapper};
+use subsetter_base::{Error, GlyphRemapper, Tag};
+use subsetter_type2::limits::Limits;
 
 /// A subset of a TrueType font.
 fn truetype(alloc: Global, face: &Face<'_>, mapper: &GlyphRemapper) -> Result<Vec<u8>, Error>
@@ -33,6 +37,17 @@ fn truetype(alloc: Global, face: &Face<'_>, mapper: &GlyphRemapper) -> Result<Ve
     drop(order);
     let list = in_order(alloc, font_tables(face, made))?;
     finish(alloc, FontFlavor::TrueType, &list)
+}
+
+/// A subset of a font with a CFF table.
+#[tactic(auto, unfolding(crate::specs::Cff::Plain::cff_file))]
+fn charstrings(alloc: Global, face: &Face<'_>, mapper: &GlyphRemapper) -> Result<Vec<u8>, Error>
+    ensures { Gives (λ v. v.items) result (cff_file (table_in face.now.«data».now face.now.records.now) token_limit depth_limit mapper.now) }
+{
+    let source = face.table(Tag::CFF).ok_or(Error::MalformedFont)?;
+    let made = cff::make(alloc, face, source, Limits::default(), mapper)?;
+    let list = in_order(alloc, cff::font_tables(made))?;
+    finish(alloc, FontFlavor::Cff, &list)
 }
 
 /// A font that holds the glyphs of the mapper under their new numbers, then each further glyph that these reach through components, once.
@@ -89,6 +104,6 @@ pub fn subset(
     let face = parse(data, index)?;
     match flavor(&face)? {
         FontFlavor::TrueType => truetype(alloc, &face, mapper),
-        FontFlavor::Cff => Err(Error::Unimplemented),
+        FontFlavor::Cff => charstrings(alloc, &face, mapper),
     }
 }

@@ -11,7 +11,7 @@ use Rattle.subsetter.specs.declared.sfnt.flavor.FontFlavor.TheVariants.{TrueType
 use Rattle.subsetter.specs.Truetype.Answered.{IsAnswered, IsRefused, no_memory, unread, unclosed, unmade, unlaid}
 use Rattle.subsetter.specs.Fault as faults
 use Rattle.subsetter.specs.Fault.{HasFault}
-use Rattle.subsetter.specs.Laid.{of_outlines}
+use Rattle.subsetter.specs.Laid.{of_outlines, of_charstrings}
 use Rattle.subsetter.specs.Sfnt.Read.{Font, table}
 use Rattle.subsetter.specs.Glyf.Read.{Outlines, outlines}
 use Rattle.subsetter.specs.Sfnt.Written.{Table, fits, file, start_of, kind_word}
@@ -31,7 +31,7 @@ abbrev pub Stands : ℕ → ℕ → Font → List ℕ → Error → Type 0
 Stands tokens depth font glyphs e = (order : List ℕ) × HasFault tokens depth font glyphs order e
 
 -- a test that failed
-not_chosen : {A : Type 0} (b : Bool) (x : A) (d e : Error) → cond b (Ok x) (Err d) ≡ Err e → (b ≡ false) × (d ≡ e)
+pub not_chosen : {A : Type 0} (b : Bool) (x : A) (d e : Error) → cond b (Ok x) (Err d) ≡ Err e → (b ≡ false) × (d ≡ e)
 not_chosen true x d e h = absurd cc
 not_chosen false x d e h = (refl, failed_is {A = _} d e h)
 
@@ -91,7 +91,7 @@ has_fault tokens depth font glyphs e there (unlaid t order ts h o k l) =
 
 -- ---- where a file is answered
 
-is_true_is_false : (b : Bool) → b ≡ true → b ≡ false → ⊥
+pub is_true_is_false : (b : Bool) → b ≡ true → b ≡ false → ⊥
 is_true_is_false true h k = absurd cc
 is_true_is_false false h k = absurd cc
 
@@ -126,7 +126,7 @@ module _ (tokens depth : ℕ) (font : Font) (glyphs out : List ℕ) (bytes : IsB
 
   pub no_fault : (e : Error) → HasFault tokens depth font glyphs a.order e → ⊥
   no_fault e (faults.in_opening f) = opening e f
-  no_fault e (faults.cff_not_yet f) = not_cff (table font (codes "glyf")) (table font (codes "CFF ")) there f
+  no_fault e (faults.in_cff b f is h) = not_cff (table font (codes "glyf")) (table font (codes "CFF ")) there f
   no_fault e (faults.in_outlines f) = no_outline_fault font glyphs a.order a.source made.0.outlines read closed (omega (arith, a.few)) steps.kept e f
   no_fault e (faults.in_metrics f) = no_metrics_fault font glyphs a.order TrueType (is_long made.0.outlines) made.0.shared bytes closed steps.shared e f
   no_fault e (faults.in_max_profile f) = no_max_profile_fault font glyphs a.order TrueType (is_long made.0.outlines) made.0.shared bytes closed steps.shared e f
@@ -134,3 +134,4 @@ module _ (tokens depth : ℕ) (font : Font) (glyphs out : List ℕ) (bytes : IsB
   no_fault e (faults.in_glyph_names f) = no_glyph_name_fault font glyphs a.order TrueType (is_long made.0.outlines) made.0.shared bytes closed steps.shared e f
   no_fault e (faults.long_glyf source bs o r k large) = short_glyf source bs r k large
   no_fault e (faults.large_file kind ts o (of_outlines source r k) large) = small_file source ts r k large
+  no_fault e (faults.large_file kind ts o (of_charstrings source f is k) large) = not_cff (table font (codes "glyf")) (table font (codes "CFF ")) there f

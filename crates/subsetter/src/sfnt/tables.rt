@@ -3,17 +3,16 @@
 ghost use Rattle.std.specs.Prelude.{◌≡◌, ◌+◌, ◌<◌, ◌≤◌, ◌^◌, ◌++◌, length, vec_capacity, IfOk, IfErr};
 ghost use Rattle.std.specs.Option.{option_copied, option_map};
 ghost use Rattle.std.specs.Cow.{cow_slice_items};
-ghost use Rattle.subsetter.specs.Sfnt.Checksum.{checksum};
 ghost use Rattle.subsetter.specs.Sfnt.Rows.{opt, rows, present};
 ghost use Rattle.subsetter.specs.Sfnt.View.{table_bytes, views, font_seen};
 ghost use Rattle.subsetter_base.specs.declared.error.Error.TheVariants.{OutOfMemory};
 
-use crate::glyf::outlines::{OutlineList, outlines_checksum, outlines_len, write_outlines};
-use crate::sfnt::checksum::checksum;
+use crate::glyf::outlines::{OutlineList, outlines_len, write_outlines};
 use crate::sfnt::room::put;
 use std::alloc::Global;
 use std::borrow::CowSlice;
 use subsetter_base::{Error, Tag};
+use subsetter_cff::writing::NewCffTable;
 
 /// The bytes of a table.
 #[derive(Drop)]
@@ -25,6 +24,8 @@ pub enum TableData<'a> {
         outlines: OutlineList<'a>,
         long: bool,
     },
+    /// `CFF ` in two pieces: what stands before the charstrings' data, and that data.
+    Pieces(NewCffTable),
 }
 
 impl<'a> TableData<'a> {
@@ -36,16 +37,7 @@ impl<'a> TableData<'a> {
         match self {
             TableData::Whole(bytes) => bytes.len(),
             TableData::Outlines { outlines, long } => outlines_len(outlines, *long),
-        }
-    }
-
-    /// The checksum, taken over the parts.
-    pub fn checksum(&self) -> u32
-        ensures { result ≡ checksum (table_bytes self.now) }
-    {
-        match self {
-            TableData::Whole(bytes) => checksum(bytes),
-            TableData::Outlines { outlines, long } => outlines_checksum(outlines, *long),
+            TableData::Pieces(table) => table.front.len().saturating_add(table.char_strings.len()),
         }
     }
 
@@ -58,6 +50,10 @@ impl<'a> TableData<'a> {
         match self {
             TableData::Whole(bytes) => put(out, bytes),
             TableData::Outlines { outlines, long } => write_outlines(out, outlines, *long),
+            TableData::Pieces(table) => {
+                put(out, &table.front);
+                put(out, &table.char_strings);
+            }
         }
     }
 }
