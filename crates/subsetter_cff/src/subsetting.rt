@@ -1,7 +1,6 @@
 //! The subset of a CFF table.
 
 ghost use Rattle.std.specs.Prelude.{◌≡◌, ◌⊎◌, IfOk, IfErr};
-ghost use Rattle.subsetter_base.specs.Bytes.{IsBytes};
 ghost use Rattle.subsetter_base.specs.Gives.{Gives};
 ghost use Rattle.subsetter_base.specs.declared.error.Error.{Error as SpecError};
 ghost use Rattle.subsetter_base.specs.declared.error.Error.TheVariants.{OutOfMemory};
@@ -18,13 +17,6 @@ use std::alloc::Global;
 use subsetter_base::GlyphRemapper;
 use subsetter_base::error::Error;
 use subsetter_type2::limits::Limits;
-
-// What a slice has is bytes.
-fn has_bytes(table: &[u8]) -> bool
-    ensures bytes { IsBytes table.now }
-{
-    !table.is_empty()
-}
 
 // The subset, exactly as the plain way answers it.
 fn subset_exactly(
@@ -63,6 +55,5 @@ pub fn subset(
 {
     let _count = mapper.num_gids();
     let _depth = limits.depth();
-    let _has = has_bytes(table);
     subset_exactly(alloc, table, mapper, limits)
 }
