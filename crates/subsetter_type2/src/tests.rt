@@ -27,13 +27,14 @@ impl<'a> Lists<'a> {
     fn local(local: &'a [Option<CharString<'a>>]) -> Self {
         Lists { global: &[], local }
     }
-
 }
 
 /// The bytes of an INDEX with these entries, of which the first alone may be unreadable.
 fn index_bytes(alloc: Global, entries: &[Option<CharString<'_>>]) -> Result<Vec<u8>, Error> {
     let mut bytes = Vec::new(alloc);
-    let count = u16::try_from(entries.len()).ok().ok_or(Error::OverflowError)?;
+    let count = u16::try_from(entries.len())
+        .ok()
+        .ok_or(Error::OverflowError)?;
     bytes.extend_from_slice(&count.to_be_bytes())?;
     if entries.is_empty() {
         return Ok(bytes);
