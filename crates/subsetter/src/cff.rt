@@ -16,7 +16,7 @@ use crate::sfnt::tables::{FontTables, TableData};
 use crate::shared::{self, SharedTables};
 use std::alloc::Global;
 use subsetter_base::{Error, GlyphRemapper};
-use subsetter_cff::writing::NewCffTable;
+use subsetter_cff::NewCffTable;
 use subsetter_type2::limits::Limits;
 
 /// What is made for the new font.

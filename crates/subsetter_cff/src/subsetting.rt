@@ -52,6 +52,8 @@ pub fn subset(
     ensures clean { IfOk result (λ new. (e : SpecError) → HasCffFault table.now limits.tokens limits.depth mapper.now e → ⊥) }
     // What is refused has a fault of that name.
     ensures err { IfErr result (λ e. (e ≡ OutOfMemory) ⊎ HasCffFault table.now limits.tokens limits.depth mapper.now e) }
+    // Both are what the plain way answers.
+    ensures exact { Gives table_bytes result (cff_subset table.now limits.tokens limits.depth mapper.now) }
 {
     let _count = mapper.num_gids();
     let _depth = limits.depth();

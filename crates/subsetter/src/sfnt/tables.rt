@@ -12,7 +12,7 @@ use crate::sfnt::room::put;
 use std::alloc::Global;
 use std::borrow::CowSlice;
 use subsetter_base::{Error, Tag};
-use subsetter_cff::writing::NewCffTable;
+use subsetter_cff::NewCffTable;
 
 /// The bytes of a table.
 #[derive(Drop)]
