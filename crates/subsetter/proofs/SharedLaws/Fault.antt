@@ -29,7 +29,8 @@ use Rattle.subsetter.proofs.HmtxLaws.Kept.{metrics_refused, metrics_clean}
 use Rattle.subsetter.proofs.MaxpLaws.Kept.{maxp_refused, maxp_clean}
 use Rattle.subsetter.proofs.NameLaws.Clean.{name_clean}
 use Rattle.subsetter.proofs.NameLaws.Fault.{name_refused}
-use Rattle.subsetter.proofs.PostLaws.Fault.{post_refused, post_clean}
+use Rattle.subsetter.proofs.PostLaws.Fault.{post_refused}
+use Rattle.subsetter.proofs.PostLaws.Clean.{post_clean}
 use Rattle.subsetter.proofs.SfntLaws.TableBytes.{table_bytes}
 use Rattle.subsetter.proofs.SharedLaws.Steps.{SharedSteps}
 
