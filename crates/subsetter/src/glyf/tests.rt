@@ -1,6 +1,6 @@
 //! Outlines: which glyphs are reached, and `head`.
 
-use crate::glyf::{Table, closure};
+use crate::glyf::{OutlineTables, closure};
 use crate::{Error, GlyphRemapper, head};
 use std::alloc::Global;
 use std::test::Fail;
@@ -26,8 +26,8 @@ fn listed(alloc: Global, order: &GlyphRemapper) -> Result<Vec<u16>, Fail> {
 }
 
 /// The tables of outlines in the short format.
-fn short<'a>(loca: &'a [u8], glyf: &'a [u8]) -> Table<'a> {
-    Table {
+fn short<'a>(loca: &'a [u8], glyf: &'a [u8]) -> OutlineTables<'a> {
+    OutlineTables {
         loca,
         glyf,
         head: &HEAD,
