@@ -2,5 +2,8 @@
 pub mod Indexes
 pub mod Marks
 pub mod Steps
+pub mod Own
+pub mod Answer
 pub mod Fault
+pub mod Clean
 pub mod Kept

@@ -1,4 +1,8 @@
 //! The outlines of a TrueType font (OpenType, "glyf" and "loca").
+//!
+//! An outline is the bytes of `glyf` between its entry of `loca` and the next: none, a simple glyph, or a composite, whose
+//! components are other glyphs. The new `glyf` has the outlines of the given glyphs and of all that these reach, each as it
+//! is but for the numbers of its components.
 
 ghost use Rattle.std.specs.Prelude.{◌≡◌, ◌+◌, ◌<◌, ◌≤◌, ◌^◌, ◌++◌, ◌⊎◌, length, map, IfOk, IfErr, IfSome, OnOk, Ok, Err};
 ghost use Rattle.std.specs.Cow.{cow_slice_items};
@@ -29,14 +33,14 @@ use subsetter_base::{Error, GlyphRemapper, Tag};
 
 /// The tables that outlines are read from.
 #[derive(Clone, Copy)]
-pub struct Table<'a> {
+pub struct OutlineTables<'a> {
     pub loca: &'a [u8],
     pub glyf: &'a [u8],
     pub head: &'a [u8],
     pub long: bool,
 }
 
-impl<'a> Table<'a> {
+impl<'a> OutlineTables<'a> {
     /// The tables of a font. `MalformedFont` where one is missing, or `head` has fewer than 52 bytes.
     #[tactic(auto, unfolding(crate::specs::Glyf::Read::outlines_in))]
     pub fn new(face: &Face<'a>) -> Result<Self, Error>
@@ -101,7 +105,7 @@ impl<'a> Table<'a> {
 /// The outlines of the glyphs of an order, each as it stands in the new `glyf` but for its padding.
 pub fn subset<'a>(
     alloc: Global,
-    table: &Table<'a>,
+    table: &OutlineTables<'a>,
     order: &GlyphRemapper,
 ) -> Result<OutlineList<'a>, Error>
     ensures { Gives (λ list. list) result (kept_all (seen table.now) order.now order.now) }
@@ -129,7 +133,7 @@ fn lacks_head(outline: &[u8]) -> bool
 /// Puts the components of a glyph that are not in the order behind those that wait.
 /// `MalformedFont` where the glyph has one byte or is a composite that is shorter than its head.
 fn push_components(
-    table: &Table<'_>,
+    table: &OutlineTables<'_>,
     order: &GlyphRemapper,
     waiting: &mut Vec<u16>,
     glyph: u16,
@@ -155,7 +159,7 @@ fn push_components(
 /// Takes a glyph that waited: a new one goes last in the order, and its components wait.
 /// `OverflowError` where there is no room for it; otherwise the errors of its components.
 fn visit(
-    table: &Table<'_>,
+    table: &OutlineTables<'_>,
     order: &mut GlyphRemapper,
     waiting: &mut Vec<u16>,
     glyph: u16,
@@ -195,7 +199,7 @@ fn stacked(alloc: Global, mapper: &GlyphRemapper) -> Result<Vec<u16>, Error>
 /// one byte or is a composite that is shorter than its head.
 pub fn closure(
     alloc: Global,
-    table: &Table<'_>,
+    table: &OutlineTables<'_>,
     mapper: &GlyphRemapper,
 ) -> Result<GlyphRemapper, Error>
     ensures ok { IfOk result (λ order. IsGlyphOrderBy (outline_in (seen table.now)) mapper.now order) }

@@ -1,4 +1,8 @@
-//! Horizontal metrics.
+//! `hhea` and `hmtx`, the horizontal metrics (OpenType, "hhea", "hmtx").
+//!
+//! `hmtx` has pairs of an advance and a left side bearing, as many as numberOfHMetrics in `hhea` says, and then bearings
+//! alone for the glyphs after these, which share the last advance. The new `hmtx` has the metrics of the new glyphs by the
+//! least number of pairs, and `hhea` is the source's but for that number.
 
 ghost use Rattle.std.specs.Prelude.{◌≡◌, ◌++◌, ◌≤◌, ◌<◌, ◌^◌, drop, take, length, IfOk, IfErr, OnOk};
 ghost use Rattle.std.specs.Option.{option_copied, option_map};

@@ -1,4 +1,8 @@
-//! The number of glyphs.
+//! `maxp`, the number of glyphs (OpenType, "maxp").
+//!
+//! It begins with its version and numGlyphs; version 1.0, which goes with TrueType outlines, has further fields, and
+//! version 0.5, which goes with CFF outlines, has none. The new table has the new number, and the source's further fields
+//! where its version has any.
 
 ghost use Rattle.std.specs.Prelude.{◌≡◌, ◌≤◌, length};
 ghost use Rattle.std.specs.Option.{option_copied, option_map};

@@ -1,4 +1,8 @@
-//! The names of a font.
+//! `name`, the names of a font (OpenType, "name").
+//!
+//! Version 0 has records, each of which says for a platform, an encoding, a language and a name where in the storage behind
+//! the records its string stands. The new table keeps the Unicode records of the names 0 to 14 but the description, and
+//! stores each string once. A table of another version is copied.
 
 ghost use Rattle.std.specs.Prelude.{◌≡◌, ◌*◌, ◌++◌, [], length, flat_map, OnOk, IfOk, IfErr, IfSome};
 ghost use Rattle.std.specs.Option.{option_copied, option_map, ok_or};
@@ -166,7 +170,7 @@ impl<'a> Strings<'a> {
 
 /// The records of a table of version 0, and the bytes that hold their strings.
 #[derive(Drop)]
-pub struct Table<'a> {
+pub struct NameTable<'a> {
     pub names: Vec<NameRecord>,
     pub storage: CowSlice<'a, u8>,
 }
@@ -191,7 +195,7 @@ fn parse_parts(data: &[u8]) -> Option<Parts<'_>>
     Some(Parts { records, storage })
 }
 
-impl<'a> Table<'a> {
+impl<'a> NameTable<'a> {
     /// Parses a table of version 0, whose version the caller has read; `MalformedFont` where its header or a record is cut or its storage begins past the end.
     pub fn parse(alloc: Global, data: &'a [u8]) -> Result<Self, Error>
         ensures { Gives seen_table result (ok_or (name_parts «data».now) MalformedFont) }
@@ -219,7 +223,7 @@ fn write_records(w: &mut Writer, names: &[NameRecord]) -> Result<(), Error>
     Ok(())
 }
 
-impl Writeable for Table<'_> {
+impl Writeable for NameTable<'_> {
     ghost use Rattle.std.specs.Cow.{cow_slice_items};
     ghost use Rattle.subsetter.specs.Name.Read.{name_bytes};
 
@@ -240,7 +244,7 @@ impl Writeable for Table<'_> {
 
 /// The records that a subset keeps, and their strings, each once in the order of first use. `SubsetError` where a string is not inside the storage or begins past 65535 in the new one, and for more than 5460 records.
 #[tactic(auto, unfolding(crate::specs::Name::Plain::subset_names))]
-pub fn subset_table<'a>(alloc: Global, table: &Table<'a>) -> Result<Table<'a>, Error>
+pub fn kept_names<'a>(alloc: Global, table: &NameTable<'a>) -> Result<NameTable<'a>, Error>
     ensures { Gives seen_table result (subset_names (seen_table table.now)) }
 {
     let mut names = Vec::new(alloc);
@@ -258,13 +262,13 @@ pub fn subset_table<'a>(alloc: Global, table: &Table<'a>) -> Result<Table<'a>, E
     if names.len() > 5460 {
         return Err(Error::SubsetError);
     }
-    Ok(Table {
+    Ok(NameTable {
         names,
         storage: CowSlice::Owned(strings.join(alloc)?),
     })
 }
 
-/// The names of a subset. A table of another version than 0 is copied whole; `MalformedFont` where the version, the header, a record or the start of the storage is cut, and the errors of `subset_table`.
+/// The names of a subset. A table of another version than 0 is copied whole; `MalformedFont` where the version, the header, a record or the start of the storage is cut, and the errors of `kept_names`.
 #[tactic(auto, unfolding(crate::specs::Name::Plain::new_name, crate::specs::Name::Plain::name_of_table))]
 pub fn subset<'a>(alloc: Global, name: Option<&'a [u8]>) -> Result<Option<CowSlice<'a, u8>>, Error>
     ensures { Gives (option_map cow_slice_items) result (new_name (option_copied name.entry)) }
@@ -278,7 +282,7 @@ pub fn subset<'a>(alloc: Global, name: Option<&'a [u8]>) -> Result<Option<CowSli
     if version != 0 {
         return Ok(Some(CowSlice::Borrowed(bytes)));
     }
-    let table = subset_table(alloc, &Table::parse(alloc, bytes)?)?;
+    let table = kept_names(alloc, &NameTable::parse(alloc, bytes)?)?;
     let mut w = Writer::with_capacity(alloc, 6 + 12 * table.names.len() + table.storage.len())?;
     w.write(&table)?;
     Ok(Some(CowSlice::Owned(w.finish())))

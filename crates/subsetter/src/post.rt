@@ -1,4 +1,8 @@
-//! The names of glyphs.
+//! `post`, the names of glyphs (OpenType, "post").
+//!
+//! Version 2.0 has after its header of 32 bytes an index for each glyph: below 258 it is the number of a standard
+//! Macintosh name, from there on that of a Pascal string among those that follow. The new table has the source's header,
+//! an index for each new glyph, and for each name of the font's own a string. A table of another version is copied.
 
 ghost use Rattle.std.specs.Prelude.{◌≡◌, ◌≤◌, ◌<◌, ◌+◌, ◌++◌, ℕ, [], length, drop, slice_index, get_or, flat_map, OnOk, IfOk, IfErr, IfSome};
 ghost use Rattle.std.specs.Option.{option_copied, option_map};

@@ -13,7 +13,7 @@ ghost use Rattle.subsetter.specs.Limits.{token_limit, depth_limit};
 ghost use Rattle.subsetter.specs.Subset.{IsSubset};
 
 use crate::cff;
-use crate::glyf::{self, Table};
+use crate::glyf::{self, OutlineTables};
 use crate::sfnt::construct::finish;
 use crate::sfnt::face::Face;
 use crate::sfnt::flavor::{FontFlavor, flavor};
@@ -29,8 +29,9 @@ fn truetype(alloc: Global, face: &Face<'_>, mapper: &GlyphRemapper) -> Result<Ve
     ensures ok { IfOk result (λ v. IsAnswered (table_in face.now.«data».now face.now.records.now) mapper.now v.items) }
     ensures err { IfErr result (λ e. IsRefused (table_in face.now.«data».now face.now.records.now) mapper.now e) }
 {
-    let table = Table::new(face)?;
+    let table = OutlineTables::new(face)?;
     let order = glyf::closure(alloc, &table, mapper)?;
+    // What `num_gids` says of the order, that it has fewer than 65536 glyphs, is a premise of the proof.
     let _count = order.num_gids();
     let made = make(alloc, face, &table, &order)?;
     // Its memory is free before room for the output is taken.
@@ -100,6 +101,7 @@ pub fn subset(
     // Where a fault stands that is found before memory is taken, the answer isn't want of memory.
     ensures before_memory { (e : SpecError) → HasOpeningFault (record { bytes = «data».now; index = index }) e → result ≢ Err OutOfMemory }
 {
+    // What `num_gids` says of the mapper, that glyph 0 comes first, is a premise of the proof.
     let _count = mapper.num_gids();
     let face = parse(data, index)?;
     match flavor(&face)? {

@@ -10,7 +10,7 @@ ghost use Rattle.subsetter.specs.Truetype.Plain.{located, made_of, font_of};
 ghost use Rattle.subsetter.specs.Truetype.View.{made_seen};
 
 use crate::glyf::outlines::{OutlineList, outlines_len};
-use crate::glyf::{self, Table};
+use crate::glyf::{self, OutlineTables};
 use crate::loca;
 use crate::sfnt::face::Face;
 use crate::sfnt::flavor::FontFlavor;
@@ -46,7 +46,7 @@ fn locate(alloc: Global, outlines: &OutlineList<'_>, long: bool) -> Result<Vec<u
 pub fn make<'a>(
     alloc: Global,
     face: &Face<'a>,
-    table: &Table<'a>,
+    table: &OutlineTables<'a>,
     order: &GlyphRemapper,
 ) -> Result<Made<'a>, Error>
     ensures exact { Gives made_seen result (made_of (table_in face.now.«data».now face.now.records.now) (seen table.now) order.now) }

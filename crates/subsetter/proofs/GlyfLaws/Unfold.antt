@@ -253,4 +253,4 @@ module _ (font out : Font) (glyphs order : List ℕ) (t u : Outlines) (bs : List
 
   -- the new number of a component is the place of its glyph
   pub numbered_alike : (i : ℕ) → i < length order → HaveSameParts font out (λ g h. place order g ≡ Some h) (get_or order i 0) i
-  numbered_alike i lt = parts_alike (λ g h. place order g ≡ Some h) (λ h c. let k = some_number (place order h) (Contains-place order h c) in k.1 ∙ ap (λ (n : ℕ). Some n) (sym (ap (λ (o : Option ℕ). unwrap_or o 0) k.1))) i lt
+  numbered_alike i lt = parts_alike (λ g h. place order g ≡ Some h) (λ h c. let k = some_of (place order h) (Contains-place order h c) in k.1 ∙ ap (λ (n : ℕ). Some n) (sym (ap (λ (o : Option ℕ). unwrap_or o 0) k.1))) i lt

@@ -1,5 +1,5 @@
 -- What is refused of the tables that both kinds of outlines share has a fault of that name, and where they are made no such fault stands.
-use Rattle.std.proofs.Common.{◌≡◌, ℕ, ltb, Bool, true, false, cond, List, [], ◌∷◌, length, Option, Some, None, Ok, Err, refl, subst, ◌⊎◌, inl, inr}
+use Rattle.std.proofs.Common.{◌≡◌, ℕ, ltb, Bool, true, false, cond, List, [], ◌∷◌, length, Option, Some, None, Ok, Err, refl, subst, inl, inr}
 use Rattle.std.specs.Prelude.{codes, Contains}
 use Rattle.std.specs.List.{AllByRecursion}
 use Rattle.std.proofs.lemmas.Bool.{ltb-true}
@@ -29,7 +29,8 @@ use Rattle.subsetter.proofs.HmtxLaws.Kept.{metrics_refused, metrics_clean}
 use Rattle.subsetter.proofs.MaxpLaws.Kept.{maxp_refused, maxp_clean}
 use Rattle.subsetter.proofs.NameLaws.Clean.{name_clean}
 use Rattle.subsetter.proofs.NameLaws.Fault.{name_refused}
-use Rattle.subsetter.proofs.PostLaws.Fault.{post_refused, post_clean}
+use Rattle.subsetter.proofs.PostLaws.Fault.{post_refused}
+use Rattle.subsetter.proofs.PostLaws.Clean.{post_clean}
 use Rattle.subsetter.proofs.SfntLaws.TableBytes.{table_bytes}
 use Rattle.subsetter.proofs.SharedLaws.Steps.{SharedSteps}
 

@@ -1,6 +1,6 @@
 -- The tables that both kinds of outlines share, read afresh from a new font.
 use Rattle.std.proofs.Common.{◌≡◌, ℕ, ◌^◌, ◌<◌, ◌≤◌, Bool, List, length, Option, Some, None, Ok, refl, sym, ap, subst, ◌∙◌}
-use Rattle.std.specs.Prelude.{codes, is_some, IsSome}
+use Rattle.std.specs.Prelude.{codes, IsSome}
 use Rattle.std.specs.Option.{option_map}
 use Rattle.subsetter_base.specs.Bytes.{IsBytes}
 use Rattle.subsetter.specs.declared.sfnt.flavor.FontFlavor.{FontFlavor}
@@ -22,7 +22,7 @@ use Rattle.subsetter.proofs.HmtxLaws.Kept.{keeps_metrics}
 use Rattle.subsetter.proofs.MaxpLaws.Kept.{is_max_profile}
 use Rattle.subsetter.proofs.NameLaws.Kept.{keeps_table}
 use Rattle.subsetter.proofs.PostLaws.Kept.{keeps_post}
-use Rattle.subsetter.proofs.SharedLaws.Steps.{SharedSteps, HeadFrom, head_from, head_there, maxp_there, metrics_there, name_there, post_there, name_tables, glyph_name_tables}
+use Rattle.subsetter.proofs.SharedLaws.Steps.{SharedSteps, head_from, head_there, maxp_there, metrics_there, name_there, post_there, name_tables, glyph_name_tables}
 
 -- a part that is there
 there : {A : Type 0} (o : Option A) → IsSome o → (x : A) × (o ≡ Some x)

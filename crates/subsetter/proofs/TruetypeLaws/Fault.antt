@@ -1,5 +1,5 @@
 -- What subsetting refuses has a fault of that name, and where it answers no fault stands.
-use Rattle.std.proofs.Common.{◌≡◌, ℕ, ◌^◌, ◌≤◌, ltb, Bool, true, false, cond, List, [], ◌∷◌, length, Option, Some, None, Ok, Err, refl, sym, ap, subst, ◌∙◌, ◌⊎◌, arith, inl, inr}
+use Rattle.std.proofs.Common.{◌≡◌, ℕ, ◌^◌, ◌≤◌, ltb, Bool, true, false, cond, List, [], length, Option, Some, None, Ok, Err, refl, sym, ap, subst, ◌∙◌, ◌⊎◌, arith, inl, inr}
 use Rattle.std.specs.Prelude.{codes, is_some, IsSome}
 use Rattle.std.proofs.lemmas.Bool.{ltb-false}
 use Rattle.subsetter_base.specs.Bytes.{◌>>=◌, IsBytes}

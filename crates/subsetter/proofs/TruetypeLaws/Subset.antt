@@ -1,6 +1,6 @@
 -- What subsetting answers is a subset.
-use Rattle.std.proofs.Common.{◌≡◌, ℕ, ◌+◌, ◌*◌, ◌^◌, ◌<◌, ◌≤◌, true, false, cond, List, [], ◌∷◌, ◌++◌, length, Option, Some, None, Ok, refl, sym, ap, subst, ◌∙◌, arith, inl}
-use Rattle.std.specs.Prelude.{codes, is_some, IsSome}
+use Rattle.std.proofs.Common.{◌≡◌, ℕ, ◌+◌, ◌*◌, ◌^◌, ◌<◌, true, false, cond, List, ◌++◌, length, Option, Some, None, Ok, refl, sym, ap, subst, ◌∙◌, arith, inl}
+use Rattle.std.specs.Prelude.{codes, is_some}
 use Rattle.std.specs.Option.{option_map}
 use Rattle.std.specs.List.{AllByRecursion}
 use Rattle.std.specs.Str.{bytes_eq}
@@ -12,7 +12,7 @@ use Rattle.subsetter_base.proofs.Results.{named_ok}
 use Rattle.subsetter.specs.declared.sfnt.flavor.FontFlavor.TheVariants.{TrueType}
 use Rattle.subsetter.specs.Sfnt.Container.{IsSoundContainer, AscendFrom}
 use Rattle.subsetter.specs.Sfnt.Read.{Font, as_font, table, flavor}
-use Rattle.subsetter.specs.Sfnt.Rows.{bytes_of, present, lookup, tags, FontTables, rows, called_for, tags_of}
+use Rattle.subsetter.specs.Sfnt.Rows.{bytes_of, present, lookup, tags, rows, called_for, tags_of}
 use Rattle.subsetter.specs.Sfnt.Written.{Table, IsTable, with_adjustment, fits, file, start_of, kind_word}
 use Rattle.subsetter.specs.Glyf.Read.{Outlines, outlines}
 use Rattle.subsetter.specs.Glyf.Reach.{IsGlyphOrder}
@@ -34,7 +34,7 @@ use Rattle.subsetter.proofs.GlyfLaws.Back.{AreWritten, entry_count}
 use Rattle.subsetter.proofs.GlyfLaws.Fault.{HasTables, has_tables, order_in}
 use Rattle.subsetter.proofs.GlyfLaws.Kept.{length-kept_all}
 use Rattle.subsetter.proofs.GlyfLaws.Unfold.{unfolds_alike, numbered_alike}
-use Rattle.subsetter.proofs.SharedLaws.Steps.{head_there, maxp_there, metrics_there, name_there, post_there, HeadFrom, head_from}
+use Rattle.subsetter.proofs.SharedLaws.Steps.{head_there, maxp_there, metrics_there, name_there, post_there, head_from}
 use Rattle.subsetter.proofs.SharedLaws.Kept.{shared_room, AreBack, keeps_shared}
 use Rattle.subsetter.proofs.TruetypeLaws.Steps.{MadeSteps, made_steps, tables_steps, file_steps}
 

@@ -2,7 +2,7 @@
 use Rattle.std.specs.Prelude.{ℕ, List, map}
 use Rattle.std.specs.Borrow.{Bor}
 use Rattle.std.specs.Cow.{cow_slice_items}
-use Rattle.subsetter.specs.declared.name.Table.{Table}
+use Rattle.subsetter.specs.declared.name.NameTable.{NameTable as NewNameTable}
 use Rattle.subsetter.specs.declared.name.Parts.{Parts}
 use Rattle.subsetter.specs.Name.Read.{NameTable, name_records_in}
 
@@ -10,7 +10,7 @@ use Rattle.subsetter.specs.Name.Read.{NameTable, name_records_in}
 abbrev pub nows : List (Bor (List ℕ)) → List (List ℕ)
 nows bs = map (λ (b : Bor (List ℕ)). b.now) bs
 
-abbrev pub seen_table : Table → NameTable
+abbrev pub seen_table : NewNameTable → NameTable
 seen_table t = record { records = t.names.items; storage = cow_slice_items t.storage }
 
 abbrev pub seen_parts : Parts → NameTable

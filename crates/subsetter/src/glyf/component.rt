@@ -17,17 +17,17 @@ use subsetter_base::write::Writer;
 use subsetter_base::{Error, GlyphRemapper};
 
 /// Two words of arguments follow, and not two bytes.
-const ARGS_ARE_WORDS: u16 = 0x0001;
+const ARG_1_AND_2_ARE_WORDS: u16 = 0x0001;
 /// A scale follows.
-const HAS_SCALE: u16 = 0x0008;
+const WE_HAVE_A_SCALE: u16 = 0x0008;
 /// Another component follows.
 const MORE_COMPONENTS: u16 = 0x0020;
 /// Two scales follow.
-const HAS_TWO_SCALES: u16 = 0x0040;
+const WE_HAVE_AN_X_AND_Y_SCALE: u16 = 0x0040;
 /// A matrix of four numbers follows.
-const HAS_MATRIX: u16 = 0x0080;
+const WE_HAVE_A_TWO_BY_TWO: u16 = 0x0080;
 /// Instructions follow the last component.
-const HAS_INSTRUCTIONS: u16 = 0x0100;
+const WE_HAVE_INSTRUCTIONS: u16 = 0x0100;
 
 /// A component: its flags, its glyph, and the bytes of its arguments and its transform.
 #[derive(Clone, Copy)]
@@ -41,12 +41,12 @@ pub struct Component<'a> {
 fn rest_size(flags: u16) -> usize
     ensures { result ≡ rest_size flags }
 {
-    let arguments = if flags & ARGS_ARE_WORDS != 0 { 4 } else { 2 };
-    let transform = if flags & HAS_SCALE != 0 {
+    let arguments = if flags & ARG_1_AND_2_ARE_WORDS != 0 { 4 } else { 2 };
+    let transform = if flags & WE_HAVE_A_SCALE != 0 {
         2
-    } else if flags & HAS_TWO_SCALES != 0 {
+    } else if flags & WE_HAVE_AN_X_AND_Y_SCALE != 0 {
         4
-    } else if flags & HAS_MATRIX != 0 {
+    } else if flags & WE_HAVE_A_TWO_BY_TWO != 0 {
         8
     } else {
         0
@@ -65,7 +65,7 @@ fn has_more(flags: u16) -> bool
 fn has_instructions(flags: u16) -> bool
     ensures { result ≡ has_instructions flags }
 {
-    flags & HAS_INSTRUCTIONS != 0
+    flags & WE_HAVE_INSTRUCTIONS != 0
 }
 
 /// The component at the front, if it is whole.

@@ -2,6 +2,7 @@
 
 use super::fonts::*;
 use crate::{Error, Tag};
+use std::alloc::Global;
 use std::test::*;
 
 #[test]
@@ -22,38 +23,51 @@ fn outlines_come_before_metrics_and_their_number_before_them(rt: HostRuntime) ->
     Ok(())
 }
 
+/// `hhea` that counts one pair of advance and bearing.
+const ONE_PAIR: [u8; 36] = [
+    0, 0, 0, 0, 0, 0, 0, 0, 0, 0, 0, 0, 0, 0, 0, 0, 0, 0, //
+    0, 0, 0, 0, 0, 0, 0, 0, 0, 0, 0, 0, 0, 0, 0, 0, 0, 1,
+];
+
+/// `name` of one record, whose string lies outside of the storage.
+const FAR_STRING: [u8; 18] = [0, 0, 0, 1, 0, 18, 0, 3, 0, 1, 4, 9, 0, 0, 0, 1, 0, 0];
+
+/// Three empty glyphs with one metric, and these tables.
+fn four_tables(
+    alloc: Global,
+    hhea: &[u8],
+    maxp: &[u8],
+    name: &[u8],
+    post: &[u8],
+) -> Result<Vec<u8>, Fail> {
+    three_empty(
+        alloc,
+        &[
+            part(Tag::HHEA, hhea),
+            part(Tag::HMTX, &[0, 1, 0, 2]),
+            part(Tag::MAXP, maxp),
+            part(Tag::NAME, name),
+            part(Tag::POST, post),
+        ],
+    )
+}
+
 #[test]
 fn the_first_table_with_a_fault_names_the_error(rt: HostRuntime) -> Result<(), Fail> {
     let alloc = rt.alloc();
-    let mut one_pair = [0; 36];
-    one_pair[35] = 1;
-    // The string of its record lies outside of the storage.
-    let far_string = [0, 0, 0, 1, 0, 18, 0, 3, 0, 1, 4, 9, 0, 0, 0, 1, 0, 0];
-    let bad = [
-        part(Tag::HHEA, &[0; 36]),
-        part(Tag::MAXP, &[0, 1, 0, 0, 0]),
-        part(Tag::NAME, &far_string),
-        part(Tag::POST, &[0, 3, 0]),
+    let cut: [u8; 3] = [0, 1, 0];
+    let maxp: [u8; 6] = [0, 1, 0, 0, 0, 3];
+    let no_names: [u8; 6] = [0, 0, 0, 0, 0, 6];
+    // In each row one table more is sound.
+    let rows: [(&[u8], &[u8], &[u8], Error); 4] = [
+        (&[0; 36], &cut, &FAR_STRING, Error::OverflowError),
+        (&ONE_PAIR, &cut, &FAR_STRING, Error::MalformedFont),
+        (&ONE_PAIR, &maxp, &FAR_STRING, Error::SubsetError),
+        (&ONE_PAIR, &maxp, &no_names, Error::MalformedFont),
     ];
-    let sound = [
-        part(Tag::HHEA, &one_pair),
-        part(Tag::MAXP, &[0, 1, 0, 0, 0, 3]),
-        part(Tag::NAME, &[0, 0, 0, 0, 0, 6]),
-        part(Tag::POST, &[0, 3, 0, 0]),
-    ];
-    let errors = [
-        Error::OverflowError,
-        Error::MalformedFont,
-        Error::SubsetError,
-        Error::MalformedFont,
-    ];
-    for first in 0..4 {
-        let mut parts = Vec::new(alloc);
-        parts.push(part(Tag::HMTX, &[0, 1, 0, 2]))?;
-        parts.extend_from_slice(&sound[..first])?;
-        parts.extend_from_slice(&bad[first..])?;
-        let file = three_empty(alloc, &parts)?;
-        assert_eq!(rt; refusal(alloc, &file, 0, &[])?, errors[first]);
+    for (hhea, maxp, name, error) in rows {
+        let file = four_tables(alloc, hhea, maxp, name, &cut)?;
+        assert_eq!(rt; refusal(alloc, &file, 0, &[])?, error);
     }
     Ok(())
 }

@@ -5,7 +5,7 @@ use Rattle.subsetter.specs.declared.name.NameRecord.{NameRecord}
 use Rattle.std.specs.Cow.{cow_slice_items}
 use Rattle.subsetter.specs.Name.Read.{name_record_bytes}
 use Rattle.subsetter.proofs.NameLaws.Written.{table_written}
-use Rattle.subsetter.proofs.name.TableWriteable.write.Goals as goal
+use Rattle.subsetter.proofs.name.NameTableWriteable.write.Goals as goal
 
 pub returns-clause-ok : goal.returns-clause-ok
 returns-clause-ok c =

@@ -6,7 +6,7 @@ use Rattle.subsetter.specs.declared.name.NameRecord.{NameRecord}
 use Rattle.subsetter.specs.Name.Read.{name_record_of, name_parts}
 use Rattle.subsetter.specs.Name.View.{seen_parts}
 use Rattle.subsetter.proofs.NameLaws.Written.{record_values, parsed}
-use Rattle.subsetter.proofs.name.Table.parse.Goals as goal
+use Rattle.subsetter.proofs.name.NameTable.parse.Goals as goal
 
 pub returns : goal.returns
 returns c =
