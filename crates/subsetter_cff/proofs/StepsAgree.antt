@@ -1,0 +1,125 @@
+-- The steps of a subset in memory are those of the plain way.
+use Rattle.std.proofs.Common.{◌≡◌, ℕ, zero, suc, ◌<◌, ◌≤◌, List, [], ◌∷◌, ◌++◌, map, length, refl, ap, arith, ◌∙◌, sym}
+use Rattle.std.specs.Prelude.{slice_index, Result, Ok, Err, IfOk}
+use Rattle.std.specs.List.{AllByRecursion, concat}
+use Rattle.subsetter_base.specs.Bytes.{◌>>=◌}
+use Rattle.subsetter_base.specs.Gives.{Fails, Gives}
+use Rattle.subsetter_base.specs.declared.error.Error.{Error}
+use Rattle.subsetter_base.specs.declared.error.Error.TheVariants.{OverflowError}
+use Rattle.subsetter_cffdata.specs.Index.{offsets}
+use Rattle.subsetter_cff.specs.declared.kept_glyphs.KeptGlyphs.{KeptGlyphs}
+use Rattle.subsetter_cff.specs.declared.new_table.NewTable.{NewTable}
+use Rattle.subsetter_cff.specs.declared.writing.NewCffTable.{NewCffTable}
+use Rattle.subsetter_cff.specs.Cff.{Cff}
+use Rattle.subsetter_cff.specs.KeptView.{numbers_of, texts_of, AreKept, AreAllKept}
+use Rattle.subsetter_cff.specs.Layout.{Parts, strings, cff_table}
+use Rattle.subsetter_cff.specs.NewParts.{parts_by}
+use Rattle.subsetter_cff.specs.NewTable.{parts_view, HasCharStrings}
+use Rattle.subsetter_cff.specs.Opened.{opened}
+use Rattle.subsetter_cff.specs.Plain.{KeptGlyph, kept_glyphs, parts_for, limited, parts_of, cff_subset}
+use Rattle.subsetter_cff.specs.TableBy.{table_by, table_bytes}
+use Rattle.subsetter_cff.specs.TableLimits.{table_limits}
+use Rattle.subsetter_cff.proofs.Failing.{fails_on}
+use Rattle.subsetter_cff.proofs.LimitsKept.{limits_are, too_many}
+use Rattle.subsetter_cff.proofs.NewParts.{parts_for_is, parts_filled}
+use Rattle.subsetter_cff.proofs.TablesWritten.{table_is_laid_out}
+
+-- ---- numbers are bytes
+all_small : (kept : List KeptGlyph) → ((i : ℕ) → slice_index (numbers_of kept) i < 256) → AllByRecursion (λ (k : KeptGlyph). k.number < 256) kept
+all_small [] h = tt
+all_small (k ∷ kept) h = (h 0, all_small kept (λ i. h (suc i)))
+
+-- ---- what goes on from the parts
+abbrev from_parts : Parts → Result (List ℕ) Error
+from_parts p = limited p >>= λ q. Ok (cff_table q)
+
+abbrev with_texts : List (List ℕ) → Parts → Parts
+with_texts texts p = record p { char_strings = texts }
+
+grouped : {A B C : Type 0} (r : Result A Error) (f : A → Result B Error) (g : B → Result C Error) → ((r >>= f) >>= g) ≡ (r >>= λ x. f x >>= g)
+grouped (Ok x) f g = refl
+grouped (Err e) f g = refl
+
+-- charstrings that stand one behind the other
+pub record HasTexts (texts : List (List ℕ)) (k : KeptGlyphs) : Type 0 where
+  pub text : k.char_strings.items ≡ concat texts
+  pub ends : k.ends.items ≡ offsets 1 texts
+
+-- where a source was opened and its glyphs are kept
+pub record Steps (bytes : List ℕ) (tokens depth : ℕ) (glyphs : List ℕ) (numbers : List ℕ) (k : KeptGlyphs) (cff : Cff) : Type 0 where
+  pub texts : List (List ℕ)
+  pub shown : HasTexts texts k
+  pub whole : cff_subset bytes tokens depth glyphs ≡ (parts_by cff numbers [] >>= λ p. from_parts (with_texts texts p))
+
+after_opening : (bytes : List ℕ) (cff : Cff) (tokens depth : ℕ) (glyphs : List ℕ) → opened bytes ≡ Ok cff → cff_subset bytes tokens depth glyphs ≡ (parts_of cff tokens depth glyphs >>= λ p. Ok (cff_table p))
+unfolding cff_subset
+after_opening bytes cff tokens depth glyphs e = rw e refl
+
+after_keeping : (cff : Cff) (tokens depth : ℕ) (glyphs : List ℕ) (kept : List KeptGlyph) → kept_glyphs cff tokens depth glyphs ≡ Ok kept → parts_of cff tokens depth glyphs ≡ (parts_for cff kept >>= limited)
+unfolding parts_of
+after_keeping cff tokens depth glyphs kept e = rw e refl
+
+pub steps_are : (bytes : List ℕ) (cff : Cff) (tokens depth : ℕ) (glyphs : List ℕ) (k : KeptGlyphs) → opened bytes ≡ Ok cff → AreAllKept cff tokens depth glyphs k → ((i : ℕ) → slice_index k.numbers.items i < 256)
+    → Steps bytes tokens depth glyphs k.numbers.items k cff
+steps_are bytes cff tokens depth glyphs k e all small =
+    let texts = texts_of all.kept in
+    let numbers = all.shown.numbers in
+    let bytes_small : (i : ℕ) → slice_index (numbers_of all.kept) i < 256 = λ i. (let same : slice_index k.numbers.items i ≡ slice_index (numbers_of all.kept) i = ap (λ (l : List ℕ). slice_index l i) numbers in omega (arith, same, small i)) in
+    record {
+      texts = texts;
+      shown = record { text = all.shown.char_strings; ends = all.shown.ends };
+      whole =
+          after_opening bytes cff tokens depth glyphs e
+          ∙ ap (λ (r : Result Parts Error). r >>= λ p. Ok (cff_table p)) (after_keeping cff tokens depth glyphs all.kept all.are
+            ∙ ap (λ (r : Result Parts Error). r >>= limited) (parts_for_is cff all.kept (all_small all.kept bytes_small) ∙ ap (λ (l : List ℕ). parts_by cff l texts) (sym numbers) ∙ parts_filled cff k.numbers.items texts))
+          ∙ ap (λ (r : Result Parts Error). r >>= λ p. Ok (cff_table p)) (grouped (parts_by cff k.numbers.items []) (λ p. Ok (with_texts texts p)) limited)
+          ∙ grouped (parts_by cff k.numbers.items []) (λ p. limited (with_texts texts p)) (λ p. Ok (cff_table p));
+    }
+
+-- ---- each exit
+pub opening_fails : (bytes : List ℕ) (tokens depth : ℕ) (glyphs : List ℕ) (e : Error) → Fails e (opened bytes) → Fails e (cff_subset bytes tokens depth glyphs)
+unfolding cff_subset
+opening_fails bytes tokens depth glyphs e h = fails_on (opened bytes) (λ cff. parts_of cff tokens depth glyphs >>= λ p. Ok (cff_table p)) _ e refl h
+
+keeping_refused : (cff : Cff) (tokens depth : ℕ) (glyphs : List ℕ) (e : Error) → Fails e (kept_glyphs cff tokens depth glyphs) → Fails e (parts_of cff tokens depth glyphs)
+unfolding parts_of
+keeping_refused cff tokens depth glyphs e h = fails_on (kept_glyphs cff tokens depth glyphs) (λ kept. parts_for cff kept >>= limited) _ e refl h
+
+pub keeping_fails : (bytes : List ℕ) (cff : Cff) (tokens depth : ℕ) (glyphs : List ℕ) (e : Error) → opened bytes ≡ Ok cff → Fails e (kept_glyphs cff tokens depth glyphs) → Fails e (cff_subset bytes tokens depth glyphs)
+keeping_fails bytes cff tokens depth glyphs e o h =
+    fails_on (parts_of cff tokens depth glyphs) (λ p. Ok (cff_table p)) _ e (sym (after_opening bytes cff tokens depth glyphs o)) (keeping_refused cff tokens depth glyphs e h)
+
+pub parts_fail : (bytes : List ℕ) (cff : Cff) (tokens depth : ℕ) (glyphs numbers : List ℕ) (k : KeptGlyphs) (e : Error) → Steps bytes tokens depth glyphs numbers k cff → Fails e (parts_by cff numbers [])
+    → Fails e (cff_subset bytes tokens depth glyphs)
+parts_fail bytes cff tokens depth glyphs numbers k e s h = fails_on (parts_by cff numbers []) (λ p. from_parts (with_texts s.texts p)) (cff_subset bytes tokens depth glyphs) e (sym s.whole) h
+
+-- of a new table
+pub record Made (whole : Result (List ℕ) Error) (t : NewTable) : Type 0 where
+  pub texts : List (List ℕ)
+  pub has : HasCharStrings t texts
+  pub whole_is : whole ≡ from_parts (parts_view t texts)
+
+pub made_is : (bytes : List ℕ) (cff : Cff) (tokens depth : ℕ) (glyphs numbers : List ℕ) (k : KeptGlyphs) (t : NewTable) → Steps bytes tokens depth glyphs numbers k cff → parts_by cff numbers [] ≡ Ok (parts_view t [])
+    → t.char_strings ≡ k.char_strings → t.ends ≡ k.ends → Made (cff_subset bytes tokens depth glyphs) t
+made_is bytes cff tokens depth glyphs numbers k t s e a b = record {
+  texts = s.texts;
+  has = record { text = ap (λ v. v.items) a ∙ s.shown.text; ends = ap (λ v. v.items) b ∙ s.shown.ends };
+  whole_is = s.whole ∙ ap (λ (r : Result Parts Error). r >>= λ p. from_parts (with_texts s.texts p)) e;
+}
+
+pub too_many_dicts : (whole : Result (List ℕ) Error) (t : NewTable) → Made whole t → 255 < length t.font_dicts.items → whole ≡ Err OverflowError
+too_many_dicts whole t m lt = m.whole_is ∙ ap (λ (r : Result Parts Error). r >>= λ q. Ok (cff_table q)) (too_many t m.texts lt)
+
+checked_first : (whole : Result (List ℕ) Error) (t : NewTable) (m : Made whole t) → length t.font_dicts.items < 256
+    → (table_limits (strings (parts_view t [])) t (length t.ends.items) >>= λ kept. Ok (cff_table (parts_view t m.texts))) ≡ whole
+checked_first whole t m few =
+    sym (m.whole_is ∙ ap (λ (r : Result Parts Error). r >>= λ q. Ok (cff_table q)) (limits_are t m.texts m.has few)
+    ∙ grouped (table_limits (strings (parts_view t [])) t (length t.ends.items)) (λ kept. Ok (parts_view t m.texts)) (λ q. Ok (cff_table q)))
+
+pub written_is : (whole : Result (List ℕ) Error) (t : NewTable) (r : Result NewCffTable Error) → Made whole t → length t.font_dicts.items < 256 → IfOk r (λ x. table_bytes x ≡ table_by t)
+    → Gives (λ (x : NewCffTable). tt) r (table_limits (strings (parts_view t [])) t (length t.ends.items)) → Gives table_bytes r whole
+written_is whole t (Ok x) m few is checked =
+    sym (checked_first whole t m few) ∙ ap (λ (q : Result (Unit {0}) Error). q >>= λ kept. Ok (cff_table (parts_view t m.texts))) checked
+    ∙ ap (λ (l : List ℕ). Ok l) (sym (table_is_laid_out t m.texts m.has) ∙ sym is)
+written_is whole t (Err e) m few is checked =
+    fails_on (table_limits (strings (parts_view t [])) t (length t.ends.items)) (λ kept. Ok (cff_table (parts_view t m.texts))) whole e (checked_first whole t m few) checked
