@@ -10,7 +10,6 @@ use Rattle.subsetter_base.specs.Gives.{Fails}
 use Rattle.subsetter_base.specs.Places.{place}
 use Rattle.subsetter_base.specs.declared.error.Error.{Error}
 use Rattle.subsetter_base.specs.declared.error.Error.TheVariants.{MalformedFont, SubsetError}
-
 use Rattle.subsetter_cffdata.specs.Dict.{Entry, entries}
 use Rattle.subsetter_cffdata.specs.Numbers.{Number}
 use Rattle.subsetter_cffdata.specs.Operands.{just}

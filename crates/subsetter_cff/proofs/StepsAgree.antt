@@ -71,7 +71,7 @@ steps_are bytes cff tokens depth glyphs k e all small =
       whole =
           after_opening bytes cff tokens depth glyphs e
           ∙ ap (λ (r : Result Parts Error). r >>= λ p. Ok (cff_table p)) (after_keeping cff tokens depth glyphs all.kept all.are
-            ∙ ap (λ (r : Result Parts Error). r >>= limited) (parts_for_is cff all.kept (all_small all.kept bytes_small) ∙ ap (λ (l : List ℕ). parts_by cff l texts) (sym numbers) ∙ parts_filled cff k.numbers.items texts))
+          ∙ ap (λ (r : Result Parts Error). r >>= limited) (parts_for_is cff all.kept (all_small all.kept bytes_small) ∙ ap (λ (l : List ℕ). parts_by cff l texts) (sym numbers) ∙ parts_filled cff k.numbers.items texts))
           ∙ ap (λ (r : Result Parts Error). r >>= λ p. Ok (cff_table p)) (grouped (parts_by cff k.numbers.items []) (λ p. Ok (with_texts texts p)) limited)
           ∙ grouped (parts_by cff k.numbers.items []) (λ p. limited (with_texts texts p)) (λ p. Ok (cff_table p));
     }

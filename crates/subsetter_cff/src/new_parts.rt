@@ -35,8 +35,7 @@ fn new_dict_of<'a>(
     ensures { Gives font_dict_view result (made_dict (shown top) (stored_dict (items strings.now) font_dict.now)) }
 {
     let name = name_string(strings, font_dict.entries.font_name)?;
-    let matrix =
-        new_matrix(top, font_dict.entries.font_matrix).ok_or(Error::OverflowError)?;
+    let matrix = new_matrix(top, font_dict.entries.font_matrix).ok_or(Error::OverflowError)?;
     Ok(NewFontDict {
         matrix,
         private: font_dict.private.dict,

@@ -39,10 +39,22 @@ fn faults_of_the_table_come_first(rt: HostRuntime) {
     refuses(&rt, alloc, hex(alloc, &["02000404"]), &[], Error::CFFError);
     refuses(&rt, alloc, hex(alloc, &["0100"]), &[], Error::MalformedFont);
     // The charstring is the unknown operator 0. An earlier entry for the charstrings with two operands comes before it.
-    let earlier = [START, "0001 01 0106 8B8B11 A311", EMPTY, EMPTY, "0001 01 0102 00"];
+    let earlier = [
+        START,
+        "0001 01 0106 8B8B11 A311",
+        EMPTY,
+        EMPTY,
+        "0001 01 0102 00",
+    ];
     refuses(&rt, alloc, hex(alloc, &earlier), &[], Error::MalformedFont);
     // It comes before a notice that is not there, and that before a written real of 65 characters.
-    let notice = [START, "0001 01 0106 F81B01 A311", EMPTY, EMPTY, "0001 01 0102 00"];
+    let notice = [
+        START,
+        "0001 01 0106 F81B01 A311",
+        EMPTY,
+        EMPTY,
+        "0001 01 0102 00",
+    ];
     refuses(&rt, alloc, hex(alloc, &notice), &[], Error::CFFError);
     // The charstrings stand at 27, the private dict of 35 bytes at 33; its real is a point and 63 digits.
     let real = [
@@ -60,11 +72,29 @@ fn faults_of_the_table_come_first(rt: HostRuntime) {
 fn faults_of_glyphs_come_in_their_order(rt: HostRuntime) {
     let alloc = rt.alloc();
     // Glyph 0 is endchar; 1 can't be read, since its offsets 3 and 1 descend; 2 begins with the unknown operator 0.
-    let glyphs = [START, "0001 01 0103 A011", EMPTY, EMPTY, "0003 01 02030103 000E"];
+    let glyphs = [
+        START,
+        "0001 01 0103 A011",
+        EMPTY,
+        EMPTY,
+        "0003 01 02030103 000E",
+    ];
     becomes(&rt, alloc, hex(alloc, &glyphs), &[], &LEAST);
-    refuses(&rt, alloc, hex(alloc, &glyphs), &[1, 2], Error::MalformedFont);
+    refuses(
+        &rt,
+        alloc,
+        hex(alloc, &glyphs),
+        &[1, 2],
+        Error::MalformedFont,
+    );
     refuses(&rt, alloc, hex(alloc, &glyphs), &[2, 1], Error::CFFError);
     // There is no glyph 3.
-    refuses(&rt, alloc, hex(alloc, &glyphs), &[3, 2], Error::MalformedFont);
+    refuses(
+        &rt,
+        alloc,
+        hex(alloc, &glyphs),
+        &[3, 2],
+        Error::MalformedFont,
+    );
     refuses(&rt, alloc, hex(alloc, &glyphs), &[2, 3], Error::CFFError);
 }

@@ -92,19 +92,43 @@ fn charstrings_lose_their_calls(rt: HostRuntime) {
     let alloc = rt.alloc();
     let limits = Limits::default();
     // A global subroutine: 10 hmoveto, return.
-    let moves = Subroutines { global: &[&[149, 22, 11]], local: &[] };
+    let moves = Subroutines {
+        global: &[&[149, 22, 11]],
+        local: &[],
+    };
     gives(&rt, alloc, limits, &moves, &[32, 29, 14], &[149, 22, 14]);
     // Three stems want a mask of one byte; a second mask has cleared the stack, so that the call has no operand.
     let masks = [140, 141, 1, 142, 143, 19, 192, 14];
     gives(&rt, alloc, limits, &local(&[]), &masks, &masks);
     let masked = [140, 141, 1, 142, 143, 19, 192, 32, 19, 128, 10];
-    fails(&rt, alloc, limits, &local(&[&[14]]), &masked, Error::CFFError);
+    fails(
+        &rt,
+        alloc,
+        limits,
+        &local(&[&[14]]),
+        &masked,
+        Error::CFFError,
+    );
     // A fixed number without a fraction calls; one with a fraction does not.
     let ends = local(&[&[14]]);
     gives(&rt, alloc, limits, &ends, &[255, 255, 149, 0, 0, 10], &[14]);
-    fails(&rt, alloc, limits, &ends, &[255, 255, 149, 0, 1, 10], Error::CFFError);
+    fails(
+        &rt,
+        alloc,
+        limits,
+        &ends,
+        &[255, 255, 149, 0, 1, 10],
+        Error::CFFError,
+    );
     // Four operands of endchar are an accented character.
-    fails(&rt, alloc, limits, &ends, &[139, 139, 140, 141, 14], Error::Unimplemented);
+    fails(
+        &rt,
+        alloc,
+        limits,
+        &ends,
+        &[139, 139, 140, 141, 14],
+        Error::Unimplemented,
+    );
 }
 
 #[test]
@@ -155,13 +179,41 @@ fn calls_are_limited(rt: HostRuntime) -> Result<(), Fail> {
     let limits = Limits::default();
     // The charstring has depth 1, so that the last of 63 subroutines has depth 64.
     let deep = chain(alloc, 63)?;
-    gives(&rt, alloc, limits, &local(&slices(alloc, &deep)?), &[32, 10], &[14]);
+    gives(
+        &rt,
+        alloc,
+        limits,
+        &local(&slices(alloc, &deep)?),
+        &[32, 10],
+        &[14],
+    );
     let too_deep = chain(alloc, 64)?;
-    fails(&rt, alloc, limits, &local(&slices(alloc, &too_deep)?), &[32, 10], Error::CFFError);
+    fails(
+        &rt,
+        alloc,
+        limits,
+        &local(&slices(alloc, &too_deep)?),
+        &[32, 10],
+        Error::CFFError,
+    );
     // 786,430 tokens; 1,572,862 tokens.
     let long = doubling(alloc, 17)?;
-    gives(&rt, alloc, limits, &local(&slices(alloc, &long)?), &[32, 10, 14], &[14]);
+    gives(
+        &rt,
+        alloc,
+        limits,
+        &local(&slices(alloc, &long)?),
+        &[32, 10, 14],
+        &[14],
+    );
     let too_long = doubling(alloc, 18)?;
-    fails(&rt, alloc, limits, &local(&slices(alloc, &too_long)?), &[32, 10, 14], Error::CFFError);
+    fails(
+        &rt,
+        alloc,
+        limits,
+        &local(&slices(alloc, &too_long)?),
+        &[32, 10, 14],
+        Error::CFFError,
+    );
     Ok(())
 }

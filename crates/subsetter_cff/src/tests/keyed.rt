@@ -6,7 +6,8 @@ use std::test::*;
 use subsetter_base::error::Error;
 
 /// FDArray of eight font dicts of 3 bytes: the name of each is the standard string of its own number.
-const EIGHT: &str = "0008 01 0104070A0D10131619 8B0C26 8C0C26 8D0C26 8E0C26 8F0C26 900C26 910C26 920C26";
+const EIGHT: &str =
+    "0008 01 0104070A0D10131619 8B0C26 8C0C26 8D0C26 8E0C26 8F0C26 900C26 910C26 920C26";
 
 /// Nine glyphs: 2 moves by 2, 6 moves by 6, the others are endchar.
 const NINE: &str = "0009 01 01020306070809 0C0D0E 0E 0E 8D160E 0E 0E 0E 91160E 0E 0E";
@@ -65,7 +66,14 @@ fn glyphs_and_their_font_dicts(rt: HostRuntime) {
         font_dicts: EIGHT,
         char_strings: NINE,
     };
-    holds(&rt, alloc, source.table(alloc), &[5, 6], 10, &["0001 01 013E", ROS, "EF01"]);
+    holds(
+        &rt,
+        alloc,
+        source.table(alloc),
+        &[5, 6],
+        10,
+        &["0001 01 013E", ROS, "EF01"],
+    );
     // The front has 10 + 66 + 19 + 2 bytes; then the charset of three glyphs, FDSelect, and FDArray of two.
     let behind = ["02 0001 0001 00 00 01 00 0002 01 01172D", UNIT];
     holds(&rt, alloc, source.table(alloc), &[5, 6], 97, &behind);
@@ -76,15 +84,31 @@ fn glyphs_and_their_font_dicts(rt: HostRuntime) {
     };
     refuses(&rt, alloc, ten.table(alloc), &[9], Error::MalformedFont);
     // Glyph 8 may have the font dict 8, which isn't there; so it is where font dict 1 can't be read, and 2 is wanted.
-    let missing = Keyed { select: "03 0002 0000 03 0008 08 0009", ..source };
+    let missing = Keyed {
+        select: "03 0002 0000 03 0008 08 0009",
+        ..source
+    };
     refuses(&rt, alloc, missing.table(alloc), &[8], Error::MalformedFont);
     let behind_unreadable = Keyed {
         select: "03 0002 0000 00 0008 02 0009",
         font_dicts: "0003 01 02020102 8B",
         ..source
     };
-    holds(&rt, alloc, behind_unreadable.table(alloc), &[5], 97, &["02 0001 0000 00 00 00 0001"]);
-    refuses(&rt, alloc, behind_unreadable.table(alloc), &[8], Error::MalformedFont);
+    holds(
+        &rt,
+        alloc,
+        behind_unreadable.table(alloc),
+        &[5],
+        97,
+        &["02 0001 0000 00 00 00 0001"],
+    );
+    refuses(
+        &rt,
+        alloc,
+        behind_unreadable.table(alloc),
+        &[8],
+        Error::MalformedFont,
+    );
 }
 
 #[test]
@@ -101,15 +125,34 @@ fn font_dicts_that_are_malformed(rt: HostRuntime) {
     };
     refuses(&rt, alloc, outside.table(alloc), &[], Error::MalformedFont);
     // Its private dict stands at 44, and leads to subroutines at 44 + 100.
-    let subroutines = Keyed { font_dicts: "0002 01 010104 8DB712", ..outside };
-    refuses(&rt, alloc, subroutines.table(alloc), &[], Error::MalformedFont);
+    let subroutines = Keyed {
+        font_dicts: "0002 01 010104 8DB712",
+        ..outside
+    };
+    refuses(
+        &rt,
+        alloc,
+        subroutines.table(alloc),
+        &[],
+        Error::MalformedFont,
+    );
     // An earlier entry leaves the table; the last one does not.
-    let earlier = Keyed { font_dicts: "0002 01 010108 8DFAFF12 8BB712", ..outside };
+    let earlier = Keyed {
+        font_dicts: "0002 01 010108 8DFAFF12 8BB712",
+        ..outside
+    };
     refuses(&rt, alloc, earlier.table(alloc), &[], Error::MalformedFont);
     // Five numbers as a matrix. A format of FDSelect that isn't known.
-    let matrix = Keyed { font_dicts: "0002 01 010108 8B8B8B8B8B0C07", ..outside };
+    let matrix = Keyed {
+        font_dicts: "0002 01 010108 8B8B8B8B8B0C07",
+        ..outside
+    };
     refuses(&rt, alloc, matrix.table(alloc), &[], Error::MalformedFont);
-    let format = Keyed { select: "01 00", font_dicts: "0001 01 0101", ..outside };
+    let format = Keyed {
+        select: "01 00",
+        font_dicts: "0001 01 0101",
+        ..outside
+    };
     refuses(&rt, alloc, format.table(alloc), &[], Error::MalformedFont);
     // ROS without FDArray and FDSelect. The charstrings stand at 23.
     let bare = [START, "0001 01 0105 0C1EA211", EMPTY, EMPTY, ENDS];
@@ -161,14 +204,24 @@ fn names_of_font_dicts(rt: HostRuntime) {
         font_dicts: "0002 01 010509 F81B0C26 F8240C26",
         char_strings: ENDS,
     };
-    holds(&rt, alloc, source.table(alloc), &[], 10, &["0001 01 013F", ROS, "F81D01"]);
+    holds(
+        &rt,
+        alloc,
+        source.table(alloc),
+        &[],
+        10,
+        &["0001 01 013F", ROS, "F81D01"],
+    );
     // Adobe, Identity, n, d, from 77 on; at 102 the charset, FDSelect, and FDArray, whose font dict has the name 394.
     let behind = [
         "0004 01 01060E0F10 41646F6265 4964656E74697479 6E 64 0000 00 00 00",
         "0001 01 0118 8C8B8B8C8B8B0C07 1D00000000 1D00000067 12 F81E0C26",
     ];
     holds(&rt, alloc, source.table(alloc), &[], 77, &behind);
-    let missing = Keyed { select: "00 01", ..source };
+    let missing = Keyed {
+        select: "00 01",
+        ..source
+    };
     refuses(&rt, alloc, missing.table(alloc), &[], Error::SubsetError);
 }
 
@@ -186,7 +239,14 @@ fn local_subroutines_of_font_dicts(rt: HostRuntime) {
         char_strings: "0002 01 010305 200A 200A",
     };
     // FDSelect stands at 100, FDArray at 103; behind it, at 147, the charstrings.
-    holds(&rt, alloc, source.table(alloc), &[1], 147, &["0002 01 010205 0E 8C160E"]);
+    holds(
+        &rt,
+        alloc,
+        source.table(alloc),
+        &[1],
+        147,
+        &["0002 01 010205 0E 8C160E"],
+    );
 }
 
 /// The numbers from 0 to 255.
@@ -198,8 +258,8 @@ fn bytes_in_order(alloc: Global) -> Result<Vec<u8>, Error> {
     Ok(bytes)
 }
 
-/// 256 glyphs and as many empty font dicts, one each, with these further entries of the top dict.
-fn table_of_256(alloc: Global, top: &[u8]) -> Result<Vec<u8>, Error> {
+/// 256 glyphs and as many empty font dicts, one each.
+fn table_of_256(alloc: Global) -> Result<Vec<u8>, Error> {
     let mut select = hex(alloc, &["00"])?;
     let numbers = bytes_in_order(alloc)?;
     select.extend_from_slice(&numbers)?;
@@ -208,7 +268,7 @@ fn table_of_256(alloc: Global, top: &[u8]) -> Result<Vec<u8>, Error> {
     let font_dict_index = index(alloc, &font_dicts)?;
     let char_string_index = index(alloc, &char_strings)?;
     let parts = KeyedBytes {
-        top,
+        top: &[],
         strings: &[0, 0],
         privates: &[],
         select: &select,
@@ -233,13 +293,23 @@ fn at_most_255_font_dicts(rt: HostRuntime) -> Result<(), Fail> {
     let some = glyphs_to(alloc, 254)?;
     let all = glyphs_to(alloc, 255)?;
     // The charset of 255 glyphs stands at 95, FDSelect at 100.
-    holds(&rt, alloc, table_of_256(alloc, &[]), &some, 95, &["02 0001 00FD 00 000102030405"]);
+    holds(
+        &rt,
+        alloc,
+        table_of_256(alloc),
+        &some,
+        95,
+        &["02 0001 00FD 00 000102030405"],
+    );
     // FDArray stands at 356.
-    holds(&rt, alloc, table_of_256(alloc, &[]), &some, 356, &["00FF 02 0001 0014 0027"]);
-    refuses(&rt, alloc, table_of_256(alloc, &[]), &all, Error::OverflowError);
-    // Notice is string 391, which isn't there: the count of font dicts comes first.
-    let notice = [248, 27, 1];
-    refuses(&rt, alloc, table_of_256(alloc, &notice), &some, Error::SubsetError);
-    refuses(&rt, alloc, table_of_256(alloc, &notice), &all, Error::OverflowError);
+    holds(
+        &rt,
+        alloc,
+        table_of_256(alloc),
+        &some,
+        356,
+        &["00FF 02 0001 0014 0027"],
+    );
+    refuses(&rt, alloc, table_of_256(alloc), &all, Error::OverflowError);
     Ok(())
 }

@@ -62,7 +62,10 @@ fn charset_of(alloc: Global, count: u16) -> Result<Vec<u8>, Error> {
 #[test]
 fn charsets(rt: HostRuntime) -> Result<(), Fail> {
     let four = charset_of(rt.alloc(), 4)?;
-    assert_eq!(rt; four.as_slice(), [2, 0, 1, 0, 2, 3, 0, 1, 0, 0, 0, 0, 4].as_slice());
+    assert_eq!(rt;
+        four.as_slice(),
+        [2, 0, 1, 0, 2, 3, 0, 1, 0, 0, 0, 0, 4].as_slice()
+    );
     let one = charset_of(rt.alloc(), 1)?;
     assert_eq!(rt; one.as_slice(), [0, 3, 0, 1, 0, 0, 0, 0, 1].as_slice());
     Ok(())

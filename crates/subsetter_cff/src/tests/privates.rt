@@ -15,7 +15,14 @@ const CALLS: &str = "0001 01 0103 200A";
 fn a_private_dict_without_its_subroutines(rt: HostRuntime) {
     let alloc = rt.alloc();
     // The private dict has 4 bytes at 31: an entry, and Subrs at 31 + 4.
-    let source = [START, "0001 01 0106 A311 8FAA12", AT_24, CALLS, "8B14 8F13", ENDS];
+    let source = [
+        START,
+        "0001 01 0106 A311 8FAA12",
+        AT_24,
+        CALLS,
+        "8B14 8F13",
+        ENDS,
+    ];
     let wanted = [
         NEW_START,
         "0001 01 013C",
@@ -36,7 +43,13 @@ fn a_private_dict_without_its_subroutines(rt: HostRuntime) {
     ];
     becomes(&rt, alloc, hex(alloc, &source), &[], &wanted);
     // With its last byte cut off the subroutines are unreadable, and so the private dict reads as empty.
-    refuses(&rt, alloc, cut(alloc, hex(alloc, &source), 40), &[], Error::CFFError);
+    refuses(
+        &rt,
+        alloc,
+        cut(alloc, hex(alloc, &source), 40),
+        &[],
+        Error::CFFError,
+    );
 }
 
 #[test]
@@ -56,7 +69,13 @@ fn private_dicts_that_lead_nowhere(rt: HostRuntime) {
 fn the_first_subroutine_entry_counts(rt: HostRuntime) {
     let alloc = rt.alloc();
     // Subrs with two operands, between two entries: it means none, and is left out. The private dict has 7 bytes at 30.
-    let wrong = [START, "0001 01 0106 A311 92A912", AT_24, ENDS, "8B14 8B8F13 8B15"];
+    let wrong = [
+        START,
+        "0001 01 0106 A311 92A912",
+        AT_24,
+        ENDS,
+        "8B14 8B8F13 8B15",
+    ];
     // The new one has 4 bytes at 96.
     let kept = [
         "8B14 8B15",
@@ -65,12 +84,33 @@ fn the_first_subroutine_entry_counts(rt: HostRuntime) {
     ];
     holds(&rt, alloc, hex(alloc, &wrong), &[], 96, &kept);
     // The same with a second entry that is right: the private dict has 5 bytes at 31, and the subroutines stand at 36.
-    let still = [START, "0001 01 0106 A311 90AA12", AT_24, CALLS, "8B9013 9013", ENDS];
+    let still = [
+        START,
+        "0001 01 0106 A311 90AA12",
+        AT_24,
+        CALLS,
+        "8B9013 9013",
+        ENDS,
+    ];
     refuses(&rt, alloc, hex(alloc, &still), &[], Error::CFFError);
     // Two entries with one operand: the first leads to 31 + 4, the second outside. Both are left out.
-    let first = [START, "0001 01 0106 A311 8FAA12", AT_24, CALLS, "8F13 EF13", ENDS];
+    let first = [
+        START,
+        "0001 01 0106 A311 8FAA12",
+        AT_24,
+        CALLS,
+        "8F13 EF13",
+        ENDS,
+    ];
     becomes(&rt, alloc, hex(alloc, &first), &[], &LEAST);
-    let second = [START, "0001 01 0106 A311 8FAA12", AT_24, CALLS, "EF13 8F13", ENDS];
+    let second = [
+        START,
+        "0001 01 0106 A311 8FAA12",
+        AT_24,
+        CALLS,
+        "EF13 8F13",
+        ENDS,
+    ];
     refuses(&rt, alloc, hex(alloc, &second), &[], Error::CFFError);
 }
 
@@ -81,16 +121,68 @@ const ONES: &str = "11111111111111 11111111111111 11111111111111 11111111111111 
 fn numbers_of_a_private_dict(rt: HostRuntime) {
     let alloc = rt.alloc();
     // Integers are written in their shortest form, and the real 1.0 as the real 1. The private dict has 8 bytes at 30.
-    let forms = [START, "0001 01 0106 A311 93A912", AT_24, ENDS, "1C0001 14 1E1A0F 15"];
-    holds(&rt, alloc, hex(alloc, &forms), &[], 96, &["8C14 1E1F15", FIRST_FONT_DICT]);
+    let forms = [
+        START,
+        "0001 01 0106 A311 93A912",
+        AT_24,
+        ENDS,
+        "1C0001 14 1E1A0F 15",
+    ];
+    holds(
+        &rt,
+        alloc,
+        hex(alloc, &forms),
+        &[],
+        96,
+        &["8C14 1E1F15", FIRST_FONT_DICT],
+    );
     // A real of 64 digits is written as it is: 35 bytes.
-    let longest = [START, "0001 01 0106 A311 AEA912", AT_24, ENDS, "1E", ONES, "11FF14"];
-    let kept = ["1E", ONES, "11FF14", FIRST_FONT_DICT, "0001 01 0114", UNIT, "1D00000023"];
+    let longest = [
+        START,
+        "0001 01 0106 A311 AEA912",
+        AT_24,
+        ENDS,
+        "1E",
+        ONES,
+        "11FF14",
+    ];
+    let kept = [
+        "1E",
+        ONES,
+        "11FF14",
+        FIRST_FONT_DICT,
+        "0001 01 0114",
+        UNIT,
+        "1D00000023",
+    ];
     holds(&rt, alloc, hex(alloc, &longest), &[], 96, &kept);
     // One of 65 digits is unreadable, so that the private dict, of 37 bytes, ends before it.
-    let unreadable = [START, "0001 01 0106 A311 B0A912", AT_24, ENDS, "8B14 1E", ONES, "111F15"];
-    holds(&rt, alloc, hex(alloc, &unreadable), &[], 96, &["8B14", FIRST_FONT_DICT]);
+    let unreadable = [
+        START,
+        "0001 01 0106 A311 B0A912",
+        AT_24,
+        ENDS,
+        "8B14 1E",
+        ONES,
+        "111F15",
+    ];
+    holds(
+        &rt,
+        alloc,
+        hex(alloc, &unreadable),
+        &[],
+        96,
+        &["8B14", FIRST_FONT_DICT],
+    );
     // A point and 63 digits want a zero in front, which makes 65 characters. The private dict has 35 bytes.
-    let too_long = [START, "0001 01 0106 A311 AEA912", AT_24, ENDS, "1EA1", ONES, "FF14"];
+    let too_long = [
+        START,
+        "0001 01 0106 A311 AEA912",
+        AT_24,
+        ENDS,
+        "1EA1",
+        ONES,
+        "FF14",
+    ];
     refuses(&rt, alloc, hex(alloc, &too_long), &[], Error::OverflowError);
 }

@@ -71,7 +71,14 @@ fn strings_that_are_not_there(rt: HostRuntime) {
     refuses(&rt, alloc, hex(alloc, &first), &[], Error::SubsetError);
     // A string that nothing names may be unreadable. Notice is 393 then.
     let second = [START, "0001 01 0106 F81C01 A811", strings, EMPTY, ENDS];
-    holds(&rt, alloc, hex(alloc, &second), &[], 10, &["0001 01 013F", ROS, "F81D01"]);
+    holds(
+        &rt,
+        alloc,
+        hex(alloc, &second),
+        &[],
+        10,
+        &["0001 01 013F", ROS, "F81D01"],
+    );
     // A string number is at most 65535: 65536 is a wrong operand. The charstrings stand at 27.
     let last = [START, "0001 01 0109 1D0000FFFF01 A611", EMPTY, EMPTY, ENDS];
     refuses(&rt, alloc, hex(alloc, &last), &[], Error::SubsetError);

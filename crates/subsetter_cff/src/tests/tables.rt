@@ -210,7 +210,11 @@ pub struct KeyedBytes<'a> {
 impl<'a> KeyedBytes<'a> {
     /// The top dict: ROS, the further entries, and the three places.
     fn put_top(&self, bytes: &mut Vec<u8>) -> Result<(), Error> {
-        let front = self.top.len().wrapping_add(self.strings.len()).wrapping_add(42);
+        let front = self
+            .top
+            .len()
+            .wrapping_add(self.strings.len())
+            .wrapping_add(42);
         let select = front.wrapping_add(self.privates.len());
         let font_dicts = select.wrapping_add(self.select.len());
         bytes.extend_from_slice(&[139, 139, 139, 12, 30])?;

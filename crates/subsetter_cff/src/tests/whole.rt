@@ -33,7 +33,13 @@ fn the_least_table(rt: HostRuntime) {
     let least = hex(alloc, &[START, "0001 01 0103 A011", EMPTY, EMPTY, ENDS]);
     becomes(&rt, alloc, least, &[], &LEAST);
     // A header of 6 bytes, with another minor version and another offSize: all behind it stands 2 bytes further.
-    let header = ["01090600 FFFF 000101010241", "0001 01 0103 A211", EMPTY, EMPTY, ENDS];
+    let header = [
+        "01090600 FFFF 000101010241",
+        "0001 01 0103 A211",
+        EMPTY,
+        EMPTY,
+        ENDS,
+    ];
     becomes(&rt, alloc, hex(alloc, &header), &[], &LEAST);
     // Two entries for the charstrings, of which the last one counts: they stand at 23, and not at 0.
     let twice = [START, "0001 01 0105 8B11 A211", EMPTY, EMPTY, ENDS];
@@ -45,7 +51,13 @@ fn a_table_cut_anywhere_is_malformed(rt: HostRuntime) {
     let alloc = rt.alloc();
     for length in 0..27usize {
         let least = hex(alloc, &[START, "0001 01 0103 A011", EMPTY, EMPTY, ENDS]);
-        refuses(&rt, alloc, cut(alloc, least, length), &[], Error::MalformedFont);
+        refuses(
+            &rt,
+            alloc,
+            cut(alloc, least, length),
+            &[],
+            Error::MalformedFont,
+        );
     }
 }
 
@@ -98,5 +110,12 @@ fn matrix_and_box_of_the_font(rt: HostRuntime) {
     ];
     holds(&rt, alloc, hex(alloc, &source), &[], 10, &top);
     // The font dict's matrix is 1 0 0 1 0 0; FDArray stands at 96 + 1 + 8.
-    holds(&rt, alloc, hex(alloc, &source), &[], 105, &["0001 01 0114", UNIT]);
+    holds(
+        &rt,
+        alloc,
+        hex(alloc, &source),
+        &[],
+        105,
+        &["0001 01 0114", UNIT],
+    );
 }
