@@ -1,6 +1,6 @@
 -- What a writer answers is a limit that is kept or not, unless memory ran out.
-use Rattle.std.proofs.Common.{◌≡◌, ℕ, ◌+◌, ◌<◌, ◌≤◌, ◌^◌, Bool, true, false, cond, ◌⊎◌, List, [], ◌∷◌, ◌++◌, map, length, refl, ap, arith, inl, inr, ◌∙◌, sym}
-use Rattle.std.specs.Prelude.{◌||◌, Option, None, Some, Result, Ok, Err, OnOk, IfErr}
+use Rattle.std.proofs.Common.{◌≡◌, ℕ, ◌+◌, ◌^◌, Bool, true, false, cond, ◌⊎◌, List, [], ◌∷◌, ◌++◌, map, length, refl, ap, inl, inr, ◌∙◌, sym}
+use Rattle.std.specs.Prelude.{◌||◌, Option, None, Some, Result, Ok, Err, IfErr}
 use Rattle.std.specs.List.{concat, list_any}
 use Rattle.std.proofs.lemmas.Bool.{cases_lt, lt-ltb, le-ltb}
 use Rattle.std.proofs.lemmas.Option.{none-some}
@@ -15,7 +15,7 @@ use Rattle.subsetter_cffdata.specs.Numbers.{Number, is_too_long}
 use Rattle.subsetter_cffdata.specs.Owned.{FitIndex}
 use Rattle.subsetter_cffdata.specs.Views.{number_of}
 use Rattle.subsetter_cff.specs.Plain.{any_long, entry_numbers}
-use Rattle.subsetter_cff.specs.Rewritten.{is_refused, behind, written_entries, rewritten_private}
+use Rattle.subsetter_cff.specs.Rewritten.{is_refused, behind, written_entries}
 use Rattle.subsetter_cff.specs.TableLimits.{limit, short, has_index}
 use Rattle.subsetter_cff.proofs.Rewriting.{refusal_is}
 

@@ -1,6 +1,6 @@
 -- What is checked while a new table is written is what its parts are limited by.
-use Rattle.std.proofs.Common.{◌≡◌, ℕ, ◌+◌, ◌<◌, ◌≤◌, ◌^◌, Bool, true, false, cond, ◌⊎◌, List, [], ◌∷◌, ◌++◌, map, length, refl, ap, arith, inl, inr, ◌∙◌, sym, subst, length-append}
-use Rattle.std.specs.Prelude.{◌&&◌, ◌||◌, nat_lt, Result, Ok, Err}
+use Rattle.std.proofs.Common.{◌≡◌, ℕ, ◌+◌, ◌<◌, ◌≤◌, ◌^◌, Bool, true, false, cond, ◌⊎◌, List, [], ◌∷◌, ◌++◌, map, length, refl, ap, arith, inl, inr, ◌∙◌, sym, length-append}
+use Rattle.std.specs.Prelude.{◌||◌, nat_lt, Result, Ok, Err}
 use Rattle.std.specs.List.{concat, flat_map}
 use Rattle.std.proofs.lemmas.Bool.{lt-ltb, le-ltb, ltb-true}
 use Rattle.std.proofs.lemmas.List.{length-map}
@@ -11,11 +11,11 @@ use Rattle.subsetter_cffdata.specs.Dict.{dict}
 use Rattle.subsetter_cffdata.specs.Index.{index}
 use Rattle.subsetter_cffdata.specs.Numbers.{Number, is_too_long}
 use Rattle.subsetter_cff.specs.declared.new_table.NewTable.{NewTable}
-use Rattle.subsetter_cff.specs.Layout.{FontDict, Parts, Places, TopDict, strings, front, nowhere, charset_bytes, select_bytes, privates, private_bytes, font_dicts_from, font_dicts_of, top_lines, top_lines_by, charset_place, char_strings_place}
+use Rattle.subsetter_cff.specs.Layout.{FontDict, Parts, Places, TopDict, strings, front, nowhere, charset_bytes, select_bytes, privates, private_bytes, font_dicts_from, font_dicts_of, top_lines, top_lines_by, char_strings_place}
 use Rattle.subsetter_cff.specs.NewTable.{font_dict_view, parts_view, top_by, front_by, select_of_table, HasCharStrings}
 use Rattle.subsetter_cff.specs.Opened.{check}
 use Rattle.subsetter_cff.specs.Plain.{any_long, entry_numbers, font_dict_numbers, written_numbers, limited}
-use Rattle.subsetter_cff.specs.TableBy.{front_size, new_dicts, places_by}
+use Rattle.subsetter_cff.specs.TableBy.{front_size, new_dicts}
 use Rattle.subsetter_cff.specs.TableLimits.{limit, short, is_offset, has_index, numbers_limits, top_limits, front_limits, dict_limits, dicts_limits, pieces_limits, places_limits, laid_limits, table_limits}
 use Rattle.subsetter_cff.proofs.FlatIndexes.{length-ends}
 use Rattle.subsetter_cff.proofs.Places.{length-front}

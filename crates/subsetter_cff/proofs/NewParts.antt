@@ -18,8 +18,7 @@ use Rattle.subsetter_cff.specs.declared.font_dict.FontDict.{FontDict as StoredDi
 use Rattle.subsetter_cff.specs.declared.source.CidParts.{CidParts}
 use Rattle.subsetter_cff.specs.declared.source.Source.{Source}
 use Rattle.subsetter_cff.specs.declared.new_table.NewTable.{NewTable}
-use Rattle.subsetter_cff.specs.Cff.{Cff, is_cid_keyed}
-use Rattle.subsetter_cff.specs.FontDicts.{font_dicts}
+use Rattle.subsetter_cff.specs.Cff.{Cff}
 use Rattle.subsetter_cff.specs.FontDictFaults.{IsFontDictIn}
 use Rattle.subsetter_cff.specs.FontDictList.{AreFontDicts}
 use Rattle.subsetter_cff.specs.KeptView.{numbers_of, texts_of}

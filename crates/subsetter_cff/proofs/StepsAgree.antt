@@ -1,5 +1,6 @@
 -- The steps of a subset in memory are those of the plain way.
-use Rattle.std.proofs.Common.{◌≡◌, ℕ, zero, suc, ◌<◌, ◌≤◌, List, [], ◌∷◌, ◌++◌, map, length, refl, ap, arith, ◌∙◌, sym}
+use Rattle.std.proofs.Common.{◌≡◌, ℕ, suc, ◌<◌, List, [], ◌∷◌, length, refl, ap, arith, ◌∙◌, sym, subst}
+use Rattle.std.proofs.lemmas.List.{length-map}
 use Rattle.std.specs.Prelude.{slice_index, Result, Ok, Err, IfOk}
 use Rattle.std.specs.List.{AllByRecursion, concat}
 use Rattle.subsetter_base.specs.Bytes.{◌>>=◌}
@@ -11,7 +12,7 @@ use Rattle.subsetter_cff.specs.declared.kept_glyphs.KeptGlyphs.{KeptGlyphs}
 use Rattle.subsetter_cff.specs.declared.new_table.NewTable.{NewTable}
 use Rattle.subsetter_cff.specs.declared.writing.NewCffTable.{NewCffTable}
 use Rattle.subsetter_cff.specs.Cff.{Cff}
-use Rattle.subsetter_cff.specs.KeptView.{numbers_of, texts_of, AreKept, AreAllKept}
+use Rattle.subsetter_cff.specs.KeptView.{numbers_of, texts_of, AreAllKept}
 use Rattle.subsetter_cff.specs.Layout.{Parts, strings, cff_table}
 use Rattle.subsetter_cff.specs.NewParts.{parts_by}
 use Rattle.subsetter_cff.specs.NewTable.{parts_view, HasCharStrings}
@@ -20,6 +21,8 @@ use Rattle.subsetter_cff.specs.Plain.{KeptGlyph, kept_glyphs, parts_for, limited
 use Rattle.subsetter_cff.specs.TableBy.{table_by, table_bytes}
 use Rattle.subsetter_cff.specs.TableLimits.{table_limits}
 use Rattle.subsetter_cff.proofs.Failing.{fails_on}
+use Rattle.subsetter_cff.proofs.FlatIndexes.{length-ends}
+use Rattle.subsetter_cff.proofs.MadeOf.{length-kept}
 use Rattle.subsetter_cff.proofs.LimitsKept.{limits_are, too_many}
 use Rattle.subsetter_cff.proofs.NewParts.{parts_for_is, parts_filled}
 use Rattle.subsetter_cff.proofs.TablesWritten.{table_is_laid_out}
@@ -116,10 +119,20 @@ checked_first whole t m few =
     sym (m.whole_is ∙ ap (λ (r : Result Parts Error). r >>= λ q. Ok (cff_table q)) (limits_are t m.texts m.has few)
     ∙ grouped (table_limits (strings (parts_view t [])) t (length t.ends.items)) (λ kept. Ok (parts_view t m.texts)) (λ q. Ok (cff_table q)))
 
-pub written_is : (whole : Result (List ℕ) Error) (t : NewTable) (r : Result NewCffTable Error) → Made whole t → length t.font_dicts.items < 256 → IfOk r (λ x. table_bytes x ≡ table_by t)
+written_with : (whole : Result (List ℕ) Error) (t : NewTable) (r : Result NewCffTable Error) → Made whole t → length t.font_dicts.items < 256 → IfOk r (λ x. table_bytes x ≡ table_by t)
     → Gives (λ (x : NewCffTable). tt) r (table_limits (strings (parts_view t [])) t (length t.ends.items)) → Gives table_bytes r whole
-written_is whole t (Ok x) m few is checked =
+written_with whole t (Ok x) m few is checked =
     sym (checked_first whole t m few) ∙ ap (λ (q : Result (Unit {0}) Error). q >>= λ kept. Ok (cff_table (parts_view t m.texts))) checked
     ∙ ap (λ (l : List ℕ). Ok l) (sym (table_is_laid_out t m.texts m.has) ∙ sym is)
-written_is whole t (Err e) m few is checked =
+written_with whole t (Err e) m few is checked =
     fails_on (table_limits (strings (parts_view t [])) t (length t.ends.items)) (λ kept. Ok (cff_table (parts_view t m.texts))) whole e (checked_first whole t m few) checked
+
+pub written_is : (whole : Result (List ℕ) Error) (t : NewTable) (r : Result NewCffTable Error) (glyphs : ℕ) → Made whole t → length t.font_dicts.items < 256 → glyphs ≡ length t.ends.items → IfOk r (λ x. table_bytes x ≡ table_by t)
+    → Gives (λ (x : NewCffTable). tt) r (table_limits (strings (parts_view t [])) t glyphs) → Gives table_bytes r whole
+written_is whole t r glyphs m few count is checked =
+    written_with whole t r m few is (subst (λ (n : ℕ). Gives (λ (x : NewCffTable). tt) r (table_limits (strings (parts_view t [])) t n)) count checked)
+
+-- as many ends as glyphs
+pub count_is : (cff : Cff) (tokens depth : ℕ) (glyphs : List ℕ) (k : KeptGlyphs) (t : NewTable) → AreAllKept cff tokens depth glyphs k → t.ends ≡ k.ends → length t.ends.items ≡ length glyphs
+count_is cff tokens depth glyphs k t all e =
+    ap (λ v. length v.items) e ∙ ap length all.shown.ends ∙ length-ends 1 (texts_of all.kept) ∙ length-map all.kept (λ (g : KeptGlyph). g.bytes) ∙ length-kept cff tokens depth glyphs all.kept all.are
