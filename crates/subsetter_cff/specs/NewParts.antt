@@ -1,5 +1,5 @@
 -- The parts of a new table, by the numbers of the kept glyphs' font dicts in the source.
-use Rattle.std.specs.Prelude.{ℕ, if◌then◌else◌, List, [], ◌++◌, map, unwrap_or, Option, None, Result, Ok}
+use Rattle.std.specs.Prelude.{ℕ, if◌then◌else◌, List, ◌++◌, map, unwrap_or, Option, None, Result, Ok}
 use Rattle.std.specs.Option.{option_map, ok_or}
 use Rattle.subsetter_base.specs.Bytes.{◌>>=◌}
 use Rattle.subsetter_base.specs.declared.error.Error.{Error}

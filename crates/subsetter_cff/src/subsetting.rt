@@ -31,5 +31,5 @@ pub fn subset(
     if new.font_dicts.len() > 255 {
         return Err(Error::OverflowError);
     }
-    write_table(alloc, new)
+    write_table(alloc, new, mapper.num_gids())
 }
