@@ -89,8 +89,8 @@ module _ (tokens depth : ℕ) (font : Font) (glyphs : List ℕ) where
     kind : flavor font ≡ Some Cff
     kind = has_flavor font d Cff o h
 
-    pub cff_subset : (out : List ℕ) → IsBytes font.bytes → 1 ≤ depth → slice_get glyphs 0 ≡ Some 0 → length glyphs ≤ 65535 → IsWithoutRepeats glyphs → cff_file (table_in font.bytes d) tokens depth glyphs ≡ Ok out → IsClean tokens depth font glyphs out
-    cff_subset out bytes deep first few once a =
+    pub cff_answered : (out : List ℕ) → IsBytes font.bytes → 1 ≤ depth → slice_get glyphs 0 ≡ Some 0 → length glyphs ≤ 65535 → IsWithoutRepeats glyphs → cff_file (table_in font.bytes d) tokens depth glyphs ≡ Ok out → IsClean tokens depth font glyphs out
+    cff_answered out bytes deep first few once a =
         let b : cff_file (table font) tokens depth glyphs ≡ Ok out = subst (λ (find : List ℕ → Option (List ℕ)). cff_file find tokens depth glyphs ≡ Ok out) (find_is font d o) a in
         is_cff_subset tokens depth font glyphs out bytes deep (some_given glyphs first) few once kind (λ e. opened_clean font d Cff e o h) b
 

@@ -1,5 +1,6 @@
 //! Whole fonts, subset by the public call. The expected bytes are worked out by hand from the formats.
 
+mod cff;
 mod composites;
 mod containers;
 mod faults;

@@ -4,11 +4,9 @@ ghost use Rattle.std.specs.Prelude.{◌≡◌, ◌+◌, ◌<◌, ◌≤◌, ◌^
 ghost use Rattle.std.specs.Cow.{cow_slice_items};
 ghost use Rattle.std.specs.Iterator.{YieldsFirstRef, item_count};
 ghost use Rattle.subsetter_base.specs.declared.error.Error.TheVariants.{OutOfMemory};
-ghost use Rattle.subsetter.specs.Sfnt.Checksum.{checksum};
 ghost use Rattle.subsetter.specs.Glyf.Unfold.{padded};
 ghost use Rattle.subsetter.specs.Glyf.Written.{glyf_bytes};
 
-use crate::sfnt::checksum::add;
 use crate::sfnt::room::put;
 use std::alloc::Global;
 use std::borrow::CowSlice;
@@ -199,19 +197,6 @@ pub fn outlines_len(outlines: &OutlineList<'_>, long: bool) -> usize
     } else {
         outlines.even_size
     }
-}
-
-/// The checksum of the outlines one after another.
-pub fn outlines_checksum(outlines: &OutlineList<'_>, long: bool) -> u32
-    ensures { result ≡ checksum (glyf_bytes long outlines.now) }
-{
-    let mut sum = 0;
-    let mut phase = 0;
-    for outline in outlines.iter() {
-        sum = add(sum, phase, outline);
-        phase = (phase + padded_len(outline, long)) % 4;
-    }
-    sum
 }
 
 /// Writes an outline.

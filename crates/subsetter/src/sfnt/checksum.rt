@@ -43,15 +43,6 @@ fn add_words(start: u32, bytes: &[u8]) -> u32
     add_bytes(sum, 0, rest)
 }
 
-/// Adds the bytes from a place on to a sum, so that a table is summed over its parts.
-pub fn add(sum: u32, at: usize, bytes: &[u8]) -> u32
-    ensures { result ≡ (sum + weighed at bytes.now) % 2 ^ 32 }
-{
-    let count = ((4 - at % 4) % 4).min(bytes.len());
-    let first = add_bytes(sum, at, &bytes[..count]);
-    add_words(first, &bytes[count..])
-}
-
 /// The sum of the four-byte words, the last of them filled up with zeros.
 pub fn checksum(bytes: &[u8]) -> u32
     ensures { result ≡ checksum bytes.now }

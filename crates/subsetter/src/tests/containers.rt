@@ -28,7 +28,7 @@ fn what_is_no_font_is_refused(rt: HostRuntime) -> Result<(), Fail> {
         (&NESTED, u32::MAX, Error::MalformedFont),
         // The records come before the outlines.
         (&CUT_RECORD, 0, Error::MalformedFont),
-        (&cff, 0, Error::Unimplemented),
+        (&cff, 0, Error::CFFError),
         (&cff2, 0, Error::Unimplemented),
         (&head, 0, Error::UnknownKind),
     ];

@@ -1,4 +1,4 @@
-use Rattle.std.proofs.Common.{◌≡◌, ℕ, List, Result, Ok, Err, sym, ap, subst, ◌∙◌, ◌⊎◌}
+use Rattle.std.proofs.Common.{◌≡◌, ℕ, List, Result, Ok, Err, refl, sym, ap, subst, lit≤, ◌∙◌, ◌⊎◌, inl}
 use Rattle.std.specs.Prelude.{IfOk, IfErr}
 use Rattle.std.proofs.lemmas.Result.{err_from_is_err_and}
 use Rattle.subsetter_base.specs.declared.error.Error.{Error}
@@ -11,8 +11,10 @@ use Rattle.subsetter.specs.Limits.{token_limit, depth_limit}
 use Rattle.subsetter.specs.Subset.{IsSubset}
 use Rattle.subsetter.proofs.TruetypeLaws.Fault.{Stands}
 use Rattle.subsetter.proofs.SfntLaws.Fault.{opened_refused, flavored_refused}
-use Rattle.subsetter.proofs.Headline.{not_memory, unopened, unflavored, cff_refused, truetype_subset, truetype_refused, opening_clean}
+use Rattle.subsetter.proofs.Headline.{not_memory, unopened, unflavored, cff_answered, cff_refused, cff_opening_clean, truetype_subset, truetype_refused, opening_clean}
+use Rattle.subsetter.specs.Cff.Plain.{cff_file}
 use Rattle.subsetter.proofs.TruetypeLaws.Subset.{IsClean}
+use Rattle.subsetter.proofs.TruetypeLaws.Gave.{gave_ok, gave_err}
 use Rattle.subsetter.proofs.subsetting.subset.Goals as goal
 
 -- another answer than want of memory
@@ -85,8 +87,33 @@ returns-in-TrueType-clause-before_memory c = λ e g k.
     let f = same_flavor c.in_ok-face.face.«data».now c.args.«data».now c.in_ok-face.face.records.now (Ok c.in_ok-flavor.field-0) c.in_ok-face.ensures.ok.0 c.in_ok-flavor.ensures ∙ ap (λ (x : FontFlavor). Ok x) c.in-TrueType.is in
     opening_clean token_limit depth_limit font c.args.mapper.now c.in_ok-face.face.records.now c.in_ok-face.ensures.ok.1 f e g
 
+-- the file of a font with a CFF table, by the file's own bytes
+same_file : (seen bytes records glyphs : List ℕ) (r : Result (List ℕ) Error) → seen ≡ bytes → cff_file (table_in seen records) token_limit depth_limit glyphs ≡ r → cff_file (table_in bytes records) token_limit depth_limit glyphs ≡ r
+same_file seen bytes records glyphs r e h = subst (λ (b : List ℕ). cff_file (table_in b records) token_limit depth_limit glyphs ≡ r) e h
+
+pub returns-in-Cff-clause-clean : goal.returns-in-Cff-clause-clean
+returns-in-Cff-clause-clean c =
+    let font : Font = record { bytes = c.args.«data».now; index = c.args.index } in
+    let f = same_flavor c.in_ok-face.face.«data».now c.args.«data».now c.in_ok-face.face.records.now (Ok c.in_ok-flavor.field-0) c.in_ok-face.ensures.ok.0 c.in_ok-flavor.ensures ∙ ap (λ (x : FontFlavor). Ok x) c.in-Cff.is in
+    gave_ok (λ v. v.items) c.charstrings.result (cff_file (table_in c.in_ok-face.face.«data».now c.in_ok-face.face.records.now) token_limit depth_limit c.args.mapper.now) (IsClean token_limit depth_limit font c.args.mapper.now) c.charstrings.ensures
+    (λ out h. cff_answered token_limit depth_limit font c.args.mapper.now c.in_ok-face.face.records.now c.in_ok-face.ensures.ok.1 f out c.parse.ensures.bytes (lit≤ tt) c.num_gids-count.ensures.first c.num_gids-count.ensures.few c.num_gids-count.ensures.once
+    (same_file c.in_ok-face.face.«data».now c.args.«data».now c.in_ok-face.face.records.now c.args.mapper.now (Ok out) c.in_ok-face.ensures.ok.0 h))
+
+pub returns-in-Cff-clause-ok : goal.returns-in-Cff-clause-ok
+returns-in-Cff-clause-ok c =
+    let font : Font = record { bytes = c.args.«data».now; index = c.args.index } in
+    for_ok c.charstrings.result (λ v. IsClean token_limit depth_limit font c.args.mapper.now v.items) (λ v. IsSubset token_limit depth_limit font c.args.mapper.now v.items) (λ v s. s.0) (returns-in-Cff-clause-clean c)
+
 pub returns-in-Cff-clause-err : goal.returns-in-Cff-clause-err
 returns-in-Cff-clause-err c =
     let font : Font = record { bytes = c.args.«data».now; index = c.args.index } in
     let f = same_flavor c.in_ok-face.face.«data».now c.args.«data».now c.in_ok-face.face.records.now (Ok c.in_ok-flavor.field-0) c.in_ok-face.ensures.ok.0 c.in_ok-flavor.ensures ∙ ap (λ (x : FontFlavor). Ok x) c.in-Cff.is in
-    cff_refused token_limit depth_limit font c.args.mapper.now c.in_ok-face.face.records.now c.in_ok-face.ensures.ok.1 f
+    gave_err (λ v. v.items) c.charstrings.result (cff_file (table_in c.in_ok-face.face.«data».now c.in_ok-face.face.records.now) token_limit depth_limit c.args.mapper.now) (λ e. (e ≡ OutOfMemory) ⊎ Stands token_limit depth_limit font c.args.mapper.now e) c.charstrings.ensures (inl refl)
+    (λ e h. cff_refused token_limit depth_limit font c.args.mapper.now c.in_ok-face.face.records.now c.in_ok-face.ensures.ok.1 f e c.parse.ensures.bytes c.num_gids-count.ensures.once
+    (same_file c.in_ok-face.face.«data».now c.args.«data».now c.in_ok-face.face.records.now c.args.mapper.now (Err e) c.in_ok-face.ensures.ok.0 h))
+
+pub returns-in-Cff-clause-before_memory : goal.returns-in-Cff-clause-before_memory
+returns-in-Cff-clause-before_memory c = λ e g k.
+    let font : Font = record { bytes = c.args.«data».now; index = c.args.index } in
+    let f = same_flavor c.in_ok-face.face.«data».now c.args.«data».now c.in_ok-face.face.records.now (Ok c.in_ok-flavor.field-0) c.in_ok-face.ensures.ok.0 c.in_ok-flavor.ensures ∙ ap (λ (x : FontFlavor). Ok x) c.in-Cff.is in
+    cff_opening_clean token_limit depth_limit font c.args.mapper.now c.in_ok-face.face.records.now c.in_ok-face.ensures.ok.1 f e g
