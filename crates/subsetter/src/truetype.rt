@@ -11,11 +11,11 @@ ghost use Rattle.subsetter.specs.Truetype.View.{made_seen};
 
 use crate::glyf::outlines::{OutlineList, outlines_len};
 use crate::glyf::{self, OutlineTables};
+use crate::loca;
 use crate::sfnt::face::Face;
 use crate::sfnt::flavor::FontFlavor;
 use crate::sfnt::tables::{FontTables, TableData, borrowed, owned};
 use crate::shared::{self, SharedTables};
-use crate::loca;
 use std::alloc::Global;
 use subsetter_base::{Error, GlyphRemapper, Tag};
 

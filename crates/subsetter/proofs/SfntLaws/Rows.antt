@@ -76,19 +76,42 @@ HasRoom head = (bytes : List ℕ) → head ≡ Some bytes → (12 ≤ length byt
 
 pub rows_tables : (t : FontTables) → HasRoom t.head → AllByRecursion IsTable (present (rows t))
 rows_tables t room = present_tables (rows t) (
-    other_row (codes "CFF ") t.cff refl refl,
-    (other_row (codes "cvt ") t.cvt refl refl,
-    (other_row (codes "fpgm") t.fpgm refl refl,
-    (other_row (codes "glyf") t.glyf refl refl,
-    (record { tag_len = refl; room = λ bytes is h. room bytes is },
-    (other_row (codes "hhea") t.hhea refl refl,
-    (other_row (codes "hmtx") t.hmtx refl refl,
-    (other_row (codes "loca") t.loca refl refl,
-    (other_row (codes "maxp") t.maxp refl refl,
-    (other_row (codes "name") t.name refl refl,
-    (other_row (codes "post") t.post refl refl,
-    (other_row (codes "prep") t.prep refl refl,
-    tt))))))))))))
+  other_row (codes "CFF ") t.cff refl refl,
+  (
+    other_row (codes "cvt ") t.cvt refl refl,
+    (
+      other_row (codes "fpgm") t.fpgm refl refl,
+      (
+        other_row (codes "glyf") t.glyf refl refl,
+        (
+          record { tag_len = refl; room = λ bytes is h. room bytes is },
+          (
+            other_row (codes "hhea") t.hhea refl refl,
+            (
+              other_row (codes "hmtx") t.hmtx refl refl,
+              (
+                other_row (codes "loca") t.loca refl refl,
+                (
+                  other_row (codes "maxp") t.maxp refl refl,
+                  (
+                    other_row (codes "name") t.name refl refl,
+                    (
+                      other_row (codes "post") t.post refl refl,
+                      (
+                        other_row (codes "prep") t.prep refl refl,
+                        tt,
+                      ),
+                    ),
+                  ),
+                ),
+              ),
+            ),
+          ),
+        ),
+      ),
+    ),
+  ),
+)
 
 -- two fonts have the same tables, whatever they hold
 pub record AreAlike (t u : FontTables) : Type 0 where

@@ -88,12 +88,16 @@ fn head_says_the_format_of_loca(rt: HostRuntime) -> Result<(), Fail> {
     expected[50] = 0;
     expected[51] = 0;
     assert_eq!(rt;
-        head::subset(rt.alloc(), Some(&source), false)?.ok_or("a table")?.as_slice(),
+        head::subset(rt.alloc(), Some(&source), false)?
+            .ok_or("a table")?
+            .as_slice(),
         expected.as_slice()
     );
     expected[51] = 1;
     assert_eq!(rt;
-        head::subset(rt.alloc(), Some(&source), true)?.ok_or("a table")?.as_slice(),
+        head::subset(rt.alloc(), Some(&source), true)?
+            .ok_or("a table")?
+            .as_slice(),
         expected.as_slice()
     );
     assert_eq!(rt;

@@ -11,9 +11,9 @@ ghost use Rattle.subsetter.specs.Sfnt.Plain.{file_of};
 ghost use Rattle.subsetter.specs.Sfnt.View.{view, views};
 
 use crate::sfnt::checksum::checksum;
-use crate::sfnt::tables::NewTable;
 use crate::sfnt::flavor::FontFlavor;
 use crate::sfnt::room::{align, aligned_len, patch, put};
+use crate::sfnt::tables::NewTable;
 use std::alloc::Global;
 use subsetter_base::{Error, Tag};
 
