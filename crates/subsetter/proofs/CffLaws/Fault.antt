@@ -13,7 +13,7 @@ use Rattle.subsetter_cff.proofs.Excluded.{answered_excludes}
 use Rattle.subsetter.specs.declared.sfnt.flavor.FontFlavor.TheVariants.{Cff}
 use Rattle.subsetter.specs.Sfnt.Read.{Font, table, flavor}
 use Rattle.subsetter.specs.Sfnt.Fault.{HasOpeningFault}
-use Rattle.subsetter.specs.Sfnt.PlainFile.{file_of}
+use Rattle.subsetter.specs.Sfnt.Plain.{file_of}
 use Rattle.subsetter.specs.Sfnt.Written.{Table, fits, file, start_of, kind_word}
 use Rattle.subsetter.specs.Glyf.Fault as outline_faults
 use Rattle.subsetter.specs.Glyf.Fault.{HasOutlineFault}

@@ -19,14 +19,23 @@ without_glyf (Some x) p h = absurd cc
 pub no_glyf : (font : Font) → flavor font ≡ Some Cff → table font (codes "glyf") ≡ None
 no_glyf font h = without_glyf (table font (codes "glyf")) (table font (codes "CFF ")) h
 
+-- the tables of outlines, of which loca, glyf and head are found
+abbrev outlines_by : Option (List ℕ) → Option (List ℕ) → Option (List ℕ) → Option Outlines
+outlines_by l g h = do
+  loca ← l
+  glyf ← g
+  head ← h
+  format ← number head 50 2
+  Some (record { loca = loca; glyf = glyf; head = head; long = not (format == 0) })
+
 pub no_outlines : (font : Font) → table font (codes "glyf") ≡ None → outlines font ≡ None
 unfolding outlines_in
-no_outlines font h = by (table font (codes "loca")) (table font (codes "glyf")) h
+no_outlines font h = by (table font (codes "loca")) (table font (codes "glyf")) (table font (codes "head")) h
   where
-    by : (l g : Option (List ℕ)) → g ≡ None → (l >>= λ loca. g >>= λ glyf. table font (codes "head") >>= λ head. number head 50 2 >>= λ format. Some (record { loca = loca; glyf = glyf; head = head; long = not (format == 0) })) ≡ None
-    by None g h = refl
-    by (Some loca) None h = refl
-    by (Some loca) (Some glyf) h = absurd cc
+    by : (l g head : Option (List ℕ)) → g ≡ None → outlines_by l g head ≡ None
+    by None g head h = refl
+    by (Some loca) None head h = refl
+    by (Some loca) (Some glyf) head h = absurd cc
 
 pub no_outline : (font : Font) (g : ℕ) → table font (codes "glyf") ≡ None → outline font g ≡ None
 no_outline font g h = ap (option_and_then (λ t. outline_in t g)) (no_outlines font h)

@@ -9,7 +9,7 @@ use Rattle.subsetter_base.proofs.Results.{done_is, bind_ok, bind_err, named_ok, 
 use Rattle.subsetter_cff.specs.Plain.{cff_subset}
 use Rattle.subsetter.specs.declared.sfnt.flavor.FontFlavor.TheVariants.{Cff}
 use Rattle.subsetter.specs.Sfnt.Written.{Table, fits, file, start_of, kind_word}
-use Rattle.subsetter.specs.Sfnt.PlainFile.{file_of}
+use Rattle.subsetter.specs.Sfnt.Plain.{file_of}
 use Rattle.subsetter.specs.Shared.Plain.{SharedTables, shared_of}
 use Rattle.subsetter.specs.Cff.Plain.{Made, made_of, laid, cff_tables, cff_file}
 use Rattle.subsetter.proofs.SharedLaws.Steps.{SharedSteps, shared_steps}

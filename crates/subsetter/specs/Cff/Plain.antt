@@ -7,7 +7,7 @@ use Rattle.subsetter_base.specs.declared.error.Error.TheVariants.{MalformedFont}
 use Rattle.subsetter_cff.specs.Plain.{cff_subset}
 use Rattle.subsetter.specs.declared.sfnt.flavor.FontFlavor.TheVariants.{Cff}
 use Rattle.subsetter.specs.Sfnt.Written.{Table, kind_word}
-use Rattle.subsetter.specs.Sfnt.PlainFile.{file_of}
+use Rattle.subsetter.specs.Sfnt.Plain.{file_of}
 use Rattle.subsetter.specs.Sfnt.Rows.{FontTables, rows, present}
 use Rattle.subsetter.specs.Shared.Plain.{SharedTables, shared_of, with_shared}
 
