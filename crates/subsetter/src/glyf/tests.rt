@@ -45,7 +45,6 @@ fn order_of(alloc: Global, loca: &[u8], glyf: &[u8], given: &[u16]) -> Result<Ve
 }
 
 #[test]
-<<<<<<< HEAD
 fn the_last_glyph_that_waits_is_taken_first(rt: HostRuntime) -> Result<(), Fail> {
     let alloc = rt.alloc();
     let one = order_of(alloc, &NINE_GLYPHS, &TWO_COMPOSITES, &[1])?;
@@ -57,75 +56,5 @@ fn the_last_glyph_that_waits_is_taken_first(rt: HostRuntime) -> Result<(), Fail>
     assert_eq!(rt; circle.as_slice(), [0, 1, 2].as_slice());
     let itself = order_of(alloc, &[0, 0, 0, 0, 0, 14], &ITSELF, &[1])?;
     assert_eq!(rt; itself.as_slice(), [0, 1].as_slice());
-=======
-fn the_last_component_comes_first_behind_the_given_glyphs(rt: HostRuntime) -> Result<(), Fail> {
-    let table = short(&SEVEN_GLYPHS, &TWO_COMPONENTS);
-    let mapper = GlyphRemapper::new_from_glyphs(rt.alloc(), &[1])?;
-    let order = closure(rt.alloc(), &table, &mapper)?;
-    assert_eq!(rt;
-        listed(rt.alloc(), &order)?.as_slice(),
-        [0, 1, 6, 5].as_slice()
-    );
-    Ok(())
-}
-
-#[test]
-fn components_in_a_circle_come_once(rt: HostRuntime) -> Result<(), Fail> {
-    let glyf: [u8; 32] = [
-        0xFF, 0xFF, 0, 0, 0, 0, 0, 0, 0, 0, 0, 0, 0, 2, 0, 0, 0xFF, 0xFF, 0, 0, 0, 0, 0, 0, 0, 0,
-        0, 0, 0, 1, 0, 0,
-    ];
-    let table = short(&[0, 0, 0, 0, 0, 8, 0, 16], &glyf);
-    let mapper = GlyphRemapper::new_from_glyphs(rt.alloc(), &[1])?;
-    let order = closure(rt.alloc(), &table, &mapper)?;
-    assert_eq!(rt;
-        listed(rt.alloc(), &order)?.as_slice(),
-        [0, 1, 2].as_slice()
-    );
-    Ok(())
-}
-
-#[test]
-fn a_composite_of_itself_comes_once(rt: HostRuntime) -> Result<(), Fail> {
-    let glyf: [u8; 28] = [
-        0xFF, 0xFF, 0, 0, 0, 0, 0, 0, 0, 0, 0, 0x20, 0, 1, 0, 0, 0, 0x20, 0, 1, 0, 0, 0, 0, 0, 1,
-        0, 0,
-    ];
-    let table = short(&[0, 0, 0, 0, 0, 14], &glyf);
-    let mapper = GlyphRemapper::new_from_glyphs(rt.alloc(), &[1])?;
-    let order = closure(rt.alloc(), &table, &mapper)?;
-    assert_eq!(rt; listed(rt.alloc(), &order)?.as_slice(), [0, 1].as_slice());
-    Ok(())
-}
-
-#[test]
-fn head_says_the_format_of_loca(rt: HostRuntime) -> Result<(), Fail> {
-    let mut source = [7u8; 54];
-    source[51] = 1;
-    let mut expected = source;
-    expected[8] = 0;
-    expected[9] = 0;
-    expected[10] = 0;
-    expected[11] = 0;
-    expected[50] = 0;
-    expected[51] = 0;
-    assert_eq!(rt;
-        head::subset(rt.alloc(), Some(&source), false)?
-            .ok_or("a table")?
-            .as_slice(),
-        expected.as_slice()
-    );
-    expected[51] = 1;
-    assert_eq!(rt;
-        head::subset(rt.alloc(), Some(&source), true)?
-            .ok_or("a table")?
-            .as_slice(),
-        expected.as_slice()
-    );
-    assert_eq!(rt;
-        head::subset(rt.alloc(), Some(&source[..51]), true).err(),
-        Some(Error::MalformedFont)
-    );
->>>>>>> house
     Ok(())
 }
