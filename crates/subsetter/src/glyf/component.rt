@@ -41,7 +41,11 @@ pub struct Component<'a> {
 fn rest_size(flags: u16) -> usize
     ensures { result ≡ rest_size flags }
 {
-    let arguments = if flags & ARG_1_AND_2_ARE_WORDS != 0 { 4 } else { 2 };
+    let arguments = if flags & ARG_1_AND_2_ARE_WORDS != 0 {
+        4
+    } else {
+        2
+    };
     let transform = if flags & WE_HAVE_A_SCALE != 0 {
         2
     } else if flags & WE_HAVE_AN_X_AND_Y_SCALE != 0 {
