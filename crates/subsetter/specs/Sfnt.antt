@@ -7,5 +7,4 @@ pub mod Container
 pub mod Weights
 pub mod Rows
 pub mod View
-pub mod PlainFile
 pub mod Fault

@@ -23,8 +23,9 @@ pub mod outlines;
 #[cfg(test)]
 mod tests;
 
-use crate::glyf::component::{Components, rewrite};
+use crate::glyf::component::{Components, is_composite, rewrite};
 use crate::glyf::outlines::OutlineList;
+use crate::head::loca_format;
 use crate::sfnt::face::Face;
 use std::alloc::Global;
 use std::borrow::CowSlice;
@@ -51,9 +52,7 @@ impl<'a> OutlineTables<'a> {
         let loca = face.table(Tag::LOCA).ok_or(Error::MalformedFont)?;
         let glyf = face.table(Tag::GLYF).ok_or(Error::MalformedFont)?;
         let head = face.table(Tag::HEAD).ok_or(Error::MalformedFont)?;
-        let format = Reader::new_at(head, 50)
-            .read::<u16>()
-            .ok_or(Error::MalformedFont)?;
+        let format = loca_format(head).ok_or(Error::MalformedFont)?;
         Ok(Self {
             loca,
             glyf,
@@ -126,7 +125,7 @@ fn lacks_head(outline: &[u8]) -> bool
     match outline {
         [] => false,
         [_] => true,
-        [high, _, ..] => *high >= 128 && outline.len() < 10,
+        [high, _, ..] => is_composite(*high) && outline.len() < 10,
     }
 }
 

@@ -8,7 +8,7 @@ ghost use Rattle.std.specs.Prelude.{◌≡◌, ◌<◌, ◌^◌, ◌++◌, lengt
 ghost use Rattle.subsetter_base.specs.declared.error.Error.TheVariants.{OutOfMemory};
 ghost use Rattle.subsetter.specs.Glyf.Written.{is_long, glyf_bytes, offset_bytes, loca_bytes};
 
-use crate::glyf::outlines::{OutlineList, outlines_len};
+use crate::glyf::outlines::{OutlineList, outlines_len, padded_len};
 use std::alloc::Global;
 use subsetter_base::Error;
 use subsetter_base::write::Writer;
@@ -45,10 +45,7 @@ pub fn subset(alloc: Global, outlines: &OutlineList<'_>, long: bool) -> Result<V
     let mut offset: usize = 0;
     for outline in outlines.iter() {
         write_offset(&mut w, long, offset)?;
-        offset += outline.len();
-        if !long {
-            offset += outline.len() % 2;
-        }
+        offset += padded_len(outline, long);
     }
     write_offset(&mut w, long, offset)?;
     Ok(w.finish())

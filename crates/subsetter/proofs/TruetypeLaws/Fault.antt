@@ -18,7 +18,7 @@ use Rattle.subsetter.specs.Sfnt.Written.{Table, fits, file, start_of, kind_word}
 use Rattle.subsetter.specs.Sfnt.Fault.{HasOpeningFault}
 use Rattle.subsetter.specs.Shared.Plain.{SharedTables, shared_of}
 use Rattle.subsetter.specs.Truetype.Plain.{Made, located, made_of, laid, truetype_tables}
-use Rattle.subsetter.specs.Sfnt.PlainFile.{file_of}
+use Rattle.subsetter.specs.Sfnt.Plain.{file_of}
 use Rattle.subsetter.specs.Glyf.Plain.{kept_all}
 use Rattle.subsetter.specs.Glyf.Reach.{IsGlyphOrder}
 use Rattle.subsetter.specs.Glyf.Written.{is_long, glyf_bytes, loca_bytes}

@@ -14,7 +14,7 @@ use Rattle.subsetter.specs.Truetype.Answered.{IsAnswered, IsRefused, no_memory, 
 use Rattle.subsetter.specs.Glyf.Read.{Outlines, outline_in}
 use Rattle.subsetter.specs.Sfnt.Written.{Table, IsTable, kind_word}
 use Rattle.subsetter.specs.Truetype.Plain.{Made, made_of, font_of, laid, truetype_tables}
-use Rattle.subsetter.specs.Sfnt.PlainFile.{file_of}
+use Rattle.subsetter.specs.Sfnt.Plain.{file_of}
 use Rattle.subsetter.specs.Glyf.Plain.{outlines_read}
 use Rattle.subsetter.specs.Glyf.Reach.{IsGlyphOrderBy}
 use Rattle.subsetter.specs.Sfnt.View.{view, views}

@@ -7,7 +7,7 @@ use Rattle.subsetter.specs.Glyf.Closure.{StopsClosure}
 use Rattle.subsetter.specs.Glyf.Read.{Outlines, outline_in}
 use Rattle.subsetter.specs.Sfnt.Written.{Table, kind_word}
 use Rattle.subsetter.specs.Truetype.Plain.{truetype_tables}
-use Rattle.subsetter.specs.Sfnt.PlainFile.{file_of}
+use Rattle.subsetter.specs.Sfnt.Plain.{file_of}
 use Rattle.subsetter.specs.Glyf.Plain.{outlines_read}
 use Rattle.subsetter.specs.Glyf.Reach.{IsGlyphOrderBy}
 

@@ -1,6 +1,6 @@
 //! The components of a composite glyph (OpenType, "glyf": composite glyph description).
 
-ghost use Rattle.std.specs.Prelude.{◌≡◌, ◌+◌, [], ◌++◌, length, drop, OnOk, IfErr, if◌then◌else◌};
+ghost use Rattle.std.specs.Prelude.{◌≡◌, ◌+◌, [], ◌++◌, length, drop, OnOk, IfErr, if◌then◌else◌, nat_le};
 ghost use Rattle.std.specs.Cow.{cow_slice_items};
 ghost use Rattle.std.specs.Option.{option_map};
 ghost use Rattle.subsetter_base.specs.Gives.{Gives};
@@ -109,6 +109,13 @@ impl<'a> Components<'a> {
     }
 }
 
+/// Whether an outline is a composite, by the first byte of its number of contours, which is below 0 for one.
+pub fn is_composite(first: u8) -> bool
+    ensures { result ≡ nat_le 128 first }
+{
+    first >= 128
+}
+
 /// The records of an outline's components.
 fn records(outline: &[u8]) -> &[u8]
     ensures { numbers_at (length result.now) result.now ≡ component_numbers outline.now }
@@ -116,7 +123,7 @@ fn records(outline: &[u8]) -> &[u8]
     if outline.len() < 10 {
         return &[];
     }
-    if outline[0] < 128 {
+    if !is_composite(outline[0]) {
         return &[];
     }
     &outline[10..]
@@ -228,10 +235,10 @@ pub fn rewrite<'a>(
         [] => Ok(CowSlice::Borrowed(outline)),
         [_] => Err(Error::MalformedFont),
         [high, _, ..] => {
-            if *high < 128 {
-                Ok(CowSlice::Borrowed(outline))
-            } else {
+            if is_composite(*high) {
                 Ok(CowSlice::Owned(rewrite_composite(alloc, outline, order)?))
+            } else {
+                Ok(CowSlice::Borrowed(outline))
             }
         }
     }

@@ -179,7 +179,7 @@ impl<'a> Iterator for OutlineIter<'a> {
 }
 
 /// How many bytes an outline takes: in the short format of `loca` an even number.
-fn padded_len(outline: &[u8], long: bool) -> usize
+pub fn padded_len(outline: &[u8], long: bool) -> usize
     ensures { result ≡ length (padded long outline.now) }
 {
     if long {

@@ -7,12 +7,12 @@ ghost use Rattle.subsetter_base.specs.Bytes.{aligned};
 ghost use Rattle.subsetter_base.specs.Gives.{Gives};
 ghost use Rattle.subsetter.specs.Sfnt.Written.{selector, header_bytes, directory_bytes, record_bytes, body, adjusted, fits, file, start_of, kind_word, IsTable};
 ghost use Rattle.subsetter.specs.Sfnt.Checksum.{checksum};
-ghost use Rattle.subsetter.specs.Sfnt.PlainFile.{file_of};
+ghost use Rattle.subsetter.specs.Sfnt.Plain.{file_of};
 ghost use Rattle.subsetter.specs.Sfnt.View.{view, views};
 
 use crate::sfnt::checksum::checksum;
 use crate::sfnt::flavor::FontFlavor;
-use crate::sfnt::room::{align, patch, put};
+use crate::sfnt::room::{align, aligned_len, patch, put};
 use crate::sfnt::tables::NewTable;
 use std::alloc::Global;
 use subsetter_base::{Error, Tag};
@@ -32,7 +32,7 @@ fn measured(tables: &[NewTable<'_>]) -> Option<usize>
         if len > 0xffff_ffff {
             return None;
         }
-        at += (len + 3) / 4 * 4;
+        at += aligned_len(len);
     }
     Some(at)
 }
@@ -110,7 +110,7 @@ fn write_directory(out: &mut Vec<u8>, start: usize, tables: &[NewTable<'_>], lai
     let mut rest = laid;
     for table in tables {
         let len = table.data.len();
-        let size = (len + 3) / 4 * 4;
+        let size = aligned_len(len);
         let (bytes, behind) = rest.split_at(size);
         let table_sum = checksum(bytes);
         write_record(out, at, len, table_sum, table);
@@ -156,7 +156,7 @@ fn adjust(out: &mut Vec<u8>, start: usize, word: u32, tables: &[NewTable<'_>])
     let mut at = start;
     for table in tables {
         adjust_table(out, at, word, table);
-        at += (table.data.len() + 3) / 4 * 4;
+        at += aligned_len(table.data.len());
     }
 }
 
@@ -209,7 +209,7 @@ pub fn construct(
 }
 
 /// Lays out a file. Its size is taken first: `OverflowError` where a place or a length is 2^32 or more. Room is reserved once.
-#[tactic(auto, unfolding(crate::specs::Sfnt::PlainFile::file_of))]
+#[tactic(auto, unfolding(crate::specs::Sfnt::Plain::file_of))]
 pub fn finish(alloc: Global, flavor: FontFlavor, tables: &[NewTable<'_>]) -> Result<Vec<u8>, Error>
     requires few { length tables.now < 16 }
     requires tables { AllByRecursion IsTable (views tables.now) }

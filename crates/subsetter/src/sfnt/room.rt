@@ -1,6 +1,6 @@
 //! Writing into room that was reserved before.
 
-ghost use Rattle.std.specs.Prelude.{◌≡◌, ◌+◌, ◌*◌, ◌-◌, ◌%◌, ◌<◌, ◌≤◌, ◌^◌, ◌++◌, length, take, drop, vec_capacity};
+ghost use Rattle.std.specs.Prelude.{◌≡◌, ◌+◌, ◌*◌, ◌/◌, ◌-◌, ◌%◌, ◌<◌, ◌≤◌, ◌^◌, ◌++◌, length, take, drop, vec_capacity};
 ghost use Rattle.std.specs.Int.{w16, w32, to_be_bytes};
 ghost use Rattle.subsetter_base.specs.Bytes.{aligned};
 
@@ -11,6 +11,14 @@ pub fn put(out: &mut Vec<u8>, bytes: &[u8])
     ensures capacity { vec_capacity out.old ≤ vec_capacity out.new }
 {
     out.extend_from_slice(bytes).unwrap();
+}
+
+/// How many bytes a length takes with zeros up to a multiple of four.
+pub fn aligned_len(len: usize) -> usize
+    requires { len + 3 < 2 ^ 64 }
+    ensures { result ≡ (len + 3) / 4 * 4 }
+{
+    (len + 3) / 4 * 4
 }
 
 /// Writes zeros up to a multiple of four.

@@ -3,7 +3,7 @@ use Rattle.std.proofs.lemmas.Result.{err_from_is_err_and}
 use Rattle.subsetter.specs.Truetype.Answered.{IsAnswered, IsRefused, no_memory, unread, unclosed}
 use Rattle.subsetter.specs.Sfnt.Read.{table_in}
 use Rattle.subsetter.specs.Glyf.View.{seen}
-use Rattle.subsetter.specs.Sfnt.PlainFile.{file_of}
+use Rattle.subsetter.specs.Sfnt.Plain.{file_of}
 use Rattle.subsetter.specs.Truetype.View.{made_seen}
 use Rattle.subsetter.specs.Sfnt.View.{views}
 use Rattle.subsetter.specs.Sfnt.Rows.{FontTables, rows, present}

@@ -1,9 +1,10 @@
-use Rattle.std.proofs.Common.{rules}
+use Rattle.std.proofs.Common.{rules, sym}
+use Rattle.std.proofs.lemmas.Bool.{leb-true}
 use Rattle.subsetter.proofs.GlyfLaws.Chains.{rewritten_high}
 use Rattle.subsetter.proofs.glyf.component.rewrite.Goals as goal
 
 pub returns-in_err-rewrite_composite-in-len2-up : goal.returns-in_err-rewrite_composite-in-len2-up
-returns-in_err-rewrite_composite-in-len2-up c = rw (rewritten_high c.args.order.now c.args.outline.now c.in-len2-up.len_at_least c.if-high-lt128.false) (search rules)
+returns-in_err-rewrite_composite-in-len2-up c = rw (rewritten_high c.args.order.now c.args.outline.now c.in-len2-up.len_at_least (leb-true 128 _ (sym c.if-is_composite.ensures))) (search rules)
 
 pub returns-in_ok-rewrite_composite-in-len2-up : goal.returns-in_ok-rewrite_composite-in-len2-up
-returns-in_ok-rewrite_composite-in-len2-up c = rw (rewritten_high c.args.order.now c.args.outline.now c.in-len2-up.len_at_least c.if-high-lt128.false) (search rules)
+returns-in_ok-rewrite_composite-in-len2-up c = rw (rewritten_high c.args.order.now c.args.outline.now c.in-len2-up.len_at_least (leb-true 128 _ (sym c.if-is_composite.ensures))) (search rules)

@@ -1,4 +1,4 @@
-use Rattle.std.proofs.Common.{◌≡◌, ◌+◌, ◌*◌, ◌/◌, ◌∷◌, ◌++◌, take, drop, length, map, subst, ap, sym, ◌∙◌, arith}
+use Rattle.std.proofs.Common.{◌≡◌, ◌+◌, ◌∷◌, ◌++◌, take, drop, length, map, subst, ap, sym, ◌∙◌, arith}
 use Rattle.std.specs.List.{AllByRecursion}
 use Rattle.std.proofs.lemmas.List.{drop_more}
 use Rattle.subsetter_base.specs.Bytes.{aligned}
@@ -28,9 +28,9 @@ loop-table-preserved c =
     let more : views (drop i ts) ≡ view t ∷ views others = ap views (drop_more ts i t c.loop-table-test.true ∙ ap (λ (x : NewTable). x ∷ others) (sym c.table-item.is)) in
     let f = fitting at (view t) (views others) (ap (fits at) (sym more) ∙ c.loop-table.invariant.fit) in
     let len : c.len.result ≡ length (view t).bytes = c.len.ensures.exact f.len in
-    let next : at + (c.len.result + 3) / 4 * 4 ≡ at + length (aligned 4 (view t).bytes) = omega (arith, len, rounded (view t).bytes) in
+    let next : at + c.aligned_len-at.result ≡ at + length (aligned 4 (view t).bytes) = omega (arith, c.aligned_len-at.ensures, len, rounded (view t).bytes) in
     let all = subst (AllByRecursion IsTable) more c.loop-table.invariant.tables in
-    let p = past c.loop-table.out.items c.adjust_table.new.out.items (view t).bytes (adjusted word (view t)).bytes (body (views others)) (body (map (adjusted word) (views others))) _ at (at + (c.len.result + 3) / 4 * 4) c.loop-table.invariant.within
+    let p = past c.loop-table.out.items c.adjust_table.new.out.items (view t).bytes (adjusted word (view t)).bytes (body (views others)) (body (map (adjusted word) (views others))) _ at (at + c.aligned_len-at.result) c.loop-table.invariant.within
     (c.loop-table.invariant.rest ∙ ap body more) c.adjust_table.ensures (length-adjusted word (view t) all.0) next
     (ap (λ v. take at c.loop-table.out.items ++ body (map (adjusted word) v)) (sym more) ∙ c.loop-table.invariant.done) in
     record {

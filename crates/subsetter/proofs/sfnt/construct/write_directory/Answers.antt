@@ -1,4 +1,4 @@
-use Rattle.std.proofs.Common.{◌≡◌, ◌+◌, ◌*◌, ◌/◌, ◌∷◌, ◌++◌, take, drop, length, refl, ap, sym, ◌∙◌, arith}
+use Rattle.std.proofs.Common.{◌≡◌, ◌+◌, ◌∷◌, ◌++◌, take, drop, length, refl, ap, sym, ◌∙◌, arith}
 use Rattle.std.proofs.lemmas.List.{take_at, drop_at, drop_all, drop_more, length-append, length-drop}
 use Rattle.subsetter_base.specs.Bytes.{aligned}
 use Rattle.subsetter_base.proofs.Lists.{one_more_written}
@@ -20,11 +20,11 @@ loop-table-preserved c =
     let more : views (drop i ts) ≡ view t ∷ views others = ap views (drop_more ts i t c.loop-table-test.true ∙ ap (λ (x : NewTable). x ∷ others) (sym c.table-item.is)) in
     let f = fitting at (view t) (views others) (ap (fits at) (sym more) ∙ c.loop-table.invariant.fit) in
     let len : c.len-len.result ≡ length (view t).bytes = c.len-len.ensures.exact f.len in
-    let padded = (c.len-len.result + 3) / 4 * 4 in
-    let long : padded ≡ length (aligned 4 (view t).bytes) = omega (arith, len, rounded (view t).bytes) in
+    let padded = c.aligned_len-size.result in
+    let long : padded ≡ length (aligned 4 (view t).bytes) = omega (arith, c.aligned_len-size.ensures, len, rounded (view t).bytes) in
     let laid : c.loop-table.rest.now ≡ aligned 4 (view t).bytes ++ body (views others) = c.loop-table.invariant.laid ∙ ap body more in
     let sum : c.checksum-table_sum.result ≡ checksum (view t).bytes = c.checksum-table_sum.ensures ∙ ap checksum c.split_at.ensures.front ∙ ap (λ l. checksum (take padded l)) laid ∙ ap checksum (take_at (aligned 4 (view t).bytes) (body (views others)) padded (sym long)) ∙ checksum-aligned (view t).bytes in
-    let next : at + (c.len-len.result + 3) / 4 * 4 ≡ at + length (aligned 4 (view t).bytes) = omega (arith, len, rounded (view t).bytes) in
+    let next : at + c.aligned_len-size.result ≡ at + length (aligned 4 (view t).bytes) = omega (arith, c.aligned_len-size.ensures, len, rounded (view t).bytes) in
     let is_table = at_index IsTable view ts i t c.requires.tables c.loop-table-test.true c.table-item.is in
     record {
       written = ap (λ n. c.write_record.new.out.items ++ directory_bytes n (views others)) next ∙ one_more_written c.loop-table.out.items (record_bytes at (view t)) (directory_bytes (at + length (aligned 4 (view t).bytes)) (views others)) _ c.write_record.new.out.items c.write_record.ensures.items (ap (λ v. c.loop-table.out.items ++ directory_bytes at v) (sym more) ∙ c.loop-table.invariant.written);
@@ -59,7 +59,7 @@ write_record-requires-clause-sum c =
     let more : views (drop i ts) ≡ view t ∷ views others = ap views (drop_more ts i t c.loop-table-test.true ∙ ap (λ (x : NewTable). x ∷ others) (sym c.table-item.is)) in
     let f = fitting c.loop-table.at (view t) (views others) (ap (fits c.loop-table.at) (sym more) ∙ c.loop-table.invariant.fit) in
     let len : c.len-len.result ≡ length (view t).bytes = c.len-len.ensures.exact f.len in
-    let padded = (c.len-len.result + 3) / 4 * 4 in
-    let long : padded ≡ length (aligned 4 (view t).bytes) = omega (arith, len, rounded (view t).bytes) in
+    let padded = c.aligned_len-size.result in
+    let long : padded ≡ length (aligned 4 (view t).bytes) = omega (arith, c.aligned_len-size.ensures, len, rounded (view t).bytes) in
     let laid : c.loop-table.rest.now ≡ aligned 4 (view t).bytes ++ body (views others) = c.loop-table.invariant.laid ∙ ap body more in
     c.checksum-table_sum.ensures ∙ ap checksum c.split_at.ensures.front ∙ ap (λ l. checksum (take padded l)) laid ∙ ap checksum (take_at (aligned 4 (view t).bytes) (body (views others)) padded (sym long)) ∙ checksum-aligned (view t).bytes
