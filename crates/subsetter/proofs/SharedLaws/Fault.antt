@@ -14,7 +14,6 @@ use Rattle.subsetter.specs.Sfnt.Read.{Font, table}
 use Rattle.subsetter.specs.Glyf.Fault as outline_faults
 use Rattle.subsetter.specs.Glyf.Reach.{IsReachable, IsGlyphOrder}
 use Rattle.subsetter.specs.Head.Written.{head_bytes, head_in, head_of}
-use Rattle.subsetter.specs.Hmtx.Read as metric_faults
 use Rattle.subsetter.specs.Hmtx.Read.{HasMetricsFault}
 use Rattle.subsetter.specs.Hmtx.Written.{MetricBytes, metrics_of}
 use Rattle.subsetter.specs.Maxp.Read.{HasMaxProfileFault}
@@ -25,7 +24,7 @@ use Rattle.subsetter.specs.Post.Fault as name_faults
 use Rattle.subsetter.specs.Post.Fault.{HasOwnName, HasGlyphNameFault}
 use Rattle.subsetter.specs.Post.Plain.{post_of}
 use Rattle.subsetter.specs.Shared.Plain.{SharedTables, shared_of}
-use Rattle.subsetter.proofs.HmtxLaws.Kept.{metrics_refused, metrics_clean}
+use Rattle.subsetter.proofs.HmtxLaws.Kept.{metrics_refused, metrics_clean, metrics_fault_among}
 use Rattle.subsetter.proofs.MaxpLaws.Kept.{maxp_refused, maxp_clean}
 use Rattle.subsetter.proofs.NameLaws.Clean.{name_clean}
 use Rattle.subsetter.proofs.NameLaws.Fault.{name_refused}
@@ -39,15 +38,7 @@ chosen_err : {A : Type 0} (b : Bool) (x : A) (d e : Error) → cond b (Err d) (O
 chosen_err true x d e h = (refl, failed_is {A = _} d e h)
 chosen_err false x d e h = absurd cc
 
--- the same fault for glyphs that are among others
-metrics_among : (find : List ℕ → Option (List ℕ)) (P Q : ℕ → Type 0) (e : Error) → ((g : ℕ) → P g → Q g) → HasMetricsFault find P e → HasMetricsFault find Q e
-metrics_among find P Q e f (metric_faults.no_hhea a b) = metric_faults.no_hhea a b
-metrics_among find P Q e f (metric_faults.short_hhea hhea a b c) = metric_faults.short_hhea hhea a b c
-metrics_among find P Q e f (metric_faults.no_pairs hhea a b c) = metric_faults.no_pairs hhea a b c
-metrics_among find P Q e f (metric_faults.last_advance_outside hhea hmtx count a b c d i) = metric_faults.last_advance_outside hhea hmtx count a b c d i
-metrics_among find P Q e f (metric_faults.metric_outside g hhea hmtx count r a b c d i) = metric_faults.metric_outside g hhea hmtx count (f g r) a b c d i
-
--- the same of the names of glyphs
+-- the same fault for glyphs that are among others, of the names of glyphs
 own_among : (bytes gs : List ℕ) (P Q : ℕ → Type 0) → ((g : ℕ) → P g → Q g) → AllByRecursion (λ g. P g × HasOwnName bytes g) gs → AllByRecursion (λ g. Q g × HasOwnName bytes g) gs
 own_among bytes [] P Q f h = tt
 own_among bytes (g ∷ gs) P Q f h = ((f g h.0.0, h.0.1), own_among bytes gs P Q f h.1)
@@ -71,7 +62,7 @@ module _ (tokens depth : ℕ) (font : Font) (glyphs order : List ℕ) (closed : 
           subst (HasFault tokens depth font glyphs order) c.1 (faults.in_outlines (outline_faults.short_head head is (ltb-true _ _ c.0)))
 
   in_metrics : (e : Error) → metrics_of (table font) order ≡ Err e → HasFault tokens depth font glyphs order e
-  in_metrics e h = faults.in_metrics (metrics_among (table font) (Contains order) (IsReachable font glyphs) e (λ g c. (closed.members g).0 c) (metrics_refused (table font) order e h))
+  in_metrics e h = faults.in_metrics (metrics_fault_among (table font) (Contains order) (IsReachable font glyphs) e (λ g c. (closed.members g).0 c) (metrics_refused (table font) order e h))
 
   in_glyph_names : (e : Error) → post_of (table font) order ≡ Err e → HasFault tokens depth font glyphs order e
   in_glyph_names e h = faults.in_glyph_names (glyph_names_among (table font) (Contains order) (IsReachable font glyphs) e (λ g c. (closed.members g).0 c) (post_refused (table font) order e closed.once h))
@@ -107,7 +98,7 @@ module _ (font : Font) (glyphs order : List ℕ) (kind : FontFlavor) (long : Boo
   among g r = (closed.members g).1 r
 
   pub no_metrics_fault : (e : Error) → HasMetricsFault (table font) (IsReachable font glyphs) e → ⊥
-  no_metrics_fault e f = metrics_clean (table font) order s.metrics e steps.metrics_are (metrics_among (table font) (IsReachable font glyphs) (Contains order) e among f)
+  no_metrics_fault e f = metrics_clean (table font) order s.metrics e steps.metrics_are (metrics_fault_among (table font) (IsReachable font glyphs) (Contains order) e among f)
 
   pub no_max_profile_fault : (e : Error) → HasMaxProfileFault (table font) e → ⊥
   no_max_profile_fault e f = maxp_clean (table font) kind (length order) s.maxp e steps.maxp_is f

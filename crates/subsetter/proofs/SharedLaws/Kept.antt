@@ -3,6 +3,7 @@ use Rattle.std.proofs.Common.{◌≡◌, ℕ, ◌^◌, ◌<◌, ◌≤◌, Bool,
 use Rattle.std.specs.Prelude.{codes, IsSome}
 use Rattle.std.specs.Option.{option_map}
 use Rattle.subsetter_base.specs.Bytes.{IsBytes}
+use Rattle.subsetter_base.proofs.Options.{some_of}
 use Rattle.subsetter.specs.declared.sfnt.flavor.FontFlavor.{FontFlavor}
 use Rattle.subsetter.specs.Sfnt.Read.{Font, table}
 use Rattle.subsetter.specs.Sfnt.Written.{with_adjustment}
@@ -24,11 +25,6 @@ use Rattle.subsetter.proofs.NameLaws.Kept.{keeps_table}
 use Rattle.subsetter.proofs.PostLaws.Kept.{keeps_post}
 use Rattle.subsetter.proofs.SharedLaws.Steps.{SharedSteps, head_from, head_there, maxp_there, metrics_there, name_there, post_there, name_tables, glyph_name_tables}
 
--- a part that is there
-there : {A : Type 0} (o : Option A) → IsSome o → (x : A) × (o ≡ Some x)
-there None h = absurd cc
-there (Some x) h = (x, refl)
-
 -- a new head has room for the adjustment, and zeros there
 pub shared_room : (find : List ℕ → Option (List ℕ)) (kind : FontFlavor) (long : Bool) (order : List ℕ) (s : SharedTables) → SharedSteps find kind long order s → HasRoom s.head
 shared_room find kind long order s steps bytes is =
@@ -47,7 +43,7 @@ pub record AreBack (out : Font) (word : ℕ) (s : SharedTables) : Type 0 where
 module _ (font out : Font) (kind : FontFlavor) (long : Bool) (order : List ℕ) (s : SharedTables) (word : ℕ) (steps : SharedSteps (table font) kind long order s) (back : AreBack out word s) where
   pub head_kept : IsSome (table font (codes "head")) → KeepsHead font out
   head_kept h =
-      let x = there s.head (head_there (table font) long s.head steps.head_is ∙ h) in
+      let x = some_of s.head (head_there (table font) long s.head steps.head_is ∙ h) in
       let n = head_from (table font) long x.0 (steps.head_is ∙ ap (λ (o : Option (List ℕ)). Ok o) x.1) in
       record {
         source = n.source;
@@ -62,24 +58,24 @@ module _ (font out : Font) (kind : FontFlavor) (long : Bool) (order : List ℕ) 
 
   metrics_kept : IsBytes font.bytes → 0 < length order → length order < 2 ^ 16 → IsSome (table font (codes "hmtx")) → KeepsMetrics (table font) order (table out)
   metrics_kept bytes some few h =
-      let x = there s.metrics (metrics_there (table font) order s.metrics steps.metrics_are ∙ h) in
+      let x = some_of s.metrics (metrics_there (table font) order s.metrics steps.metrics_are ∙ h) in
       keeps_metrics (table font) (table out) order x.0 (λ hmtx is. table_bytes font (codes "hmtx") hmtx bytes is) some few (steps.metrics_are ∙ ap (λ (o : Option MetricBytes). Ok o) x.1)
       (back.hhea ∙ ap (option_map (λ (y : MetricBytes). y.hhea)) x.1) (back.hmtx ∙ ap (option_map (λ (y : MetricBytes). y.hmtx)) x.1)
 
   max_profile_kept : length order < 2 ^ 16 → IsSome (table font (codes "maxp")) → IsMaxProfile (table font) kind (length order) (table out)
   max_profile_kept few h =
-      let x = there s.maxp (maxp_there (table font) kind (length order) s.maxp steps.maxp_is ∙ h) in
+      let x = some_of s.maxp (maxp_there (table font) kind (length order) s.maxp steps.maxp_is ∙ h) in
       is_max_profile (table font) (table out) kind (length order) x.0 few (steps.maxp_is ∙ ap (λ (o : Option (List ℕ)). Ok o) x.1) (back.maxp ∙ x.1)
 
   names_kept : IsBytes font.bytes → IsSome (table font (codes "name")) → KeepsTable font out (codes "name") KeepsNames
   names_kept bytes h =
-      let x = there s.name (name_there (table font) s.name steps.name_is ∙ h) in
+      let x = some_of s.name (name_there (table font) s.name steps.name_is ∙ h) in
       let n = name_tables (table font) x.0 (steps.name_is ∙ ap (λ (o : Option (List ℕ)). Ok o) x.1) in
       record { source = n.0; source_is = n.1; copy = x.0; copy_is = back.name ∙ x.1; kept = keeps_table n.0 x.0 (table_bytes font (codes "name") n.0 bytes n.1) n.2 }
 
   glyph_names_kept : IsBytes font.bytes → length order < 2 ^ 16 → IsSome (table font (codes "post")) → KeepsTable font out (codes "post") (λ source copy. KeepsGlyphNames source copy order)
   glyph_names_kept bytes few h =
-      let x = there s.post (post_there (table font) order s.post steps.post_is ∙ h) in
+      let x = some_of s.post (post_there (table font) order s.post steps.post_is ∙ h) in
       let n = glyph_name_tables (table font) order x.0 (steps.post_is ∙ ap (λ (o : Option (List ℕ)). Ok o) x.1) in
       record { source = n.0; source_is = n.1; copy = x.0; copy_is = back.post ∙ x.1; kept = keeps_post n.0 x.0 order (table_bytes font (codes "post") n.0 bytes n.1) few n.2 }
 

@@ -9,6 +9,7 @@ use Rattle.subsetter_base.specs.Bytes.{IsBytes}
 use Rattle.subsetter_base.specs.declared.error.Error.{Error}
 use Rattle.subsetter_base.specs.declared.error.Error.TheVariants.{MalformedFont}
 use Rattle.subsetter_base.proofs.Results.{named_ok}
+use Rattle.subsetter_base.proofs.Options.{just_is}
 use Rattle.subsetter.specs.declared.sfnt.flavor.FontFlavor.TheVariants.{TrueType}
 use Rattle.subsetter.specs.Sfnt.Container.{IsSoundContainer, AscendFrom}
 use Rattle.subsetter.specs.Sfnt.Read.{Font, as_font, table, flavor}
@@ -82,12 +83,6 @@ laid_tags find t order m h s =
 some_glyph : (glyphs others order : List ℕ) → order ≡ glyphs ++ others → 0 < length glyphs → 0 < length order
 some_glyph glyphs others order e lt = omega (arith, ap length e, length-append glyphs others)
 
-abbrev bytes_there : List ℕ → Option (List ℕ)
-bytes_there b = Some b
-
-same_bytes : (a b : List ℕ) → bytes_there a ≡ bytes_there b → a ≡ b
-same_bytes a b h = cc
-
 -- head was made of the head that the outlines were read with
 made_head : (find : List ℕ → Option (List ℕ)) (t : Outlines) (order : List ℕ) (m : Made) → HasTables find t → MadeSteps find t order m → m.shared.head ≡ Some (head_bytes (is_long m.outlines) t.head)
 made_head find t order m h s = by m.shared.head refl
@@ -98,7 +93,7 @@ made_head find t order m h s = by m.shared.head refl
         absurd (let f = sym (ap (λ (o : Option (List ℕ)). is_some o) e) ∙ there ∙ ap (λ (o : Option (List ℕ)). is_some o) h.head_is in cc)
     by (Some new) e =
         let n = head_from find (is_long m.outlines) new (s.shared.head_is ∙ ap (λ (o : Option (List ℕ)). Ok o) e) in
-        let same : n.source ≡ t.head = same_bytes n.source t.head (sym n.source_is ∙ h.head_is) in
+        let same : n.source ≡ t.head = just_is n.source t.head (sym n.source_is ∙ h.head_is) in
         e ∙ ap (λ (b : List ℕ). Some b) (n.new_is ∙ ap (λ (b : List ℕ). head_bytes (is_long m.outlines) b) same)
 
 module _ (font : Font) (t : Outlines) (order : List ℕ) (m : Made) (read : outlines font ≡ Some t) (s : MadeSteps (table font) t order m) (fit : fits (start_of (laid (table font) m)) (laid (table font) m) ≡ true) where
