@@ -14,7 +14,7 @@ use Rattle.subsetter_cffdata.specs.Dict.{Entry}
 use Rattle.subsetter_cffdata.specs.Numbers.{Number, is_too_long}
 use Rattle.subsetter_cffdata.specs.Owned.{FitIndex}
 use Rattle.subsetter_cffdata.specs.Views.{number_of}
-use Rattle.subsetter_cff.specs.Plain.{any_long, entry_numbers}
+use Rattle.subsetter_cff.specs.WrittenNumbers.{any_long, entry_numbers}
 use Rattle.subsetter_cff.specs.Rewritten.{is_refused, behind, written_entries}
 use Rattle.subsetter_cff.specs.TableLimits.{limit, short, has_index}
 use Rattle.subsetter_cff.proofs.Rewriting.{refusal_is}

@@ -14,7 +14,8 @@ use Rattle.subsetter_cff.specs.declared.new_table.NewTable.{NewTable}
 use Rattle.subsetter_cff.specs.Layout.{FontDict, Parts, Places, TopDict, strings, front, nowhere, charset_bytes, select_bytes, privates, private_bytes, font_dicts_from, font_dicts_of, top_lines, top_lines_by, char_strings_place}
 use Rattle.subsetter_cff.specs.NewTable.{font_dict_view, parts_view, top_by, front_by, select_of_table, HasCharStrings}
 use Rattle.subsetter_cff.specs.Opened.{check}
-use Rattle.subsetter_cff.specs.Plain.{any_long, entry_numbers, font_dict_numbers, written_numbers, limited}
+use Rattle.subsetter_cff.specs.Plain.{limited}
+use Rattle.subsetter_cff.specs.WrittenNumbers.{any_long, entry_numbers, font_dict_numbers, written_numbers}
 use Rattle.subsetter_cff.specs.TableBy.{front_size, new_dicts}
 use Rattle.subsetter_cff.specs.TableLimits.{limit, short, is_offset, has_index, numbers_limits, top_limits, front_limits, dict_limits, dicts_limits, pieces_limits, places_limits, laid_limits, table_limits}
 use Rattle.subsetter_cff.proofs.FlatIndexes.{length-ends}

@@ -28,7 +28,8 @@ use Rattle.subsetter_cff.specs.Matrices.{thousandth_matrix, zero_box}
 use Rattle.subsetter_cff.specs.NewMatrix.{shown, new_top_matrix, new_box}
 use Rattle.subsetter_cff.specs.NewParts.{stored_dict, made_dict, only_font_dict, with_dicts, select_by, all_parts, parts_by}
 use Rattle.subsetter_cff.specs.NewTable.{font_dict_view, parts_view, select_of_table, string_view}
-use Rattle.subsetter_cff.specs.Opened.{Demand, so_many, all_meet, all_lead, top_demands, font_dict_demands, sound_font_dicts}
+use Rattle.subsetter_cff.specs.OperandDemands.{Demand, so_many, top_demands, font_dict_demands}
+use Rattle.subsetter_cff.specs.Opened.{all_meet, all_lead, sound_font_dicts}
 use Rattle.subsetter_cff.specs.Operators.{copyright_operator, notice_operator, font_name_operator, font_matrix_operator, font_box_operator}
 use Rattle.subsetter_cff.specs.Plain.{KeptGlyph, used_numbers, as_source_dict, source_dict, new_font_dict, new_font_dicts, new_select, parts_for}
 use Rattle.subsetter_cff.specs.PrivateView.{private_view}
@@ -37,7 +38,7 @@ use Rattle.subsetter_cff.specs.Source.{cff_of, IsSource}
 use Rattle.subsetter_cff.specs.Strings.{FontString, string_at}
 use Rattle.subsetter_cff.specs.TopDicts.{last_numbers}
 use Rattle.subsetter_cff.specs.UsedFontDicts.{used_font_dicts, new_place}
-use Rattle.subsetter_cff.proofs.DictFaults.{both_hold}
+use Rattle.subsetter_cff.proofs.Holding.{both}
 use Rattle.subsetter_cff.proofs.Failing.{fails_on}
 use Rattle.subsetter_cff.proofs.GlyphsKept.{keyed_as}
 use Rattle.subsetter_cff.proofs.LastHolds.{Held, last_holds, string_named}
@@ -72,11 +73,11 @@ found_dict cff [] [] n f are sound at = absurd (none-some f at)
 found_dict cff [] (g ∷ fs) n f are sound at = absurd are
 found_dict cff (d ∷ ds) [] n f are sound at = absurd are
 found_dict cff (d ∷ ds) (g ∷ fs) zero f are sound at =
-    let met = (both_hold (all_meet font_dict_demands (entries d)) (all_lead cff.bytes (entries d) && sound_font_dicts cff.bytes (map entries ds)) sound).0 in
+    let met = (both (all_meet font_dict_demands (entries d)) (all_lead cff.bytes (entries d) && sound_font_dicts cff.bytes (map entries ds)) sound).0 in
     stored_is cff (entries d) g met are.0 ∙ ap (λ (x : StoredDict). Some (stored_dict cff.strings x)) (same_Some g f at)
 found_dict cff (d ∷ ds) (g ∷ fs) (suc n) f are sound at =
-    let rest = both_hold (all_meet font_dict_demands (entries d)) (all_lead cff.bytes (entries d) && sound_font_dicts cff.bytes (map entries ds)) sound in
-    found_dict cff ds fs n f are.1 (both_hold (all_lead cff.bytes (entries d)) (sound_font_dicts cff.bytes (map entries ds)) rest.1).1 at
+    let rest = both (all_meet font_dict_demands (entries d)) (all_lead cff.bytes (entries d) && sound_font_dicts cff.bytes (map entries ds)) sound in
+    found_dict cff ds fs n f are.1 (both (all_lead cff.bytes (entries d)) (sound_font_dicts cff.bytes (map entries ds)) rest.1).1 at
 
 missing_dict : (table : List ℕ) (ds : List (List ℕ)) (fs : List StoredDict) (n : ℕ) → AreFontDicts table ds fs → length fs ≤ n → slice_get (map entries ds) n ≡ None
 missing_dict table [] [] n are le = refl

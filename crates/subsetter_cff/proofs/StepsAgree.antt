@@ -22,7 +22,7 @@ use Rattle.subsetter_cff.specs.TableBy.{table_by, table_bytes}
 use Rattle.subsetter_cff.specs.TableLimits.{table_limits}
 use Rattle.subsetter_cff.proofs.Failing.{fails_on}
 use Rattle.subsetter_cff.proofs.FlatIndexes.{length-ends}
-use Rattle.subsetter_cff.proofs.MadeOf.{length-kept}
+use Rattle.subsetter_cff.proofs.KeptSteps.{length-kept}
 use Rattle.subsetter_cff.proofs.LimitsKept.{limits_are, too_many}
 use Rattle.subsetter_cff.proofs.NewParts.{parts_for_is, parts_filled}
 use Rattle.subsetter_cff.proofs.TablesWritten.{table_is_laid_out}

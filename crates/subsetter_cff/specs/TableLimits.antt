@@ -11,7 +11,7 @@ use Rattle.subsetter_cff.specs.declared.new_table.NewTable.{NewTable}
 use Rattle.subsetter_cff.specs.Layout.{FontDict, Places, TopDict, nowhere, charset_bytes, select_bytes, privates, private_bytes, font_dicts_from, top_lines_by}
 use Rattle.subsetter_cff.specs.NewTable.{select_of_table, top_by}
 use Rattle.subsetter_cff.specs.Opened.{check}
-use Rattle.subsetter_cff.specs.Plain.{any_long, entry_numbers}
+use Rattle.subsetter_cff.specs.WrittenNumbers.{any_long, entry_numbers}
 use Rattle.subsetter_cff.specs.TableBy.{front_size, new_dicts, places_by}
 
 -- goes on where a limit is kept

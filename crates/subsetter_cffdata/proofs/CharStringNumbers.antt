@@ -1,6 +1,7 @@
 -- The numbers of a charstring: what is written is read again, and what is read can be written.
-use Rattle.std.proofs.Common.{◌≡◌, ℕ, ◌+◌, ◌-◌, ◌*◌, ◌/◌, ◌%◌, ◌<◌, Bool, true, false, List, [], ◌∷◌, ◌++◌, Option, Some, refl, ap, ◌∙◌, arith, pos, negsuc, FitsSigned, to_z, of_z, w16, w32, nat_lt, nat_le, if◌then◌else◌, ◌==◌, ◌-ℤ◌}
+use Rattle.std.proofs.Common.{◌≡◌, ℕ, ◌+◌, ◌*◌, ◌/◌, ◌%◌, ◌<◌, Bool, true, false, List, [], ◌∷◌, ◌++◌, Option, Some, None, refl, ap, ◌∙◌, arith, pos, negsuc, FitsSigned, to_z, of_z, w16, w32, nat_lt, nat_le, if◌then◌else◌, ◌==◌, ◌-ℤ◌, ◌-◌, ◌≤◌, length, drop, subst, length-append}
 use Rattle.std.proofs.lemmas.Int.{ints, to_z-of_z}
+use Rattle.std.proofs.lemmas.List.{drop_at}
 use Rattle.std.proofs.lemmas.Bool.Decides.{nat_tests}
 use Rattle.subsetter_cffdata.specs.declared.charstring_number.CharStringNumber.{CharStringNumber}
 use Rattle.subsetter_cffdata.specs.declared.charstring_number.CharStringNumber.TheVariants.{Integer, Fixed}
@@ -72,3 +73,52 @@ number_fits (first ∷ rest) =
     (λ _. by_test (nat_lt first 247) _ _ (λ h. let l : first < 247 = grind (arith, nat_tests) in small_fits first l)
     (λ _. by_test (nat_lt first 255) _ _ (λ h. let l : first < 255 = grind (arith, nat_tests) in middle_fits first rest l)
     (λ _. fixed_fits rest))))
+
+-- ---- what follows a number is the end of the bytes
+abbrev Behind : List ℕ → Option (CharStringNumber × List ℕ) → Type 0
+Behind bytes None = Unit {0}
+Behind bytes (Some x) = (front : List ℕ) × (bytes ≡ front ++ x.1)
+
+either : (bytes : List ℕ) (b : Bool) (x y : Option (CharStringNumber × List ℕ)) → Behind bytes x → Behind bytes y → Behind bytes (if b then x else y)
+either bytes true x y h k = h
+either bytes false x y h k = k
+
+short_behind : (first : ℕ) (bytes : List ℕ) → Behind (first ∷ bytes) (short_number bytes)
+short_behind first [] = tt
+short_behind first (a ∷ []) = tt
+short_behind first (a ∷ b ∷ rest) = (first ∷ a ∷ b ∷ [], refl)
+
+fixed_behind : (first : ℕ) (bytes : List ℕ) → Behind (first ∷ bytes) (fixed_number bytes)
+fixed_behind first [] = tt
+fixed_behind first (a ∷ []) = tt
+fixed_behind first (a ∷ b ∷ []) = tt
+fixed_behind first (a ∷ b ∷ c ∷ []) = tt
+fixed_behind first (a ∷ b ∷ c ∷ d ∷ rest) = (first ∷ a ∷ b ∷ c ∷ d ∷ [], refl)
+
+middle_behind : (first : ℕ) (bytes : List ℕ) → Behind (first ∷ bytes) (middle_number first bytes)
+middle_behind first [] = tt
+middle_behind first (second ∷ rest) =
+    either _ (nat_le 256 second) _ _ tt (either _ (nat_lt first 251) _ _ (first ∷ second ∷ [], refl) (first ∷ second ∷ [], refl))
+
+number_behind : (bytes : List ℕ) → Behind bytes (number_at bytes)
+unfolding number_at
+number_behind [] = tt
+number_behind (first ∷ rest) =
+    either _ (first == 28) _ _ (short_behind first rest) (either _ (nat_lt first 32) _ _ tt (either _ (nat_lt first 247) _ _ (first ∷ [], refl)
+    (either _ (nat_lt first 255) _ _ (middle_behind first rest) (fixed_behind first rest))))
+
+end_of : (bytes front rest : List ℕ) → bytes ≡ front ++ rest → (length rest ≤ length bytes) × (drop (length bytes - length rest) bytes ≡ rest)
+end_of bytes front rest e =
+    let len = length-append front rest in
+    rw e (omega (arith, len), drop_at front rest (length (front ++ rest) - length rest) (omega (arith, len)))
+
+follows : (bytes rest : List ℕ) (x : CharStringNumber) → number_at bytes ≡ Some (x, rest) → (length rest ≤ length bytes) × (drop (length bytes - length rest) bytes ≡ rest)
+follows bytes rest x e = let behind : Behind bytes (Some (x, rest)) = subst (Behind bytes) e (number_behind bytes) in end_of bytes behind.0 rest behind.1
+
+pub no_longer : (bytes rest : List ℕ) (x : CharStringNumber) → number_at bytes ≡ Some (x, rest) → length rest ≤ length bytes
+no_longer bytes rest x e = (follows bytes rest x e).0
+
+pub is_end : (bytes rest : List ℕ) (x : CharStringNumber) → number_at bytes ≡ Some (x, rest) → drop (length bytes - length rest) bytes ≡ rest
+is_end bytes rest x e = (follows bytes rest x e).1
+
+pub ruleset what_follows = (no_longer, is_end)

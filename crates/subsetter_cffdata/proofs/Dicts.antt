@@ -82,7 +82,7 @@ operator_step : (steps : ℕ) (operator rest : List ℕ) → IsOperator operator
 unfolding entry_in
 operator_step steps [] rest is = absurd is
 operator_step steps (b ∷ []) rest is = rw (is.0, ne_eqb b 12 is.1) refl
-operator_step steps (b ∷ c ∷ []) rest is = rw (is.0, byte_again c rest) refl
+operator_step steps (b ∷ c ∷ []) rest is = rw (is, byte_again c rest) refl
 operator_step steps (b ∷ c ∷ d ∷ more) rest is = absurd is
 
 pub entry_in_again : (operands : List Written) (operator : List ℕ) (steps : ℕ) (rest : List ℕ) → AllByRecursion FitsOperand operands → IsOperator operator → length operands ≤ steps

@@ -13,13 +13,13 @@ pub one_byte : (b : ℕ) (rest : List ℕ) → 32 ≤ b → b < 247 → short_in
 unfolding short_integer
 one_byte b rest low high = rw (le-ltb b 32 low, lt-ltb b 247 high) refl
 
-pub two_bytes : (b c : ℕ) (rest : List ℕ) → 247 ≤ b → b < 251 → short_integer b (c ∷ rest) ≡ Some (pos ((b - 247) * 256 + c + 108), rest)
+pub two_bytes : (b c : ℕ) (rest : List ℕ) → 247 ≤ b → b < 251 → c < 256 → short_integer b (c ∷ rest) ≡ Some (pos ((b - 247) * 256 + c + 108), rest)
 unfolding short_integer
-two_bytes b c rest low high = rw (byte_again c rest, le-ltb b 32 (omega arith), le-ltb b 247 low, lt-ltb b 251 high) refl
+two_bytes b c rest low high small = rw (byte_again c rest, le-ltb b 32 (omega arith), le-ltb b 247 low, lt-ltb b 251 high, lt-ltb c 256 small) refl
 
-pub two_bytes_below : (b c : ℕ) (rest : List ℕ) → 251 ≤ b → b < 255 → short_integer b (c ∷ rest) ≡ Some (neg_ℤ (pos ((b - 251) * 256 + c + 108)), rest)
+pub two_bytes_below : (b c : ℕ) (rest : List ℕ) → 251 ≤ b → b < 255 → c < 256 → short_integer b (c ∷ rest) ≡ Some (neg_ℤ (pos ((b - 251) * 256 + c + 108)), rest)
 unfolding short_integer
-two_bytes_below b c rest low high = rw (byte_again c rest, le-ltb b 32 (omega arith), le-ltb b 247 (omega arith), le-ltb b 251 low, lt-ltb b 255 high) refl
+two_bytes_below b c rest low high small = rw (byte_again c rest, le-ltb b 32 (omega arith), le-ltb b 247 (omega arith), le-ltb b 251 low, lt-ltb b 255 high, lt-ltb c 256 small) refl
 
 pub is_short : (b : ℕ) (rest : List ℕ) → 30 ≤ b → integer_from b rest ≡ short_integer b rest
 unfolding integer_from
@@ -42,13 +42,13 @@ within : (b : ℕ) (rest : List ℕ) (z : ℤ) → 32 ≤ b → b < 247 → pos 
 unfolding byte
 within b rest z low high e = is_short b rest (omega arith) ∙ one_byte b rest low high ∙ with_rest rest _ _ e
 
-above : (b c : ℕ) (rest : List ℕ) (z : ℤ) → 247 ≤ b → b < 251 → pos ((b - 247) * 256 + c + 108) ≡ z → integer_at (b ∷ c ∷ rest) ≡ Some (z, rest)
+above : (b c : ℕ) (rest : List ℕ) (z : ℤ) → 247 ≤ b → b < 251 → c < 256 → pos ((b - 247) * 256 + c + 108) ≡ z → integer_at (b ∷ c ∷ rest) ≡ Some (z, rest)
 unfolding byte
-above b c rest z low high e = is_short b (c ∷ rest) (omega arith) ∙ two_bytes b c rest low high ∙ with_rest rest _ _ e
+above b c rest z low high small e = is_short b (c ∷ rest) (omega arith) ∙ two_bytes b c rest low high small ∙ with_rest rest _ _ e
 
-below : (b c : ℕ) (rest : List ℕ) (z : ℤ) → 251 ≤ b → b < 255 → neg_ℤ (pos ((b - 251) * 256 + c + 108)) ≡ z → integer_at (b ∷ c ∷ rest) ≡ Some (z, rest)
+below : (b c : ℕ) (rest : List ℕ) (z : ℤ) → 251 ≤ b → b < 255 → c < 256 → neg_ℤ (pos ((b - 251) * 256 + c + 108)) ≡ z → integer_at (b ∷ c ∷ rest) ≡ Some (z, rest)
 unfolding byte
-below b c rest z low high e = is_short b (c ∷ rest) (omega arith) ∙ two_bytes_below b c rest low high ∙ with_rest rest _ _ e
+below b c rest z low high small e = is_short b (c ∷ rest) (omega arith) ∙ two_bytes_below b c rest low high small ∙ with_rest rest _ _ e
 
 pub integer_again : (z : ℤ) → FitsSigned w32 z → ReadAgain integer_at (integer z) z
 unfolding integer byte
@@ -56,7 +56,7 @@ integer_again (pos n) fits rest =
     elim (cases_lt n 108) [
       | inl a ↦ rw (lt-ltb n 108 a) (within (n + 139) rest (pos n) (omega arith) (omega arith) (omega (arith, ints)))
       | inr a ↦ rw (le-ltb n 108 a) (elim (cases_lt n 1132) [
-        | inl b ↦ rw (lt-ltb n 1132 b) (above ((n - 108) / 256 + 247) ((n - 108) % 256) rest (pos n) (omega arith) (omega arith) (omega (arith, ints)))
+        | inl b ↦ rw (lt-ltb n 1132 b) (above ((n - 108) / 256 + 247) ((n - 108) % 256) rest (pos n) (omega arith) (omega arith) (omega arith) (omega (arith, ints)))
         | inr b ↦ rw (le-ltb n 1132 b) (elim (cases_lt n 32768) [
           | inl d ↦ rw (lt-ltb n 32768 d) (by_28 (pos n) rest (record { sfits = d }))
           | inr d ↦ rw (le-ltb n 32768 d) (by_29 (pos n) rest fits)
@@ -67,7 +67,7 @@ integer_again (negsuc m) fits rest =
     elim (cases_lt (m + 1) 108) [
       | inl a ↦ rw (lt-ltb (m + 1) 108 a) (within (139 - (m + 1)) rest (negsuc m) (omega arith) (omega arith) (omega (arith, ints)))
       | inr a ↦ rw (le-ltb (m + 1) 108 a) (elim (cases_lt (m + 1) 1132) [
-        | inl b ↦ rw (lt-ltb (m + 1) 1132 b) (below ((m + 1 - 108) / 256 + 251) ((m + 1 - 108) % 256) rest (negsuc m) (omega arith) (omega arith) (omega (arith, ints)))
+        | inl b ↦ rw (lt-ltb (m + 1) 1132 b) (below ((m + 1 - 108) / 256 + 251) ((m + 1 - 108) % 256) rest (negsuc m) (omega arith) (omega arith) (omega arith) (omega (arith, ints)))
         | inr b ↦ rw (le-ltb (m + 1) 1132 b) (elim (cases_lt m 32768) [
           | inl d ↦ rw (lt-ltb m 32768 d) (by_28 (negsuc m) rest (record { sfits = d }))
           | inr d ↦ rw (le-ltb m 32768 d) (by_29 (negsuc m) rest fits)

@@ -17,3 +17,6 @@ pub mod RealTexts
 pub mod Entries
 pub mod Rows
 pub mod Values
+pub mod Options
+pub mod Powers
+pub mod BoundedNumbers

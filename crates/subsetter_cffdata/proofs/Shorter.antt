@@ -47,8 +47,8 @@ short_left : (b : ℕ) (bytes : List ℕ) → Left bytes (short_integer b bytes)
 unfolding short_integer
 short_left b bytes =
     choice bytes (ltb b 32) _ _ (nothing bytes) (choice bytes (ltb b 247) _ _ (found bytes bytes _ (omega arith))
-    (choice bytes (ltb b 251) _ _ (then bytes (byte bytes) (λ x. Some (pos ((b - 247) * 256 + x.0 + 108), x.1)) (byte_left bytes) (λ x le. found bytes x.1 (pos ((b - 247) * 256 + x.0 + 108)) le))
-    (choice bytes (ltb b 255) _ _ (then bytes (byte bytes) (λ x. Some (neg_ℤ (pos ((b - 251) * 256 + x.0 + 108)), x.1)) (byte_left bytes) (λ x le. found bytes x.1 (neg_ℤ (pos ((b - 251) * 256 + x.0 + 108))) le)) (nothing bytes))))
+    (choice bytes (ltb b 251) _ _ (then bytes (byte bytes) (λ x. cond (ltb x.0 256) (Some (pos ((b - 247) * 256 + x.0 + 108), x.1)) None) (byte_left bytes) (λ x le. choice bytes (ltb x.0 256) (Some (pos ((b - 247) * 256 + x.0 + 108), x.1)) None (found bytes x.1 (pos ((b - 247) * 256 + x.0 + 108)) le) (nothing bytes)))
+    (choice bytes (ltb b 255) _ _ (then bytes (byte bytes) (λ x. cond (ltb x.0 256) (Some (neg_ℤ (pos ((b - 251) * 256 + x.0 + 108)), x.1)) None) (byte_left bytes) (λ x le. choice bytes (ltb x.0 256) (Some (neg_ℤ (pos ((b - 251) * 256 + x.0 + 108)), x.1)) None (found bytes x.1 (neg_ℤ (pos ((b - 251) * 256 + x.0 + 108))) le) (nothing bytes))) (nothing bytes))))
 
 signed16_left : (bytes : List ℕ) → Left bytes (signed16 bytes)
 unfolding signed16

@@ -1,6 +1,8 @@
 -- The numbers of a charstring (Technical Note 5177, section 3.2 "Charstring Number Encoding").
 use Rattle.std.specs.Prelude.{◌≡◌, ℕ, ◌+◌, ◌-◌, ◌*◌, ◌/◌, ◌%◌, ℤ, pos, negsuc, ◌-ℤ◌, FitsSigned, List, [], ◌∷◌, ◌++◌, Option, Some, None, nat_lt, nat_le, ◌==◌, if◌then◌else◌}
 use Rattle.std.specs.Int.{cast_signed, cast_unsigned, w16, w32}
+use Rattle.std.specs.Option.{option_map}
+use Rattle.subsetter_cffdata.specs.Numbers as numbers
 use Rattle.subsetter_cffdata.specs.declared.charstring_number.CharStringNumber.{CharStringNumber}
 use Rattle.subsetter_cffdata.specs.declared.charstring_number.CharStringNumber.TheVariants.{Integer, Fixed}
 
@@ -33,6 +35,14 @@ number_at (first ∷ rest) =
     else if nat_lt first 247 then Some (Integer (pos first -ℤ pos 139), rest)
     else if nat_lt first 255 then middle_number first rest
     else fixed_number rest
+
+-- the same number among those of a DICT and of a charstring
+abbrev pub as_number : CharStringNumber → numbers.Number
+as_number (Integer v) = numbers.Integer v
+as_number (Fixed k) = numbers.Fixed k
+
+abbrev pub charstring_number_at : List ℕ → Option (numbers.Number × List ℕ)
+charstring_number_at bytes = option_map (λ x. (as_number x.0, x.1)) (number_at bytes)
 
 -- a whole number of two bytes
 abbrev pub written_short : ℕ → List ℕ

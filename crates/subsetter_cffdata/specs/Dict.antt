@@ -84,7 +84,7 @@ meaning l = record { operator = l.operator; operands = map value l.operands }
 abbrev pub IsOperator : List ℕ → Type 0
 IsOperator [] = ⊥
 IsOperator (b ∷ []) = IsTrue (is_operator b) × (b ≢ 12)
-IsOperator (b ∷ c ∷ []) = (b ≡ 12) × (c < 256)
+IsOperator (b ∷ c ∷ []) = b ≡ 12
 IsOperator (b ∷ c ∷ d ∷ more) = ⊥
 
 abbrev pub FitsOperand : Written → Type 0

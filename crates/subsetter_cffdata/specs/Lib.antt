@@ -11,6 +11,7 @@ pub mod OffsetSizes
 pub mod Operands
 pub mod Owned
 pub mod ParserView
+pub mod ReadNumbers
 pub mod Reading
 pub mod TextSteps
 pub mod TokenView

@@ -11,13 +11,13 @@ pub data Number : Type 0 where
   Fixed : ℤ → Number
 
 -- ---- reading: the number whose first byte is b
--- 32 to 246 stand for themselves less 139; 247 to 250 and 251 to 254 have one more byte
+-- 32 to 246 stand for themselves less 139; 247 to 250 and 251 to 254 have one more byte, and no byte is 256 or more
 unfoldable pub short_integer : ℕ → List ℕ → Option (ℤ × List ℕ)
 short_integer b bytes =
     if nat_lt b 32 then None else
     (if nat_lt b 247 then Some (pos b -ℤ pos 139, bytes) else
-    (if nat_lt b 251 then (byte bytes >>= λ low. Some (pos ((b - 247) * 256 + low.0 + 108), low.1)) else
-    (if nat_lt b 255 then (byte bytes >>= λ low. Some (neg_ℤ (pos ((b - 251) * 256 + low.0 + 108)), low.1)) else None)))
+    (if nat_lt b 251 then (byte bytes >>= λ low. if nat_lt low.0 256 then Some (pos ((b - 247) * 256 + low.0 + 108), low.1) else None) else
+    (if nat_lt b 255 then (byte bytes >>= λ low. if nat_lt low.0 256 then Some (neg_ℤ (pos ((b - 251) * 256 + low.0 + 108)), low.1) else None) else None)))
 
 -- two and four bytes in two's complement
 unfoldable pub signed16 : List ℕ → Option (ℤ × List ℕ)
@@ -35,13 +35,6 @@ integer_from b bytes =
 unfoldable pub dict_number_from : ℕ → List ℕ → Option (Number × List ℕ)
 dict_number_from b bytes =
     if b == 30 then (real_at bytes >>= λ d. Some (Real d.0, d.1)) else (integer_from b bytes >>= λ z. Some (Integer z.0, z.1))
-
--- in a charstring 29 and 30 are operators, and 255 has the four bytes of a Fixed
-unfoldable pub charstring_number_from : ℕ → List ℕ → Option (Number × List ℕ)
-charstring_number_from b bytes =
-    if b == 255 then (signed32 bytes >>= λ n. Some (Fixed n.0, n.1)) else
-    (if b == 28 then (signed16 bytes >>= λ n. Some (Integer n.0, n.1)) else
-    (short_integer b bytes >>= λ z. Some (Integer z.0, z.1)))
 
 abbrev pub at_front : {X : Type 0} → (ℕ → List ℕ → Option (X × List ℕ)) → List ℕ → Option (X × List ℕ)
 at_front from bytes = byte bytes >>= λ b. from b.0 b.1
@@ -65,9 +58,6 @@ fixed_number_at bytes = at_front fixed_from bytes
 
 abbrev pub dict_number_at : List ℕ → Option (Number × List ℕ)
 dict_number_at bytes = at_front dict_number_from bytes
-
-abbrev pub charstring_number_at : List ℕ → Option (Number × List ℕ)
-charstring_number_at bytes = at_front charstring_number_from bytes
 
 -- ---- writing
 -- an integer in the first form that holds it: of one byte, of two, of three, of five

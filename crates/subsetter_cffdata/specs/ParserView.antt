@@ -1,8 +1,9 @@
 -- Where a parser of a DICT stands.
-use Rattle.std.specs.Prelude.{ℕ, List, take, drop, map, length, Option}
+use Rattle.std.specs.Prelude.{ℕ, List, [], take, drop, map, length, Option}
+use Rattle.std.specs.Option.{option_map_or}
 use Rattle.subsetter_cffdata.specs.declared.dict.DictionaryParser.{DictionaryParser}
 use Rattle.subsetter_cffdata.specs.Numbers.{Number}
-use Rattle.subsetter_cffdata.specs.Operands.{string_at, offset_at, range_at, numbers_at}
+use Rattle.subsetter_cffdata.specs.Operands.{operands_at, string_at, offset_at, range_at, numbers_at}
 use Rattle.subsetter_cffdata.specs.Views.{number_of}
 
 -- the bytes behind the entry
@@ -16,6 +17,10 @@ entry_of p = drop p.operands_offset p.data.now
 -- the operands that were read
 abbrev pub shown : DictionaryParser → List Number
 shown p = map number_of (take p.operands_len p.operands.now)
+
+-- the operands of the entry, as many as are kept; none where no entry can be read
+abbrev pub operands_in : DictionaryParser → List Number
+operands_in p = option_map_or (λ xs. xs) (operands_at (length p.operands.now) (entry_of p)) []
 
 -- ---- what the entry's operands are, of as many as are kept
 abbrev pub string_in : DictionaryParser → Option ℕ

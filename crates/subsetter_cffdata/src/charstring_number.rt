@@ -197,7 +197,10 @@ impl CharStringNumber {
     {
         match *self {
             CharStringNumber::Integer(value) => append_integer(bytes, value),
-            CharStringNumber::Fixed(value) => bytes.extend_from_slice(fixed_bytes(value).as_slice()),
+            CharStringNumber::Fixed(value) => {
+                let number = fixed_bytes(value);
+                bytes.extend_from_slice(number.as_slice())
+            }
         }
     }
 

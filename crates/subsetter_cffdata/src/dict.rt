@@ -22,11 +22,11 @@ pub struct DictionaryParser<'a> {
 }
 
 impl<'a> DictionaryParser<'a> {
-    ghost use Rattle.std.specs.Prelude.{ℕ, List, ◌≡◌, take, drop, map, IfNone};
+    ghost use Rattle.std.specs.Prelude.{ℕ, List, [], ◌≡◌, take, drop, map, IfNone};
     ghost use Rattle.std.specs.Option.{option_map};
     ghost use Rattle.subsetter_cffdata.specs.Dict.{entry_at};
     ghost use Rattle.subsetter_cffdata.specs.Operands.{operands_at};
-    ghost use Rattle.subsetter_cffdata.specs.ParserView.{left, entry_of, shown, string_in, offset_in, range_in, numbers_in};
+    ghost use Rattle.subsetter_cffdata.specs.ParserView.{left, entry_of, shown, operands_in, string_in, offset_in, range_in, numbers_in};
     ghost use Rattle.subsetter_cffdata.specs.Tokens.{operator_part};
     ghost use Rattle.subsetter_cffdata.specs.Views.{number_of, operator_of};
 
@@ -37,6 +37,7 @@ impl<'a> DictionaryParser<'a> {
         ensures left { left result ≡ bytes.now }
         ensures same { result.data.now ≡ bytes.now }
         ensures room { length result.operands.now ≡ length operands.old }
+        ensures operands { shown result ≡ [] }
     {
         DictionaryParser {
             data: bytes,
@@ -51,6 +52,7 @@ impl<'a> DictionaryParser<'a> {
     pub fn parse_next(&mut self) -> Option<Operator>
         ensures value { operator_part (entry_at (left self.old)) ≡ option_map (λ x. (operator_of x, left self.new)) result }
         ensures none { IfNone result (left self.new ≡ left self.old) }
+        ensures operands { shown self.new ≡ shown self.old }
         ensures entry { entry_of self.new ≡ left self.old }
         ensures same { self.new.data.now ≡ self.old.data.now }
         ensures room { length self.new.operands.now ≡ length self.old.operands.now }
@@ -61,20 +63,22 @@ impl<'a> DictionaryParser<'a> {
         Some(operator)
     }
 
-    /// Reads the operands of the entry, as many as the buffer holds; None where no entry can be read.
+    /// Reads the operands of the entry, as many as the buffer holds; None where no entry can be read, and then none are shown.
     pub fn parse_operands(&mut self) -> Option<()>
-        ensures operands { option_map (λ _. shown self.new) result ≡ operands_at (length self.old.operands.now) (entry_of self.old) }
+        ensures shows { shown self.new ≡ operands_in self.old }
+        ensures value { option_map (λ _. shown self.new) result ≡ operands_at (length self.old.operands.now) (entry_of self.old) }
         ensures entry { entry_of self.new ≡ entry_of self.old }
         ensures left { left self.new ≡ left self.old }
         ensures same { self.new.data.now ≡ self.old.data.now }
         ensures room { length self.new.operands.now ≡ length self.old.operands.now }
     {
+        self.operands_len = 0;
         let len = read_operands(self.data, self.operands_offset, self.operands)?;
         self.operands_len = len as u16;
         Some(())
     }
 
-    /// The operands that were read.
+    /// The operands that were read last: none before the first reading, and none after one that failed.
     pub fn operands(&self) -> &[Number]
         ensures { map number_of result.now ≡ shown self.now }
     {
@@ -84,6 +88,7 @@ impl<'a> DictionaryParser<'a> {
     /// The entry's one string number; None where it has other operands.
     pub fn parse_sid(&mut self) -> Option<StringId>
         ensures value { option_map (λ s. s.0) result ≡ string_in self.old }
+        ensures shows { shown self.new ≡ operands_in self.old }
         ensures entry { entry_of self.new ≡ entry_of self.old }
         ensures left { left self.new ≡ left self.old }
         ensures same { self.new.data.now ≡ self.old.data.now }
@@ -96,6 +101,7 @@ impl<'a> DictionaryParser<'a> {
     /// The entry's one offset; None where it has other operands.
     pub fn parse_offset(&mut self) -> Option<usize>
         ensures value { result ≡ offset_in self.old }
+        ensures shows { shown self.new ≡ operands_in self.old }
         ensures entry { entry_of self.new ≡ entry_of self.old }
         ensures left { left self.new ≡ left self.old }
         ensures same { self.new.data.now ≡ self.old.data.now }
@@ -108,6 +114,7 @@ impl<'a> DictionaryParser<'a> {
     /// The entry's four numbers; None where it has other operands.
     pub fn parse_font_bbox(&mut self) -> Option<[Number; 4]>
         ensures value { option_map (map number_of) result ≡ numbers_in 4 self.old }
+        ensures shows { shown self.new ≡ operands_in self.old }
         ensures entry { entry_of self.new ≡ entry_of self.old }
         ensures left { left self.new ≡ left self.old }
         ensures same { self.new.data.now ≡ self.old.data.now }
@@ -120,6 +127,7 @@ impl<'a> DictionaryParser<'a> {
     /// The entry's six numbers; None where it has other operands.
     pub fn parse_font_matrix(&mut self) -> Option<[Number; 6]>
         ensures value { option_map (map number_of) result ≡ numbers_in 6 self.old }
+        ensures shows { shown self.new ≡ operands_in self.old }
         ensures entry { entry_of self.new ≡ entry_of self.old }
         ensures left { left self.new ≡ left self.old }
         ensures same { self.new.data.now ≡ self.old.data.now }
@@ -132,6 +140,7 @@ impl<'a> DictionaryParser<'a> {
     /// The entry's length and offset, as a range; None where it has other operands.
     pub fn parse_range(&mut self) -> Option<Range<usize>>
         ensures value { option_map (λ r. (r.start, r.end)) result ≡ range_in self.old }
+        ensures shows { shown self.new ≡ operands_in self.old }
         ensures entry { entry_of self.new ≡ entry_of self.old }
         ensures left { left self.new ≡ left self.old }
         ensures same { self.new.data.now ≡ self.old.data.now }

@@ -1,6 +1,6 @@
-//! What was written is read again, whatever follows.
+//! What was written is read again, whatever follows; what was read is bounded.
 
-ghost use Rattle.std.specs.Prelude.{◌≡◌, ◌<◌, ◌^◌, ℕ, ℤ, pos, FitsSigned, List, [], ◌∷◌, map, Some};
+ghost use Rattle.std.specs.Prelude.{◌≡◌, ◌≢◌, ◌<◌, ◌^◌, ℕ, ℤ, pos, FitsSigned, List, [], ◌∷◌, map, Some, None};
 ghost use Rattle.std.specs.Int.{w32};
 ghost use Rattle.std.specs.List.{AllByRecursion};
 ghost use Rattle.std.specs.Option.{option_map_or};
@@ -9,6 +9,8 @@ ghost use Rattle.subsetter_cffdata.specs.Dict.{Line, FitsLine, line, meaning, di
 ghost use Rattle.subsetter_cffdata.specs.Index.{index, index_at};
 ghost use Rattle.subsetter_cffdata.specs.Numbers.{Number, FitsDict, integer, integer_at, offset, number, dict_number_at};
 ghost use Rattle.subsetter_cffdata.specs.Owned.{FitIndex};
+ghost use Rattle.subsetter_cffdata.specs.ReadNumbers.{IsBounded, HasBounded};
+ghost use Rattle.subsetter_cffdata.specs.Values.{thousand};
 
 /// An integer that is written is read again.
 #[tactic(auto, using(crate::proofs::Integers::integer_again))]
@@ -50,4 +52,16 @@ pub fn dict_is_read_again()
 #[tactic(auto, using(crate::proofs::Entries::entries_step))]
 pub fn entries_follow_one_another()
     ensures { (bytes : List ℕ) → entries bytes ≡ option_map_or (λ e. kept e.0 ∷ entries e.1) (entry_at bytes) [] }
+{}
+
+/// The numbers of a DICT, whatever its bytes: an integer fits in 32 bits, and the power of ten of a real lies within 1127 in size.
+#[tactic(auto, using(crate::proofs::BoundedNumbers::entries_bounded))]
+pub fn read_numbers_are_bounded()
+    ensures { (bytes : List ℕ) → AllByRecursion HasBounded (entries bytes) }
+{}
+
+/// So a thousand times such a number is a number again.
+#[tactic(auto, using(crate::proofs::BoundedNumbers::thousand_there))]
+pub fn bounded_numbers_can_be_scaled()
+    ensures { (x : Number) → IsBounded x → thousand x ≢ None }
 {}

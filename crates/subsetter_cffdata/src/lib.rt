@@ -11,7 +11,7 @@ mod index_view;
 pub mod laws;
 pub mod number;
 mod offset_size;
-mod operands;
+pub mod operands;
 pub mod operator;
 pub mod reading;
 mod reading_index;

@@ -4,11 +4,13 @@ ghost use Rattle.std.specs.Prelude.{◌≡◌, ◌∷◌, ◌++◌, ◌↔◌, I
 ghost use Rattle.std.specs.Option.{option_map};
 ghost use Rattle.std.specs.Int.{w32, cast_unsigned, to_be_bytes};
 ghost use Rattle.subsetter_base.specs.declared.error.Error.TheVariants.{OutOfMemory, OverflowError};
-ghost use Rattle.subsetter_cffdata.specs.Numbers.{Integer as StoredInteger, number as written, is_too_long, integer, fixed, integer_at, integer_from, short_integer, fixed_number_at, dict_number_from, dict_number_at, charstring_number_from, charstring_number_at, fixed_as_i32, in_i32, as_i32, as_u32};
+ghost use Rattle.subsetter_cffdata.specs.Numbers.{Integer as StoredInteger, number as written, is_too_long, integer, fixed, integer_at, integer_from, short_integer, fixed_number_at, dict_number_from, dict_number_at, fixed_as_i32, in_i32, as_i32, as_u32};
+ghost use Rattle.subsetter_cffdata.specs.CharStringNumber.{as_number, charstring_number_at};
 ghost use Rattle.subsetter_cffdata.specs.Reading.{Takes};
 ghost use Rattle.subsetter_cffdata.specs.Values.{value, thousand, by_1000};
 ghost use Rattle.subsetter_cffdata.specs.Views.{decimal_of, number_of};
 
+use crate::charstring_number::{CharStringNumber, read_number};
 use crate::reading;
 pub use crate::real_number::RealNumber;
 pub use crate::string_id::StringId;
@@ -183,12 +185,24 @@ impl Number {
     }
 
     /// Reads a number of a charstring; None where no number stands there or it is cut short. Bytes 29 and 30 begin no number there.
+    #[tactic(auto, using(crate::proofs::CharStringNumbers::what_follows))]
     pub fn parse_char_string_number(r: &mut Reader<'_>) -> Option<Number>
         ensures value { Takes number_of result r.old r.new charstring_number_at }
         ensures same { r.new.bytes ≡ r.old.bytes }
     {
-        let b0 = reading::next_byte(r)?;
-        Self::parse_charstring_number(b0, r)
+        let bytes = reading::tail(r);
+        let (number, rest) = read_number(bytes)?;
+        reading::pass(r, bytes.len() - rest.len());
+        Some(Self::of_charstring(number))
+    }
+
+    fn of_charstring(number: CharStringNumber) -> Number
+        ensures { number_of result ≡ as_number number }
+    {
+        match number {
+            CharStringNumber::Integer(value) => Number::from_i32(i32::from(value)),
+            CharStringNumber::Fixed(value) => Number::Fixed(FixedNumber(value)),
+        }
     }
 
     /// The number of a DICT whose first byte was read.
@@ -200,19 +214,6 @@ impl Number {
         match b0 {
             30 => Some(Number::Real(RealNumber::parse_text(r)?)),
             _ => Some(Number::Integer(IntegerNumber::parse_from(b0, r)?)),
-        }
-    }
-
-    // The number of a charstring whose first byte was read.
-    #[tactic(auto, unfolding(crate::specs::Numbers::charstring_number_from))]
-    fn parse_charstring_number(b0: u8, r: &mut Reader<'_>) -> Option<Number>
-        ensures value { Takes number_of result r.old r.new (charstring_number_from b0) }
-        ensures same { r.new.bytes ≡ r.old.bytes }
-    {
-        match b0 {
-            255 => Some(Number::Fixed(FixedNumber(reading::next_i32(r)?))),
-            28 => Some(Number::Integer(IntegerNumber(i32::from(reading::next_i16(r)?)))),
-            _ => Some(Number::Integer(IntegerNumber::parse_short(b0, r)?)),
         }
     }
 

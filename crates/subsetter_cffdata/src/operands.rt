@@ -1,6 +1,6 @@
 //! The operands that operators demand (Technical Note 5176, section 4 "DICT Data", table 6 "Operand Types").
 
-ghost use Rattle.std.specs.Prelude.{◌≡◌, map};
+ghost use Rattle.std.specs.Prelude.{◌≡◌, ◌≤◌, map, IfSome};
 ghost use Rattle.std.specs.Option.{option_map};
 ghost use Rattle.subsetter_cffdata.specs.Operands.{string_operand, offset_operand, range_operands, just};
 ghost use Rattle.subsetter_cffdata.specs.Views.{number_of};
@@ -31,10 +31,11 @@ pub fn offset_of(operands: &[Number]) -> Option<usize>
     }
 }
 
-/// A length and an offset.
+/// A length and an offset, as a range that ends no earlier than it begins.
 #[tactic(auto, unfolding(crate::specs::Operands::range_operands))]
 pub fn range_of(operands: &[Number]) -> Option<Range<usize>>
-    ensures { option_map (λ r. (r.start, r.end)) result ≡ range_operands (map number_of operands.now) }
+    ensures value { option_map (λ r. (r.start, r.end)) result ≡ range_operands (map number_of operands.now) }
+    ensures order { IfSome result (λ r. r.start ≤ r.end) }
 {
     match operands {
         [size, offset] => {

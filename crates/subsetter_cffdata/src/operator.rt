@@ -38,6 +38,16 @@ impl Operator {
         let bytes = [TWO_BYTE_OPERATOR_MARK, b];
         Self(OperatorType::TwoByteOperator(bytes))
     }
+
+    /// The bytes of the operator.
+    pub fn as_slice(&self) -> &[u8]
+        ensures { result.now ≡ operator_of self.now }
+    {
+        match &self.0 {
+            OperatorType::OneByteOperator(b) => b,
+            OperatorType::TwoByteOperator(b) => b,
+        }
+    }
 }
 
 /// The bytes in decimal, joined.
@@ -63,9 +73,6 @@ impl Writeable for Operator {
     ghost bytes_of = { λ operator. operator_of operator };
 
     fn write(&self, w: &mut Writer) -> Result<(), Error> {
-        match &self.0 {
-            OperatorType::OneByteOperator(b) => w.extend(b),
-            OperatorType::TwoByteOperator(b) => w.extend(b),
-        }
+        w.extend(self.as_slice())
     }
 }

@@ -1,6 +1,7 @@
 pub mod OutputLemmas
 pub mod ProgramLemmas
 pub mod Runs
+pub mod BehindRuns
 pub mod RecursionLemmas
 pub mod Replay
 pub mod Acts

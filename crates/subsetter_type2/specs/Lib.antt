@@ -10,4 +10,5 @@ pub mod ProgramView
 pub mod View
 pub mod MachineView
 pub mod Reached
+pub mod Behind
 pub mod Recursion

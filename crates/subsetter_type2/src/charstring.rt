@@ -2,6 +2,7 @@
 
 ghost use Rattle.std.specs.Prelude.{◌≡◌};
 ghost use Rattle.subsetter_base.specs.Gives.{Gives};
+ghost use Rattle.subsetter_type2.specs.Behind.{behind};
 ghost use Rattle.subsetter_type2.specs.Flat.{flat_form};
 ghost use Rattle.subsetter_type2.specs.ProgramView.{program_bytes};
 
@@ -74,9 +75,23 @@ impl<'a> Decompiler<'a> {
     ///
     /// `CFFError` where the charstring is malformed or passes a limit, `Unimplemented` where it ends by putting two
     /// glyphs together.
+    #[tactic(auto, using(crate::proofs::BehindRuns::behind_none))]
     pub fn flatten(self, alloc: Global, charstring: CharString<'a>) -> Result<Vec<u8>, Error>
         ensures { Gives (λ bytes. bytes.items) result (flat_form self.entry.library self.entry.tokens self.entry.depth charstring.now) }
     {
-        flattening::flatten(alloc, &self.subroutines, &self.limits, charstring)
+        self.flatten_behind(Vec::new(alloc), charstring)
+    }
+
+    /// The charstring without its subroutines, written behind these bytes; they are lost where it can't be.
+    ///
+    /// The errors are those of `flatten`.
+    pub fn flatten_behind(
+        self,
+        bytes: Vec<u8>,
+        charstring: CharString<'a>,
+    ) -> Result<Vec<u8>, Error>
+        ensures { Gives (λ all. all.items) result (behind bytes.items (flat_form self.entry.library self.entry.tokens self.entry.depth charstring.now)) }
+    {
+        flattening::flatten_behind(bytes, &self.subroutines, &self.limits, charstring)
     }
 }

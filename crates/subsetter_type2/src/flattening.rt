@@ -4,6 +4,7 @@ ghost use Rattle.std.specs.Prelude.{◌≡◌, ◌∷◌, ◌<◌, ◌≤◌, []
 ghost use Rattle.subsetter_type2.specs.Machine.{unended, rests_after};
 ghost use Rattle.subsetter_type2.specs.View.{rests_of};
 ghost use Rattle.subsetter_type2.specs.MachineView.{library_of, lead_of};
+ghost use Rattle.subsetter_type2.specs.Behind.{behind};
 ghost use Rattle.subsetter_type2.specs.Flat.{flat_form};
 ghost use Rattle.subsetter_base.specs.Gives.{Gives};
 ghost use Rattle.subsetter_base.specs.declared.error.Error.TheVariants.{CFFError};
@@ -12,7 +13,6 @@ use crate::fixed_stack::FixedStack;
 use crate::limits::Limits;
 use crate::machine::{Flow, Machine, Subroutines};
 use crate::output::Output;
-use std::alloc::Global;
 use subsetter_base::error::Error;
 
 /// What is left of the innermost charstring that is not at its end, taken off the stack.
@@ -75,44 +75,43 @@ fn follow<'a, const N: usize>(
     }
 }
 
-/// The flat form of a charstring, with room for so many rests.
+/// The flat form of a charstring behind these bytes, with room for so many rests.
 fn flatten_within<'a, const N: usize>(
-    alloc: Global,
+    bytes: Vec<u8>,
     subroutines: &Subroutines<'a>,
     limits: &Limits,
     charstring: &'a [u8],
 ) -> Result<Vec<u8>, Error>
     requires few { N ≤ 255 }
     requires room { limits.now.depth ≤ N }
-    ensures { Gives (λ bytes. bytes.items) result (flat_form (library_of subroutines.now) limits.now.tokens limits.now.depth charstring.now) }
+    ensures { Gives (λ all. all.items) result (behind bytes.items (flat_form (library_of subroutines.now) limits.now.tokens limits.now.depth charstring.now)) }
 {
-    let output = Output::with_capacity(alloc, charstring.len())?;
-    let mut machine = Machine::new(output);
+    let mut machine = Machine::new(Output::behind(bytes));
     let mut rests: FixedStack<&'a [u8], N> = FixedStack::new(charstring);
     let mut running = charstring;
     let mut tokens = limits.tokens;
-    while let Some(bytes) = innermost(running, &mut rests) {
+    while let Some(token) = innermost(running, &mut rests) {
         if tokens == 0 {
             return Err(Error::CFFError);
         }
         tokens -= 1;
-        let flow = machine.act_at(subroutines, bytes)?;
+        let flow = machine.act_at(subroutines, token)?;
         running = follow(&mut rests, flow, limits.depth)?;
     }
     Ok(machine.output.finish())
 }
 
-/// The flat form of a charstring.
-pub fn flatten<'a>(
-    alloc: Global,
+/// The flat form of a charstring behind these bytes.
+pub fn flatten_behind<'a>(
+    bytes: Vec<u8>,
     subroutines: &Subroutines<'a>,
     limits: &Limits,
     charstring: &'a [u8],
 ) -> Result<Vec<u8>, Error>
-    ensures { Gives (λ bytes. bytes.items) result (flat_form (library_of subroutines.now) limits.now.tokens limits.now.depth charstring.now) }
+    ensures { Gives (λ all. all.items) result (behind bytes.items (flat_form (library_of subroutines.now) limits.now.tokens limits.now.depth charstring.now)) }
 {
     if limits.depth() <= 64 {
-        return flatten_within::<64>(alloc, subroutines, limits, charstring);
+        return flatten_within::<64>(bytes, subroutines, limits, charstring);
     }
-    flatten_within::<255>(alloc, subroutines, limits, charstring)
+    flatten_within::<255>(bytes, subroutines, limits, charstring)
 }

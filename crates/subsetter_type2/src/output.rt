@@ -1,13 +1,12 @@
 //! The bytes of the flat form, with the operands that no operator has taken yet at their end.
 
-ghost use Rattle.std.specs.Prelude.{◌≡◌, ◌++◌, [], OnOk, IfOk, IfErr};
+ghost use Rattle.std.specs.Prelude.{◌≡◌, ◌++◌, [], OnOk, IfErr};
 ghost use Rattle.subsetter_base.specs.declared.error.Error.TheVariants.{OutOfMemory};
 ghost use Rattle.subsetter_cffdata.specs.Views.{operator_of};
 ghost use Rattle.subsetter_type2.specs.Flat.{flat_operands};
 
 use crate::fixed_stack::FixedStack;
 use crate::sink::Sink;
-use std::alloc::Global;
 use std::marker::Model;
 use subsetter_base::error::Error;
 use subsetter_cffdata::charstring_number::CharStringNumber;
@@ -71,15 +70,14 @@ impl<'a> Sink<'a> for Output {
 }
 
 impl Output {
-    /// Nothing is written yet, and there is room for so many bytes.
-    pub fn with_capacity(alloc: Global, capacity: usize) -> Result<Self, Error>
-        ensures ok { IfOk result (λ output. output ≡ record { settled = []; operands = [] }) }
-        ensures err { IfErr result (λ e. e ≡ OutOfMemory) }
+    /// Nothing is written yet behind these bytes.
+    pub fn behind(bytes: Vec<u8>) -> Self
+        ensures { result ≡ record { settled = bytes.items; operands = [] } }
     {
-        Ok(Output {
-            bytes: Vec::with_capacity(alloc, capacity)?,
+        Output {
+            bytes,
             operands: FixedStack::new(Operand::default()),
-        })
+        }
     }
 
     /// All that is written.

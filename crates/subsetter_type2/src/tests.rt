@@ -27,13 +27,14 @@ impl<'a> Lists<'a> {
     fn local(local: &'a [Option<CharString<'a>>]) -> Self {
         Lists { global: &[], local }
     }
-
 }
 
 /// The bytes of an INDEX with these entries, of which the first alone may be unreadable.
 fn index_bytes(alloc: Global, entries: &[Option<CharString<'_>>]) -> Result<Vec<u8>, Error> {
     let mut bytes = Vec::new(alloc);
-    let count = u16::try_from(entries.len()).ok().ok_or(Error::OverflowError)?;
+    let count = u16::try_from(entries.len())
+        .ok()
+        .ok_or(Error::OverflowError)?;
     bytes.extend_from_slice(&count.to_be_bytes())?;
     if entries.is_empty() {
         return Ok(bytes);
@@ -191,130 +192,6 @@ fn entries(alloc: Global, bodies: &Vec<Vec<u8>>) -> Result<Vec<Option<CharString
 }
 
 #[test]
-fn subroutines_are_inlined(rt: HostRuntime) {
-    let alloc = rt.alloc();
-    let usual = Limits::default();
-    let global = Lists {
-        global: &[Some(&[149, 22, 11])],
-        local: &[],
-    };
-    gives(&rt, alloc, &global, usual, &[32, 29, 14], &[149, 22, 14]);
-    let moves = Lists::local(&[Some(&[21, 14])]);
-    gives(
-        &rt,
-        alloc,
-        &moves,
-        usual,
-        &[139, 140, 32, 10],
-        &[139, 140, 21, 14],
-    );
-    let two = Lists::local(&[Some(&[33, 11]), Some(&[22])]);
-    gives(&rt, alloc, &two, usual, &[32, 10, 10, 14], &[22, 14]);
-}
-
-#[test]
-fn flat_charstrings_stay(rt: HostRuntime) {
-    let alloc = rt.alloc();
-    let usual = Limits::default();
-    let none = Lists::local(&[]);
-    gives(
-        &rt,
-        alloc,
-        &none,
-        usual,
-        &[140, 141, 1, 142, 143, 19, 192, 14],
-        &[140, 141, 1, 142, 143, 19, 192, 14],
-    );
-    gives(&rt, alloc, &none, usual, &[139, 140], &[139, 140]);
-    gives(&rt, alloc, &none, usual, &[], &[]);
-    gives(&rt, alloc, &none, usual, &[28, 0, 0, 14], &[139, 14]);
-    gives(
-        &rt,
-        alloc,
-        &none,
-        usual,
-        &[255, 0, 1, 0, 0, 14],
-        &[255, 0, 1, 0, 0, 14],
-    );
-    gives(&rt, alloc, &none, usual, &[14, 5, 5], &[14]);
-}
-
-#[test]
-fn masks_take_their_operands_and_bytes(rt: HostRuntime) {
-    let alloc = rt.alloc();
-    let usual = Limits::default();
-    let ends = Lists::local(&[Some(&[14])]);
-
-    // The second mask leaves the call no operand.
-    fails(
-        &rt,
-        alloc,
-        &ends,
-        usual,
-        &[140, 141, 1, 142, 143, 19, 192, 32, 19, 128, 10],
-        Error::CFFError,
-    );
-
-    // Sixteen more stems after the first mask of one byte: the second one has one byte too.
-    let none = Lists::local(&[]);
-    let grown = [
-        140, 141, 1, 19, 128, 139, 139, 139, 139, 139, 139, 139, 139, 139, 139, 139, 139, 139, 139,
-        139, 139, 1, 20, 64, 14,
-    ];
-    gives(&rt, alloc, &none, usual, &grown, &grown);
-
-    // A mask without stems has no bytes, and the length is set by the next one.
-    let late = [19, 140, 141, 20, 128, 14];
-    gives(&rt, alloc, &none, usual, &late, &late);
-}
-
-#[test]
-fn calls_need_a_whole_operand(rt: HostRuntime) {
-    let alloc = rt.alloc();
-    let usual = Limits::default();
-    let ends = Lists::local(&[Some(&[14])]);
-    gives(&rt, alloc, &ends, usual, &[255, 255, 149, 0, 0, 10], &[14]);
-    fails(
-        &rt,
-        alloc,
-        &ends,
-        usual,
-        &[255, 255, 149, 0, 1, 10],
-        Error::CFFError,
-    );
-}
-
-#[test]
-fn malformed_charstrings_are_refused(rt: HostRuntime) {
-    let alloc = rt.alloc();
-    let usual = Limits::default();
-    let none = Lists::local(&[]);
-    fails(&rt, alloc, &none, usual, &[10], Error::CFFError);
-    fails(&rt, alloc, &none, usual, &[0], Error::CFFError);
-    fails(&rt, alloc, &none, usual, &[12], Error::CFFError);
-    fails(&rt, alloc, &none, usual, &[28, 0], Error::CFFError);
-    fails(
-        &rt,
-        alloc,
-        &none,
-        usual,
-        &[139, 139, 140, 141, 14],
-        Error::Unimplemented,
-    );
-}
-
-#[test]
-fn the_stack_holds_48(rt: HostRuntime) {
-    let alloc = rt.alloc();
-    let usual = Limits::default();
-    let none = Lists::local(&[]);
-    let mut full = [139; 49];
-    full[48] = 5;
-    gives(&rt, alloc, &none, usual, &full, &full);
-    fails(&rt, alloc, &none, usual, &[139; 49], Error::CFFError);
-}
-
-#[test]
 fn the_bias_is_by_the_count(rt: HostRuntime) {
     let alloc = rt.alloc();
     let usual = Limits::default();
@@ -333,70 +210,6 @@ fn the_bias_is_by_the_count(rt: HostRuntime) {
     fails(&rt, alloc, &many, usual, &[254, 255, 10], Error::CFFError);
 }
 
-#[test]
-fn tokens_are_limited_where_subroutines_double(rt: HostRuntime) -> Result<(), Fail> {
-    let alloc = rt.alloc();
-    let mut bodies = Vec::new(alloc);
-    for k in 0..17u8 {
-        bodies.push(vec![in alloc; k + 33, 10, k + 33, 10, 11]?)?;
-    }
-    bodies.push(vec![in alloc; 11u8]?)?;
-    let list = entries(alloc, &bodies).ok().ok_or("memory")?;
-    let doubled_17_times = Lists::local(&list);
-    gives(
-        &rt,
-        alloc,
-        &doubled_17_times,
-        Limits::default(),
-        &[32, 10, 14],
-        &[14],
-    );
-    let fits = Limits::new(786_430, 64).ok_or("depth")?;
-    gives(&rt, alloc, &doubled_17_times, fits, &[32, 10, 14], &[14]);
-    let short = Limits::new(786_429, 64).ok_or("depth")?;
-    fails(
-        &rt,
-        alloc,
-        &doubled_17_times,
-        short,
-        &[32, 10, 14],
-        Error::CFFError,
-    );
-    Ok(())
-}
-
-#[test]
-fn tokens_are_limited_where_subroutines_double_again(rt: HostRuntime) -> Result<(), Fail> {
-    let alloc = rt.alloc();
-    let mut bodies = Vec::new(alloc);
-    for k in 0..18u8 {
-        bodies.push(vec![in alloc; k + 33, 10, k + 33, 10, 11]?)?;
-    }
-    bodies.push(vec![in alloc; 11u8]?)?;
-    let list = entries(alloc, &bodies).ok().ok_or("memory")?;
-    let doubled_18_times = Lists::local(&list);
-    fails(
-        &rt,
-        alloc,
-        &doubled_18_times,
-        Limits::default(),
-        &[32, 10, 14],
-        Error::CFFError,
-    );
-    let fits = Limits::new(1_572_862, 64).ok_or("depth")?;
-    gives(&rt, alloc, &doubled_18_times, fits, &[32, 10, 14], &[14]);
-    let short = Limits::new(1_572_861, 64).ok_or("depth")?;
-    fails(
-        &rt,
-        alloc,
-        &doubled_18_times,
-        short,
-        &[32, 10, 14],
-        Error::CFFError,
-    );
-    Ok(())
-}
-
 /// So many subroutines, each of which calls the next, and the last of which ends the glyph. Number k calls number
 /// k + 1 by the operand k - 106, in its shortest form.
 fn chain(alloc: Global, count: u8) -> Result<Vec<Vec<u8>>, Error> {
@@ -410,77 +223,6 @@ fn chain(alloc: Global, count: u8) -> Result<Vec<Vec<u8>>, Error> {
     }
     bodies.push(vec![in alloc; 14u8]?)?;
     Ok(bodies)
-}
-
-#[test]
-fn depth_is_limited(rt: HostRuntime) -> Result<(), Fail> {
-    let alloc = rt.alloc();
-    let bodies_63 = chain(alloc, 63).ok().ok_or("memory")?;
-    let list_63 = entries(alloc, &bodies_63).ok().ok_or("memory")?;
-    gives(
-        &rt,
-        alloc,
-        &Lists::local(&list_63),
-        Limits::default(),
-        &[32, 10],
-        &[14],
-    );
-    let bodies_64 = chain(alloc, 64).ok().ok_or("memory")?;
-    let list_64 = entries(alloc, &bodies_64).ok().ok_or("memory")?;
-    fails(
-        &rt,
-        alloc,
-        &Lists::local(&list_64),
-        Limits::default(),
-        &[32, 10],
-        Error::CFFError,
-    );
-    let one_more = Limits::new(1_000_000, 65).ok_or("depth")?;
-    gives(
-        &rt,
-        alloc,
-        &Lists::local(&list_64),
-        one_more,
-        &[32, 10],
-        &[14],
-    );
-    let endless = Lists::local(&[Some(&[32, 10])]);
-    fails(
-        &rt,
-        alloc,
-        &endless,
-        Limits::default(),
-        &[32, 10],
-        Error::CFFError,
-    );
-    Ok(())
-}
-
-#[test]
-fn the_greatest_depth_is_255(rt: HostRuntime) -> Result<(), Fail> {
-    let alloc = rt.alloc();
-    let deepest = Limits::new(1_000_000, 255).ok_or("depth")?;
-    let bodies_254 = chain(alloc, 254).ok().ok_or("memory")?;
-    let list_254 = entries(alloc, &bodies_254).ok().ok_or("memory")?;
-    gives(
-        &rt,
-        alloc,
-        &Lists::local(&list_254),
-        deepest,
-        &[32, 10],
-        &[14],
-    );
-    let bodies_255 = chain(alloc, 255).ok().ok_or("memory")?;
-    let list_255 = entries(alloc, &bodies_255).ok().ok_or("memory")?;
-    fails(
-        &rt,
-        alloc,
-        &Lists::local(&list_255),
-        deepest,
-        &[32, 10],
-        Error::CFFError,
-    );
-    Ok(())
 }
 
 #[test]
@@ -503,29 +245,6 @@ fn the_least_limits(rt: HostRuntime) -> Result<(), Fail> {
     Ok(())
 }
 
-/// So many times the byte 5, which is `rlineto`.
-fn lines(alloc: Global, count: usize) -> Result<Vec<u8>, Error> {
-    let mut bytes = Vec::new(alloc);
-    for _ in 0..count {
-        bytes.push(5)?;
-    }
-    Ok(bytes)
-}
-
-#[test]
-fn a_million_tokens_are_taken(rt: HostRuntime) -> Result<(), Fail> {
-    let alloc = rt.alloc();
-    let none = Lists::local(&[]);
-    let mut fits = lines(alloc, 999_999).ok().ok_or("memory")?;
-    fits.push(14)?;
-    gives(&rt, alloc, &none, Limits::default(), &fits, &fits);
-    let mut full = lines(alloc, 1_000_000).ok().ok_or("memory")?;
-    gives(&rt, alloc, &none, Limits::default(), &full, &full);
-    full.push(14)?;
-    fails(&rt, alloc, &none, Limits::default(), &full, Error::CFFError);
-    Ok(())
-}
-
 /// 65520 stems, and half as many as there are operands more.
 fn stems(alloc: Global, operands: usize) -> Result<Vec<u8>, Error> {
     let mut bytes = Vec::new(alloc);
@@ -538,42 +257,6 @@ fn stems(alloc: Global, operands: usize) -> Result<Vec<u8>, Error> {
     }
     bytes.push(1)?;
     Ok(bytes)
-}
-
-#[test]
-fn stems_are_limited(rt: HostRuntime) -> Result<(), Fail> {
-    let alloc = rt.alloc();
-    let none = Lists::local(&[]);
-    let mut most = stems(alloc, 30).ok().ok_or("memory")?;
-    most.push(14)?;
-    gives(&rt, alloc, &none, Limits::default(), &most, &most);
-    let mut past = stems(alloc, 32).ok().ok_or("memory")?;
-    past.push(14)?;
-    fails(&rt, alloc, &none, Limits::default(), &past, Error::CFFError);
-    Ok(())
-}
-
-#[test]
-fn the_longest_mask(rt: HostRuntime) -> Result<(), Fail> {
-    let alloc = rt.alloc();
-    let none = Lists::local(&[]);
-    let mut whole = stems(alloc, 30).ok().ok_or("memory")?;
-    whole.push(19)?;
-    for _ in 0..8191usize {
-        whole.push(170)?;
-    }
-    fails(
-        &rt,
-        alloc,
-        &none,
-        Limits::default(),
-        &whole,
-        Error::CFFError,
-    );
-    whole.push(170)?;
-    whole.push(14)?;
-    gives(&rt, alloc, &none, Limits::default(), &whole, &whole);
-    Ok(())
 }
 
 /// Bytes that look random, the same in each run.
@@ -678,37 +361,6 @@ fn flatten_in(
 }
 
 #[test]
-fn local_subroutines_are_those_of_the_font_dict(rt: HostRuntime) -> Result<(), Fail> {
-    let alloc = rt.alloc();
-    let first = index_bytes(alloc, &[None, Some(&[14]), Some(&[22, 14])])
-        .ok()
-        .ok_or("memory")?;
-    let local = two_font_dicts(alloc, &first).ok().ok_or("memory")?;
-    let moves = index_bytes(alloc, &[Some(&[149, 22, 11])])
-        .ok()
-        .ok_or("memory")?;
-    let global = SubroutineContainer::new(index_of(&moves));
-    let bytes = flatten_in(alloc, &global, &local, 0, &[32, 29, 33, 10])
-        .ok()
-        .ok_or("memory")?;
-    assert_eq!(rt; bytes.as_slice(), [149, 22, 14].as_slice());
-    assert!(rt; flatten_in(alloc, &global, &local, 1, &[32, 29, 33, 10]).is_err());
-    Ok(())
-}
-
-#[test]
-fn subroutines_by_number(rt: HostRuntime) -> Result<(), Fail> {
-    let first = index_bytes(rt.alloc(), &[None, Some(&[14]), Some(&[22, 14])])
-        .ok()
-        .ok_or("memory")?;
-    let collection = two_font_dicts(rt.alloc(), &first).ok().ok_or("memory")?;
-    finds_font_dicts(&rt, &collection);
-    assert!(rt; unapply_bias(-107, 107) == Some(0));
-    assert!(rt; unapply_bias(-108, 107).is_none());
-    Ok(())
-}
-
-#[test]
 fn arguments_come_back_in_turn(rt: HostRuntime) -> Result<(), Fail> {
     let mut stack = ArgumentsStack::new();
     for k in 0..48i16 {
@@ -725,34 +377,199 @@ fn arguments_come_back_in_turn(rt: HostRuntime) -> Result<(), Fail> {
 }
 
 #[test]
-fn programs_are_compiled(rt: HostRuntime) -> Result<(), Fail> {
+fn charstrings_become_flat(rt: HostRuntime) {
     let alloc = rt.alloc();
-    let mut program = Program::default(alloc);
-    program
-        .push(Instruction::Operand(CharStringNumber::Integer(1)))
+    let usual = Limits::default();
+    let global = Lists {
+        global: &[Some(&[149, 22, 11])],
+        local: &[],
+    };
+    gives(&rt, alloc, &global, usual, &[32, 29, 14], &[149, 22, 14]);
+    let moves = Lists::local(&[Some(&[21, 14])]);
+    gives(
+        &rt,
+        alloc,
+        &moves,
+        usual,
+        &[139, 140, 32, 10],
+        &[139, 140, 21, 14],
+    );
+    let two = Lists::local(&[Some(&[33, 11]), Some(&[22])]);
+    gives(&rt, alloc, &two, usual, &[32, 10, 10, 14], &[22, 14]);
+    let ends = Lists::local(&[Some(&[14])]);
+    gives(&rt, alloc, &ends, usual, &[255, 255, 149, 0, 0, 10], &[14]);
+    let none = Lists::local(&[]);
+    gives(&rt, alloc, &none, usual, &[28, 0, 0, 14], &[139, 14]);
+    gives(&rt, alloc, &none, usual, &[14, 5, 5], &[14]);
+}
+
+#[test]
+fn flat_charstrings_stay(rt: HostRuntime) {
+    let alloc = rt.alloc();
+    let none = Lists::local(&[]);
+    let mut full = [139; 49];
+    full[48] = 5;
+    // Sixteen more stems after the first mask of one byte: the second one has one byte too.
+    let grown = [
+        140, 141, 1, 19, 128, 139, 139, 139, 139, 139, 139, 139, 139, 139, 139, 139, 139, 139, 139,
+        139, 139, 1, 20, 64, 14,
+    ];
+    for charstring in [
+        [140, 141, 1, 142, 143, 19, 192, 14].as_slice(),
+        &[139, 140],
+        &[],
+        &[255, 0, 1, 0, 0, 14],
+        &full,
+        &grown,
+        // A mask without stems has no bytes, and the length is set by the next one.
+        &[19, 140, 141, 20, 128, 14],
+    ] {
+        gives(&rt, alloc, &none, Limits::default(), charstring, charstring);
+    }
+}
+
+#[test]
+fn malformed_charstrings_are_refused(rt: HostRuntime) {
+    let alloc = rt.alloc();
+    let usual = Limits::default();
+    let ends = Lists::local(&[Some(&[14])]);
+    for charstring in [
+        [10].as_slice(),
+        &[0],
+        &[12],
+        &[28, 0],
+        &[139; 49],
+        // The number of a subroutine is no whole one.
+        &[255, 255, 149, 0, 1, 10],
+        // The second mask leaves the call no operand.
+        &[140, 141, 1, 142, 143, 19, 192, 32, 19, 128, 10],
+    ] {
+        fails(&rt, alloc, &ends, usual, charstring, Error::CFFError);
+    }
+    let accent = [139, 139, 140, 141, 14];
+    fails(&rt, alloc, &ends, usual, &accent, Error::Unimplemented);
+}
+
+/// So many subroutines, each of which calls the next one twice, and one that is empty: with just so many tokens the
+/// first one's run ends, and with one token fewer it doesn't.
+fn doubled(rt: &impl Abort, alloc: Global, count: u8, tokens: u32) -> Result<(), Error> {
+    let mut bodies = Vec::new(alloc);
+    for k in 0..count.min(100) {
+        bodies.push(vec![in alloc; k + 33, 10, k + 33, 10, 11]?)?;
+    }
+    bodies.push(vec![in alloc; 11u8]?)?;
+    let list = entries(alloc, &bodies)?;
+    let lists = Lists::local(&list);
+    let fits = Limits::new(tokens, 64).ok_or(Error::CFFError)?;
+    gives(rt, alloc, &lists, fits, &[32, 10, 14], &[14]);
+    let short = Limits::new(tokens.saturating_sub(1), 64).ok_or(Error::CFFError)?;
+    fails(rt, alloc, &lists, short, &[32, 10, 14], Error::CFFError);
+    if tokens <= 1_000_000 {
+        gives(rt, alloc, &lists, Limits::default(), &[32, 10, 14], &[14]);
+    } else {
+        fails(
+            rt,
+            alloc,
+            &lists,
+            Limits::default(),
+            &[32, 10, 14],
+            Error::CFFError,
+        );
+    }
+    Ok(())
+}
+
+#[test]
+fn tokens_are_limited_where_subroutines_double(rt: HostRuntime) {
+    assert!(rt; doubled(&rt, rt.alloc(), 17, 786_430) == Ok(()));
+    assert!(rt; doubled(&rt, rt.alloc(), 18, 1_572_862) == Ok(()));
+}
+
+/// So long a chain ends the glyph, and one that is longer by one is too deep.
+fn is_longest(rt: &impl Abort, alloc: Global, count: u8, limits: Limits) -> Result<(), Error> {
+    let bodies = chain(alloc, count)?;
+    let list = entries(alloc, &bodies)?;
+    gives(rt, alloc, &Lists::local(&list), limits, &[32, 10], &[14]);
+    let longer = chain(alloc, count.saturating_add(1))?;
+    let list = entries(alloc, &longer)?;
+    fails(
+        rt,
+        alloc,
+        &Lists::local(&list),
+        limits,
+        &[32, 10],
+        Error::CFFError,
+    );
+    Ok(())
+}
+
+#[test]
+fn depth_is_limited(rt: HostRuntime) -> Result<(), Fail> {
+    let alloc = rt.alloc();
+    let usual = Limits::default();
+    assert!(rt; is_longest(&rt, alloc, 63, usual) == Ok(()));
+    let deepest = Limits::new(1_000_000, 255).ok_or("depth")?;
+    assert!(rt; is_longest(&rt, alloc, 254, deepest) == Ok(()));
+    let endless = Lists::local(&[Some(&[32, 10])]);
+    fails(&rt, alloc, &endless, usual, &[32, 10], Error::CFFError);
+    Ok(())
+}
+
+#[test]
+fn stems_and_masks_are_limited(rt: HostRuntime) -> Result<(), Fail> {
+    let alloc = rt.alloc();
+    let none = Lists::local(&[]);
+    let usual = Limits::default();
+    let past = stems(alloc, 32).ok().ok_or("memory")?;
+    fails(&rt, alloc, &none, usual, &past, Error::CFFError);
+    let mut whole = stems(alloc, 30).ok().ok_or("memory")?;
+    whole.push(19)?;
+    for _ in 0..8191usize {
+        whole.push(170)?;
+    }
+    fails(&rt, alloc, &none, usual, &whole, Error::CFFError);
+    whole.push(170)?;
+    whole.push(14)?;
+    gives(&rt, alloc, &none, usual, &whole, &whole);
+    Ok(())
+}
+
+#[test]
+fn subroutines_are_those_of_the_font_dict(rt: HostRuntime) -> Result<(), Fail> {
+    let alloc = rt.alloc();
+    let first = index_bytes(alloc, &[None, Some(&[14]), Some(&[22, 14])])
         .ok()
         .ok_or("memory")?;
-    program
-        .push(Instruction::Operand(CharStringNumber::Fixed(65536)))
+    let local = two_font_dicts(alloc, &first).ok().ok_or("memory")?;
+    finds_font_dicts(&rt, &local);
+    let moves = index_bytes(alloc, &[Some(&[149, 22, 11])])
         .ok()
         .ok_or("memory")?;
-    program
-        .push(Instruction::Operator(operators::HORIZONTAL_STEM_HINT_MASK))
+    let global = SubroutineContainer::new(index_of(&moves));
+    let bytes = flatten_in(alloc, &global, &local, 0, &[32, 29, 33, 10])
         .ok()
         .ok_or("memory")?;
-    program
-        .push(Instruction::Operator(operators::HINT_MASK))
-        .ok()
-        .ok_or("memory")?;
-    program
-        .push(Instruction::HintMask(&[128]))
-        .ok()
-        .ok_or("memory")?;
-    program
-        .push(Instruction::Operator(operators::FLEX1))
-        .ok()
-        .ok_or("memory")?;
-    let bytes = program.compile(alloc).ok().ok_or("memory")?;
+    assert_eq!(rt; bytes.as_slice(), [149, 22, 14].as_slice());
+    assert!(rt; flatten_in(alloc, &global, &local, 1, &[32, 29, 33, 10]).is_err());
+    assert!(rt; unapply_bias(-107, 107) == Some(0));
+    assert!(rt; unapply_bias(-108, 107).is_none());
+    Ok(())
+}
+
+#[test]
+fn programs_are_compiled(rt: HostRuntime) -> Result<(), Fail> {
+    let mut program = Program::default(rt.alloc());
+    for instruction in [
+        Instruction::Operand(CharStringNumber::Integer(1)),
+        Instruction::Operand(CharStringNumber::Fixed(65536)),
+        Instruction::Operator(operators::HORIZONTAL_STEM_HINT_MASK),
+        Instruction::Operator(operators::HINT_MASK),
+        Instruction::HintMask(&[128]),
+        Instruction::Operator(operators::FLEX1),
+    ] {
+        program.push(instruction).ok().ok_or("memory")?;
+    }
+    let bytes = program.compile(rt.alloc()).ok().ok_or("memory")?;
     assert_eq!(rt;
         bytes.as_slice(),
         [140, 255, 0, 1, 0, 0, 18, 19, 128, 12, 37].as_slice()
@@ -762,50 +579,37 @@ fn programs_are_compiled(rt: HostRuntime) -> Result<(), Fail> {
 
 #[test]
 fn operators_have_their_effects(rt: HostRuntime) {
-    for operator in [
-        operators::HORIZONTAL_STEM,
-        operators::VERTICAL_STEM,
-        operators::HORIZONTAL_STEM_HINT_MASK,
-        operators::VERTICAL_STEM_HINT_MASK,
+    for (operator, effect) in [
+        (operators::HORIZONTAL_STEM, Effect::CountsStems),
+        (operators::VERTICAL_STEM, Effect::CountsStems),
+        (operators::HORIZONTAL_STEM_HINT_MASK, Effect::CountsStems),
+        (operators::VERTICAL_STEM_HINT_MASK, Effect::CountsStems),
+        (operators::VERTICAL_MOVE_TO, Effect::Draws),
+        (operators::LINE_TO, Effect::Draws),
+        (operators::HORIZONTAL_LINE_TO, Effect::Draws),
+        (operators::VERTICAL_LINE_TO, Effect::Draws),
+        (operators::CURVE_TO, Effect::Draws),
+        (operators::MOVE_TO, Effect::Draws),
+        (operators::HORIZONTAL_MOVE_TO, Effect::Draws),
+        (operators::CURVE_LINE, Effect::Draws),
+        (operators::LINE_CURVE, Effect::Draws),
+        (operators::VV_CURVE_TO, Effect::Draws),
+        (operators::HH_CURVE_TO, Effect::Draws),
+        (operators::VH_CURVE_TO, Effect::Draws),
+        (operators::HV_CURVE_TO, Effect::Draws),
+        (operators::HFLEX, Effect::Draws),
+        (operators::FLEX, Effect::Draws),
+        (operators::HFLEX1, Effect::Draws),
+        (operators::FLEX1, Effect::Draws),
+        (operators::HINT_MASK, Effect::Masks),
+        (operators::COUNTER_MASK, Effect::Masks),
+        (operators::CALL_LOCAL_SUBROUTINE, Effect::CallsLocal),
+        (operators::CALL_GLOBAL_SUBROUTINE, Effect::CallsGlobal),
+        (operators::RETURN, Effect::Returns),
+        (operators::ENDCHAR, Effect::Ends),
     ] {
-        assert!(rt; find_effect(operator) == Some(Effect::CountsStems));
+        assert!(rt; find_effect(operator) == Some(effect));
     }
-    for operator in [
-        operators::VERTICAL_MOVE_TO,
-        operators::LINE_TO,
-        operators::HORIZONTAL_LINE_TO,
-        operators::VERTICAL_LINE_TO,
-        operators::CURVE_TO,
-        operators::MOVE_TO,
-        operators::HORIZONTAL_MOVE_TO,
-    ] {
-        assert!(rt; find_effect(operator) == Some(Effect::Draws));
-    }
-    for operator in [
-        operators::CURVE_LINE,
-        operators::LINE_CURVE,
-        operators::VV_CURVE_TO,
-        operators::HH_CURVE_TO,
-        operators::VH_CURVE_TO,
-        operators::HV_CURVE_TO,
-    ] {
-        assert!(rt; find_effect(operator) == Some(Effect::Draws));
-    }
-    for operator in [
-        operators::HFLEX,
-        operators::FLEX,
-        operators::HFLEX1,
-        operators::FLEX1,
-    ] {
-        assert!(rt; find_effect(operator) == Some(Effect::Draws));
-    }
-    for operator in [operators::HINT_MASK, operators::COUNTER_MASK] {
-        assert!(rt; find_effect(operator) == Some(Effect::Masks));
-    }
-    assert!(rt; find_effect(operators::CALL_LOCAL_SUBROUTINE) == Some(Effect::CallsLocal));
-    assert!(rt; find_effect(operators::CALL_GLOBAL_SUBROUTINE) == Some(Effect::CallsGlobal));
-    assert!(rt; find_effect(operators::RETURN) == Some(Effect::Returns));
-    assert!(rt; find_effect(operators::ENDCHAR) == Some(Effect::Ends));
     assert!(rt; find_effect(operators::SHORT_INT).is_none());
     assert!(rt; find_effect(operators::FIXED_16_16).is_none());
 }

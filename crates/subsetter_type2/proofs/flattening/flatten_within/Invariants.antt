@@ -1,18 +1,18 @@
 use Rattle.std.proofs.Common.{◌<◌, ◌∷◌, length}
 use Rattle.subsetter_type2.specs.Machine.{outcome}
-use Rattle.subsetter_type2.specs.Reached.{Reached}
+use Rattle.subsetter_type2.specs.Behind.{ReachedBehind}
 use Rattle.subsetter_type2.specs.View.{rests_of}
 use Rattle.subsetter_type2.specs.MachineView.{registers_of, library_of}
 use Rattle.subsetter_type2.proofs.flattening.flatten_within.Given as goal
 
-abbrev pub invariant-loop-bytes : goal.invariant-loop-bytes
-invariant-loop-bytes g l =
+abbrev pub invariant-loop-token : goal.invariant-loop-token
+invariant-loop-token g l =
     let library = library_of l.subroutines in
     record {
-      reached : Reached (outcome library l.limits.tokens l.limits.depth l.charstring) library l.limits.depth l.tokens
+      reached : ReachedBehind l.fn.bytes.items (outcome library l.limits.tokens l.limits.depth l.charstring) library l.limits.depth l.tokens
           (record { rests = l.running ∷ rests_of l.rests; registers = registers_of (λ w. w) l.machine }) l.machine.output.settled;
       room : length l.rests < l.limits.depth;
     }
 
-abbrev pub decreases-loop-bytes : goal.decreases-loop-bytes
-decreases-loop-bytes g l = l.tokens
+abbrev pub decreases-loop-token : goal.decreases-loop-token
+decreases-loop-token g l = l.tokens

@@ -1,4 +1,4 @@
-use Rattle.std.proofs.Common.{◌++◌, ◌∙◌, ap}
+use Rattle.std.proofs.Common.{◌∙◌}
 use Rattle.subsetter_type2.proofs.OutputLemmas.{ends_after_push}
 use Rattle.subsetter_type2.proofs.output.OutputSink.push.Goals as goal
 
