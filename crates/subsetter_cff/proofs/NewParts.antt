@@ -15,7 +15,7 @@ use Rattle.subsetter_cffdata.specs.Numbers.{Number}
 use Rattle.subsetter_cffdata.specs.Operands.{just}
 use Rattle.subsetter_cffdata.specs.Views.{number_of}
 use Rattle.subsetter_cff.specs.declared.font_dict.FontDict.{FontDict as StoredDict}
-use Rattle.subsetter_cff.specs.declared.source.CidParts.{CidParts}
+use Rattle.subsetter_cff.specs.declared.source.CIDMetadata.{CIDMetadata}
 use Rattle.subsetter_cff.specs.declared.source.Source.{Source}
 use Rattle.subsetter_cff.specs.declared.new_table.NewTable.{NewTable}
 use Rattle.subsetter_cff.specs.Cff.{Cff}
@@ -90,7 +90,7 @@ by_steps : (cff : Cff) (n : ℕ) → new_font_dict cff n ≡ (ok_or (source_dict
 unfolding new_font_dict made_dict
 by_steps cff n = refl
 
-pub dict_is : (s : Source) (c : CidParts) (n : ℕ) (f : StoredDict) → IsSource s → s.cid ≡ Some c → slice_get c.font_dicts.items n ≡ Some f
+pub dict_is : (s : Source) (c : CIDMetadata) (n : ℕ) (f : StoredDict) → IsSource s → s.cid ≡ Some c → slice_get c.font_dicts.items n ≡ Some f
     → made_dict (shown s.top.font_matrix) (stored_dict (cff_of s).strings f) ≡ new_font_dict (cff_of s) n
 dict_is s c n f is e at =
     let k = keyed_as s (Some c) is e in
@@ -98,13 +98,13 @@ dict_is s c n f is e at =
     ap (λ (m : Option (List Number)). made_dict m (stored_dict (cff_of s).strings f)) (matrix_shown s is)
     ∙ sym (by_steps (cff_of s) n ∙ ap (λ o. ok_or o MalformedFont >>= made_dict (last_of font_matrix_operator (cff_of s).top)) found)
 
-no_dict_is : (s : Source) (c : CidParts) (n : ℕ) → IsSource s → s.cid ≡ Some c → length c.font_dicts.items ≤ n → new_font_dict (cff_of s) n ≡ Err MalformedFont
+no_dict_is : (s : Source) (c : CIDMetadata) (n : ℕ) → IsSource s → s.cid ≡ Some c → length c.font_dicts.items ≤ n → new_font_dict (cff_of s) n ≡ Err MalformedFont
 no_dict_is s c n is e le =
     let k = keyed_as s (Some c) is e in
     let missing : source_dict (cff_of s) n ≡ None = rw (k.0, k.1.dicts_are, missing_dict (cff_of s).bytes k.1.dicts c.font_dicts.items n k.1.made le) refl in
     by_steps (cff_of s) n ∙ ap (λ o. ok_or o MalformedFont >>= made_dict (last_of font_matrix_operator (cff_of s).top)) missing
 
-pub no_dict_there : (s : Source) (c : CidParts) (n : ℕ) (here : List StoredDict) → IsSource s → s.cid ≡ Some c → here ≡ c.font_dicts.items → length here ≤ n → new_font_dict (cff_of s) n ≡ Err MalformedFont
+pub no_dict_there : (s : Source) (c : CIDMetadata) (n : ℕ) (here : List StoredDict) → IsSource s → s.cid ≡ Some c → here ≡ c.font_dicts.items → length here ≤ n → new_font_dict (cff_of s) n ≡ Err MalformedFont
 no_dict_there s c n here is e same le = no_dict_is s c n is e (omega (arith, le, ap length same))
 
 pub found_at : (here fs : List StoredDict) (n : ℕ) (f : StoredDict) → here ≡ fs → n < length here → f ≡ slice_index_or here n f → slice_get fs n ≡ Some f
