@@ -9,6 +9,9 @@ use subsetter_base::error::Error;
 fn tables_that_are_malformed(rt: HostRuntime) {
     let alloc = rt.alloc();
     let malformed = Error::MalformedFont;
+    // A Name INDEX whose data leaves the table.
+    let name = ["01000401 0001 01 01FF 41", "0001 01 0103 A011", EMPTY, EMPTY, ENDS];
+    refuses(&rt, alloc, hex(alloc, &name), &[], malformed);
     // No top dict; one that can't be read, since its first offset is 0.
     let none = [START, EMPTY, EMPTY, EMPTY, ENDS];
     refuses(&rt, alloc, hex(alloc, &none), &[], malformed);
@@ -21,6 +24,9 @@ fn tables_that_are_malformed(rt: HostRuntime) {
     refuses(&rt, alloc, hex(alloc, &no_items), &[], malformed);
     let outside = [START, "0001 01 0103 EF11", EMPTY, EMPTY, ENDS];
     refuses(&rt, alloc, hex(alloc, &outside), &[], malformed);
+    // The offset -1.
+    let below = [START, "0001 01 0107 1DFFFFFFFF11", EMPTY, EMPTY, ENDS];
+    refuses(&rt, alloc, hex(alloc, &below), &[], malformed);
     // The offset size 5 in the Global Subr INDEX.
     let size = [START, "0001 01 0103 A611", EMPTY, "0001 05 0001 02", ENDS];
     refuses(&rt, alloc, hex(alloc, &size), &[], malformed);
@@ -47,7 +53,7 @@ fn faults_of_the_table_come_first(rt: HostRuntime) {
         "0001 01 0102 00",
     ];
     refuses(&rt, alloc, hex(alloc, &earlier), &[], Error::MalformedFont);
-    // It comes before a notice that is not there, and that before a written real of 65 characters.
+    // The unknown operator comes before a notice that is not there, string 391.
     let notice = [
         START,
         "0001 01 0106 F81B01 A311",
@@ -56,7 +62,8 @@ fn faults_of_the_table_come_first(rt: HostRuntime) {
         "0001 01 0102 00",
     ];
     refuses(&rt, alloc, hex(alloc, &notice), &[], Error::CFFError);
-    // The charstrings stand at 27, the private dict of 35 bytes at 33; its real is a point and 63 digits.
+    // That notice comes before a real that would be written with 65 characters: a point and 63 digits, in a private dict of
+    // 35 bytes at 33. The charstrings stand at 27.
     let real = [
         START,
         "0001 01 0109 F81B01 A611 AEAC12",

@@ -154,6 +154,12 @@ fn font_dicts_that_are_malformed(rt: HostRuntime) {
         ..outside
     };
     refuses(&rt, alloc, format.table(alloc), &[], Error::MalformedFont);
+    // 2147483647 bytes at 2147483647.
+    let large = Keyed {
+        font_dicts: "0001 01 010C 1D7FFFFFFF1D7FFFFFFF12",
+        ..outside
+    };
+    refuses(&rt, alloc, large.table(alloc), &[], Error::MalformedFont);
     // ROS without FDArray and FDSelect. The charstrings stand at 23.
     let bare = [START, "0001 01 0105 0C1EA211", EMPTY, EMPTY, ENDS];
     refuses(&rt, alloc, hex(alloc, &bare), &[], Error::MalformedFont);

@@ -1,7 +1,7 @@
 //! Parts of a table, by the calls that read or write them.
 
 use crate::charset::rewrite_charset;
-use crate::fd_select::{parse_fd_select, write_first};
+use crate::fd_select::{generate_fd_index, parse_fd_select};
 use crate::sid_remapper::SidRemapper;
 use std::alloc::Global;
 use std::test::*;
@@ -55,7 +55,7 @@ fn ranges_in_order_and_out_of_order(rt: HostRuntime) -> Result<(), Fail> {
 fn charset_of(alloc: Global, count: u16) -> Result<Vec<u8>, Error> {
     let mut w = Writer::new(alloc);
     rewrite_charset(count, &mut w)?;
-    write_first(count, &mut w)?;
+    generate_fd_index(count, &mut w)?;
     Ok(w.finish())
 }
 

@@ -5,8 +5,8 @@ use super::whole::LEAST;
 use std::test::*;
 use subsetter_base::error::Error;
 
-/// No strings and no global subroutines; behind a top dict of 5 bytes the charstrings stand at 24 then.
-const AT_24: &str = "0000 0000";
+/// No strings and no global subroutines: behind them and a top dict of 5 bytes the charstrings stand at 24.
+const NOTHING: &str = "0000 0000";
 
 /// One charstring that calls subroutine 0: 7 bytes.
 const CALLS: &str = "0001 01 0103 200A";
@@ -18,7 +18,7 @@ fn a_private_dict_without_its_subroutines(rt: HostRuntime) {
     let source = [
         START,
         "0001 01 0106 A311 8FAA12",
-        AT_24,
+        NOTHING,
         CALLS,
         "8B14 8F13",
         ENDS,
@@ -56,12 +56,15 @@ fn a_private_dict_without_its_subroutines(rt: HostRuntime) {
 fn private_dicts_that_lead_nowhere(rt: HostRuntime) {
     let alloc = rt.alloc();
     // The private dict has 4 bytes at 100, outside of the table.
-    let outside = [START, "0001 01 0106 A311 8FEF12", AT_24, ENDS];
+    let outside = [START, "0001 01 0106 A311 8FEF12", NOTHING, ENDS];
     becomes(&rt, alloc, hex(alloc, &outside), &[], &LEAST);
-    let calls = [START, "0001 01 0106 A311 8FEF12", AT_24, CALLS];
+    let calls = [START, "0001 01 0106 A311 8FEF12", NOTHING, CALLS];
     refuses(&rt, alloc, hex(alloc, &calls), &[], Error::CFFError);
+    // 2147483647 bytes at 2147483647. The charstrings stand at 32.
+    let large = "0001 01 010E AB11 1D7FFFFFFF1D7FFFFFFF12";
+    becomes(&rt, alloc, hex(alloc, &[START, large, NOTHING, ENDS]), &[], &LEAST);
     // The private dict has 4 bytes at 30; its subroutines would stand at 30 + 100.
-    let subroutines = [START, "0001 01 0106 A311 8FA912", AT_24, ENDS, "8B14 EF13"];
+    let subroutines = [START, "0001 01 0106 A311 8FA912", NOTHING, ENDS, "8B14 EF13"];
     becomes(&rt, alloc, hex(alloc, &subroutines), &[], &LEAST);
 }
 
@@ -72,7 +75,7 @@ fn the_first_subroutine_entry_counts(rt: HostRuntime) {
     let wrong = [
         START,
         "0001 01 0106 A311 92A912",
-        AT_24,
+        NOTHING,
         ENDS,
         "8B14 8B8F13 8B15",
     ];
@@ -87,7 +90,7 @@ fn the_first_subroutine_entry_counts(rt: HostRuntime) {
     let still = [
         START,
         "0001 01 0106 A311 90AA12",
-        AT_24,
+        NOTHING,
         CALLS,
         "8B9013 9013",
         ENDS,
@@ -97,7 +100,7 @@ fn the_first_subroutine_entry_counts(rt: HostRuntime) {
     let first = [
         START,
         "0001 01 0106 A311 8FAA12",
-        AT_24,
+        NOTHING,
         CALLS,
         "8F13 EF13",
         ENDS,
@@ -106,7 +109,7 @@ fn the_first_subroutine_entry_counts(rt: HostRuntime) {
     let second = [
         START,
         "0001 01 0106 A311 8FAA12",
-        AT_24,
+        NOTHING,
         CALLS,
         "EF13 8F13",
         ENDS,
@@ -124,7 +127,7 @@ fn numbers_of_a_private_dict(rt: HostRuntime) {
     let forms = [
         START,
         "0001 01 0106 A311 93A912",
-        AT_24,
+        NOTHING,
         ENDS,
         "1C0001 14 1E1A0F 15",
     ];
@@ -140,7 +143,7 @@ fn numbers_of_a_private_dict(rt: HostRuntime) {
     let longest = [
         START,
         "0001 01 0106 A311 AEA912",
-        AT_24,
+        NOTHING,
         ENDS,
         "1E",
         ONES,
@@ -160,7 +163,7 @@ fn numbers_of_a_private_dict(rt: HostRuntime) {
     let unreadable = [
         START,
         "0001 01 0106 A311 B0A912",
-        AT_24,
+        NOTHING,
         ENDS,
         "8B14 1E",
         ONES,
@@ -178,7 +181,7 @@ fn numbers_of_a_private_dict(rt: HostRuntime) {
     let too_long = [
         START,
         "0001 01 0106 A311 AEA912",
-        AT_24,
+        NOTHING,
         ENDS,
         "1EA1",
         ONES,

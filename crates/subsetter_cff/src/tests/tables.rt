@@ -15,7 +15,7 @@ pub const START: &str = "01000401 000101010241";
 pub const EMPTY: &str = "0000";
 
 /// An INDEX of one item: `endchar` as charstring or as subroutine.
-pub const ENDS: &str = "000101010 20E";
+pub const ENDS: &str = "0001 01 0102 0E";
 
 /// A written header, and the Name INDEX of `A`.
 pub const NEW_START: &str = "01000404 000101010241";
