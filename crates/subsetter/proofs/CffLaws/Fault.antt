@@ -31,7 +31,7 @@ use Rattle.subsetter.proofs.TruetypeLaws.Fault.{not_chosen, is_true_is_false}
 use Rattle.subsetter.proofs.TruetypeLaws.Subset.{IsClean}
 use Rattle.subsetter.proofs.CffLaws.Order.{no_glyf, no_outlines, no_outline, given_order}
 use Rattle.subsetter.proofs.CffLaws.Steps.{MadeSteps, made_tables, FileStops, no_table, no_cff, no_shared, no_file, file_stops, FileSteps, file_of_steps}
-use Rattle.subsetter.proofs.CffLaws.Subset.{made_subset}
+use Rattle.subsetter.proofs.CffLaws.Subset.{made_clean}
 
 module _ (tokens depth : ℕ) (font : Font) (glyphs : List ℕ) (bytes : IsBytes font.bytes) (kind : flavor font ≡ Some Cff) (has : IsSome (table font (codes "CFF "))) (once : IsWithoutRepeats glyphs) where
   closed : IsGlyphOrder font glyphs glyphs
@@ -111,8 +111,7 @@ module _ (tokens depth : ℕ) (font : Font) (glyphs source : List ℕ) (bytes : 
 -- what is answered is a subset, and no fault stands
 pub is_cff_subset : (tokens depth : ℕ) (font : Font) (glyphs out : List ℕ) → IsBytes font.bytes → 1 ≤ depth → 0 < length glyphs → length glyphs ≤ 65535 → IsWithoutRepeats glyphs → flavor font ≡ Some Cff → ((e : Error) → HasOpeningFault font e → ⊥) → cff_file (table font) tokens depth glyphs ≡ Ok out
     → IsClean tokens depth font glyphs out
-unfolding made_subset
 is_cff_subset tokens depth font glyphs out bytes deep some few once kind opening h =
     let f = file_of_steps (table font) tokens depth glyphs out h in
     subst (IsClean tokens depth font glyphs) f.out_is
-    (made_subset tokens depth font glyphs f.source kind f.source_is f.made f.steps f.fit bytes deep (omega (arith, some)) few once, cff_clean tokens depth font glyphs f.source bytes kind once opening f.source_is f.made f.steps f.fit)
+    (made_clean tokens depth font glyphs f.source kind f.source_is f.made f.steps f.fit bytes deep (omega (arith, some)) few once (cff_clean tokens depth font glyphs f.source bytes kind once opening f.source_is f.made f.steps f.fit))

@@ -1,17 +1,23 @@
 -- The steps to a subset with a CFF table.
-use Rattle.std.proofs.Common.{◌≡◌, ℕ, true, false, List, Option, Some, None, Result, Ok, Err, refl, sym, ap, subst, ◌∙◌, ◌⊎◌, inl, inr}
+use Rattle.std.proofs.Common.{◌≡◌, ℕ, ◌<◌, true, false, List, length, Option, Some, None, Result, Ok, Err, refl, sym, ap, subst, ◌∙◌, ◌⊎◌, arith, inl, inr}
 use Rattle.std.specs.Prelude.{codes}
 use Rattle.std.specs.Option.{ok_or}
+use Rattle.std.specs.List.{AllByRecursion}
+use Rattle.std.proofs.lemmas.List.{length-map}
 use Rattle.subsetter_base.specs.Bytes.{◌>>=◌}
 use Rattle.subsetter_base.specs.declared.error.Error.{Error}
 use Rattle.subsetter_base.specs.declared.error.Error.TheVariants.{MalformedFont}
 use Rattle.subsetter_base.proofs.Results.{done_is, bind_ok, bind_err, named_ok, named_err}
 use Rattle.subsetter_cff.specs.Plain.{cff_subset}
 use Rattle.subsetter.specs.declared.sfnt.flavor.FontFlavor.TheVariants.{Cff}
-use Rattle.subsetter.specs.Sfnt.Written.{Table, fits, file, start_of, kind_word}
+use Rattle.subsetter.specs.declared.sfnt.tables.NewTable.{NewTable}
+use Rattle.subsetter.specs.Sfnt.View.{view, views}
+use Rattle.subsetter.specs.Sfnt.Written.{Table, IsTable, fits, file, start_of, kind_word}
 use Rattle.subsetter.specs.Sfnt.Plain.{file_of}
 use Rattle.subsetter.specs.Shared.Plain.{SharedTables, shared_of}
-use Rattle.subsetter.specs.Cff.Plain.{Made, made_of, laid, cff_tables, cff_file}
+use Rattle.subsetter.specs.Cff.Plain.{Made, made_of, font_of, laid, cff_tables, cff_file}
+use Rattle.subsetter.proofs.SfntLaws.Rows.{rows_few, rows_tables}
+use Rattle.subsetter.proofs.SharedLaws.Kept.{shared_room}
 use Rattle.subsetter.proofs.SharedLaws.Steps.{SharedSteps, shared_steps}
 use Rattle.subsetter.proofs.TruetypeLaws.Steps.{file_steps}
 
@@ -95,3 +101,14 @@ module _ (find : List ℕ → Option (List ℕ)) (tokens depth : ℕ) (glyphs : 
           | inr b ↦ no_file a.0 b.0 (named_ok (find (codes "CFF ")) MalformedFont a.0 a.1) b.1 b.2
         ]
       ]
+
+-- ---- the code's list of tables
+
+module _ (m : Made) (ts : List NewTable) (there : views ts ≡ laid m) where
+  pub few_tables : length ts < 16
+  few_tables = omega (arith, length-map ts view, ap length there, rows_few (font_of m))
+
+  pub all_tables : (find : List ℕ → Option (List ℕ)) (source : List ℕ) (tokens depth : ℕ) (glyphs : List ℕ) → made_of find source tokens depth glyphs ≡ Ok m → AllByRecursion IsTable (views ts)
+  all_tables find source tokens depth glyphs made =
+      let steps = made_steps find source tokens depth glyphs m made in
+      subst (λ (l : List Table). AllByRecursion IsTable l) (sym there) (rows_tables (font_of m) (shared_room find Cff false glyphs m.shared steps.shared))

@@ -5,6 +5,7 @@ use Rattle.std.specs.Option.{option_map}
 use Rattle.std.specs.Str.{bytes_eq}
 use Rattle.subsetter_base.specs.Bytes.{IsBytes}
 use Rattle.subsetter_base.specs.Places.{IsWithoutRepeats}
+use Rattle.subsetter_base.specs.declared.error.Error.{Error}
 use Rattle.subsetter_cff.proofs.Headline.{answered_is_subset}
 use Rattle.subsetter.specs.declared.sfnt.flavor.FontFlavor.TheVariants.{Cff}
 use Rattle.subsetter.specs.Sfnt.Container.{IsSoundContainer}
@@ -14,6 +15,7 @@ use Rattle.subsetter.specs.Sfnt.Written.{fits, file, start_of, kind_word}
 use Rattle.subsetter.specs.Hmtx.Written.{MetricBytes}
 use Rattle.subsetter.specs.Cff.Plain.{Made, font_of, laid}
 use Rattle.subsetter.specs.Cff.Read.{KeepsCharStrings}
+use Rattle.subsetter.specs.Fault.{HasFault}
 use Rattle.subsetter.specs.Laid.{of_charstrings}
 use Rattle.subsetter.specs.Subset.{by_charstrings, IsSubset}
 use Rattle.subsetter.proofs.SfntLaws.Back.{word_of}
@@ -22,6 +24,7 @@ use Rattle.subsetter.proofs.SfntLaws.Rows.{HasRoom, AreAlike, lookup_row, some_t
 use Rattle.subsetter.proofs.SfntLaws.TableBytes.{table_bytes}
 use Rattle.subsetter.proofs.SharedLaws.Steps.{head_there, maxp_there, metrics_there, name_there, post_there}
 use Rattle.subsetter.proofs.SharedLaws.Kept.{shared_room, AreBack, keeps_shared}
+use Rattle.subsetter.proofs.TruetypeLaws.Subset.{IsClean}
 use Rattle.subsetter.proofs.CffLaws.Order.{no_glyf, given_order}
 use Rattle.subsetter.proofs.CffLaws.Steps.{MadeSteps, made_tables}
 
@@ -77,7 +80,7 @@ module _ (tokens depth : ℕ) (font : Font) (glyphs source : List ℕ) (kind : f
     kept = answered_is_subset source tokens depth glyphs m.cff (table_bytes font (codes "CFF ") source bytes there) deep some few s.cff_is;
   }
 
-  pub made_subset : IsBytes font.bytes → 1 ≤ depth → 1 ≤ length glyphs → length glyphs ≤ 65535 → IsWithoutRepeats glyphs → IsSubset tokens depth font glyphs (file (kind_word Cff) (laid m))
+  made_subset : IsBytes font.bytes → 1 ≤ depth → 1 ≤ length glyphs → length glyphs ≤ 65535 → IsWithoutRepeats glyphs → IsSubset tokens depth font glyphs (file (kind_word Cff) (laid m))
   made_subset bytes deep some few once = record {
     keeps = record {
       order = glyphs;
@@ -91,3 +94,8 @@ module _ (tokens depth : ℕ) (font : Font) (glyphs source : List ℕ) (kind : f
     };
     layout = record { tables = laid m; made = of_charstrings source kind there (made_tables (table font) source tokens depth glyphs m s.made); bytes = refl; room = fit };
   }
+
+  -- and no fault stands
+  pub made_clean : IsBytes font.bytes → 1 ≤ depth → 1 ≤ length glyphs → length glyphs ≤ 65535 → IsWithoutRepeats glyphs → ((e : Error) → HasFault tokens depth font glyphs glyphs e → ⊥) → IsClean tokens depth font glyphs (file (kind_word Cff) (laid m))
+  unfolding made_subset
+  made_clean bytes deep some few once clean = (made_subset bytes deep some few once, clean)
