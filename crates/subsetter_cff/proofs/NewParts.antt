@@ -16,7 +16,7 @@ use Rattle.subsetter_cffdata.specs.Operands.{just}
 use Rattle.subsetter_cffdata.specs.Views.{number_of}
 use Rattle.subsetter_cff.specs.declared.font_dict.FontDict.{FontDict as StoredDict}
 use Rattle.subsetter_cff.specs.declared.source.CIDMetadata.{CIDMetadata}
-use Rattle.subsetter_cff.specs.declared.source.Source.{Source}
+use Rattle.subsetter_cff.specs.declared.source.Table.{Table}
 use Rattle.subsetter_cff.specs.declared.new_table.NewTable.{NewTable}
 use Rattle.subsetter_cff.specs.Cff.{Cff}
 use Rattle.subsetter_cff.specs.FontDictFaults.{IsFontDictIn}
@@ -53,10 +53,10 @@ held_just n operator (Some xs) held = let h : (length xs == n) ≡ true = held.e
 numbers_named : (ds : List Demand) (es : List Entry) (j n : ℕ) (operator : List ℕ) → all_meet ds es ≡ true → slice_get ds j ≡ Some (record { operator = operator; holds = so_many n }) → last_of operator es ≡ last_numbers n operator es
 numbers_named ds es j n operator h is = held_just n operator (last_of operator es) (last_holds ds es j (record { operator = operator; holds = so_many n }) h is)
 
-pub matrix_shown : (s : Source) → IsSource s → shown s.top.font_matrix ≡ last_of font_matrix_operator (cff_of s).top
+pub matrix_shown : (s : Table) → IsSource s → shown s.top.font_matrix ≡ last_of font_matrix_operator (cff_of s).top
 matrix_shown s is = is.top.font_matrix ∙ sym (numbers_named top_demands (cff_of s).top 8 6 font_matrix_operator is.demands refl)
 
-pub box_shown : (s : Source) → IsSource s → shown s.top.font_bbox ≡ last_of font_box_operator (cff_of s).top
+pub box_shown : (s : Table) → IsSource s → shown s.top.font_bbox ≡ last_of font_box_operator (cff_of s).top
 box_shown s is = is.top.font_bbox ∙ sym (numbers_named top_demands (cff_of s).top 9 4 font_box_operator is.demands refl)
 
 -- ---- a font dict of the source
@@ -90,7 +90,7 @@ by_steps : (cff : Cff) (n : ℕ) → new_font_dict cff n ≡ (ok_or (source_dict
 unfolding new_font_dict made_dict
 by_steps cff n = refl
 
-pub dict_is : (s : Source) (c : CIDMetadata) (n : ℕ) (f : StoredDict) → IsSource s → s.cid ≡ Some c → slice_get c.font_dicts.items n ≡ Some f
+pub dict_is : (s : Table) (c : CIDMetadata) (n : ℕ) (f : StoredDict) → IsSource s → s.cid ≡ Some c → slice_get c.font_dicts.items n ≡ Some f
     → made_dict (shown s.top.font_matrix) (stored_dict (cff_of s).strings f) ≡ new_font_dict (cff_of s) n
 dict_is s c n f is e at =
     let k = keyed_as s (Some c) is e in
@@ -98,19 +98,19 @@ dict_is s c n f is e at =
     ap (λ (m : Option (List Number)). made_dict m (stored_dict (cff_of s).strings f)) (matrix_shown s is)
     ∙ sym (by_steps (cff_of s) n ∙ ap (λ o. ok_or o MalformedFont >>= made_dict (last_of font_matrix_operator (cff_of s).top)) found)
 
-no_dict_is : (s : Source) (c : CIDMetadata) (n : ℕ) → IsSource s → s.cid ≡ Some c → length c.font_dicts.items ≤ n → new_font_dict (cff_of s) n ≡ Err MalformedFont
+no_dict_is : (s : Table) (c : CIDMetadata) (n : ℕ) → IsSource s → s.cid ≡ Some c → length c.font_dicts.items ≤ n → new_font_dict (cff_of s) n ≡ Err MalformedFont
 no_dict_is s c n is e le =
     let k = keyed_as s (Some c) is e in
     let missing : source_dict (cff_of s) n ≡ None = rw (k.0, k.1.dicts_are, missing_dict (cff_of s).bytes k.1.dicts c.font_dicts.items n k.1.made le) refl in
     by_steps (cff_of s) n ∙ ap (λ o. ok_or o MalformedFont >>= made_dict (last_of font_matrix_operator (cff_of s).top)) missing
 
-pub no_dict_there : (s : Source) (c : CIDMetadata) (n : ℕ) (here : List StoredDict) → IsSource s → s.cid ≡ Some c → here ≡ c.font_dicts.items → length here ≤ n → new_font_dict (cff_of s) n ≡ Err MalformedFont
+pub no_dict_there : (s : Table) (c : CIDMetadata) (n : ℕ) (here : List StoredDict) → IsSource s → s.cid ≡ Some c → here ≡ c.font_dicts.items → length here ≤ n → new_font_dict (cff_of s) n ≡ Err MalformedFont
 no_dict_there s c n here is e same le = no_dict_is s c n is e (omega (arith, le, ap length same))
 
 pub found_at : (here fs : List StoredDict) (n : ℕ) (f : StoredDict) → here ≡ fs → n < length here → f ≡ slice_index_or here n f → slice_get fs n ≡ Some f
 found_at here fs n f same lt is = rw (← same) (slice_get-get_or here n f lt ∙ ap (λ (g : StoredDict). Some g) (sym is))
 
-pub only_is : (s : Source) (n : ℕ) → IsSource s → s.cid ≡ None → new_font_dict (cff_of s) n ≡ Ok (only_font_dict (private_view s.private))
+pub only_is : (s : Table) (n : ℕ) → IsSource s → s.cid ≡ None → new_font_dict (cff_of s) n ≡ Ok (only_font_dict (private_view s.private))
 unfolding new_font_dict
 only_is s n is e = rw (keyed_as s None is e, ← is.own) refl
 
@@ -151,7 +151,7 @@ module _ (cff : Cff) (texts : List (List ℕ)) where
   unfolding parts_by
   by_numbers numbers = refl
 
-same_parts : (s : Source) (t : NewTable) (select : Select) → IsSource s → t.names.now ≡ (cff_of s).names → map number_of t.matrix ≡ new_top_matrix (shown s.top.font_matrix) → map number_of t.font_box ≡ new_box (shown s.top.font_bbox)
+same_parts : (s : Table) (t : NewTable) (select : Select) → IsSource s → t.names.now ≡ (cff_of s).names → map number_of t.matrix ≡ new_top_matrix (shown s.top.font_matrix) → map number_of t.font_box ≡ new_box (shown s.top.font_bbox)
     → select_of_table t.numbers ≡ select → all_parts (cff_of s) (string_view t.copyright) (string_view t.notice) (string_view t.font_name) (map font_dict_view t.font_dicts.items) select [] ≡ parts_view t []
 same_parts s t select is names matrix box chosen =
     let m : unwrap_or (last_of font_matrix_operator (cff_of s).top) thousandth_matrix ≡ map number_of t.matrix = sym (matrix ∙ ap new_top_matrix (matrix_shown s is)) in
@@ -163,7 +163,7 @@ module _ (cff : Cff) (copyright font_name notice : Option FontString) (dicts : L
       → (a >>= λ copyright. b >>= λ font_name. c >>= λ notice. d >>= λ dicts. Ok (all_parts cff copyright notice font_name dicts select [])) ≡ Ok (all_parts cff copyright notice font_name dicts select [])
   from_pieces a b c d e f g h = rw (e, f, g, h) refl
 
-pub parts_made : (s : Source) (t : NewTable) (numbers used : List ℕ) → IsSource s
+pub parts_made : (s : Table) (t : NewTable) (numbers used : List ℕ) → IsSource s
     → ok_or (string_at (cff_of s).strings copyright_operator (cff_of s).top) SubsetError ≡ Ok (string_view t.copyright)
     → ok_or (string_at (cff_of s).strings font_name_operator (cff_of s).top) SubsetError ≡ Ok (string_view t.font_name)
     → ok_or (string_at (cff_of s).strings notice_operator (cff_of s).top) SubsetError ≡ Ok (string_view t.notice)

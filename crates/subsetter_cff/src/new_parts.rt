@@ -18,7 +18,7 @@ use crate::kept_glyphs::KeptGlyphs;
 use crate::kept_strings::{copyright, font_name, notice};
 use crate::matrix::{Matrix, new_matrix, new_top_matrix, unit_matrix};
 use crate::new_table::{NewFontDict, NewTable};
-use crate::source::Source;
+use crate::source::Table;
 use crate::string_names::name_string;
 use std::alloc::Global;
 use subsetter_base::error::Error;
@@ -44,7 +44,7 @@ fn new_dict_of<'a>(
 }
 
 /// The one font dict that is written for a font without font dicts.
-fn only_dict<'a>(source: &Source<'a>) -> NewFontDict<'a>
+fn only_dict<'a>(source: &Table<'a>) -> NewFontDict<'a>
     ensures { font_dict_view result ≡ only_font_dict (private_view source.now.private) }
 {
     NewFontDict {
@@ -55,7 +55,7 @@ fn only_dict<'a>(source: &Source<'a>) -> NewFontDict<'a>
 }
 
 /// The font dict that is written for that of a number.
-fn new_font_dict<'a>(source: &Source<'a>, number: u8) -> Result<NewFontDict<'a>, Error>
+fn new_font_dict<'a>(source: &Table<'a>, number: u8) -> Result<NewFontDict<'a>, Error>
     requires { IsSource source.now }
     ensures { Gives font_dict_view result (new_font_dict (cff_of source.now) number) }
 {
@@ -74,7 +74,7 @@ fn new_font_dict<'a>(source: &Source<'a>, number: u8) -> Result<NewFontDict<'a>,
 #[tactic(auto, using(crate::proofs::NewParts::none_behind))]
 fn new_font_dicts<'a>(
     alloc: Global,
-    source: &Source<'a>,
+    source: &Table<'a>,
     numbers: &[u8],
 ) -> Result<Vec<NewFontDict<'a>>, Error>
     requires { IsSource source.now }
@@ -91,7 +91,7 @@ fn new_font_dicts<'a>(
 /// The new number of each glyph's font dict; None for a font without font dicts.
 fn new_select(
     alloc: Global,
-    source: &Source<'_>,
+    source: &Table<'_>,
     used: &FontDictRemapper,
     numbers: &[u8],
 ) -> Result<Option<Vec<u8>>, Error>
@@ -122,7 +122,7 @@ fn new_box(own: Option<[Number; 4]>) -> [Number; 4]
 #[tactic(auto, unfolding(crate::specs::NewParts::parts_by))]
 pub fn new_table_of<'a>(
     alloc: Global,
-    source: &Source<'a>,
+    source: &Table<'a>,
     kept: KeptGlyphs,
 ) -> Result<NewTable<'a>, Error>
     requires { IsSource source.now }

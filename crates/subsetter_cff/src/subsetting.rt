@@ -11,7 +11,7 @@ ghost use Rattle.subsetter_cff.specs.TableBy.{table_bytes};
 
 use crate::kept_glyphs::keep_glyphs;
 use crate::new_parts::new_table_of;
-use crate::source::open_source;
+use crate::source::Table;
 use crate::writing::{NewCffTable, write_table};
 use std::alloc::Global;
 use subsetter_base::GlyphRemapper;
@@ -27,7 +27,7 @@ fn subset_exactly(
 ) -> Result<NewCffTable, Error>
     ensures { Gives table_bytes result (cff_subset table.now limits.tokens limits.depth mapper.now) }
 {
-    let source = open_source(alloc, table)?;
+    let source = Table::parse(alloc, table)?;
     let kept = keep_glyphs(alloc, &source, limits, mapper)?;
     let new = new_table_of(alloc, &source, kept)?;
     if new.font_dicts.len() > 255 {
