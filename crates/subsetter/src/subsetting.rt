@@ -60,15 +60,24 @@ fn charstrings(alloc: Global, face: &Face<'_>, mapper: &GlyphRemapper) -> Result
 ///
 /// Each names what stands in the source (`HasFault`); a font in which nothing stands is refused only for want of memory.
 /// Where several faults stand, any of their names may come. The *reached* glyphs are the mapper's and those that they
-/// lead to through components.
+/// lead to through components; a charstring leads to no other glyph. What is said of `CFF ` counts where there is no
+/// `glyf`, and what is said of `loca` where there is one.
 ///
 /// - `UnknownKind`: the file doesn't begin with a known kind of font, or has none of `glyf`, `CFF ` and `CFF2`.
 /// - `MalformedFont`:
 ///   - the collection has no entry for `index`, or that entry doesn't lead to the header of a single font;
 ///   - the header or a record of the directory is cut;
-///   - `loca` or `head` is missing, or `head` has fewer than 52 bytes;
+///   - there is `glyf`, but `loca` or `head` is missing; or `head` has fewer than 52 bytes;
 ///   - a reached glyph has no range in `loca`, its range isn't inside `glyf`, or it has one byte or is a composite that is
 ///     cut;
+///   - `CFF ` has fewer than 3 bytes, its Name INDEX, Top DICT INDEX, String INDEX or Global Subr INDEX can't be read, or
+///     there is no top dict;
+///   - an entry of the top dict or of a font dict, the last of its operator or an earlier one, has other operands than its
+///     operator demands;
+///   - the charstrings are missing, are none, or their INDEX can't be read;
+///   - a CID-keyed font has no FDArray or FDSelect that can be read, or a font dict with a private dict that isn't inside
+///     `CFF ` or whose local subroutines can't be read;
+///   - a glyph of the mapper has no charstring, or in a CID-keyed font no font dict;
 ///   - `hmtx` is there, but `hhea` is missing or has fewer than 36 bytes, or the last advance or the metric of a reached
 ///     glyph isn't inside `hmtx`;
 ///   - `maxp` has fewer than 6 bytes;
@@ -76,16 +85,30 @@ fn charstrings(alloc: Global, face: &Face<'_>, mapper: &GlyphRemapper) -> Result
 ///     end;
 ///   - `post` has fewer than 4 bytes, or has version 2 and its header or its indexes are cut or it has no index for a
 ///     reached glyph.
-/// - `Unimplemented`: the outlines are those of `CFF2`, or for the time being of `CFF `.
-/// - `SubsetError`: in a `name` of version 0 the string of a kept record isn't inside the storage, more than 5460 records
-///   are kept, or a kept string would begin past 65535 in the new storage.
-/// - `OverflowError`: all 65536 glyph numbers are reached; `hmtx` is there and `hhea` counts no metrics; in a `post` of
-///   version 2 more than 65278 reached glyphs have names of the font's own; or the new `glyf`, a table's place or its
-///   length would pass 4294967295 bytes.
+/// - `CFFError`: the major version of `CFF ` isn't 1, or the charstring of a glyph of the mapper can't be run. Then it has
+///   an unknown operator; a number, an operator or a mask that is cut; a 49th operand; a call without an operand, with a
+///   fraction, or of a subroutine that isn't there or can't be read; more than 65535 stems; a call from depth 64, its own
+///   charstring being at depth 1; or more than 1000000 tokens (a number, or an operator with its mask).
+/// - `Unimplemented`: the outlines are those of `CFF2`, or the charstring of a glyph of the mapper comes to `endchar` with
+///   four operands or more, which put two glyphs together as an accented character.
+/// - `SubsetError`:
+///   - in a `name` of version 0 the string of a kept record isn't inside the storage, more than 5460 records are kept, or
+///     a kept string would begin past 65535 in the new storage;
+///   - Copyright, Notice or FontName of the top dict, or FontName of a font dict that a glyph of the mapper has, is a
+///     string that isn't in the String INDEX or can't be read.
+/// - `OverflowError`:
+///   - all 65536 glyph numbers are reached;
+///   - `hmtx` is there and `hhea` counts no metrics;
+///   - in a `post` of version 2 more than 65278 reached glyphs have names of the font's own;
+///   - the new `glyf`, a table's place or its length would pass 4294967295 bytes;
+///   - the glyphs of the mapper have 256 font dicts;
+///   - a real in a matrix, in FontBBox or in a private dict that is written has a text of more than 64 characters;
+///   - in the new `CFF ` the data of an INDEX would have more than 4294967294 bytes, or an offset or the length of a
+///     private dict would pass 2147483647.
 /// - `OutOfMemory`: a request for memory was refused. None is made before the kind, the collection, the directory and the
 ///   kind of outlines are found sound.
 ///
-/// `CFFError` isn't answered yet, as it is about CFF outlines. A refusal changes nothing.
+/// A refusal changes nothing.
 pub fn subset(
     alloc: Global,
     data: &[u8],
