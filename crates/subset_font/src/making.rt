@@ -48,7 +48,7 @@ pub fn make_in_room<R: Read>(
     // The font is read whole.
     ensures end { OnOk result (IsAtEnd (R.remaining reader.new)) }
     // Where the reader's bytes are known, the font is the subset of them.
-    ensures font { IfOk result (λ made. IfSome (R.remaining reader.old) (λ bytes. IsSubset (record { bytes = bytes; index = index }) made.1 made.0.items)) }
+    ensures font { IfOk result (λ made. IfSome (R.remaining reader.old) (λ bytes. IsSubset token_limit depth_limit (record { bytes = bytes; index = index }) made.1 made.0.items)) }
     // And then no fault stands in them, and the glyphs leave a number for glyph 0.
     ensures clean { IfOk result (λ made. IfSome (R.remaining reader.old) (λ bytes. IsFaultless (record { bytes = bytes; index = index }) made.1 made.0.items)) }
     ensures room { OnOk result (HasAllAboveZero glyphs.now → ⊥) }

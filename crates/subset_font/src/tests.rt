@@ -46,6 +46,23 @@ fn two_glyphs(alloc: Global) -> Result<Vec<u8>, Fail> {
     Ok(font)
 }
 
+/// A font of 55 bytes whose only table is `CFF `: one glyph, whose charstring is `endchar` alone.
+const CFF_FONT: [u8; 55] = [
+    79, 84, 84, 79, 0, 1, 0, 16, 0, 0, 0, 0, 67, 70, 70, 32, 0, 0, 0, 0, 0, 0, 0, 28, 0, 0, 0, 27,
+    1, 0, 4, 1, 0, 1, 1, 1, 2, 65, 0, 1, 1, 1, 3, 160, 17, 0, 0, 0, 0, 0, 1, 1, 1, 2, 14,
+];
+
+/// Its subset: the table has 134 bytes, by Technical Note 5176, and two zeros stand behind it.
+const CFF_SUBSET: [u8; 164] = [
+    79, 84, 84, 79, 0, 1, 0, 16, 0, 0, 0, 0, 67, 70, 70, 32, 69, 203, 186, 2, 0, 0, 0, 28, 0, 0, 0,
+    134, 1, 0, 4, 4, 0, 1, 1, 1, 2, 65, 0, 1, 1, 1, 60, 248, 27, 248, 28, 139, 12, 30, 30, 10, 0,
+    31, 139, 139, 30, 10, 0, 31, 139, 139, 12, 7, 139, 139, 139, 139, 5, 29, 0, 0, 0, 95, 15, 29,
+    0, 0, 0, 128, 17, 29, 0, 0, 255, 255, 12, 34, 29, 0, 0, 0, 104, 12, 36, 29, 0, 0, 0, 96, 12,
+    37, 0, 2, 1, 1, 6, 14, 65, 100, 111, 98, 101, 73, 100, 101, 110, 116, 105, 116, 121, 0, 0, 0,
+    3, 0, 1, 0, 0, 0, 0, 1, 0, 1, 1, 1, 20, 140, 139, 139, 140, 139, 139, 12, 7, 29, 0, 0, 0, 0,
+    29, 0, 0, 0, 96, 18, 0, 1, 1, 1, 2, 14, 0, 0,
+];
+
 // ---- readers and writers that fail
 
 /// Gives a byte of a font a call, and fails after so many calls.
@@ -289,6 +306,12 @@ fn a_run_writes_the_subset_and_the_lines(rt: HostRuntime) -> Result<(), Fail> {
         two_glyphs(rt.alloc())?.as_slice()
     );
     assert_eq!(rt; fs::read(&rt, "in.ttf")?.as_slice(), source.as_slice());
+    fs::write(&rt, "in.otf", CFF_FONT.as_slice())?;
+    let words = ["subset_font", "in.otf", "out.otf", "0", "0"];
+    let left = run_on(&rt, &words, true);
+    assert_eq!(rt; left.status, ExitCode::SUCCESS);
+    assert_eq!(rt; left.printed.as_slice(), b"0 -> 0\n".as_slice());
+    assert_eq!(rt; fs::read(&rt, "out.otf")?.as_slice(), CFF_SUBSET.as_slice());
     fs::remove_dir_all(&rt, folder.as_str())?;
     Ok(())
 }

@@ -1,19 +1,23 @@
 -- The plain way refuses a table just where a fault stands in it.
-use Rattle.std.proofs.Common.{◌≡◌, ℕ, List, refl, arith, inl, inr, ◌⊎◌, ◌∙◌, sym, subst}
+use Rattle.std.proofs.Common.{◌≡◌, ℕ, ltb, ◌≤◌, List, length, refl, arith, inl, inr, ◌⊎◌, ◌∙◌, sym, subst}
 use Rattle.std.specs.Prelude.{Contains, Ok, Err}
 use Rattle.std.specs.Option.{ok_or}
+use Rattle.std.proofs.lemmas.Bool.{ltb-false}
 use Rattle.std.proofs.lemmas.Option.{same_Some}
 use Rattle.subsetter_base.specs.declared.error.Error.{Error}
-use Rattle.subsetter_base.specs.declared.error.Error.TheVariants.{SubsetError}
+use Rattle.subsetter_base.specs.declared.error.Error.TheVariants.{SubsetError, OverflowError}
 use Rattle.subsetter_cff.specs.Strings.{string_at}
 use Rattle.subsetter_cff.specs.Cff.{Cff}
 use Rattle.subsetter_cff.specs.Operators.{copyright_operator, notice_operator, font_name_operator}
+use Rattle.subsetter_cff.specs.Layout.{Parts}
 use Rattle.subsetter_cff.specs.OperandDemands.{top_demands}
 use Rattle.subsetter_cff.specs.Opened.{opened}
-use Rattle.subsetter_cff.specs.Plain.{KeptGlyph, kept_glyphs, used_numbers, new_font_dicts, parts_for, parts_of, cff_subset}
+use Rattle.subsetter_cff.specs.Plain.{KeptGlyph, kept_glyphs, used_numbers, new_font_dicts, parts_for, counted_parts, parts_of, cff_subset}
 use Rattle.subsetter_cff.specs.Fault.{HasGlyphFault, HasStringFault, bad_copyright, bad_notice, bad_font_name}
+use Rattle.subsetter_cff.specs.LimitFault.{HasLimitFault}
 use Rattle.subsetter_cff.specs.CffFault.{HasCffFault, in_opening, in_glyph, in_strings, in_limits, RefusedStands}
-use Rattle.subsetter_cff.proofs.Refusals.{bind_err, none_of}
+use Rattle.subsetter_cff.proofs.Results.{passed}
+use Rattle.subsetter_cff.proofs.Refusals.{bind_err, none_of, failed}
 use Rattle.subsetter_cff.proofs.Faults.{opening_refused}
 use Rattle.subsetter_cff.proofs.ReadNumbers.{AreBytes, all_bytes}
 use Rattle.subsetter_cff.proofs.SourceBytes.{source_of}
@@ -23,7 +27,7 @@ use Rattle.subsetter_cff.proofs.StringFaults.{string_refused}
 use Rattle.subsetter_cff.proofs.UsedByGlyphs.{all_used}
 use Rattle.subsetter_cff.proofs.GlyphFaults.{refused_glyphs}
 use Rattle.subsetter_cff.proofs.FontDictRefusals.{dicts_refused}
-use Rattle.subsetter_cff.proofs.LimitFaults.{limit_stands}
+use Rattle.subsetter_cff.proofs.LimitFaults.{many_used, limit_stands}
 
 pub opened_sound : (bytes : List ℕ) (cff : Cff) → opened bytes ≡ Ok cff → TopIsSound cff
 opened_sound bytes cff e =
@@ -52,6 +56,19 @@ made_refused cff tokens depth glyphs kept e all sound are h =
       ]
     ]
 
+-- but first the count of the font dicts
+count_refused : (cff : Cff) (kept : List KeptGlyph) (e : Error) → counted_parts cff kept ≡ Err e → ((256 ≤ length (used_numbers kept)) × (OverflowError ≡ e)) ⊎ (parts_for cff kept ≡ Err e)
+unfolding counted_parts
+count_refused cff kept e h =
+    elim (failed (ltb (length (used_numbers kept)) 256) OverflowError e _ h) [
+      | inl over ↦ inl (ltb-false (length (used_numbers kept)) 256 over.0, over.1)
+      | inr more ↦ inr more.1
+    ]
+
+count_passed : (cff : Cff) (kept : List KeptGlyph) (p : Parts) → counted_parts cff kept ≡ Ok p → parts_for cff kept ≡ Ok p
+unfolding counted_parts
+count_passed cff kept p e = (passed (ltb (length (used_numbers kept)) 256) OverflowError _ p e).1
+
 parts_refused : (bytes : List ℕ) (tokens depth : ℕ) (glyphs : List ℕ) (cff : Cff) (e : Error) → AreBytes bytes → opened bytes ≡ Ok cff → parts_of cff tokens depth glyphs ≡ Err e → HasCffFault bytes tokens depth glyphs e
 unfolding parts_of
 parts_refused bytes tokens depth glyphs cff e all opened_ok h =
@@ -60,12 +77,15 @@ parts_refused bytes tokens depth glyphs cff e all opened_ok h =
     let inside = subst AreBytes (sym (source_of bytes cff is).bytes_are) all in
     elim (bind_err (kept_glyphs cff tokens depth glyphs) _ e h) [
       | inl glyph ↦ (let g = refused_glyphs cff tokens depth glyphs e sound glyph in in_glyph cff g.0 is g.1.0 g.1.1)
-      | inr (kept, (kept_are, h1)) ↦ elim (bind_err (parts_for cff kept) _ e h1) [
-        | inl made ↦ elim (made_refused cff tokens depth glyphs kept e inside sound kept_are made) [
-          | inl string ↦ in_strings cff is string
-          | inr glyph ↦ in_glyph cff glyph.0 is glyph.1.0 glyph.1.1
+      | inr (kept, (kept_are, h1)) ↦ elim (bind_err (counted_parts cff kept) _ e h1) [
+        | inl counted ↦ elim (count_refused cff kept e counted) [
+          | inl many ↦ in_limits cff is (subst (HasLimitFault cff tokens depth glyphs) many.1 (many_used cff tokens depth glyphs kept kept_are many.0))
+          | inr made ↦ elim (made_refused cff tokens depth glyphs kept e inside sound kept_are made) [
+            | inl string ↦ in_strings cff is string
+            | inr glyph ↦ in_glyph cff glyph.0 is glyph.1.0 glyph.1.1
+          ]
         ]
-        | inr (p, (p_is, last)) ↦ in_limits cff is (limit_stands cff tokens depth glyphs kept p e sound kept_are p_is last)
+        | inr (p, (p_is, last)) ↦ in_limits cff is (limit_stands cff tokens depth glyphs kept p e sound kept_are (count_passed cff kept p p_is) last)
       ]
     ]
 

@@ -28,8 +28,9 @@ use Rattle.subsetter_cff.proofs.EntrySound.{clash, contradiction}
 use Rattle.subsetter_cff.proofs.Soundness.{opened_is_sound}
 use Rattle.subsetter_cff.proofs.SourceFits.{short_front, short_back}
 use Rattle.subsetter_cff.proofs.KeptSteps.{kept_at, glyph_steps}
+use Rattle.subsetter_cff.proofs.FontDictSteps.{length-dicts}
 use Rattle.subsetter_cff.proofs.MadeOf.{Answer, answer_steps, parts_steps, parts_made}
-use Rattle.subsetter_cff.proofs.Headline.{opened_is, length-dicts}
+use Rattle.subsetter_cff.proofs.Headline.{opened_is}
 use Rattle.subsetter_cff.proofs.StringFaults.{none_named}
 use Rattle.subsetter_cff.proofs.Largest.{contained, indexes_small, offsets_small}
 use Rattle.subsetter_cff.proofs.UsedByGlyphs.{used_are}

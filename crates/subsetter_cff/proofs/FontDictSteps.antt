@@ -1,5 +1,5 @@
 -- The new font dicts that the plain functions answer, each made of a font dict of the source.
-use Rattle.std.proofs.Common.{◌≡◌, ℕ, zero, suc, true, false, List, [], ◌∷◌, Option, Some, refl, ap, inl, inr, ◌∙◌, sym}
+use Rattle.std.proofs.Common.{◌≡◌, ℕ, zero, suc, true, false, List, [], ◌∷◌, length, Option, Some, refl, ap, inl, inr, ◌∙◌, sym}
 use Rattle.std.specs.Prelude.{slice_get, Ok}
 use Rattle.std.specs.Option.{ok_or, option_and_then}
 use Rattle.std.proofs.lemmas.Bool.{cases_Bool}
@@ -99,3 +99,8 @@ dict_made cff number f e =
     let c = bind_ok (ok_or (new_matrix (last_of font_matrix_operator cff.top) a.0.own) OverflowError) _ f b.1.1 in
     made_dict cff number f a.0 b.0 c.0 (some_of (source_dict cff number) MalformedFont a.0 a.1.0) (some_of a.0.name SubsetError b.0 b.1.0)
     (some_of (new_matrix (last_of font_matrix_operator cff.top) a.0.own) OverflowError c.0 c.1.0) (same_Ok _ _ c.1.1)
+
+-- as many as numbers
+pub length-dicts : (cff : Cff) (ns : List ℕ) (dicts : List FontDict) → new_font_dicts cff ns ≡ Ok dicts → length dicts ≡ length ns
+length-dicts cff [] dicts e = ap length (sym (same_Ok _ _ e))
+length-dicts cff (n ∷ ns) dicts e = let s = dict_steps cff n ns dicts e in ap length (sym s.1.1.1.1) ∙ ap suc (length-dicts cff ns s.1.1.0 s.1.1.1.0)

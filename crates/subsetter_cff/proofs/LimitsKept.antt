@@ -1,8 +1,8 @@
 -- What is checked while a new table is written is what its parts are limited by.
-use Rattle.std.proofs.Common.{◌≡◌, ℕ, ◌+◌, ◌<◌, ◌≤◌, ◌^◌, Bool, true, false, cond, ◌⊎◌, List, [], ◌∷◌, ◌++◌, map, length, refl, ap, arith, inl, inr, ◌∙◌, sym, length-append}
+use Rattle.std.proofs.Common.{◌≡◌, ℕ, ◌+◌, ◌<◌, ◌≤◌, ◌^◌, Bool, true, false, cond, ◌⊎◌, List, [], ◌∷◌, ◌++◌, length, refl, ap, arith, inl, inr, ◌∙◌, sym, length-append}
 use Rattle.std.specs.Prelude.{◌||◌, nat_lt, Result, Ok, Err}
 use Rattle.std.specs.List.{concat, flat_map}
-use Rattle.std.proofs.lemmas.Bool.{lt-ltb, le-ltb, ltb-true}
+use Rattle.std.proofs.lemmas.Bool.{lt-ltb, ltb-true}
 use Rattle.std.proofs.lemmas.List.{length-map}
 use Rattle.subsetter_base.specs.Bytes.{◌>>=◌}
 use Rattle.subsetter_base.specs.declared.error.Error.{Error}
@@ -87,8 +87,7 @@ not_true false e = refl
 kept_of : (p q : Parts) → limited p ≡ Ok q → Kept p
 unfolding limited
 kept_of p q e =
-    let a = passed (nat_lt (length p.font_dicts) 256) OverflowError _ q e in
-    let b = passed (cond (any_long (written_numbers p)) false true) OverflowError _ q a.1 in
+    let b = passed (cond (any_long (written_numbers p)) false true) OverflowError _ q e in
     let c = passed (nat_lt (length (concat p.char_strings) + 1) (2 ^ 32)) OverflowError _ q b.1 in
     let d = passed (nat_lt (char_strings_place p) (2 ^ 31)) OverflowError _ q c.1 in
     record {
@@ -105,13 +104,13 @@ check_either x false r more = inr refl
 limited_either : (p : Parts) → Either p (limited p)
 unfolding limited
 limited_either p =
-    check_either p (nat_lt (length p.font_dicts) 256) _ (check_either p (cond (any_long (written_numbers p)) false true) _
-    (check_either p (nat_lt (length (concat p.char_strings) + 1) (2 ^ 32)) _ (check_either p (nat_lt (char_strings_place p) (2 ^ 31)) _ (inl refl))))
+    check_either p (cond (any_long (written_numbers p)) false true) _
+    (check_either p (nat_lt (length (concat p.char_strings) + 1) (2 ^ 32)) _ (check_either p (nat_lt (char_strings_place p) (2 ^ 31)) _ (inl refl)))
 
-limits_hold : (p : Parts) → length p.font_dicts < 256 → Kept p → limited p ≡ Ok p
+limits_hold : (p : Parts) → Kept p → limited p ≡ Ok p
 unfolding limited
-limits_hold p few k =
-    rw (lt-ltb (length p.font_dicts) 256 few, k.short_numbers, lt-ltb (length (concat p.char_strings) + 1) (2 ^ 32) k.size, lt-ltb (char_strings_place p) (2 ^ 31) k.place) refl
+limits_hold p k =
+    rw (k.short_numbers, lt-ltb (length (concat p.char_strings) + 1) (2 ^ 32) k.size, lt-ltb (char_strings_place p) (2 ^ 31) k.place) refl
 
 -- ---- what was checked is kept
 is_kept : (b : Bool) (x : Unit {0}) → limit b ≡ Ok x → b ≡ true
@@ -283,7 +282,7 @@ limits_agree t cs same few =
     let p = parts_view t cs in
     let r = table_limits (strings p) t (length cs) in
     elim (table_either (strings p) t (length cs)) [
-      | inl kept ↦ limits_hold p (omega (arith, few, length-map t.font_dicts.items font_dict_view)) (table_kept t cs tt same kept) ∙ sym (ap (λ (q : Result (Unit {0}) Error). q >>= λ k. Ok p) kept)
+      | inl kept ↦ limits_hold p (table_kept t cs tt same kept) ∙ sym (ap (λ (q : Result (Unit {0}) Error). q >>= λ k. Ok p) kept)
       | inr broken ↦ elim (limited_either p) [
         | inl is ↦ not_both tt r (table_passes t cs same (omega (arith, few)) (kept_of p p is)) broken
         | inr isnt ↦ isnt ∙ sym (ap (λ (q : Result (Unit {0}) Error). q >>= λ k. Ok p) broken)
@@ -301,8 +300,3 @@ limits_are t cs h few =
     limits_agree t cs h.text few
     ∙ sym (ap (λ (ss : List (List ℕ)). table_limits ss t (length t.ends.items) >>= λ kept. Ok (parts_view t cs)) (same_strings t cs)
     ∙ ap (λ (n : ℕ). table_limits (strings (parts_view t cs)) t n >>= λ kept. Ok (parts_view t cs)) (ap length h.ends ∙ length-ends 1 cs))
-
--- 256 font dicts are too many
-pub too_many : (t : NewTable) (cs : List (List ℕ)) → 255 < length t.font_dicts.items → limited (parts_view t cs) ≡ Err OverflowError
-unfolding limited
-too_many t cs lt = rw (le-ltb (length (map font_dict_view t.font_dicts.items)) 256 (omega (arith, lt, length-map t.font_dicts.items font_dict_view))) refl

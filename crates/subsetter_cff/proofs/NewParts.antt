@@ -1,15 +1,16 @@
 -- The parts of a new table, made of a source in memory.
-use Rattle.std.proofs.Common.{◌≡◌, ℕ, zero, suc, ◌<◌, ◌≤◌, true, List, [], ◌∷◌, ◌++◌, length, map, Option, Some, None, refl, ap, arith, ◌∙◌, sym, append_assoc}
-use Rattle.std.specs.Prelude.{slice_get, slice_index_or, unwrap_or, ◌==◌, ◌&&◌, Result, Ok, Err}
+use Rattle.std.proofs.Common.{◌≡◌, ℕ, zero, suc, ◌<◌, ◌≤◌, Bool, true, false, List, [], ◌∷◌, ◌++◌, length, map, Option, Some, None, refl, ap, arith, ◌∙◌, sym, append_assoc}
+use Rattle.std.specs.Prelude.{slice_get, slice_index_or, unwrap_or, ◌==◌, ◌&&◌, nat_lt, Result, Ok, Err}
 use Rattle.std.specs.List.{AllByRecursion}
 use Rattle.std.specs.Option.{option_map, option_and_then, ok_or}
+use Rattle.std.proofs.lemmas.Bool.{ltb-true}
 use Rattle.std.proofs.lemmas.List.{append-nil}
 use Rattle.std.proofs.lemmas.Option.{none-some, same_Some, slice_get-get_or}
 use Rattle.subsetter_base.specs.Bytes.{◌>>=◌}
 use Rattle.subsetter_base.specs.Gives.{Fails}
 use Rattle.subsetter_base.specs.Places.{place}
 use Rattle.subsetter_base.specs.declared.error.Error.{Error}
-use Rattle.subsetter_base.specs.declared.error.Error.TheVariants.{MalformedFont, SubsetError}
+use Rattle.subsetter_base.specs.declared.error.Error.TheVariants.{MalformedFont, SubsetError, OverflowError}
 use Rattle.subsetter_cffdata.specs.Dict.{Entry, entries}
 use Rattle.subsetter_cffdata.specs.Numbers.{Number}
 use Rattle.subsetter_cffdata.specs.Operands.{just}
@@ -29,17 +30,19 @@ use Rattle.subsetter_cff.specs.NewMatrix.{shown, new_top_matrix, new_box}
 use Rattle.subsetter_cff.specs.NewParts.{stored_dict, made_dict, only_font_dict, with_dicts, select_by, all_parts, parts_by}
 use Rattle.subsetter_cff.specs.NewTable.{font_dict_view, parts_view, select_of_table, string_view}
 use Rattle.subsetter_cff.specs.OperandDemands.{Demand, so_many, top_demands, font_dict_demands}
-use Rattle.subsetter_cff.specs.Opened.{all_meet, all_lead, sound_font_dicts}
+use Rattle.subsetter_cff.specs.Opened.{check, all_meet, all_lead, sound_font_dicts}
 use Rattle.subsetter_cff.specs.Operators.{copyright_operator, notice_operator, font_name_operator, font_matrix_operator, font_box_operator}
-use Rattle.subsetter_cff.specs.Plain.{KeptGlyph, used_numbers, as_source_dict, source_dict, new_font_dict, new_font_dicts, new_select, parts_for}
+use Rattle.subsetter_cff.specs.Plain.{KeptGlyph, used_numbers, as_source_dict, source_dict, new_font_dict, new_font_dicts, new_select, parts_for, counted_parts}
 use Rattle.subsetter_cff.specs.PrivateView.{private_view}
 use Rattle.subsetter_cff.specs.SidRemapping.{named}
 use Rattle.subsetter_cff.specs.Source.{cff_of, IsSource}
 use Rattle.subsetter_cff.specs.Strings.{FontString, string_at}
 use Rattle.subsetter_cff.specs.TopDicts.{last_numbers}
-use Rattle.subsetter_cff.specs.UsedFontDicts.{used_font_dicts, new_place}
+use Rattle.subsetter_cff.specs.UsedFontDicts.{used_font_dicts, counted_font_dicts, new_place}
 use Rattle.subsetter_cff.proofs.Holding.{both}
 use Rattle.subsetter_cff.proofs.Failing.{fails_on}
+use Rattle.subsetter_cff.proofs.FontDictSteps.{length-dicts}
+use Rattle.subsetter_cff.proofs.Results.{bind_ok, same_Ok, passed}
 use Rattle.subsetter_cff.proofs.GlyphsKept.{keyed_as}
 use Rattle.subsetter_cff.proofs.LastHolds.{Held, last_holds, string_named}
 use Rattle.subsetter_cff.proofs.UsedNumbers.{inserted_are}
@@ -147,7 +150,7 @@ module _ (cff : Cff) (texts : List (List ℕ)) where
       ok_or (string_at cff.strings copyright_operator cff.top) SubsetError >>= λ copyright. ok_or (string_at cff.strings font_name_operator cff.top) SubsetError >>= λ font_name.
       ok_or (string_at cff.strings notice_operator cff.top) SubsetError >>= λ notice. new_font_dicts cff used >>= λ dicts. Ok (all_parts cff copyright notice font_name dicts select texts)
 
-  by_numbers : (numbers : List ℕ) → parts_by cff numbers texts ≡ parts_with (used_font_dicts numbers) (select_by cff (used_font_dicts numbers) numbers)
+  by_numbers : (numbers : List ℕ) → parts_by cff numbers texts ≡ (counted_font_dicts numbers >>= λ used. parts_with used (select_by cff used numbers))
   unfolding parts_by
   by_numbers numbers = refl
 
@@ -167,12 +170,12 @@ pub parts_made : (s : Table) (t : NewTable) (numbers used : List ℕ) → IsSour
     → ok_or (string_at (cff_of s).strings copyright_operator (cff_of s).top) SubsetError ≡ Ok (string_view t.copyright)
     → ok_or (string_at (cff_of s).strings font_name_operator (cff_of s).top) SubsetError ≡ Ok (string_view t.font_name)
     → ok_or (string_at (cff_of s).strings notice_operator (cff_of s).top) SubsetError ≡ Ok (string_view t.notice)
-    → used ≡ used_font_dicts numbers → new_font_dicts (cff_of s) used ≡ Ok (map font_dict_view t.font_dicts.items) → select_of_table t.numbers ≡ select_by (cff_of s) used numbers
+    → counted_font_dicts numbers ≡ Ok used → new_font_dicts (cff_of s) used ≡ Ok (map font_dict_view t.font_dicts.items) → select_of_table t.numbers ≡ select_by (cff_of s) used numbers
     → t.names.now ≡ (cff_of s).names → map number_of t.matrix ≡ new_top_matrix (shown s.top.font_matrix) → map number_of t.font_box ≡ new_box (shown s.top.font_bbox)
     → parts_by (cff_of s) numbers [] ≡ Ok (parts_view t [])
 parts_made s t numbers used is a b c u d chosen names matrix box =
     by_numbers (cff_of s) [] numbers
-    ∙ ap (λ (us : List ℕ). parts_with (cff_of s) [] us (select_by (cff_of s) us numbers)) (sym u)
+    ∙ ap (λ (r : Result (List ℕ) Error). r >>= λ us. parts_with (cff_of s) [] us (select_by (cff_of s) us numbers)) u
     ∙ from_pieces (cff_of s) (string_view t.copyright) (string_view t.font_name) (string_view t.notice) (map font_dict_view t.font_dicts.items) (select_by (cff_of s) used numbers) _ _ _ _ a b c d
     ∙ ap (λ (p : Parts). Ok p) (same_parts s t (select_by (cff_of s) used numbers) is names matrix box chosen)
 
@@ -187,12 +190,24 @@ by_glyphs cff kept = refl
 select_is : (cff : Cff) (used : List ℕ) (kept : List KeptGlyph) → new_select cff used kept ≡ select_by cff used (numbers_of kept)
 select_is cff used kept = rw (numbers_mapped used kept) refl
 
+checked_then : {A B : Type 0} (b : Bool) (e : Error) (x : A) (f : A → Result B Error) → (check b e (Ok x) >>= f) ≡ check b e (f x)
+checked_then true e x f = refl
+checked_then false e x f = refl
+
+by_count : (cff : Cff) (texts : List (List ℕ)) (numbers : List ℕ)
+    → parts_by cff numbers texts ≡ check (nat_lt (length (used_font_dicts numbers)) 256) OverflowError (parts_with cff texts (used_font_dicts numbers) (select_by cff (used_font_dicts numbers) numbers))
+unfolding counted_font_dicts
+by_count cff texts numbers =
+    by_numbers cff texts numbers ∙ checked_then (nat_lt (length (used_font_dicts numbers)) 256) OverflowError (used_font_dicts numbers) (λ used. parts_with cff texts used (select_by cff used numbers))
+
 -- the parts depend on the glyphs by the numbers of their font dicts and by their charstrings
-pub parts_for_is : (cff : Cff) (kept : List KeptGlyph) → AllByRecursion (λ (k : KeptGlyph). k.number < 256) kept → parts_for cff kept ≡ parts_by cff (numbers_of kept) (texts_of kept)
+pub parts_for_is : (cff : Cff) (kept : List KeptGlyph) → AllByRecursion (λ (k : KeptGlyph). k.number < 256) kept → counted_parts cff kept ≡ parts_by cff (numbers_of kept) (texts_of kept)
+unfolding counted_parts
 parts_for_is cff kept all =
-    by_glyphs cff kept ∙ ap (λ (us : List ℕ). parts_with cff (texts_of kept) us (new_select cff us kept)) (inserted_are kept all)
-    ∙ ap (parts_with cff (texts_of kept) (used_font_dicts (numbers_of kept))) (select_is cff (used_font_dicts (numbers_of kept)) kept)
-    ∙ sym (by_numbers cff (texts_of kept) (numbers_of kept))
+    ap (check (nat_lt (length (used_numbers kept)) 256) OverflowError) (by_glyphs cff kept)
+    ∙ ap (λ (us : List ℕ). check (nat_lt (length us) 256) OverflowError (parts_with cff (texts_of kept) us (new_select cff us kept))) (inserted_are kept all)
+    ∙ ap (λ (s : Select). check (nat_lt (length (used_font_dicts (numbers_of kept))) 256) OverflowError (parts_with cff (texts_of kept) (used_font_dicts (numbers_of kept)) s)) (select_is cff (used_font_dicts (numbers_of kept)) kept)
+    ∙ sym (by_count cff (texts_of kept) (numbers_of kept))
 
 abbrev with_texts : List (List ℕ) → Parts → Parts
 with_texts texts p = record p { char_strings = texts }
@@ -206,9 +221,31 @@ filled cff texts (Ok a) (Ok b) (Err e) d select = refl
 filled cff texts (Ok a) (Err e) c d select = refl
 filled cff texts (Err e) b c d select = refl
 
+filled_by : (cff : Cff) (texts : List (List ℕ)) (numbers : List ℕ) (u : Result (List ℕ) Error)
+    → (u >>= λ used. parts_with cff texts used (select_by cff used numbers)) ≡ ((u >>= λ used. parts_with cff [] used (select_by cff used numbers)) >>= λ p. Ok (with_texts texts p))
+filled_by cff texts numbers (Ok used) =
+    filled cff texts (ok_or (string_at cff.strings copyright_operator cff.top) SubsetError) (ok_or (string_at cff.strings font_name_operator cff.top) SubsetError)
+    (ok_or (string_at cff.strings notice_operator cff.top) SubsetError) (new_font_dicts cff used) (select_by cff used numbers)
+filled_by cff texts numbers (Err e) = refl
+
 -- the charstrings are put in
 pub parts_filled : (cff : Cff) (numbers : List ℕ) (texts : List (List ℕ)) → parts_by cff numbers texts ≡ (parts_by cff numbers [] >>= λ p. Ok (record p { char_strings = texts }))
 unfolding parts_by
-parts_filled cff numbers texts =
-    filled cff texts (ok_or (string_at cff.strings copyright_operator cff.top) SubsetError) (ok_or (string_at cff.strings font_name_operator cff.top) SubsetError)
-    (ok_or (string_at cff.strings notice_operator cff.top) SubsetError) (new_font_dicts cff (used_font_dicts numbers)) (select_by cff (used_font_dicts numbers) numbers)
+parts_filled cff numbers texts = filled_by cff texts numbers (counted_font_dicts numbers)
+
+-- ---- there are at most 255
+counted_few : (numbers used : List ℕ) → counted_font_dicts numbers ≡ Ok used → length used < 256
+unfolding counted_font_dicts
+counted_few numbers used e =
+    let a = passed (nat_lt (length (used_font_dicts numbers)) 256) OverflowError (Ok (used_font_dicts numbers)) used e in
+    omega (arith, ltb-true (length (used_font_dicts numbers)) 256 a.0, ap length (same_Ok _ _ a.1))
+
+pub few_dicts : (cff : Cff) (numbers : List ℕ) (p : Parts) → parts_by cff numbers [] ≡ Ok p → length p.font_dicts < 256
+unfolding parts_by
+few_dicts cff numbers p e =
+    let u = bind_ok (counted_font_dicts numbers) _ p e in
+    let a = bind_ok (ok_or (string_at cff.strings copyright_operator cff.top) SubsetError) _ p u.1.1 in
+    let b = bind_ok (ok_or (string_at cff.strings font_name_operator cff.top) SubsetError) _ p a.1.1 in
+    let c = bind_ok (ok_or (string_at cff.strings notice_operator cff.top) SubsetError) _ p b.1.1 in
+    let d = bind_ok (new_font_dicts cff u.0) _ p c.1.1 in
+    omega (arith, counted_few numbers u.0 u.1.0, length-dicts cff u.0 d.0 d.1.0, ap (λ (q : Parts). length q.font_dicts) (same_Ok _ _ d.1.1))

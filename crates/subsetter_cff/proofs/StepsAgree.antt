@@ -6,7 +6,6 @@ use Rattle.std.specs.List.{AllByRecursion, concat}
 use Rattle.subsetter_base.specs.Bytes.{◌>>=◌}
 use Rattle.subsetter_base.specs.Gives.{Fails, Gives}
 use Rattle.subsetter_base.specs.declared.error.Error.{Error}
-use Rattle.subsetter_base.specs.declared.error.Error.TheVariants.{OverflowError}
 use Rattle.subsetter_cffdata.specs.Index.{offsets}
 use Rattle.subsetter_cff.specs.declared.kept_glyphs.KeptGlyphs.{KeptGlyphs}
 use Rattle.subsetter_cff.specs.declared.new_table.NewTable.{NewTable}
@@ -15,16 +14,16 @@ use Rattle.subsetter_cff.specs.Cff.{Cff}
 use Rattle.subsetter_cff.specs.KeptView.{numbers_of, texts_of, AreAllKept}
 use Rattle.subsetter_cff.specs.Layout.{Parts, strings, cff_table}
 use Rattle.subsetter_cff.specs.NewParts.{parts_by}
-use Rattle.subsetter_cff.specs.NewTable.{parts_view, HasCharStrings}
+use Rattle.subsetter_cff.specs.NewTable.{font_dict_view, parts_view, HasCharStrings}
 use Rattle.subsetter_cff.specs.Opened.{opened}
-use Rattle.subsetter_cff.specs.Plain.{KeptGlyph, kept_glyphs, parts_for, limited, parts_of, cff_subset}
+use Rattle.subsetter_cff.specs.Plain.{KeptGlyph, kept_glyphs, counted_parts, limited, parts_of, cff_subset}
 use Rattle.subsetter_cff.specs.TableBy.{table_by, table_bytes}
 use Rattle.subsetter_cff.specs.TableLimits.{table_limits}
 use Rattle.subsetter_cff.proofs.Failing.{fails_on}
 use Rattle.subsetter_cff.proofs.FlatIndexes.{length-ends}
 use Rattle.subsetter_cff.proofs.KeptSteps.{length-kept}
-use Rattle.subsetter_cff.proofs.LimitsKept.{limits_are, too_many}
-use Rattle.subsetter_cff.proofs.NewParts.{parts_for_is, parts_filled}
+use Rattle.subsetter_cff.proofs.LimitsKept.{limits_are}
+use Rattle.subsetter_cff.proofs.NewParts.{parts_for_is, parts_filled, few_dicts}
 use Rattle.subsetter_cff.proofs.TablesWritten.{table_is_laid_out}
 
 -- ---- numbers are bytes
@@ -58,7 +57,7 @@ after_opening : (bytes : List ℕ) (cff : Cff) (tokens depth : ℕ) (glyphs : Li
 unfolding cff_subset
 after_opening bytes cff tokens depth glyphs e = rw e refl
 
-after_keeping : (cff : Cff) (tokens depth : ℕ) (glyphs : List ℕ) (kept : List KeptGlyph) → kept_glyphs cff tokens depth glyphs ≡ Ok kept → parts_of cff tokens depth glyphs ≡ (parts_for cff kept >>= limited)
+after_keeping : (cff : Cff) (tokens depth : ℕ) (glyphs : List ℕ) (kept : List KeptGlyph) → kept_glyphs cff tokens depth glyphs ≡ Ok kept → parts_of cff tokens depth glyphs ≡ (counted_parts cff kept >>= limited)
 unfolding parts_of
 after_keeping cff tokens depth glyphs kept e = rw e refl
 
@@ -86,7 +85,7 @@ opening_fails bytes tokens depth glyphs e h = fails_on (opened bytes) (λ cff. p
 
 keeping_refused : (cff : Cff) (tokens depth : ℕ) (glyphs : List ℕ) (e : Error) → Fails e (kept_glyphs cff tokens depth glyphs) → Fails e (parts_of cff tokens depth glyphs)
 unfolding parts_of
-keeping_refused cff tokens depth glyphs e h = fails_on (kept_glyphs cff tokens depth glyphs) (λ kept. parts_for cff kept >>= limited) _ e refl h
+keeping_refused cff tokens depth glyphs e h = fails_on (kept_glyphs cff tokens depth glyphs) (λ kept. counted_parts cff kept >>= limited) _ e refl h
 
 pub keeping_fails : (bytes : List ℕ) (cff : Cff) (tokens depth : ℕ) (glyphs : List ℕ) (e : Error) → opened bytes ≡ Ok cff → Fails e (kept_glyphs cff tokens depth glyphs) → Fails e (cff_subset bytes tokens depth glyphs)
 keeping_fails bytes cff tokens depth glyphs e o h =
@@ -97,10 +96,14 @@ pub parts_fail : (bytes : List ℕ) (cff : Cff) (tokens depth : ℕ) (glyphs num
 parts_fail bytes cff tokens depth glyphs numbers k e s h = fails_on (parts_by cff numbers []) (λ p. from_parts (with_texts s.texts p)) (cff_subset bytes tokens depth glyphs) e (sym s.whole) h
 
 -- of a new table
+pub few_in_table : (cff : Cff) (numbers : List ℕ) (t : NewTable) → parts_by cff numbers [] ≡ Ok (parts_view t []) → length t.font_dicts.items < 256
+few_in_table cff numbers t e = omega (arith, few_dicts cff numbers (parts_view t []) e, length-map t.font_dicts.items font_dict_view)
+
 pub record Made (whole : Result (List ℕ) Error) (t : NewTable) : Type 0 where
   pub texts : List (List ℕ)
   pub has : HasCharStrings t texts
   pub whole_is : whole ≡ from_parts (parts_view t texts)
+  pub few : length t.font_dicts.items < 256
 
 pub made_is : (bytes : List ℕ) (cff : Cff) (tokens depth : ℕ) (glyphs numbers : List ℕ) (k : KeptGlyphs) (t : NewTable) → Steps bytes tokens depth glyphs numbers k cff → parts_by cff numbers [] ≡ Ok (parts_view t [])
     → t.char_strings ≡ k.char_strings → t.ends ≡ k.ends → Made (cff_subset bytes tokens depth glyphs) t
@@ -108,29 +111,27 @@ made_is bytes cff tokens depth glyphs numbers k t s e a b = record {
   texts = s.texts;
   has = record { text = ap (λ v. v.items) a ∙ s.shown.text; ends = ap (λ v. v.items) b ∙ s.shown.ends };
   whole_is = s.whole ∙ ap (λ (r : Result Parts Error). r >>= λ p. from_parts (with_texts s.texts p)) e;
+  few = few_in_table cff numbers t e;
 }
 
-pub too_many_dicts : (whole : Result (List ℕ) Error) (t : NewTable) → Made whole t → 255 < length t.font_dicts.items → whole ≡ Err OverflowError
-too_many_dicts whole t m lt = m.whole_is ∙ ap (λ (r : Result Parts Error). r >>= λ q. Ok (cff_table q)) (too_many t m.texts lt)
-
-checked_first : (whole : Result (List ℕ) Error) (t : NewTable) (m : Made whole t) → length t.font_dicts.items < 256
+checked_first : (whole : Result (List ℕ) Error) (t : NewTable) (m : Made whole t)
     → (table_limits (strings (parts_view t [])) t (length t.ends.items) >>= λ kept. Ok (cff_table (parts_view t m.texts))) ≡ whole
-checked_first whole t m few =
-    sym (m.whole_is ∙ ap (λ (r : Result Parts Error). r >>= λ q. Ok (cff_table q)) (limits_are t m.texts m.has few)
+checked_first whole t m =
+    sym (m.whole_is ∙ ap (λ (r : Result Parts Error). r >>= λ q. Ok (cff_table q)) (limits_are t m.texts m.has m.few)
     ∙ grouped (table_limits (strings (parts_view t [])) t (length t.ends.items)) (λ kept. Ok (parts_view t m.texts)) (λ q. Ok (cff_table q)))
 
-written_with : (whole : Result (List ℕ) Error) (t : NewTable) (r : Result NewCffTable Error) → Made whole t → length t.font_dicts.items < 256 → IfOk r (λ x. table_bytes x ≡ table_by t)
+written_with : (whole : Result (List ℕ) Error) (t : NewTable) (r : Result NewCffTable Error) → Made whole t → IfOk r (λ x. table_bytes x ≡ table_by t)
     → Gives (λ (x : NewCffTable). tt) r (table_limits (strings (parts_view t [])) t (length t.ends.items)) → Gives table_bytes r whole
-written_with whole t (Ok x) m few is checked =
-    sym (checked_first whole t m few) ∙ ap (λ (q : Result (Unit {0}) Error). q >>= λ kept. Ok (cff_table (parts_view t m.texts))) checked
+written_with whole t (Ok x) m is checked =
+    sym (checked_first whole t m) ∙ ap (λ (q : Result (Unit {0}) Error). q >>= λ kept. Ok (cff_table (parts_view t m.texts))) checked
     ∙ ap (λ (l : List ℕ). Ok l) (sym (table_is_laid_out t m.texts m.has) ∙ sym is)
-written_with whole t (Err e) m few is checked =
-    fails_on (table_limits (strings (parts_view t [])) t (length t.ends.items)) (λ kept. Ok (cff_table (parts_view t m.texts))) whole e (checked_first whole t m few) checked
+written_with whole t (Err e) m is checked =
+    fails_on (table_limits (strings (parts_view t [])) t (length t.ends.items)) (λ kept. Ok (cff_table (parts_view t m.texts))) whole e (checked_first whole t m) checked
 
-pub written_is : (whole : Result (List ℕ) Error) (t : NewTable) (r : Result NewCffTable Error) (glyphs : ℕ) → Made whole t → length t.font_dicts.items < 256 → glyphs ≡ length t.ends.items → IfOk r (λ x. table_bytes x ≡ table_by t)
+pub written_is : (whole : Result (List ℕ) Error) (t : NewTable) (r : Result NewCffTable Error) (glyphs : ℕ) → Made whole t → glyphs ≡ length t.ends.items → IfOk r (λ x. table_bytes x ≡ table_by t)
     → Gives (λ (x : NewCffTable). tt) r (table_limits (strings (parts_view t [])) t glyphs) → Gives table_bytes r whole
-written_is whole t r glyphs m few count is checked =
-    written_with whole t r m few is (subst (λ (n : ℕ). Gives (λ (x : NewCffTable). tt) r (table_limits (strings (parts_view t [])) t n)) count checked)
+written_is whole t r glyphs m count is checked =
+    written_with whole t r m is (subst (λ (n : ℕ). Gives (λ (x : NewCffTable). tt) r (table_limits (strings (parts_view t [])) t n)) count checked)
 
 -- as many ends as glyphs
 pub count_is : (cff : Cff) (tokens depth : ℕ) (glyphs : List ℕ) (k : KeptGlyphs) (t : NewTable) → AreAllKept cff tokens depth glyphs k → t.ends ≡ k.ends → length t.ends.items ≡ length glyphs

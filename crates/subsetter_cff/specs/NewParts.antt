@@ -18,7 +18,7 @@ use Rattle.subsetter_cff.specs.Private.{Private, own_entries}
 use Rattle.subsetter_cff.specs.PrivateView.{private_view}
 use Rattle.subsetter_cff.specs.SidRemapping.{named}
 use Rattle.subsetter_cff.specs.Strings.{FontString, string_at}
-use Rattle.subsetter_cff.specs.UsedFontDicts.{used_font_dicts, new_place}
+use Rattle.subsetter_cff.specs.UsedFontDicts.{counted_font_dicts, new_place}
 
 -- what a font dict in memory says
 abbrev pub stored_dict : List (Option (List ℕ)) → StoredDict → SourceDict
@@ -58,8 +58,9 @@ all_parts cff copyright notice font_name dicts select char_strings = record {
 -- the parts of glyphs that have these font dicts and these charstrings
 unfoldable pub parts_by : Cff → List ℕ → List (List ℕ) → Result Parts Error
 parts_by cff numbers char_strings = do
+  used ← counted_font_dicts numbers
   copyright ← ok_or (string_at cff.strings copyright_operator cff.top) SubsetError
   font_name ← ok_or (string_at cff.strings font_name_operator cff.top) SubsetError
   notice ← ok_or (string_at cff.strings notice_operator cff.top) SubsetError
-  dicts ← new_font_dicts cff (used_font_dicts numbers)
-  Ok (all_parts cff copyright notice font_name dicts (select_by cff (used_font_dicts numbers) numbers) char_strings)
+  dicts ← new_font_dicts cff used
+  Ok (all_parts cff copyright notice font_name dicts (select_by cff used numbers) char_strings)

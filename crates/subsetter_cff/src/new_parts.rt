@@ -118,7 +118,8 @@ fn new_box(own: Option<[Number; 4]>) -> [Number; 4]
     }
 }
 
-/// The parts of the new table. A string that can't be read is `SubsetError`.
+/// The parts of the new table. 256 used font dicts are `OverflowError`, before a string that can't be read is
+/// `SubsetError`.
 #[tactic(auto, unfolding(crate::specs::NewParts::parts_by))]
 pub fn new_table_of<'a>(
     alloc: Global,
@@ -130,10 +131,10 @@ pub fn new_table_of<'a>(
     ensures char_strings { IfOk result (λ t. t.char_strings ≡ kept.char_strings) }
     ensures ends { IfOk result (λ t. t.ends ≡ kept.ends) }
 {
+    let used = FontDictRemapper::of_used(alloc, &kept.numbers)?;
     let copyright = copyright(source)?;
     let font_name = font_name(source)?;
     let notice = notice(source)?;
-    let used = FontDictRemapper::of_used(alloc, &kept.numbers)?;
     let font_dicts = new_font_dicts(alloc, source, used.sorted())?;
     let numbers = new_select(alloc, source, &used, &kept.numbers)?;
     Ok(NewTable {

@@ -30,16 +30,14 @@ fn subset_exactly(
     let source = Table::parse(alloc, table)?;
     let kept = keep_glyphs(alloc, &source, limits, mapper)?;
     let new = new_table_of(alloc, &source, kept)?;
-    if new.font_dicts.len() > 255 {
-        return Err(Error::OverflowError);
-    }
     write_table(alloc, new, mapper.num_gids())
 }
 
 /// The table of the glyphs that a mapper keeps, by their new numbers. A first byte that isn't 1, and a charstring that
 /// can't be run, are `CFFError`; a charstring with the operands of an accented character is `Unimplemented`; a string that
 /// can't be read is `SubsetError`; 256 font dicts, a real of more than 64 characters and a table that is too large are
-/// `OverflowError`; all else that is wrong with the table is `MalformedFont`.
+/// `OverflowError`; all else that is wrong with the table is `MalformedFont`. Once the glyphs are kept, the font dicts are
+/// counted before strings are read, and reals are judged after that.
 pub fn subset(
     alloc: Global,
     table: &[u8],

@@ -56,7 +56,7 @@ module _ (tokens depth : ℕ) (font : Font) (glyphs : List ℕ) (bytes : IsBytes
 -- ---- where a file is answered
 
 module _ (tokens depth : ℕ) (font : Font) (glyphs source : List ℕ) (bytes : IsBytes font.bytes) (kind : flavor font ≡ Some Cff) (once : IsWithoutRepeats glyphs) (opening : (e : Error) → HasOpeningFault font e → ⊥)
-  (there : table font (codes "CFF ") ≡ Some source) (m : Made) (s : MadeSteps (table font) source tokens depth glyphs m) (fit : fits (start_of (laid m)) (laid m) ≡ true) where
+    (there : table font (codes "CFF ") ≡ Some source) (m : Made) (s : MadeSteps (table font) source tokens depth glyphs m) (fit : fits (start_of (laid m)) (laid m) ≡ true) where
   without : table font (codes "glyf") ≡ None
   without = no_glyf font kind
 

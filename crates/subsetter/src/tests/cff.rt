@@ -31,8 +31,8 @@ const NEW_FRONT: [u8; 74] = [
 /// What stands behind: the strings `Adobe` and `Identity`, no subroutines, the charset of one glyph, no private
 /// entries, FDSelect, FDArray, and the charstrings.
 const NEW_BACK: [u8; 60] = [
-    0, 2, 1, 1, 6, 14, b'A', b'd', b'o', b'b', b'e', b'I', b'd', b'e', b'n', b't', b'i', b't', b'y',
-    0, 0, // no subroutines
+    0, 2, 1, 1, 6, 14, b'A', b'd', b'o', b'b', b'e', b'I', b'd', b'e', b'n', b't', b'i', b't',
+    b'y', 0, 0, // no subroutines
     0, // charset
     3, 0, 1, 0, 0, 0, 0, 1, // FDSelect
     0, 1, 1, 1, 0x14, 0x8c, 0x8b, 0x8b, 0x8c, 0x8b, 0x8b, 0x0c, 0x07, // FDArray: FontMatrix
@@ -70,9 +70,15 @@ fn further_tables_of_a_cff_font_are_kept(rt: HostRuntime) -> Result<(), Fail> {
         part(Tag::PREP, &[1]),
     ];
     let out = subset_of(alloc, &font(alloc, b"OTTO", &parts)?, &[])?;
-    assert_eq!(rt; out.get(..6), Some([b'O', b'T', b'T', b'O', 0, 3].as_slice()));
+    assert_eq!(rt;
+        out.get(..6),
+        Some([b'O', b'T', b'T', b'O', 0, 3].as_slice())
+    );
     assert_eq!(rt; table(&out, Tag::MAXP)?, [0, 0, 0x50, 0, 0, 1].as_slice());
-    assert_eq!(rt; table(&out, Tag::HEAD)?.get(48..), Some([7, 7, 0, 0, 7, 7].as_slice()));
+    assert_eq!(rt;
+        table(&out, Tag::HEAD)?.get(48..),
+        Some([7, 7, 0, 0, 7, 7].as_slice())
+    );
     Ok(())
 }
 
@@ -84,7 +90,11 @@ fn the_table_is_read_before_the_others(rt: HostRuntime) -> Result<(), Fail> {
     assert_eq!(rt; refusal(alloc, &second, 0, &[])?, Error::CFFError);
     let first = font(alloc, b"OTTO", &[part(Tag::CFF, &TABLE), maxp])?;
     assert_eq!(rt; refusal(alloc, &first, 0, &[])?, Error::MalformedFont);
-    let short = font(alloc, b"OTTO", &[part(Tag::CFF, &TABLE), part(Tag::HEAD, &[0; 51])])?;
+    let short = font(
+        alloc,
+        b"OTTO",
+        &[part(Tag::CFF, &TABLE), part(Tag::HEAD, &[0; 51])],
+    )?;
     assert_eq!(rt; refusal(alloc, &short, 0, &[])?, Error::MalformedFont);
     Ok(())
 }
@@ -106,8 +116,8 @@ fn a_cut_cff_table_is_malformed(rt: HostRuntime) -> Result<(), Fail> {
 fn an_accented_character_is_unimplemented(rt: HostRuntime) -> Result<(), Fail> {
     // 0 0 1 2 endchar.
     let accented = [
-        1, 0, 4, 1, 0, 1, 1, 1, 2, b'A', 0, 1, 1, 1, 3, 0xa0, 0x11, 0, 0, 0, 0, 0, 1, 1, 1, 6,
-        139, 139, 140, 141, 14,
+        1, 0, 4, 1, 0, 1, 1, 1, 2, b'A', 0, 1, 1, 1, 3, 0xa0, 0x11, 0, 0, 0, 0, 0, 1, 1, 1, 6, 139,
+        139, 140, 141, 14,
     ];
     let file = cff_font(rt.alloc(), &accented)?;
     assert_eq!(rt; refusal(rt.alloc(), &file, 0, &[])?, Error::Unimplemented);

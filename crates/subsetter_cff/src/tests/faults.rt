@@ -10,7 +10,13 @@ fn tables_that_are_malformed(rt: HostRuntime) {
     let alloc = rt.alloc();
     let malformed = Error::MalformedFont;
     // A Name INDEX whose data leaves the table.
-    let name = ["01000401 0001 01 01FF 41", "0001 01 0103 A011", EMPTY, EMPTY, ENDS];
+    let name = [
+        "01000401 0001 01 01FF 41",
+        "0001 01 0103 A011",
+        EMPTY,
+        EMPTY,
+        ENDS,
+    ];
     refuses(&rt, alloc, hex(alloc, &name), &[], malformed);
     // No top dict; one that can't be read, since its first offset is 0.
     let none = [START, EMPTY, EMPTY, EMPTY, ENDS];

@@ -264,8 +264,8 @@ fn bytes_in_order(alloc: Global) -> Result<Vec<u8>, Error> {
     Ok(bytes)
 }
 
-/// 256 glyphs and as many empty font dicts, one each.
-fn table_of_256(alloc: Global) -> Result<Vec<u8>, Error> {
+/// 256 glyphs and as many empty font dicts, one each, with further entries of the top dict.
+fn table_of_256(alloc: Global, top: &[u8]) -> Result<Vec<u8>, Error> {
     let mut select = hex(alloc, &["00"])?;
     let numbers = bytes_in_order(alloc)?;
     select.extend_from_slice(&numbers)?;
@@ -274,7 +274,7 @@ fn table_of_256(alloc: Global) -> Result<Vec<u8>, Error> {
     let font_dict_index = index(alloc, &font_dicts)?;
     let char_string_index = index(alloc, &char_strings)?;
     let parts = KeyedBytes {
-        top: &[],
+        top,
         strings: &[0, 0],
         privates: &[],
         select: &select,
@@ -302,7 +302,7 @@ fn at_most_255_font_dicts(rt: HostRuntime) -> Result<(), Fail> {
     holds(
         &rt,
         alloc,
-        table_of_256(alloc),
+        table_of_256(alloc, &[]),
         &some,
         95,
         &["02 0001 00FD 00 000102030405"],
@@ -311,11 +311,23 @@ fn at_most_255_font_dicts(rt: HostRuntime) -> Result<(), Fail> {
     holds(
         &rt,
         alloc,
-        table_of_256(alloc),
+        table_of_256(alloc, &[]),
         &some,
         356,
         &["00FF 02 0001 0014 0027"],
     );
-    refuses(&rt, alloc, table_of_256(alloc), &all, Error::OverflowError);
+    refuses(
+        &rt,
+        alloc,
+        table_of_256(alloc, &[]),
+        &all,
+        Error::OverflowError,
+    );
+    // Notice is string 400, which isn't there: 256 used font dicts are found first.
+    let notice = [248, 36, 1];
+    let unnamed = table_of_256(alloc, &notice);
+    refuses(&rt, alloc, unnamed, &all, Error::OverflowError);
+    let unnamed = table_of_256(alloc, &notice);
+    refuses(&rt, alloc, unnamed, &some, Error::SubsetError);
     Ok(())
 }

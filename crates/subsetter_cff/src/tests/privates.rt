@@ -62,9 +62,21 @@ fn private_dicts_that_lead_nowhere(rt: HostRuntime) {
     refuses(&rt, alloc, hex(alloc, &calls), &[], Error::CFFError);
     // 2147483647 bytes at 2147483647. The charstrings stand at 32.
     let large = "0001 01 010E AB11 1D7FFFFFFF1D7FFFFFFF12";
-    becomes(&rt, alloc, hex(alloc, &[START, large, NOTHING, ENDS]), &[], &LEAST);
+    becomes(
+        &rt,
+        alloc,
+        hex(alloc, &[START, large, NOTHING, ENDS]),
+        &[],
+        &LEAST,
+    );
     // The private dict has 4 bytes at 30; its subroutines would stand at 30 + 100.
-    let subroutines = [START, "0001 01 0106 A311 8FA912", NOTHING, ENDS, "8B14 EF13"];
+    let subroutines = [
+        START,
+        "0001 01 0106 A311 8FA912",
+        NOTHING,
+        ENDS,
+        "8B14 EF13",
+    ];
     becomes(&rt, alloc, hex(alloc, &subroutines), &[], &LEAST);
 }
 

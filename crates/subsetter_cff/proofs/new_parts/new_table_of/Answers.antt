@@ -3,7 +3,7 @@ use Rattle.subsetter_cff.specs.declared.new_table.NewTable.{NewTable}
 use Rattle.subsetter_cff.specs.NewParts.{select_by}
 use Rattle.subsetter_cff.specs.Plain.{new_font_dicts}
 use Rattle.subsetter_cff.specs.Source.{cff_of}
-use Rattle.subsetter_cff.specs.UsedFontDicts.{used_font_dicts}
+use Rattle.subsetter_cff.specs.UsedFontDicts.{counted_font_dicts}
 use Rattle.subsetter_cff.proofs.NewParts.{parts_made}
 use Rattle.subsetter_cff.proofs.new_parts.new_table_of.Goals as goal
 
@@ -23,7 +23,7 @@ returns-clause-value c =
       ends = c.args.kept.ends;
     } in
     parts_made c.args.source.now t c.args.kept.numbers.items c.in_ok-used.used c.requires c.in_ok-copyright.ensures c.in_ok-font_name.ensures c.in_ok-notice.ensures
-    (c.in_ok-used.ensures.ok ∙ ap used_font_dicts c.deref.ensures.value)
+    (sym (ap counted_font_dicts c.deref.ensures.value) ∙ c.in_ok-used.ensures)
     (ap (λ (l : List ℕ). new_font_dicts cff l) (sym c.sorted.ensures.value) ∙ c.in_ok-font_dicts.ensures)
     (c.in_ok-numbers.ensures.ok ∙ ap (λ (l : List ℕ). select_by cff c.in_ok-used.used l) c.deref-2.ensures.value)
     refl c.new_top_matrix.ensures c.new_box.ensures

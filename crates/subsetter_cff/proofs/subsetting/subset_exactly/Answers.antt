@@ -1,7 +1,7 @@
-use Rattle.std.proofs.Common.{◌<◌, ◌∙◌, sym, length, arith}
+use Rattle.std.proofs.Common.{◌∙◌, sym}
 use Rattle.std.proofs.lemmas.Result.{err_from_is_err_and}
 use Rattle.subsetter_cff.specs.Source.{cff_of}
-use Rattle.subsetter_cff.proofs.StepsAgree.{opening_fails, keeping_fails, steps_are, parts_fail, made_is, too_many_dicts, written_is, count_is}
+use Rattle.subsetter_cff.proofs.StepsAgree.{opening_fails, keeping_fails, steps_are, parts_fail, few_in_table, made_is, written_is, count_is}
 use Rattle.subsetter_cff.proofs.subsetting.subset_exactly.Goals as goal
 
 pub returns-in_err-source : goal.returns-in_err-source
@@ -20,15 +20,8 @@ returns-in_err-new c =
     let steps = steps_are c.args.table.now (cff_of c.in_ok-source.source) c.args.limits.tokens c.args.limits.depth c.args.mapper.now c.in_ok-kept.kept c.in_ok-source.ensures.value c.in_ok-kept.ensures.ok c.in_ok-kept.ensures.small in
     rw (p.1, p.2) (parts_fail c.args.table.now (cff_of c.in_ok-source.source) c.args.limits.tokens c.args.limits.depth c.args.mapper.now c.in_ok-kept.kept.numbers.items c.in_ok-kept.kept c.in_err-new.field-0.0 steps c.in_err-new.ensures.value)
 
-pub returns-then-len-gt255 : goal.returns-then-len-gt255
-returns-then-len-gt255 c =
-    let cff = cff_of c.in_ok-source.source in
-    let k = c.in_ok-kept.kept in
-    let t = c.in_ok-new.new in
-    let steps = steps_are c.args.table.now cff c.args.limits.tokens c.args.limits.depth c.args.mapper.now k c.in_ok-source.ensures.value c.in_ok-kept.ensures.ok c.in_ok-kept.ensures.small in
-    let made = made_is c.args.table.now cff c.args.limits.tokens c.args.limits.depth c.args.mapper.now k.numbers.items k t steps c.in_ok-new.ensures.value c.in_ok-new.ensures.char_strings c.in_ok-new.ensures.ends in
-    let many : 255 < length t.font_dicts.items = omega (arith, c.len.ensures, c.if-len-gt255.true) in
-    too_many_dicts _ t made many
+pub write_table-requires-clause-font_dicts : goal.write_table-requires-clause-font_dicts
+write_table-requires-clause-font_dicts c = few_in_table (cff_of c.in_ok-source.source) c.in_ok-kept.kept.numbers.items c.in_ok-new.new c.in_ok-new.ensures.value
 
 pub write_table-requires-clause-glyphs : goal.write_table-requires-clause-glyphs
 write_table-requires-clause-glyphs c =
@@ -41,6 +34,5 @@ returns c =
     let t = c.in_ok-new.new in
     let steps = steps_are c.args.table.now cff c.args.limits.tokens c.args.limits.depth c.args.mapper.now k c.in_ok-source.ensures.value c.in_ok-kept.ensures.ok c.in_ok-kept.ensures.small in
     let made = made_is c.args.table.now cff c.args.limits.tokens c.args.limits.depth c.args.mapper.now k.numbers.items k t steps c.in_ok-new.ensures.value c.in_ok-new.ensures.char_strings c.in_ok-new.ensures.ends in
-    let few : length t.font_dicts.items < 256 = omega (arith, c.len.ensures, c.if-len-gt255.false) in
     let count = c.num_gids.ensures.count ∙ sym (count_is cff c.args.limits.tokens c.args.limits.depth c.args.mapper.now k t c.in_ok-kept.ensures.ok c.in_ok-new.ensures.ends) in
-    written_is _ t c.write_table.result c.num_gids.result made few count c.write_table.ensures.value c.write_table.ensures.checked
+    written_is _ t c.write_table.result c.num_gids.result made count c.write_table.ensures.value c.write_table.ensures.checked
