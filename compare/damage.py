@@ -14,8 +14,64 @@ SMALL = {tag: 64 for tag in ("head", "hhea", "maxp", "hmtx", "loca", "name", "po
 AT_MOST = 120
 
 
-def known_reason(data):
-    """Which of the intended differences in reading a font stands in a copy, if one does."""
+def index_at(cff, at):
+    """An INDEX: the place that its offsets count from, and the offsets (a single 1 where it has no entries)."""
+    count = u16(cff, at)
+    if count == 0:
+        return at + 1, [1]
+    size = cff[at + 2]
+    base = at + 2 + (count + 1) * size
+    offsets = [int.from_bytes(cff[it:it + size], "big") for it in range(at + 3, base + 1, size)]
+    if size > 4 or base + offsets[-1] > len(cff):
+        raise ValueError("an INDEX is cut")
+    return base, offsets if offsets[-1] else [1]
+
+
+def dict_entries(data):
+    """The entries of a DICT as (first byte of the operator, operands that are whole numbers)."""
+    at, operands = 0, []
+    while at < len(data):
+        first, size = data[at], 1
+        if first <= 27 or first in (31, 255):
+            size = 2 if first == 12 else 1
+            yield first, operands
+            operands = []
+        elif first in (28, 29):
+            size = 3 if first == 28 else 5
+            operands.append(int.from_bytes(data[at + 1:at + size], "big", signed=True))
+        elif first == 30:
+            size = 2 + next((k for k, it in enumerate(data[at + 1:]) if 15 in (it >> 4, it & 15)), len(data))
+        elif first <= 246:
+            operands.append(first - 139)
+        else:
+            size, high = 2, (first - 247) % 4 * 256 + data[at + 1] + 108
+            operands.append(high if first <= 250 else -high)
+        at += size
+
+
+def has_unreadable_subroutine(data):
+    """Whether the global or the local subroutines of a SID-keyed font have an unreadable entry."""
+    def unreadable(offsets):
+        return offsets[0] == 0 or offsets != sorted(offsets)
+
+    start, length = directory(data)["CFF "]
+    cff = data[start:start + length]
+    lists, at = [], cff[2]
+    for _ in ("names", "top dicts", "strings", "global subroutines"):
+        lists.append(index_at(cff, at))
+        at = lists[-1][0] + lists[-1][1][-1]
+    if unreadable(lists[3][1]):
+        return True
+    base, offsets = lists[1]
+    length, start = dict(dict_entries(cff[base + offsets[0]:base + offsets[1]]))[18]
+    if start + length > len(cff):
+        return False
+    at = next((operands[0] for operator, operands in dict_entries(cff[start:start + length]) if operator == 19), None)
+    return at is not None and unreadable(index_at(cff, start + at)[1])
+
+
+def known_reason(data, original):
+    """Which of the intended differences in reading a font stands in a copy, if one does. `original` is the answer."""
     try:
         at = u32(data, 12) if data[:4] == b"ttcf" else 0
         tags = [data[r:r + 4] for r in range(at + 12, at + 12 + 16 * u16(data, at + 4), 16) if r + 16 <= len(data)]
@@ -25,7 +81,10 @@ def known_reason(data):
         if "hhea" in directory(data) and directory(data)["hhea"][1] != 36:
             # (the original reads a short one at 0 and patches a long one at its end)
             return "hhea isn't 36 bytes"
-    except struct.error:
+        if original == "error processing CFF table failed" and has_unreadable_subroutine(data):
+            # (the original's list of subroutines ends there; to the port the others can still be called)
+            return "a subroutine's entry is unreadable"
+    except (struct.error, LookupError, ValueError):
         pass
     return "not explained"
 
@@ -97,7 +156,7 @@ def kind_of(answers, copy):
     key = tuple("ok" if it.startswith("ok") else it for it in answers)
     if len(set(answers)) > 1 and set(key) == {"ok"}:
         key = ("ok", "ok, other bytes")
-    return key + (known_reason(copy) if len(set(key)) > 1 else "",)
+    return key + (known_reason(copy, answers[0]) if len(set(key)) > 1 else "",)
 
 
 def refusals(drivers, paths, copies, kept):
