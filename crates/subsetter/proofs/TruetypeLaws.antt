@@ -2,4 +2,4 @@
 pub mod Steps
 pub mod Subset
 pub mod Fault
-pub mod Gave
+pub mod PlainAnswers

@@ -14,7 +14,7 @@ use Rattle.subsetter.proofs.SfntLaws.Fault.{opened_refused, flavored_refused}
 use Rattle.subsetter.proofs.Headline.{not_memory, unopened, unflavored, cff_answered, cff_refused, cff_opening_clean, truetype_subset, truetype_refused, opening_clean}
 use Rattle.subsetter.specs.Cff.Plain.{cff_file}
 use Rattle.subsetter.proofs.TruetypeLaws.Subset.{IsClean}
-use Rattle.subsetter.proofs.TruetypeLaws.Gave.{gave_ok, gave_err}
+use Rattle.subsetter.proofs.TruetypeLaws.PlainAnswers.{gave_ok, gave_err}
 use Rattle.subsetter.proofs.subsetting.subset.Goals as goal
 
 -- another answer than want of memory

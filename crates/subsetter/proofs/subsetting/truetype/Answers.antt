@@ -9,7 +9,7 @@ use Rattle.subsetter.specs.Sfnt.View.{views}
 use Rattle.subsetter.specs.Sfnt.Rows.{FontTables, rows, present}
 use Rattle.subsetter.specs.Sfnt.Written.{kind_word}
 use Rattle.subsetter.specs.declared.sfnt.flavor.FontFlavor.TheVariants.{TrueType}
-use Rattle.subsetter.proofs.TruetypeLaws.Gave.{gave_ok, gave_err, refused_made, few_tables, all_tables, answered, refused_file}
+use Rattle.subsetter.proofs.TruetypeLaws.PlainAnswers.{gave_ok, gave_err, refused_made, few_tables, all_tables, answered, refused_file}
 use Rattle.subsetter.proofs.subsetting.truetype.Goals as goal
 
 pub returns-in_err-table-clause-err : goal.returns-in_err-table-clause-err
