@@ -1,6 +1,6 @@
 -- An entry that does not meet a demand, or leads nowhere, is a fault.
 use Rattle.std.proofs.Common.{◌≡◌, ℕ, true, false, cond, List, [], ◌∷◌, drop, ◌-◌, Option, Some, None, refl, arith, inl, inr, ◌⊎◌, sym}
-use Rattle.std.specs.Prelude.{Contains, is_some}
+use Rattle.std.specs.Prelude.{Contains, is_some, IfNone}
 use Rattle.std.specs.Str.{bytes_eq}
 use Rattle.std.specs.Option.{option_and_then, option_map}
 use Rattle.std.proofs.lemmas.Bool.{false≢true, cases_Bool}
@@ -36,6 +36,11 @@ all_wrong ds (e ∷ es) h =
       | inl first ↦ (let m = one_wrong ds e first in record { entry = e; inside = here e es; demand = m.0; demanded = m.1.0; operator = m.1.1.0; wrong = m.1.1.1 })
       | inr rest ↦ (let m = all_wrong ds es rest in record { entry = m.entry; inside = there e es m.entry m.inside; demand = m.demand; demanded = m.demanded; operator = m.operator; wrong = m.wrong })
     ]
+
+-- so where nothing is read
+pub read_fault : {A : Type 0} (ds : List Demand) (es : List Entry) (o : Option A) → is_some o ≡ all_meet ds es → IfNone o (HasWrongOperands ds es)
+read_fault ds es None e = all_wrong ds es (sym e)
+read_fault ds es (Some x) e = tt
 
 -- a Private entry that leads nowhere
 no_leading : (bytes : List ℕ) (es : List Entry) → all_lead bytes es ≡ false → (e : Entry) × (Contains es e × ((bytes_eq e.operator private_operator ≡ true) × (is_some (private_by bytes (Some e.operands)) ≡ false)))

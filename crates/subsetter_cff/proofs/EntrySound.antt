@@ -1,5 +1,6 @@
 -- Where entries meet the demands and lead to what they name, no fault of an entry stands.
 use Rattle.std.proofs.Common.{◌≡◌, ℕ, Bool, true, false, List, drop, ◌-◌, Option, Some, None, refl, ◌∙◌, sym}
+use Rattle.std.specs.Prelude.{is_some, IfSome}
 use Rattle.std.specs.Option.{option_and_then}
 use Rattle.std.proofs.lemmas.Bool.{false≢true}
 use Rattle.std.proofs.lemmas.Option.{none-some}
@@ -26,6 +27,11 @@ contradiction b t f = absurd (false≢true (sym f ∙ t))
 -- where all entries meet the demands, none has other operands
 pub no_wrong : (ds : List Demand) (es : List Entry) → all_meet ds es ≡ true → HasWrongOperands ds es → ⊥
 no_wrong ds es all f = contradiction (f.demand.holds f.entry.operands) (holding_at f.demand.holds f.demand.operator es f.entry f.inside (demand_holds ds f.demand es f.demanded all) f.operator) f.wrong
+
+-- so where something is read just if they do
+pub read_sound : {A : Type 0} (ds : List Demand) (es : List Entry) (o : Option A) → is_some o ≡ all_meet ds es → IfSome o (λ _. HasWrongOperands ds es → ⊥)
+read_sound ds es None e = tt
+read_sound ds es (Some x) e = no_wrong ds es (sym e)
 
 no_range : (bytes : List ℕ) (place : ℕ × ℕ) → range bytes place.0 (place.1 - place.0) ≡ None → private_in bytes place ≡ None
 unfolding private_in
