@@ -12,7 +12,6 @@ use Rattle.subsetter_cff.specs.Opened.{opened}
 use Rattle.subsetter_cff.specs.Plain.{parts_of, cff_subset}
 use Rattle.subsetter_cff.specs.Again.{composed, AreGlyphs, AreAll, IsAsked, IsSameTable, IsGivenBack, StaysFromThenOn}
 use Rattle.subsetter_cff.proofs.Results.{bind_ok, same_Ok}
-use Rattle.subsetter_cff.proofs.ReadNumbers.{all_bytes}
 use Rattle.subsetter_cff.proofs.SourceBytes.{source_of}
 use Rattle.subsetter_cff.proofs.Headline.{opened_is, answer_fits}
 use Rattle.subsetter_cff.proofs.Soundness.{TopIsSound, was_opened}
@@ -50,7 +49,7 @@ is_answered bytes tokens depth glyphs out asked e =
       made = b.0;
       made_is = b.1.0;
       out_is = same_Ok _ _ b.1.1;
-      fits = answer_fits bytes a.0 tokens depth glyphs b.0 (all_bytes bytes asked.bytes_are) (source_of bytes a.0 source) asked.some asked.few b.1.0;
+      fits = answer_fits bytes a.0 tokens depth glyphs b.0 (source_of bytes a.0 source) asked.some asked.few b.1.0;
       shape = shaped a.0 sound tokens depth glyphs b.0 b.1.0;
     }
 
