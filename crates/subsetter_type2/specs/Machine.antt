@@ -10,7 +10,7 @@ use Rattle.subsetter_type2.specs.declared.token.Token.{Token}
 use Rattle.subsetter_type2.specs.declared.token.Token.TheVariants.{Operand, Operation}
 use Rattle.subsetter_type2.specs.declared.token.Effect.{Effect}
 use Rattle.subsetter_type2.specs.declared.token.Effect.TheVariants.{CountsStems, Draws, CallsLocal, CallsGlobal, Returns, Ends, Masks}
-use Rattle.subsetter_cffdata.specs.CharStringNumber.{whole_of}
+use Rattle.subsetter_cffdata.specs.CharStringNumber.{number_at, whole_of}
 use Rattle.subsetter_type2.specs.Subroutines.{biased_entry}
 use Rattle.subsetter_type2.specs.Token.{token_of, effect_of}
 
@@ -131,6 +131,14 @@ act library (Operation operator) rest r = operate library operator (effect_of op
 abbrev pub act_on : Library → Option (Token × List ℕ) → Registers → Act
 act_on library None r = Fails CFFError
 act_on library (Some t) r = act library t.0 t.1 r
+
+-- what a number at the front of these bytes does
+abbrev pub pushed : Option (CharStringNumber × List ℕ) → Registers → Act
+pushed None r = Fails CFFError
+pushed (Some n) r = push n.0 n.1 r
+
+unfoldable pub push_at : List ℕ → Registers → Act
+push_at bytes r = pushed (number_at bytes) r
 
 -- what the token at the front of these bytes does
 unfoldable pub act_at : Library → List ℕ → Registers → Act

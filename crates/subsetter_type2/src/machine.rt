@@ -2,7 +2,8 @@
 
 ghost use Rattle.std.specs.Prelude.{◌≡◌, ◌<◌, ◌≤◌, [], IfOk, IfErr};
 ghost use Rattle.std.specs.Option.{option_copied};
-ghost use Rattle.subsetter_type2.specs.Machine.{subroutine, push, draw, On, stems_after, count_stems, mask, call, end, act, act_at};
+ghost use Rattle.subsetter_type2.specs.Machine.{subroutine, push, draw, On, stems_after, count_stems, mask, call, end, act, act_at, push_at, pushed};
+ghost use Rattle.subsetter_cffdata.specs.CharStringNumber.{middle_number};
 ghost use Rattle.subsetter_type2.specs.MachineView.{registers_of, library_of, Performs};
 
 use crate::argstack::MAX_OPERANDS;
@@ -10,7 +11,7 @@ use crate::sink::Sink;
 use crate::subroutines::SubroutineHandler;
 use crate::token::{self, Effect, Token};
 use subsetter_base::error::Error;
-use subsetter_cffdata::charstring_number::CharStringNumber;
+use subsetter_cffdata::charstring_number::{CharStringNumber, middle_of, read_number};
 use subsetter_cffdata::operator::Operator;
 
 /// The subroutines that a charstring may call.
@@ -168,9 +169,49 @@ impl<'a, S: Sink<'a>> Machine<S> {
         }
     }
 
-    /// The token at the front of these bytes.
+    /// A number of a first byte from 247 to 254 and one more.
+    #[inline(always)]
+    fn push_middle(&mut self, first: u8, bytes: &'a [u8]) -> Result<Flow<'a>, Error>
+        requires low { 247 ≤ first }
+        requires high { first < 255 }
+        ensures { Performs (pushed (middle_number first bytes.now) (registers_of S.written self.old)) S.written self.old self.new result }
+    {
+        match bytes {
+            [second, rest @ ..] => {
+                if self.output.count() >= MAX_OPERANDS {
+                    return Err(Error::CFFError);
+                }
+                let number = middle_of(first, *second);
+                self.output.push_pair(number, [first, *second])?;
+                Ok(Flow::GoesOn(rest))
+            }
+            [] => Err(Error::CFFError),
+        }
+    }
+
+    /// A number of more than one byte at the front of these bytes.
+    #[inline(always)]
+    #[tactic(auto, unfolding(crate::specs::Machine::push_at))]
+    fn push_at(&mut self, bytes: &'a [u8]) -> Result<Flow<'a>, Error>
+        ensures { Performs (push_at bytes.now (registers_of S.written self.old)) S.written self.old self.new result }
+    {
+        let (number, rest) = read_number(bytes).ok_or(Error::CFFError)?;
+        self.push(number, rest)
+    }
+
+    /// Any token at the front of these bytes.
     #[inline(always)]
     #[tactic(auto, unfolding(crate::specs::Machine::act_at))]
+    fn act_on(&mut self, subroutines: &Subroutines<'a>, bytes: &'a [u8]) -> Result<Flow<'a>, Error>
+        ensures { Performs (act_at (library_of subroutines.now) bytes.now (registers_of S.written self.old)) S.written self.old self.new result }
+    {
+        let (token, rest) = token::read_token(bytes).ok_or(Error::CFFError)?;
+        self.act(subroutines, token, rest)
+    }
+
+    /// The token at the front of these bytes. Most are numbers, which the first byte tells.
+    #[inline(always)]
+    #[tactic(auto, unfolding(crate::specs::Machine::act_at, crate::specs::Machine::push_at, crate::specs::Token::token_of, subsetter_cffdata::specs::CharStringNumber::number_at))]
     pub fn act_at(
         &mut self,
         subroutines: &Subroutines<'a>,
@@ -178,7 +219,14 @@ impl<'a, S: Sink<'a>> Machine<S> {
     ) -> Result<Flow<'a>, Error>
         ensures { Performs (act_at (library_of subroutines.now) bytes.now (registers_of S.written self.old)) S.written self.old self.new result }
     {
-        let (token, rest) = token::read_token(bytes).ok_or(Error::CFFError)?;
-        self.act(subroutines, token, rest)
+        match bytes {
+            [first, rest @ ..] => match *first {
+                32..=246 => self.push(CharStringNumber::Integer(*first as i16 - 139), rest),
+                247..=254 => self.push_middle(*first, rest),
+                28 | 255 => self.push_at(bytes),
+                _ => self.act_on(subroutines, bytes),
+            },
+            [] => Err(Error::CFFError),
+        }
     }
 }
