@@ -1,14 +1,14 @@
 //! What the words after the program's name ask for.
 
-ghost use Rattle.std.specs.Prelude.{◌≡◌, ◌⊎◌, ◌==◌, ℕ, List, map, IfOk, IfErr, Some, None, slice_index, string_bytes};
-ghost use Rattle.std.specs.List.{slice_split};
-ghost use Rattle.subset_font.specs.Words.{number_in_bits, glyph_list, request};
+ghost use Rattle.std.specs.Prelude.{◌≡◌, ◌⊎◌, ℕ, List, map, IfOk, IfErr, Some, None, string_bytes};
+ghost use Rattle.subset_font.specs.Words.{glyph_list, request};
 ghost use Rattle.subset_font.specs.declared.failure.Failure.TheVariants.{Usage, Error as Refused};
 ghost use Rattle.subsetter_base.specs.declared.error.Error.TheVariants.{OutOfMemory};
 
 use crate::failure::Failure;
-use std::alloc::{AllocError, Global};
+use std::alloc::Global;
 use subsetter::Error;
+use subsetter_words::{parts_of, u16_of, u32_of};
 
 /// What a run of the program is to do.
 #[derive(Debug, Drop)]
@@ -23,40 +23,6 @@ pub struct Job {
     pub glyphs: Vec<u16>,
 }
 
-/// Whether a plus stands first, which `parse` lets pass.
-fn begins_with_plus(word: &str) -> bool
-    ensures { result ≡ (slice_index word.now 0 == 43) }
-{
-    matches!(word.as_bytes(), [b'+', ..])
-}
-
-/// The number that a word of one or more ASCII digits writes, if it fits.
-fn index_of(word: &str) -> Option<u32>
-    ensures { result ≡ number_in_bits 32 word.now }
-{
-    if begins_with_plus(word) {
-        return None;
-    }
-    word.parse().ok()
-}
-
-/// The number that a word of one or more ASCII digits writes, if it fits.
-fn glyph_of(word: &str) -> Option<u16>
-    ensures { result ≡ number_in_bits 16 word.now }
-{
-    if begins_with_plus(word) {
-        return None;
-    }
-    word.parse().ok()
-}
-
-/// The parts of a list between its commas.
-fn parts_of(alloc: Global, list: &str) -> Result<Vec<&str>, AllocError>
-    ensures { IfOk result (λ v. map (λ part. part.now) v.items ≡ slice_split (λ b. b == 44) list.now) }
-{
-    list.split(',').collect(alloc)
-}
-
 /// The glyphs of a list with a comma between each two.
 fn glyphs_of(alloc: Global, list: &str) -> Result<Vec<u16>, Failure>
     ensures ok { IfOk result (λ v. glyph_list list.now ≡ Some v.items) }
@@ -65,7 +31,7 @@ fn glyphs_of(alloc: Global, list: &str) -> Result<Vec<u16>, Failure>
     let parts = parts_of(alloc, list).map_err(|_| Failure::Error(Error::OutOfMemory))?;
     let mut glyphs = Vec::new(alloc);
     for part in &parts {
-        let glyph = glyph_of(part).ok_or(Failure::Usage)?;
+        let glyph = u16_of(part).ok_or(Failure::Usage)?;
         glyphs
             .push(glyph)
             .map_err(|_| Failure::Error(Error::OutOfMemory))?;
@@ -89,7 +55,7 @@ pub fn read_words(alloc: Global, words: &[String]) -> Result<Job, Failure>
     let [input, output, index, glyphs] = words else {
         return Err(Failure::Usage);
     };
-    let index = index_of(index).ok_or(Failure::Usage)?;
+    let index = u32_of(index).ok_or(Failure::Usage)?;
     let glyphs = glyphs_of(alloc, glyphs)?;
     let input = input
         .clone()

@@ -94,9 +94,9 @@ module _ (tokens depth : ℕ) (font : Font) (glyphs : List ℕ) where
         let b : cff_file (table font) tokens depth glyphs ≡ Ok out = subst (λ (find : List ℕ → Option (List ℕ)). cff_file find tokens depth glyphs ≡ Ok out) (find_is font d o) a in
         is_cff_subset tokens depth font glyphs out bytes deep (some_given glyphs first) few once kind (λ e. opened_clean font d Cff e o h) b
 
-    pub cff_refused : (e : Error) → IsBytes font.bytes → IsWithoutRepeats glyphs → cff_file (table_in font.bytes d) tokens depth glyphs ≡ Err e → (e ≡ OutOfMemory) ⊎ Stands tokens depth font glyphs e
-    cff_refused e bytes once r =
-        inr (glyphs, cff_has_fault tokens depth font glyphs bytes kind (has_cff (table font (codes "glyf")) (table font (codes "CFF ")) kind) once e (subst (λ (find : List ℕ → Option (List ℕ)). cff_file find tokens depth glyphs ≡ Err e) (find_is font d o) r))
+    pub cff_refused : (e : Error) → IsWithoutRepeats glyphs → cff_file (table_in font.bytes d) tokens depth glyphs ≡ Err e → (e ≡ OutOfMemory) ⊎ Stands tokens depth font glyphs e
+    cff_refused e once r =
+        inr (glyphs, cff_has_fault tokens depth font glyphs kind (has_cff (table font (codes "glyf")) (table font (codes "CFF ")) kind) once e (subst (λ (find : List ℕ → Option (List ℕ)). cff_file find tokens depth glyphs ≡ Err e) (find_is font d o) r))
 
     pub cff_opening_clean : (e : Error) → HasOpeningFault font e → ⊥
     cff_opening_clean e f = opened_clean font d Cff e o h f

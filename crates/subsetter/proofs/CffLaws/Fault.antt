@@ -24,7 +24,6 @@ use Rattle.subsetter.specs.Cff.Plain.{Made, laid, cff_tables, cff_file, made_of}
 use Rattle.subsetter.specs.Fault as faults
 use Rattle.subsetter.specs.Fault.{HasFault}
 use Rattle.subsetter.specs.Laid.{of_outlines, of_charstrings}
-use Rattle.subsetter.proofs.SfntLaws.TableBytes.{table_bytes}
 use Rattle.subsetter.proofs.SharedLaws.Fault.{shared_refused, no_metrics_fault, no_max_profile_fault, no_name_fault, no_glyph_name_fault}
 use Rattle.subsetter.proofs.SharedLaws.Steps.{head_there, HeadFrom, head_from}
 use Rattle.subsetter.proofs.TruetypeLaws.Fault.{not_chosen, is_true_is_false}
@@ -33,7 +32,7 @@ use Rattle.subsetter.proofs.CffLaws.Order.{no_glyf, no_outlines, no_outline, giv
 use Rattle.subsetter.proofs.CffLaws.Steps.{MadeSteps, made_tables, FileStops, no_table, no_cff, no_shared, no_file, file_stops, FileSteps, file_of_steps}
 use Rattle.subsetter.proofs.CffLaws.Subset.{made_clean}
 
-module _ (tokens depth : ℕ) (font : Font) (glyphs : List ℕ) (bytes : IsBytes font.bytes) (kind : flavor font ≡ Some Cff) (has : IsSome (table font (codes "CFF "))) (once : IsWithoutRepeats glyphs) where
+module _ (tokens depth : ℕ) (font : Font) (glyphs : List ℕ) (kind : flavor font ≡ Some Cff) (has : IsSome (table font (codes "CFF "))) (once : IsWithoutRepeats glyphs) where
   closed : IsGlyphOrder font glyphs glyphs
   closed = given_order font glyphs (no_glyf font kind) once
 
@@ -45,7 +44,7 @@ module _ (tokens depth : ℕ) (font : Font) (glyphs : List ℕ) (bytes : IsBytes
 
   stops : (e : Error) → FileStops (table font) tokens depth glyphs e → HasFault tokens depth font glyphs glyphs e
   stops e (no_table k) = absurd (let x = sym (ap (λ (o : Option (List ℕ)). is_some o) k) ∙ has in cc)
-  stops e (no_cff source there k) = faults.in_cff source kind there (refused_stands source tokens depth glyphs e (table_bytes font (codes "CFF ") source bytes there) k)
+  stops e (no_cff source there k) = faults.in_cff source kind there (refused_stands source tokens depth glyphs e k)
   stops e (no_shared k) = shared_refused tokens depth font glyphs glyphs closed Cff false e k
   stops e (no_file source m there made k) = not_laid_out source m e there made k
 

@@ -21,7 +21,6 @@ use Rattle.subsetter.specs.Subset.{by_charstrings, IsSubset}
 use Rattle.subsetter.proofs.SfntLaws.Back.{word_of}
 use Rattle.subsetter.proofs.SfntLaws.Laid.{row_back, head_row_back, rows_sound}
 use Rattle.subsetter.proofs.SfntLaws.Rows.{HasRoom, AreAlike, lookup_row, some_table}
-use Rattle.subsetter.proofs.SfntLaws.TableBytes.{table_bytes}
 use Rattle.subsetter.proofs.SharedLaws.Steps.{head_there, maxp_there, metrics_there, name_there, post_there}
 use Rattle.subsetter.proofs.SharedLaws.Kept.{shared_room, AreBack, keeps_shared}
 use Rattle.subsetter.proofs.TruetypeLaws.Subset.{IsClean}
@@ -71,13 +70,13 @@ module _ (tokens depth : ℕ) (font : Font) (glyphs source : List ℕ) (kind : f
   container : IsSoundContainer (file (kind_word Cff) (laid m)) (kind_word Cff) (tags_of Cff (table font))
   container = rows_sound Cff (font_of m) room fit (called_for Cff (table font)) (some_table (codes "CFF ") m.cff (laid m) (lookup_row (font_of m) (codes "CFF "))) alike
 
-  char_strings : IsBytes font.bytes → 1 ≤ depth → 1 ≤ length glyphs → length glyphs ≤ 65535 → KeepsCharStrings tokens depth font glyphs (as_font (file (kind_word Cff) (laid m)))
-  char_strings bytes deep some few = record {
+  char_strings : 1 ≤ depth → 1 ≤ length glyphs → length glyphs ≤ 65535 → KeepsCharStrings tokens depth font glyphs (as_font (file (kind_word Cff) (laid m)))
+  char_strings deep some few = record {
     source = source;
     source_is = there;
     copy = m.cff;
     copy_is = back (codes "CFF ") refl;
-    kept = answered_is_subset source tokens depth glyphs m.cff (table_bytes font (codes "CFF ") source bytes there) deep some few s.cff_is;
+    kept = answered_is_subset source tokens depth glyphs m.cff deep some few s.cff_is;
   }
 
   made_subset : IsBytes font.bytes → 1 ≤ depth → 1 ≤ length glyphs → length glyphs ≤ 65535 → IsWithoutRepeats glyphs → IsSubset tokens depth font glyphs (file (kind_word Cff) (laid m))
@@ -90,7 +89,7 @@ module _ (tokens depth : ℕ) (font : Font) (glyphs source : List ℕ) (kind : f
       kind_is = kind;
       container = container;
       shared = keeps_shared font (as_font (file (kind_word Cff) (laid m))) Cff false glyphs m.shared (word_of (kind_word Cff) (laid m)) s.shared shared_back bytes (omega (arith, some)) (omega (arith, few));
-      drawing = by_charstrings (char_strings bytes deep some few);
+      drawing = by_charstrings (char_strings deep some few);
     };
     layout = record { tables = laid m; made = of_charstrings source kind there (made_tables (table font) source tokens depth glyphs m s.made); bytes = refl; room = fit };
   }

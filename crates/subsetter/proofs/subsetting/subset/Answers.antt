@@ -109,7 +109,7 @@ returns-in-Cff-clause-err c =
     let font : Font = record { bytes = c.args.«data».now; index = c.args.index } in
     let f = same_flavor c.in_ok-face.face.«data».now c.args.«data».now c.in_ok-face.face.records.now (Ok c.in_ok-flavor.field-0) c.in_ok-face.ensures.ok.0 c.in_ok-flavor.ensures ∙ ap (λ (x : FontFlavor). Ok x) c.in-Cff.is in
     gave_err (λ v. v.items) c.charstrings.result (cff_file (table_in c.in_ok-face.face.«data».now c.in_ok-face.face.records.now) token_limit depth_limit c.args.mapper.now) (λ e. (e ≡ OutOfMemory) ⊎ Stands token_limit depth_limit font c.args.mapper.now e) c.charstrings.ensures (inl refl)
-    (λ e h. cff_refused token_limit depth_limit font c.args.mapper.now c.in_ok-face.face.records.now c.in_ok-face.ensures.ok.1 f e c.parse.ensures.bytes c.num_gids-count.ensures.once
+    (λ e h. cff_refused token_limit depth_limit font c.args.mapper.now c.in_ok-face.face.records.now c.in_ok-face.ensures.ok.1 f e c.num_gids-count.ensures.once
     (same_file c.in_ok-face.face.«data».now c.args.«data».now c.in_ok-face.face.records.now c.args.mapper.now (Err e) c.in_ok-face.ensures.ok.0 h))
 
 pub returns-in-Cff-clause-before_memory : goal.returns-in-Cff-clause-before_memory

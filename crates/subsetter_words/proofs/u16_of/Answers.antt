@@ -1,7 +1,7 @@
 use Rattle.std.proofs.Common.{◌≡◌, false}
 use Rattle.std.specs.Prelude.{◌==◌, slice_index}
-use Rattle.subset_bench.proofs.Numbers.{number_of_parse}
-use Rattle.subset_bench.proofs.task.glyph_of.Goals as goal
+use Rattle.subsetter_words.proofs.Numbers.{number_of_parse}
+use Rattle.subsetter_words.proofs.u16_of.Goals as goal
 
 pub returns : goal.returns
 returns c =

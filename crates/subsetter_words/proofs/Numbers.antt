@@ -1,4 +1,4 @@
--- What std's `parse` reads, in the words of the program's numbers.
+-- What std's `parse` reads, in the words of `number_in_bits`.
 use Rattle.std.proofs.Common.{◌≡◌, ℕ, ◌<◌, ◌^◌, Bool, true, false, List, [], ◌∷◌, map, length, refl, ap, arith}
 use Rattle.std.specs.Prelude.{◌==◌, ◌&&◌, nat_lt, if◌then◌else◌, slice_index, Some, None, Result, Ok, Err}
 use Rattle.std.specs.Result.{OkIff, result_ok}
@@ -6,7 +6,7 @@ use Rattle.std.specs.Str.{all_ascii_digits}
 use Rattle.std.specs.Str.Parse.{ParsesUnsigned, digits_value}
 use Rattle.std.proofs.lemmas.Str.Parse.{IsNumeralModel, numerals_by_value, tells_all_ascii_digits, parse_plain}
 use Rattle.std.specs.Borrow.{Bor}
-use Rattle.subset_font.specs.Words.{number_in_bits}
+use Rattle.subsetter_words.specs.Numbers.{number_in_bits}
 
 own : IsNumeralModel (λ ds. all_ascii_digits ds ≡ true) (digits_value 10)
 own = numerals_by_value _ tells_all_ascii_digits
