@@ -1,0 +1,1 @@
+//! The laws of a subset of a subset, which name no code.

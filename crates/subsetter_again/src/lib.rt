@@ -1,0 +1,4 @@
+//! Subsets of subsets.
+#![tactic(auto)]
+
+mod laws;
