@@ -1,14 +1,14 @@
 -- All glyphs of a subset reach no others.
 use Rattle.std.proofs.Common.{◌≡◌, ℕ, ◌<◌, Bool, List, [], ◌∷◌, length, Some, sym, ap, subst, ◌∙◌}
 use Rattle.std.specs.Prelude.{Contains}
-use Rattle.subsetter_again.specs.Again.{AreAll}
+use Rattle.subsetter_cff.specs.Again.{AreAll}
 use Rattle.subsetter_again.proofs.ByKind.{IsOutlineSubset}
 use Rattle.subsetter_again.proofs.Basics.{one_found, has_parts}
 use Rattle.subsetter_again.proofs.OneOrder.{own_order, one_order, all_once, among_all, below_all}
 use Rattle.subsetter_again.proofs.PartNumbers.{part_numbers, each_among}
 use Rattle.subsetter.specs.Sfnt.Read.{Font, as_font}
 use Rattle.subsetter.specs.Glyf.Read.{outline}
-use Rattle.subsetter.specs.Glyf.Parts.{Component, Parts, Empty, Simple, Composite, outline_parts, glyph_parts}
+use Rattle.subsetter.specs.Glyf.Parts.{component_numbers, Component, Parts, Empty, Simple, Composite, outline_parts, glyph_parts}
 use Rattle.subsetter.specs.Glyf.Reach.{IsReachable, given, step, IsGlyphOrder}
 use Rattle.subsetter.specs.Glyf.Unfold.{SameComponents, SameParts, UnfoldAlike}
 use Rattle.subsetter_base.proofs.Options.{bind_some}
@@ -44,19 +44,22 @@ module _ (font : Font) (glyphs out : List ℕ) (s : IsOutlineSubset font glyphs 
       let same : d.copy ≡ q = one_found (glyph_parts (as_font out) i) d.copy q d.copy_is h in
       subst (λ (r : Parts). EachGlyph (λ g. g < length s.order) (components_of r)) same (parts_within d.tables.long d.source d.copy d.same)
 
+  -- also by the lenient reading
+  pub component_below : (g h : ℕ) (bytes : List ℕ) → g < length s.order → outline (as_font out) g ≡ Some bytes → Contains (component_numbers bytes) h → h < length s.order
+  component_below g h bytes lt o c =
+      let d = s.drawn.drawing 1 g lt in
+      let k = bind_some (outline (as_font out) g) outline_parts d.copy d.copy_is in
+      let same : k.0 ≡ bytes = one_found (outline (as_font out) g) k.0 bytes k.1 o in
+      let parts : outline_parts bytes ≡ Some d.copy = ap outline_parts (sym same) ∙ k.2 in
+      each_among (λ x. x < length s.order) (components_of d.copy) h (components_within g d.copy lt d.copy_is) (subst (λ (l : List ℕ). Contains l h) (part_numbers bytes d.copy parts) c)
+
   -- ---- all of them
 
   module _ (all : List ℕ) (a : AreAll (length s.order) all) where
     -- they reach no others
     pub reached : (g : ℕ) → IsReachable (as_font out) all g → g < length s.order
     reached g (given _ c) = below_all (length s.order) all a g c
-    reached h (step g _ bytes r o c) =
-        let lt = reached g r in
-        let d = s.drawn.drawing 1 g lt in
-        let k = bind_some (outline (as_font out) g) outline_parts d.copy d.copy_is in
-        let same : k.0 ≡ bytes = one_found (outline (as_font out) g) k.0 bytes k.1 o in
-        let parts : outline_parts bytes ≡ Some d.copy = ap outline_parts (sym same) ∙ k.2 in
-        each_among (λ x. x < length s.order) (components_of d.copy) h (components_within g d.copy lt d.copy_is) (subst (λ (l : List ℕ). Contains l h) (part_numbers bytes d.copy parts) c)
+    reached h (step g _ bytes r o c) = component_below g h bytes (reached g r) o c
 
     pub closed : IsGlyphOrder (as_font out) all all
     closed = own_order (as_font out) all (λ g r. among_all (length s.order) all a g (reached g r)) (all_once (length s.order) all a)

@@ -13,7 +13,15 @@ pub mod Outlines
 pub mod Laid
 pub mod OneOrder
 pub mod Closed
+pub mod FoundAll
 pub mod Opening
 pub mod Order
 pub mod TruetypeTables
 pub mod Truetype
+pub mod Unknown
+pub mod CharStrings
+pub mod GivenOrder
+pub mod CidKeyed
+pub mod CharStringTables
+pub mod CharStringLaws
+pub mod Joined

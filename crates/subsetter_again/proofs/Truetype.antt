@@ -23,10 +23,11 @@ use Rattle.subsetter.proofs.GlyfLaws.Fault.{has_tables}
 use Rattle.subsetter.proofs.TruetypeLaws.Fault.{no_fault}
 use Rattle.subsetter.proofs.TruetypeLaws.Steps.{made_steps, tables_steps}
 use Rattle.subsetter.proofs.TruetypeLaws.Subset.{made_subset}
-use Rattle.subsetter_again.specs.Again.{AreAll, composed}
+use Rattle.subsetter_cff.specs.Again.{AreAll, composed}
 use Rattle.subsetter_again.proofs.Basics.{one_found, has_parts}
 use Rattle.subsetter_again.proofs.ByKind.{IsOutlineSubset}
 use Rattle.subsetter_again.proofs.Closed.{closed, only_order}
+use Rattle.subsetter_again.proofs.FoundAll.{found_all}
 use Rattle.subsetter_again.proofs.Laid
 use Rattle.subsetter_again.proofs.OneOrder.{each}
 use Rattle.subsetter_again.proofs.Opening.{no_opening}
@@ -114,6 +115,7 @@ module _ (font : Font) (glyphs out : List ℕ) (bytes : IsBytes font.bytes) (fir
     read = ap (λ (o : Option Outlines). ok_or o MalformedFont) (Laid.read_afresh font glyphs out first);
     order = all;
     is_order = subst (λ f. IsGlyphOrderBy f all all) outlines_are all_closed;
+    found = found_all font glyphs out first all a (Laid.afresh font glyphs out first) (Laid.read_afresh font glyphs out first);
     few = omega (arith, first.few, a.count);
     tables = first.tables;
     tables_are = tables_again;
