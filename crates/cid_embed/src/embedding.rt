@@ -5,11 +5,12 @@ ghost use Rattle.subsetter_base.specs.Places.{place};
 ghost use Rattle.subsetter_base.specs.declared.error.Error.{Error as SpecError};
 ghost use Rattle.subsetter_base.specs.declared.error.Error.TheVariants.{OutOfMemory};
 ghost use Rattle.subsetter.specs.Limits.{token_limit, depth_limit};
-ghost use Rattle.cid_embed.specs.Embed.{IsEmbedded, HasEmbedFault};
+ghost use Rattle.subsetter.specs.Answer.{IsAnswer, IsTheAnswer};
+ghost use Rattle.cid_embed.specs.Embed.{numbering, IsEmbedded, HasEmbedFault};
 
 use crate::widths::read_widths;
 use std::alloc::Global;
-use subsetter::{Error, GlyphRemapper, subset};
+use subsetter::{Error, GlyphRemapper, Limits, subset_with_limits};
 
 /// What a PDF writer needs of a font for the glyphs that it asks for.
 #[derive(Debug, Drop)]
@@ -38,8 +39,8 @@ fn cids(alloc: Global, mapper: &GlyphRemapper, glyphs: &[u16]) -> Result<Vec<u16
 /// The subset of a font for the asked glyphs, with the CID of each of them and the width of each CID.
 ///
 /// The font has glyph 0, then the asked glyphs in order, each once, and then each further glyph that these reach through
-/// components, once; the CID of a glyph is its number there. CIDs and widths are those of the glyphs up to the last
-/// asked one. `data` and `index` are as for `subset`.
+/// components, once; the CID of a glyph is its number there. The widths are those of glyph 0 and the asked glyphs.
+/// `data` and `index` are as for `subset`.
 ///
 /// # Errors
 ///
@@ -48,17 +49,45 @@ fn cids(alloc: Global, mapper: &GlyphRemapper, glyphs: &[u16]) -> Result<Vec<u16
 /// - `MalformedFont`: there is no `hmtx` or no `head`, or unitsPerEm is 0.
 /// - `OutOfMemory`: a request for memory was refused.
 ///
-/// Where several faults stand, any of their names may come.
+/// They are looked for in this order.
 pub fn embed(alloc: Global, data: &[u8], index: u32, glyphs: &[u16]) -> Result<Embedded, Error>
     // What is answered is a subset with CIDs and widths.
     ensures ok { IfOk result (λ e. IsEmbedded token_limit depth_limit (record { bytes = «data».now; index = index }) glyphs.now e) }
     // And then no fault stands in the source, the size limits being judged for the answer's order of glyphs.
     ensures clean { IfOk result (λ e. (s : IsEmbedded token_limit depth_limit (record { bytes = «data».now; index = index }) glyphs.now e) × ((why : SpecError) → ¬ (HasEmbedFault token_limit depth_limit (record { bytes = «data».now; index = index }) glyphs.now s.subset.keeps.order why))) }
+    // Its font is the one that `subset` answers.
+    ensures exact { IfOk result (λ e. IsAnswer token_limit depth_limit (record { bytes = «data».now; index = index }) (numbering glyphs.now) e.font.items) }
+    ensures same { IfOk result (λ e. IsTheAnswer (record { bytes = «data».now; index = index }) (numbering glyphs.now) e.font.items) }
     // What is refused has a fault of that name.
     ensures err { IfErr result (λ why. (why ≡ OutOfMemory) ⊎ ((order : List ℕ) × HasEmbedFault token_limit depth_limit (record { bytes = «data».now; index = index }) glyphs.now order why)) }
 {
+    embed_with_limits(alloc, data, index, glyphs, &Limits::default())
+}
+
+/// As `embed`, where the charstring of a glyph may run for other limits than 1,000,000 tokens and depth 64.
+///
+/// # Errors
+///
+/// Those of `embed`, with the chosen limits in place of the default ones.
+pub fn embed_with_limits(
+    alloc: Global,
+    data: &[u8],
+    index: u32,
+    glyphs: &[u16],
+    limits: &Limits,
+) -> Result<Embedded, Error>
+    // What is answered is a subset with CIDs and widths.
+    ensures ok { IfOk result (λ e. IsEmbedded limits.now.tokens limits.now.depth (record { bytes = «data».now; index = index }) glyphs.now e) }
+    // And then no fault stands in the source, the size limits being judged for the answer's order of glyphs.
+    ensures clean { IfOk result (λ e. (s : IsEmbedded limits.now.tokens limits.now.depth (record { bytes = «data».now; index = index }) glyphs.now e) × ((why : SpecError) → ¬ (HasEmbedFault limits.now.tokens limits.now.depth (record { bytes = «data».now; index = index }) glyphs.now s.subset.keeps.order why))) }
+    // Its font is the one that `subset_with_limits` answers.
+    ensures exact { IfOk result (λ e. IsAnswer limits.now.tokens limits.now.depth (record { bytes = «data».now; index = index }) (numbering glyphs.now) e.font.items) }
+    ensures same { IfOk result (λ e. IsTheAnswer (record { bytes = «data».now; index = index }) (numbering glyphs.now) e.font.items) }
+    // What is refused has a fault of that name.
+    ensures err { IfErr result (λ why. (why ≡ OutOfMemory) ⊎ ((order : List ℕ) × HasEmbedFault limits.now.tokens limits.now.depth (record { bytes = «data».now; index = index }) glyphs.now order why)) }
+{
     let mapper = GlyphRemapper::new_from_glyphs(alloc, glyphs)?;
-    let font = subset(alloc, data, index, &mapper)?;
+    let font = subset_with_limits(alloc, data, index, &mapper, limits)?;
     let widths = read_widths(alloc, &font, mapper.num_gids())?;
     let cids = cids(alloc, &mapper, glyphs)?;
     Ok(Embedded { font, cids, widths })

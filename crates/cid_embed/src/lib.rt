@@ -7,4 +7,7 @@ mod reader;
 mod widths;
 
 pub use array::write_widths;
-pub use embedding::{Embedded, embed};
+pub use embedding::{Embedded, embed, embed_with_limits};
+
+#[cfg(test)]
+mod tests;

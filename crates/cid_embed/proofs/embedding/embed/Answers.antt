@@ -1,37 +1,33 @@
-use Rattle.std.proofs.Common.{ℕ, Vec, Global, refl}
-use Rattle.std.proofs.lemmas.Result.{err_from_is_err_and}
+use Rattle.std.proofs.Common.{◌≡◌, ℕ, List, subst, ◌⊎◌}
+use Rattle.std.specs.Prelude.{IfOk, IfErr}
+use Rattle.subsetter_base.specs.declared.error.Error.{Error}
 use Rattle.subsetter.specs.Limits.{token_limit, depth_limit}
 use Rattle.subsetter.specs.Sfnt.Read.{Font}
-use Rattle.cid_embed.proofs.Promises.{asked_known, mapper_refused, subset_refused, widths_refused, answered}
+use Rattle.subsetter.specs.Answer.{IsAnswer}
+use Rattle.cid_embed.specs.Embed.{numbering, IsEmbedded, HasEmbedFault}
+use Rattle.cid_embed.proofs.Promises.{IsRefusal}
 use Rattle.cid_embed.proofs.embedding.embed.Goals as goal
 
-pub returns-in_err-mapper-clause-err : goal.returns-in_err-mapper-clause-err
-returns-in_err-mapper-clause-err c =
-    let p = err_from_is_err_and c.from_residual.result c.from_residual.ensures.1 in
-    let font : Font = record { bytes = c.args.«data».now; index = c.args.index } in
-    rw (p.1, p.2) (mapper_refused token_limit depth_limit font c.args.glyphs.now c.in_err-mapper.field-0.0 c.in_err-mapper.ensures.err)
-
-pub returns-in_err-font-clause-err : goal.returns-in_err-font-clause-err
-returns-in_err-font-clause-err c =
-    let p = err_from_is_err_and c.from_residual-in_err-font.result c.from_residual-in_err-font.ensures.1 in
-    let font : Font = record { bytes = c.args.«data».now; index = c.args.index } in
-    rw (p.1, p.2) (subset_refused token_limit depth_limit font c.args.glyphs.now c.in_ok-mapper.mapper c.in_err-font.field-0.0 c.in_ok-mapper.ensures.ok c.in_err-font.ensures.err)
-
-pub returns-in_err-widths-clause-err : goal.returns-in_err-widths-clause-err
-returns-in_err-widths-clause-err c =
-    let p = err_from_is_err_and c.from_residual-in_err-widths.result c.from_residual-in_err-widths.ensures.1 in
-    let font : Font = record { bytes = c.args.«data».now; index = c.args.index } in
-    rw (p.1, p.2) (widths_refused token_limit depth_limit font c.args.glyphs.now c.in_ok-mapper.mapper c.in_ok-font.font.items c.deref.result.now c.num_gids.result c.in_ok-mapper.ensures.ok c.deref.ensures.value c.num_gids.ensures.count c.in_ok-font.ensures.clean {X = Vec ℕ Global} (λ v. v.items) c.in_err-widths.field-0.0 c.in_err-widths.ensures)
-
-pub cids-requires : goal.cids-requires
-cids-requires c = λ k d lt. asked_known c.args.glyphs.now c.in_ok-mapper.mapper k d c.in_ok-mapper.ensures.ok lt
+-- what holds at two numbers holds at the default limits, which they are
+at_default : (P : ℕ → ℕ → Type 0) (tokens depth : ℕ) → tokens ≡ token_limit → depth ≡ depth_limit → P tokens depth → P token_limit depth_limit
+at_default P tokens depth t d p = subst (λ (n : ℕ). P n depth_limit) t (subst (λ (n : ℕ). P tokens n) d p)
 
 pub returns-clause-ok : goal.returns-clause-ok
 returns-clause-ok c =
     let font : Font = record { bytes = c.args.«data».now; index = c.args.index } in
-    (answered token_limit depth_limit font c.args.glyphs.now c.in_ok-mapper.mapper c.in_ok-font.font.items c.deref.result.now c.num_gids.result c.in_ok-mapper.ensures.ok c.deref.ensures.value c.num_gids.ensures.count c.in_ok-font.ensures.clean (record { font = c.in_ok-font.font; cids = c.in_ok-cids.cids; widths = c.in_ok-widths.widths }) refl c.in_ok-widths.ensures c.in_ok-cids.ensures.ok c.in_ok-mapper.ensures.room).0
+    at_default (λ t d. IfOk c.embed_with_limits.result (λ e. IsEmbedded t d font c.args.glyphs.now e)) c.default.result.tokens c.default.result.depth c.default.ensures.0 c.default.ensures.1 c.embed_with_limits.ensures.ok
 
 pub returns-clause-clean : goal.returns-clause-clean
 returns-clause-clean c =
     let font : Font = record { bytes = c.args.«data».now; index = c.args.index } in
-    answered token_limit depth_limit font c.args.glyphs.now c.in_ok-mapper.mapper c.in_ok-font.font.items c.deref.result.now c.num_gids.result c.in_ok-mapper.ensures.ok c.deref.ensures.value c.num_gids.ensures.count c.in_ok-font.ensures.clean (record { font = c.in_ok-font.font; cids = c.in_ok-cids.cids; widths = c.in_ok-widths.widths }) refl c.in_ok-widths.ensures c.in_ok-cids.ensures.ok c.in_ok-mapper.ensures.room
+    at_default (λ t d. IfOk c.embed_with_limits.result (λ e. (s : IsEmbedded t d font c.args.glyphs.now e) × ((why : Error) → HasEmbedFault t d font c.args.glyphs.now s.subset.keeps.order why → ⊥))) c.default.result.tokens c.default.result.depth c.default.ensures.0 c.default.ensures.1 c.embed_with_limits.ensures.clean
+
+pub returns-clause-exact : goal.returns-clause-exact
+returns-clause-exact c =
+    let font : Font = record { bytes = c.args.«data».now; index = c.args.index } in
+    at_default (λ t d. IfOk c.embed_with_limits.result (λ e. IsAnswer t d font (numbering c.args.glyphs.now) e.font.items)) c.default.result.tokens c.default.result.depth c.default.ensures.0 c.default.ensures.1 c.embed_with_limits.ensures.exact
+
+pub returns-clause-err : goal.returns-clause-err
+returns-clause-err c =
+    let font : Font = record { bytes = c.args.«data».now; index = c.args.index } in
+    at_default (λ t d. IfErr c.embed_with_limits.result (λ why. IsRefusal t d font c.args.glyphs.now why)) c.default.result.tokens c.default.result.depth c.default.ensures.0 c.default.ensures.1 c.embed_with_limits.ensures.err
