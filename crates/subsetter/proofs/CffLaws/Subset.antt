@@ -37,10 +37,10 @@ module _ (tokens depth : ℕ) (font : Font) (glyphs source : List ℕ) (kind : f
   room : HasRoom m.shared.head
   room = shared_room (table font) Cff false glyphs m.shared s.shared
 
-  back : (tag : List ℕ) → bytes_eq tag (codes "head") ≡ false → table (as_font (file (kind_word Cff) (laid m))) tag ≡ bytes_of tag (rows (font_of m))
+  pub back : (tag : List ℕ) → bytes_eq tag (codes "head") ≡ false → table (as_font (file (kind_word Cff) (laid m))) tag ≡ bytes_of tag (rows (font_of m))
   back tag other = row_back Cff (font_of m) room fit tag other
 
-  shared_back : AreBack (as_font (file (kind_word Cff) (laid m))) (word_of (kind_word Cff) (laid m)) m.shared
+  pub shared_back : AreBack (as_font (file (kind_word Cff) (laid m))) (word_of (kind_word Cff) (laid m)) m.shared
   shared_back = record {
     head = head_row_back Cff (font_of m) room fit;
     hhea = back (codes "hhea") refl;
@@ -69,10 +69,10 @@ module _ (tokens depth : ℕ) (font : Font) (glyphs source : List ℕ) (kind : f
         prep = refl;
       }
 
-  container : IsSoundContainer (file (kind_word Cff) (laid m)) (kind_word Cff) (tags_of Cff (table font))
+  pub container : IsSoundContainer (file (kind_word Cff) (laid m)) (kind_word Cff) (tags_of Cff (table font))
   container = rows_sound Cff (font_of m) room fit (called_for Cff (table font)) (some_table (codes "CFF ") m.cff (laid m) (lookup_row (font_of m) (codes "CFF "))) alike
 
-  char_strings : 1 ≤ depth → 1 ≤ length glyphs → length glyphs ≤ 65535 → KeepsCharStrings tokens depth font glyphs (as_font (file (kind_word Cff) (laid m)))
+  pub char_strings : 1 ≤ depth → 1 ≤ length glyphs → length glyphs ≤ 65535 → KeepsCharStrings tokens depth font glyphs (as_font (file (kind_word Cff) (laid m)))
   char_strings deep some few = record {
     source = source;
     source_is = there;
@@ -81,7 +81,7 @@ module _ (tokens depth : ℕ) (font : Font) (glyphs source : List ℕ) (kind : f
     kept = answered_is_subset source tokens depth glyphs m.cff deep some few s.cff_is;
   }
 
-  made_subset : IsBytes font.bytes → 1 ≤ depth → 1 ≤ length glyphs → length glyphs ≤ 65535 → IsWithoutRepeats glyphs → IsSubset tokens depth font glyphs (file (kind_word Cff) (laid m))
+  unfoldable pub made_subset : IsBytes font.bytes → 1 ≤ depth → 1 ≤ length glyphs → length glyphs ≤ 65535 → IsWithoutRepeats glyphs → IsSubset tokens depth font glyphs (file (kind_word Cff) (laid m))
   made_subset bytes deep some few once = record {
     keeps = record {
       order = glyphs;

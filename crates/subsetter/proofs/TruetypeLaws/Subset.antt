@@ -117,7 +117,7 @@ module _ (font : Font) (t : Outlines) (order : List ℕ) (m : Made) (read : outl
   back : (tag : List ℕ) → bytes_eq tag (codes "head") ≡ false → table out tag ≡ bytes_of tag (rows (font_of (table font) m))
   back tag other = table_of (kind_word TrueType) ts (inl refl) (laid_few (table font) m) (laid_all (table font) t order m s) fit tag other ∙ lookup_laid (table font) m tag
 
-  shared_back : AreBack out word m.shared
+  pub shared_back : AreBack out word m.shared
   shared_back = record {
     head = head_of (kind_word TrueType) ts (inl refl) (laid_few (table font) m) (laid_all (table font) t order m s) fit ∙ ap (option_map (with_adjustment word)) (lookup_laid (table font) m (codes "head"));
     hhea = back (codes "hhea") refl;
@@ -130,7 +130,7 @@ module _ (font : Font) (t : Outlines) (order : List ℕ) (m : Made) (read : outl
   head_back : table out (codes "head") ≡ Some (with_adjustment word (head_bytes (is_long m.outlines) t.head))
   head_back = shared_back.head ∙ ap (option_map (with_adjustment word)) (made_head (table font) t order m source s)
 
-  container : IsSoundContainer made_file (kind_word TrueType) (tags_of TrueType (table font))
+  pub container : IsSoundContainer made_file (kind_word TrueType) (tags_of TrueType (table font))
   container =
       let some = some_table (codes "loca") m.loca ts (lookup_laid (table font) m (codes "loca")) in
       let up = subst (λ (l : List Table). AscendFrom 0 (tags l)) (sym (laid_is (table font) m)) (present_ascends 0 (rows (font_of (table font) m)) (rows_ascend (font_of (table font) m))) in
@@ -140,7 +140,7 @@ module _ (font : Font) (t : Outlines) (order : List ℕ) (m : Made) (read : outl
   abbrev afresh : Outlines
   afresh = record { loca = m.loca; glyf = glyf_bytes (is_long m.outlines) m.outlines; head = with_adjustment word (head_bytes (is_long m.outlines) t.head); long = is_long m.outlines }
 
-  outlines_back : outlines out ≡ Some afresh
+  pub outlines_back : outlines out ≡ Some afresh
   outlines_back = outlines_afresh (table out) m.loca (glyf_bytes (is_long m.outlines) m.outlines) word (is_long m.outlines) t.head source.head_len (back (codes "loca") refl) (back (codes "glyf") refl) head_back
 
   written : AreWritten m.outlines afresh
@@ -152,7 +152,7 @@ module _ (font : Font) (t : Outlines) (order : List ℕ) (m : Made) (read : outl
   programs : KeepsPrograms font out
   programs = record { control_values = back (codes "cvt ") refl; font_program = back (codes "fpgm") refl; control_program = back (codes "prep") refl }
 
-  outlines_kept : (glyphs : List ℕ) → IsBytes font.bytes → IsGlyphOrder font glyphs order → length order < 2 ^ 16 → KeepsOutlines font order out
+  pub outlines_kept : (glyphs : List ℕ) → IsBytes font.bytes → IsGlyphOrder font glyphs order → length order < 2 ^ 16 → KeepsOutlines font order out
   outlines_kept glyphs bytes closed few =
       let glyf = table_bytes font (codes "glyf") t.glyf bytes source.glyf_is in
       record {
@@ -163,7 +163,7 @@ module _ (font : Font) (t : Outlines) (order : List ℕ) (m : Made) (read : outl
         programs = programs;
       }
 
-  pub made_subset : (tokens depth : ℕ) (glyphs : List ℕ) → IsBytes font.bytes → IsGlyphOrder font glyphs order → 0 < length order → length order < 2 ^ 16 → flavor font ≡ Some TrueType → (tables : List Table) → (tables ≡ ts) → truetype_tables (table font) t order ≡ Ok tables
+  unfoldable pub made_subset : (tokens depth : ℕ) (glyphs : List ℕ) → IsBytes font.bytes → IsGlyphOrder font glyphs order → 0 < length order → length order < 2 ^ 16 → flavor font ≡ Some TrueType → (tables : List Table) → (tables ≡ ts) → truetype_tables (table font) t order ≡ Ok tables
       → IsSubset tokens depth font glyphs made_file
   made_subset tokens depth glyphs bytes closed some few kind tables same made = record {
     keeps = record {

@@ -34,7 +34,7 @@ record IsAnswered (bytes : List ℕ) (tokens depth : ℕ) (glyphs out : List ℕ
   fits : Fits made
   shape : Shaped made
 
-is_answered : (bytes : List ℕ) (tokens depth : ℕ) (glyphs out : List ℕ) → IsAsked bytes depth glyphs → cff_subset bytes tokens depth glyphs ≡ Ok out → IsAnswered bytes tokens depth glyphs out
+is_answered : (bytes : List ℕ) (tokens depth : ℕ) (glyphs out : List ℕ) → IsAsked depth glyphs → cff_subset bytes tokens depth glyphs ≡ Ok out → IsAnswered bytes tokens depth glyphs out
 unfolding cff_subset
 is_answered bytes tokens depth glyphs out asked e =
     let a = bind_ok (opened bytes) _ out e in
@@ -93,10 +93,10 @@ is_given_back bytes cff tokens depth first all out asked read cid e they =
     ∙ ap (cff_subset bytes tokens depth) (composed_all first all they) ∙ e
 
 pub stays_from_then_on : StaysFromThenOn
-stays_from_then_on bytes tokens depth first all out again asked bytes_too e they f =
+stays_from_then_on bytes tokens depth first all out again asked e they f =
     let a = is_answered bytes tokens depth first out asked e in
     let some : 1 ≤ length all = omega (arith, asked.some, they.count) in
     let few : length all ≤ 65535 = omega (arith, asked.few, they.count) in
-    let asked' : IsAsked out depth all = record { bytes_are = bytes_too; deep = asked.deep; some = some; few = few } in
+    let asked' : IsAsked depth all = record { deep = asked.deep; some = some; few = few } in
     is_given_back out (laid_out a.made) tokens depth all all again asked' (ap cff_parts (sym a.out_is) ∙ parts_read a.made a.fits) (keyed_again a.made) f
     (subst (λ n. AreAll n all) (sym they.count) they)

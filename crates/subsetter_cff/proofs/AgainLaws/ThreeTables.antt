@@ -27,9 +27,9 @@ tables_keep_char_strings bytes out again tokens depth first all a they b = recor
 }
 
 pub answered_again : AnsweredAgain
-answered_again bytes tokens depth first all out again asked inside answered they e =
+answered_again bytes tokens depth first all out again asked answered they e =
     let a = answered_is_subset bytes tokens depth first out asked.deep asked.some asked.few answered in
     let some : 1 ≤ length all = omega (arith, asked.some, they.count) in
     let few : length all ≤ 65535 = omega (arith, asked.few, they.count) in
     let b = answered_is_subset out tokens depth all again asked.deep some few e in
-    (tables_keep_char_strings bytes out again tokens depth first all a they b, stays_from_then_on bytes tokens depth first all out again asked inside answered they e)
+    (tables_keep_char_strings bytes out again tokens depth first all a they b, stays_from_then_on bytes tokens depth first all out again asked answered they e)
