@@ -6,6 +6,7 @@ use Rattle.subsetter.specs.Subset.{IsSubset}
 use Rattle.subsetter_base.specs.Places.{with_glyphs, HasAllAboveZero}
 use Rattle.subsetter_base.specs.declared.error.Error.{Error as Refusal}
 use Rattle.subsetter_base.specs.declared.error.Error.TheVariants.{OutOfMemory, OverflowError}
+use Rattle.cid_embed.specs.Embed.{numbering, HasEmbedFault}
 use Rattle.subset_font.specs.declared.failure.Failure.{Failure}
 use Rattle.subset_font.specs.declared.failure.Failure.TheVariants.{Error, Read}
 
@@ -20,3 +21,11 @@ IsRefusal tokens depth known index glyphs why = ((why ≡ OverflowError) × HasA
 -- why there is no subset: the reader failed, memory ran out, or the glyphs or the font are refused
 abbrev pub IsFailureToMake : ℕ → ℕ → Option (List ℕ) → ℕ → List ℕ → Failure → Type 0
 IsFailureToMake tokens depth known index glyphs failure = (failure ≡ Read) ⊎ ((failure ≡ Error OutOfMemory) ⊎ ((why : Refusal) × (failure ≡ Error why) × IsRefusal tokens depth known index glyphs why))
+
+-- a subset of a font in which nothing stands against it or the widths of the asked glyphs
+abbrev pub IsFaultlessWithWidths : ℕ → ℕ → Font → List ℕ → List ℕ → Type 0
+IsFaultlessWithWidths tokens depth font glyphs out = (s : IsSubset tokens depth font (numbering glyphs) out) × ((e : Refusal) → ¬ (HasEmbedFault tokens depth font glyphs s.keeps.order e))
+
+-- why there is no subset with widths: the reader failed, memory ran out, or a fault stands for the glyphs and the font that is read, where its bytes are known
+abbrev pub IsFailureToMakeWidths : ℕ → ℕ → Option (List ℕ) → ℕ → List ℕ → Failure → Type 0
+IsFailureToMakeWidths tokens depth known index glyphs failure = (failure ≡ Read) ⊎ ((failure ≡ Error OutOfMemory) ⊎ ((why : Refusal) × (failure ≡ Error why) × IfSome known (λ bytes. (order : List ℕ) × HasEmbedFault tokens depth (record { bytes = bytes; index = index }) glyphs order why)))

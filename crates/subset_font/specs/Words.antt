@@ -1,5 +1,5 @@
 -- What the words after the program's name ask for.
-use Rattle.std.specs.Prelude.{ℕ, ◌==◌, Bool, if◌then◌else◌, List, [], ◌∷◌, map, Option, Some, None, codes}
+use Rattle.std.specs.Prelude.{ℕ, ◌==◌, Bool, true, false, if◌then◌else◌, List, [], ◌∷◌, map, Option, Some, None, codes}
 use Rattle.std.specs.Option.{option_map, option_and_then}
 use Rattle.std.specs.List.{slice_split, before_first, after_first}
 use Rattle.std.specs.Str.{bytes_eq}
@@ -50,8 +50,23 @@ abbrev pub limited : List (List ℕ) → Option Limited
 limited [] = Some (record { limits = default_limits; words = [] })
 limited (word ∷ words) = if is_limits_option word then limited_by words else Some (record { limits = default_limits; words = word ∷ words })
 
+-- whether a word is the option `--widths`
+abbrev pub is_widths_option : List ℕ → Bool
+is_widths_option word = bytes_eq word (codes "--widths")
+
+-- whether widths are asked for, and the words behind that
+pub record Measured : Type 0 where
+  pub widths : Bool
+  pub words : List (List ℕ)
+
+-- they are where the option is the first word
+abbrev pub measured : List (List ℕ) → Measured
+measured [] = record { widths = false; words = [] }
+measured (word ∷ words) = if is_widths_option word then record { widths = true; words = words } else record { widths = false; words = word ∷ words }
+
 -- what a run of the program is to do
 pub record Request : Type 0 where
+  pub widths : Bool
   pub limits : RunLimits
   pub input : List ℕ
   pub output : List ℕ
@@ -59,12 +74,12 @@ pub record Request : Type 0 where
   pub glyphs : List ℕ
 
 -- what the words `IN OUT INDEX GID[,GID..]` ask for within limits; none where their count is another, one isn't as it should be, or IN is an option
-abbrev pub request_within : RunLimits → List (List ℕ) → Option Request
-request_within limits (input ∷ output ∷ index ∷ glyphs ∷ []) =
+abbrev pub request_within : Bool → RunLimits → List (List ℕ) → Option Request
+request_within widths limits (input ∷ output ∷ index ∷ glyphs ∷ []) =
     if is_limits_option input then None
-    else option_and_then (λ i. option_map (λ g. record { limits = limits; input = input; output = output; index = i; glyphs = g }) (glyph_list glyphs)) (number_in_bits 32 index)
-request_within limits _ = None
+    else option_and_then (λ i. option_map (λ g. record { widths = widths; limits = limits; input = input; output = output; index = i; glyphs = g }) (glyph_list glyphs)) (number_in_bits 32 index)
+request_within widths limits _ = None
 
--- what the words `[--limits TOKENS,DEPTH] IN OUT INDEX GID[,GID..]` ask for
+-- what the words `[--widths] [--limits TOKENS,DEPTH] IN OUT INDEX GID[,GID..]` ask for
 abbrev pub request : List (List ℕ) → Option Request
-request words = option_and_then (λ l. request_within l.limits l.words) (limited words)
+request words = let m = measured words in option_and_then (λ l. request_within m.widths l.limits l.words) (limited m.words)

@@ -8,4 +8,4 @@ abbrev pub limits_view : Limits → RunLimits
 limits_view limits = record { tokens = limits.tokens; depth = limits.depth }
 
 abbrev pub job_view : Job → Request
-job_view job = record { limits = limits_view job.limits; input = string_bytes job.input; output = string_bytes job.output; index = job.index; glyphs = job.glyphs.items }
+job_view job = record { widths = job.widths; limits = limits_view job.limits; input = string_bytes job.input; output = string_bytes job.output; index = job.index; glyphs = job.glyphs.items }

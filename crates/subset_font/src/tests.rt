@@ -8,6 +8,7 @@ use std::{env, fs, io};
 use subsetter::{Error, GlyphRemapper, Limits};
 
 mod stage;
+mod widths;
 
 use stage::Stage;
 
@@ -157,7 +158,7 @@ fn each_write_that_fails_is_told(rt: HostRuntime) -> Result<(), Fail> {
     for (left, flushes) in [(0, true), (1, true), (2, true), (3, false)] {
         let mut output = failing(rt.alloc(), left, flushes);
         let mut lines = Vec::new(rt.alloc());
-        let ended = emit(&font, &[7, 8], &mapper, &mut output, &mut lines);
+        let ended = emit(&font, &[7, 8], &mapper, &mut output, &mut lines, &[]);
         let (status, text) = told(rt.alloc(), ended)?;
         assert_eq!(rt; (status, text.as_str()), (3, "cannot write"), "at {left}");
         assert_eq!(rt; output.taken.as_slice(), &font[..font.len().min(3 * left)]);
@@ -174,7 +175,7 @@ fn each_line_that_fails_is_told(rt: HostRuntime) -> Result<(), Fail> {
     for (left, flushes, status) in [(0, true, 3), (1, true, 3), (99, false, 3), (99, true, 0)] {
         let mut output = Vec::new(rt.alloc());
         let mut lines = failing(rt.alloc(), left, flushes);
-        let ended = emit(&[1], &[7, 8, 0], &mapper, &mut output, &mut lines);
+        let ended = emit(&[1], &[7, 8, 0], &mapper, &mut output, &mut lines, &[]);
         assert_eq!(rt; status_of_run(&ended), status, "at {left}");
         assert_eq!(rt; output.as_slice(), [1].as_slice());
         if left == 99 {

@@ -2,7 +2,7 @@
 
 ghost use Rattle.std.specs.Prelude.{◌≡◌, ◌⊎◌, ℕ, List, map, IfOk, IfErr, Some, None, string_bytes};
 ghost use Rattle.std.specs.Option.{option_map};
-ghost use Rattle.subset_font.specs.Words.{glyph_list, limits_in, is_limits_option, limited, request_within, request};
+ghost use Rattle.subset_font.specs.Words.{glyph_list, limits_in, is_limits_option, limited, is_widths_option, measured, request_within, request};
 ghost use Rattle.subset_font.specs.WordsView.{limits_view, job_view};
 ghost use Rattle.subset_font.specs.declared.failure.Failure.TheVariants.{Usage, Error as Refused};
 ghost use Rattle.subsetter_base.specs.declared.error.Error.TheVariants.{OutOfMemory};
@@ -25,6 +25,8 @@ pub struct Job {
     pub glyphs: Vec<u16>,
     /// How far the charstring of a glyph may run.
     pub limits: Limits,
+    /// Whether the widths of the glyphs are to be printed.
+    pub widths: bool,
 }
 
 /// The limits that a word `TOKENS,DEPTH` writes.
@@ -40,6 +42,23 @@ fn is_limits(word: &str) -> bool
     ensures { result ≡ is_limits_option word.now }
 {
     word == "--limits"
+}
+
+/// Whether a word is the option `--widths`.
+fn is_widths(word: &str) -> bool
+    ensures { result ≡ is_widths_option word.now }
+{
+    word == "--widths"
+}
+
+/// Whether the option `--widths` stands first, and the words behind it.
+fn widths_first(words: &[String]) -> (bool, &[String])
+    ensures { record { widths = result.0; words = map (λ word. string_bytes word) result.1.now } ≡ measured (map (λ word. string_bytes word) words.now) }
+{
+    match words {
+        [word, behind @ ..] if is_widths(word) => (true, behind),
+        _ => (false, words),
+    }
 }
 
 /// The limits of the option `--limits TOKENS,DEPTH` where it stands first, else the default ones, and the words behind it.
@@ -78,9 +97,14 @@ fn glyphs_of(alloc: Global, list: &str) -> Result<Vec<u16>, Failure>
 ///
 /// `Usage` where their count is another, where INDEX or a GID isn't one or more ASCII digits whose value fits `u32` or
 /// `u16`, or where IN is an option; `Error` of want of memory.
-fn read_within(alloc: Global, limits: Limits, words: &[String]) -> Result<Job, Failure>
-    ensures ok { IfOk result (λ job. request_within (limits_view limits) (map (λ word. string_bytes word) words.now) ≡ Some (job_view job)) }
-    ensures err { IfErr result (λ e. (e ≡ Refused OutOfMemory) ⊎ ((e ≡ Usage) × (request_within (limits_view limits) (map (λ word. string_bytes word) words.now) ≡ None))) }
+fn read_within(
+    alloc: Global,
+    widths: bool,
+    limits: Limits,
+    words: &[String],
+) -> Result<Job, Failure>
+    ensures ok { IfOk result (λ job. request_within widths (limits_view limits) (map (λ word. string_bytes word) words.now) ≡ Some (job_view job)) }
+    ensures err { IfErr result (λ e. (e ≡ Refused OutOfMemory) ⊎ ((e ≡ Usage) × (request_within widths (limits_view limits) (map (λ word. string_bytes word) words.now) ≡ None))) }
 {
     let [input, output, index, glyphs] = words else {
         return Err(Failure::Usage);
@@ -102,10 +126,11 @@ fn read_within(alloc: Global, limits: Limits, words: &[String]) -> Result<Job, F
         index,
         glyphs,
         limits,
+        widths,
     })
 }
 
-/// What the words after the program's name ask for: `[--limits TOKENS,DEPTH] IN OUT INDEX GID[,GID..]`.
+/// What the words after the program's name ask for: `[--widths] [--limits TOKENS,DEPTH] IN OUT INDEX GID[,GID..]`.
 ///
 /// `Usage` where their count is another, where INDEX or a GID isn't one or more ASCII digits whose value fits `u32` or
 /// `u16`, or where the limits aren't such numbers that fit `u32` and `u8`, or the depth is 0; `Error` of want of memory.
@@ -113,6 +138,7 @@ pub fn read_words(alloc: Global, words: &[String]) -> Result<Job, Failure>
     ensures ok { IfOk result (λ job. request (map (λ word. string_bytes word) words.now) ≡ Some (job_view job)) }
     ensures err { IfErr result (λ e. (e ≡ Refused OutOfMemory) ⊎ ((e ≡ Usage) × (request (map (λ word. string_bytes word) words.now) ≡ None))) }
 {
-    let (limits, rest) = limits_first(words).ok_or(Failure::Usage)?;
-    read_within(alloc, limits, rest)
+    let (widths, behind) = widths_first(words);
+    let (limits, rest) = limits_first(behind).ok_or(Failure::Usage)?;
+    read_within(alloc, widths, limits, rest)
 }
