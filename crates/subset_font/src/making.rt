@@ -10,7 +10,7 @@ ghost use Rattle.subset_font.specs.Made.{IsFaultless, IsFailureToMake};
 use crate::failure::Failure;
 use std::alloc::Global;
 use std::io::Read;
-use subsetter::{Error, GlyphRemapper, subset};
+use subsetter::{GlyphRemapper, subset};
 
 /// Reads a font to its end, and answers its subset and the new numbers of the glyphs.
 ///
@@ -37,6 +37,8 @@ pub fn make<R: Read>(
 
 /// As `make`, with room for so many bytes of the font taken at once. A font that is longer, or one that fills the room,
 /// is copied into more.
+///
+/// `Read` also where there is no room for the font.
 pub fn make_in_room<R: Read>(
     alloc: Global,
     reader: &mut R,
@@ -57,7 +59,7 @@ pub fn make_in_room<R: Read>(
 {
     let mut font = match Vec::with_capacity(alloc, room) {
         Ok(font) => font,
-        Err(_) => return Err(Failure::Error(Error::OutOfMemory)),
+        Err(_) => return Err(Failure::Read),
     };
     if reader.read_to_end(&mut font).is_err() {
         return Err(Failure::Read);
