@@ -6,6 +6,8 @@ mod containers;
 mod faults;
 mod fonts;
 mod hostile;
+mod hostile_cff;
+mod memory;
 mod metrics;
 mod names;
 mod simple;
