@@ -165,6 +165,19 @@ class Fault(Exception):
     pass
 
 
+def charstring_number(code, at):
+    """The number that begins here and its length, or None where an operator does."""
+    first = code[at]
+    if first == 28:
+        return int.from_bytes(code[at + 1:at + 3], "big", signed=True), 3
+    if first == 255:
+        return int.from_bytes(code[at + 1:at + 5], "big", signed=True) / 65536, 5
+    if first >= 247:
+        high = (first - 247) % 4 * 256 + code[at + 1] + 108
+        return (high if first <= 250 else -high), 2
+    return (first - 139, 1) if first >= 32 else None
+
+
 class Machine:
     """Runs a charstring, and notes what both programs take differently."""
 
@@ -204,8 +217,32 @@ class Machine:
             raise Fault
         return found
 
+    def mask_length(self):
+        """The bytes of a mask, which the stems give when the first mask with a byte comes."""
+        if self.mask == 0:
+            self.count_stems()
+            self.mask = (self.stems + 7) // 8
+        elif self.stack:
+            self.notes.add("operands at a mask after the first")
+        return self.mask
+
+    def draw(self, first):
+        """Takes an operator that neither calls nor ends, and answers its length with its mask."""
+        size = 2 if first == 12 else 1
+        if first in (19, 20):
+            size += self.mask_length()
+        elif first in (1, 3, 18, 23):
+            self.count_stems()
+        self.stack.clear()
+        return size
+
+    def call(self, first, depth):
+        if not self.stack:
+            raise Fault
+        return self.go(self.called(self.local if first == 10 else self.subroutines), depth + 1)
+
     def go(self, code, depth):
-        """Whether the run is finished."""
+        """Runs a charstring or a subroutine, and answers whether the run is finished."""
         if depth > DEPTH_AT_MOST:
             raise Fault
         at = 0
@@ -214,46 +251,20 @@ class Machine:
             if self.tokens > TOKENS_AT_MOST:
                 self.notes.add("more than 1,000,000 tokens")
                 raise Fault
-            first = code[at]
-            size = 1
-            if first == 28:
-                size = 3
-                self.push(int.from_bytes(code[at + 1:at + 3], "big", signed=True))
-            elif first == 255:
-                size = 5
-                self.push(int.from_bytes(code[at + 1:at + 5], "big", signed=True) / 65536)
-            elif first >= 247:
-                size = 2
-                self.push(0)
-                high = (first - 247) % 4 * 256 + code[at + 1] + 108
-                self.stack[-1] = high if first <= 250 else -high
-            elif first >= 32:
-                self.push(first - 139)
+            first, number = code[at], charstring_number(code, at)
+            if number:
+                self.push(number[0])
+                at += number[1]
             elif first in (10, 29):
-                if not self.stack:
-                    raise Fault
-                if self.go(self.called(self.local if first == 10 else self.subroutines), depth + 1):
+                if self.call(first, depth):
                     return True
-            elif first == 11:
-                return False
-            elif first == 14:
-                return True
-            elif first in (19, 20):
-                if self.mask == 0:
-                    self.count_stems()
-                    self.mask = (self.stems + 7) // 8
-                elif self.stack:
-                    self.notes.add("operands at a mask after the first")
-                size += self.mask
-                self.stack.clear()
+                at += 1
+            elif first in (11, 14):
+                return first == 14
             else:
-                if first in (1, 3, 18, 23):
-                    self.count_stems()
-                size = 2 if first == 12 else 1
-                self.stack.clear()
-            if at + size > len(code):
+                at += self.draw(first)
+            if at > len(code):
                 raise Fault
-            at += size
         return False
 
 
