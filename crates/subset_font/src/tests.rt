@@ -7,6 +7,7 @@ use std::test::*;
 use std::{env, fs, io};
 use subsetter::{Error, GlyphRemapper};
 
+mod hostile;
 mod stage;
 
 use stage::Stage;
