@@ -1,10 +1,11 @@
 #!/usr/bin/python3
 """Damaged copies of fonts, and what two drivers answer on them.
 
-    ORIGINAL=FOLDER compare/damage.py [--no-build] [--copies N] [--seed S] [--jobs J] [--only WORD]
+    ORIGINAL=FOLDER compare/damage.py [--no-build] [--copies N] [--seed S] [--jobs J] [--only WORD] [--truetype]
 
-builds both drivers, as run.py does, gives N damaged copies (20,000) of fonts with CFF outlines to both, and prints how often each pair of answers came, and
-for those that differ which intended difference stands in the copy (explain.py) and not in the font, or `not explained`.
+builds both drivers, as run.py does, gives N damaged copies (20,000) of fonts with CFF outlines to both, and prints how
+often each pair of answers came, and for those that differ which intended difference stands in the copy and not in the
+font (explain.py), or `not explained`. With --truetype they are the fonts and the damage of run.py without --cff.
 """
 import argparse
 import os
@@ -266,16 +267,20 @@ def main():
     words.add_argument("--seed", default="aimed")
     words.add_argument("--jobs", type=int, default=2)
     words.add_argument("--only", default="")
+    words.add_argument("--truetype", action="store_true")
     given = words.parse_args()
     import run  # (which takes `refusals` from here)
 
-    fonts.install(fonts.TOOLS + [it[0] for it in fonts.DAMAGED_CFF + fonts.KEYED])
+    fonts.install(fonts.TOOLS + [it[0] for it in fonts.DAMAGED + fonts.DAMAGED_CFF + fonts.KEYED])
     if not given.no_build:
         run.build(False)
     drivers = {"original": run.ORIGINAL, "port": run.PORT}
-    paths = [path for _, path in fonts.DAMAGED_CFF] + [fonts.keyed_font(*it) for it in fonts.KEYED]
-    paths = [it for it in paths if given.only in it]
-    rows = refusals(drivers, paths, given.copies, os.path.join(fonts.BUILD, "damaged"), given.seed, given.jobs, True)
+    if given.truetype:
+        paths = [path for _, path in fonts.DAMAGED]
+    else:
+        paths = [path for _, path in fonts.DAMAGED_CFF] + [fonts.keyed_font(*it) for it in fonts.KEYED]
+    paths, kept = [it for it in paths if given.only in it], os.path.join(fonts.BUILD, "damaged")
+    rows = refusals(drivers, paths, given.copies, kept, given.seed, given.jobs, not given.truetype)
     differing = [row for row in rows if row[3]]
     print("| Copies | Original | Port | Why they differ | Examples |\n|---|---|---|---|---|")
     for row in rows:

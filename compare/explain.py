@@ -297,6 +297,22 @@ def note_table(found, cff, glyphs):
         found.update((note, glyph) for note in Machine(table, glyph).run())
 
 
+def note_post(found, post):
+    """Notes an empty name among those of `post`."""
+    at = 34 + 2 * u16(post, 32) if u32(post, 0) == 0x00020000 else len(post)
+    while at < len(post):
+        if post[at] == 0:
+            found.add(("a name of post is empty", at))
+        at += 1 + post[at]
+
+
+def note_name(found, name):
+    """Notes a string of `name` that ends past byte 65535."""
+    for at in range(6, 6 + 12 * u16(name, 2) if u16(name, 0) == 0 else 0, 12):
+        if u16(name, 4) + u16(name, at + 8) + u16(name, at + 10) > 65535:
+            found.add(("a string of name ends past 65535", at))
+
+
 def reasons(data, index, glyphs):
     """The intended differences that stand in a font, each with what it is seen by."""
     found = set()
@@ -310,6 +326,9 @@ def reasons(data, index, glyphs):
         if "hhea" in tables and tables["hhea"][1] != 36:
             # (the original reads a short one at 0 and patches a long one at its end)
             found.add(("hhea isn't 36 bytes", ""))
+        for tag, note in (("post", note_post), ("name", note_name)):
+            if tag in tables:
+                note(found, data[tables[tag][0]:sum(tables[tag])])
         if "CFF " in tables and "glyf" not in tables:
             start, length = tables["CFF "]
             note_table(found, data[start:start + length], glyphs)
