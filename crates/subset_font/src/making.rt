@@ -6,14 +6,13 @@ ghost use Rattle.subsetter.specs.Subset.{IsSubset};
 ghost use Rattle.subsetter_base.specs.Places.{with_glyphs, HasAllAboveZero};
 ghost use Rattle.subset_font.specs.Made.{IsFaultless, IsFailureToMake, IsFaultlessWithWidths, IsFailureToMakeWidths};
 ghost use Rattle.subset_font.specs.Widths.{IsWidthText};
-ghost use Rattle.subset_font.specs.declared.failure.Failure.TheVariants.{Error as Refused, Read as CannotRead};
-ghost use Rattle.subsetter_base.specs.declared.error.Error.TheVariants.{OutOfMemory};
+ghost use Rattle.subset_font.specs.declared.failure.Failure.TheVariants.{Read as CannotRead};
 
 use crate::failure::Failure;
 use cid_embed::{embed_with_limits, write_widths};
 use std::alloc::Global;
 use std::io::Read;
-use subsetter::{Error, GlyphRemapper, Limits, subset_with_limits};
+use subsetter::{GlyphRemapper, Limits, subset_with_limits};
 
 /// Reads a font to its end, and answers its subset within the limits and the new numbers of the glyphs.
 ///
@@ -43,11 +42,11 @@ pub fn make<R: Read>(
 fn read_whole<R: Read>(alloc: Global, reader: &mut R, room: usize) -> Result<Vec<u8>, Failure>
     ensures bytes { IfOk result (λ font. IfSome (R.remaining reader.old) (λ bytes. font.items ≡ bytes)) }
     ensures end { OnOk result (IsAtEnd (R.remaining reader.new)) }
-    ensures err { IfErr result (λ e. (e ≡ CannotRead) ⊎ (e ≡ Refused OutOfMemory)) }
+    ensures err { IfErr result (λ e. e ≡ CannotRead) }
 {
     let mut font = match Vec::with_capacity(alloc, room) {
         Ok(font) => font,
-        Err(_) => return Err(Failure::Error(Error::OutOfMemory)),
+        Err(_) => return Err(Failure::Read),
     };
     if reader.read_to_end(&mut font).is_err() {
         return Err(Failure::Read);
@@ -57,6 +56,8 @@ fn read_whole<R: Read>(alloc: Global, reader: &mut R, room: usize) -> Result<Vec
 
 /// As `make`, with room for so many bytes of the font taken at once. A font that is longer, or one that fills the room,
 /// is copied into more.
+///
+/// `Read` also where there is no room for the font.
 pub fn make_in_room<R: Read>(
     alloc: Global,
     reader: &mut R,

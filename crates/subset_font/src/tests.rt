@@ -7,6 +7,7 @@ use std::test::*;
 use std::{env, fs, io};
 use subsetter::{Error, GlyphRemapper, Limits};
 
+mod hostile;
 mod stage;
 mod widths;
 

@@ -7,6 +7,8 @@ mod faults;
 mod fonts;
 mod hostile;
 mod limits;
+mod hostile_cff;
+mod memory;
 mod metrics;
 mod names;
 mod simple;
