@@ -48,7 +48,7 @@ DAMAGED_CFF = [
     ("fonts-cantarell", f"{OPENTYPE}/cantarell/Cantarell-Regular.otf"),
     ("fonts-urw-base35", f"{OPENTYPE}/urw-base35/C059-Roman.otf"),
 ]
-TOOLS = ["time", "librust-rustc-hash-dev"]
+TOOLS = ["time", "librust-rustc-hash-dev", "libharfbuzz-dev"]
 
 # The mapper holds so many glyphs.
 GLYPHS_AT_MOST = 65535
