@@ -5,7 +5,6 @@
 //! is but for the numbers of its components.
 
 ghost use Rattle.std.specs.Prelude.{◌≡◌, ◌+◌, ◌<◌, ◌≤◌, ◌^◌, ◌++◌, ◌⊎◌, length, map, IfOk, IfErr, IfSome, OnOk, Ok, Err};
-ghost use Rattle.std.specs.Cow.{cow_slice_items};
 ghost use Rattle.std.specs.Option.{option_copied};
 ghost use Rattle.subsetter_base.specs.Gives.{Gives};
 ghost use Rattle.subsetter_base.specs.Places.{IsWithoutRepeats};
@@ -13,7 +12,7 @@ ghost use Rattle.subsetter.specs.Glyf.Closure.{components_in, others_in, lacks_h
 ghost use Rattle.subsetter.specs.Sfnt.Read.{table_in};
 ghost use Rattle.subsetter.specs.Glyf.Read.{offset, outline_in};
 ghost use Rattle.subsetter.specs.Glyf.View.{seen};
-ghost use Rattle.subsetter.specs.Glyf.Plain.{outlines_read, kept, kept_all};
+ghost use Rattle.subsetter.specs.Glyf.Plain.{outlines_read, kept, kept_all, with_last};
 ghost use Rattle.subsetter.specs.Glyf.Reach.{IsGlyphOrderBy};
 ghost use Rattle.subsetter_base.specs.declared.error.Error.TheVariants.{OutOfMemory, MalformedFont, OverflowError};
 
@@ -23,12 +22,11 @@ pub mod outlines;
 #[cfg(test)]
 mod tests;
 
-use crate::glyf::component::{Components, is_composite, rewrite};
+use crate::glyf::component::{Components, is_composite};
 use crate::glyf::outlines::OutlineList;
 use crate::head::loca_format;
 use crate::sfnt::face::Face;
 use std::alloc::Global;
-use std::borrow::CowSlice;
 use subsetter_base::read::Reader;
 use subsetter_base::{Error, GlyphRemapper, Tag};
 
@@ -90,14 +88,19 @@ impl<'a> OutlineTables<'a> {
         Reader::new_at(self.glyf, from).read_bytes(to - from)
     }
 
-    /// The outline of a kept glyph, with its components under their new numbers.
+    /// Puts the outline of a kept glyph last, with its components under their new numbers.
     /// `MalformedFont` where it can't be read, has one byte or is a composite that is cut.
     #[tactic(auto, unfolding(crate::specs::Glyf::Plain::kept))]
-    fn kept(&self, alloc: Global, id: u16, order: &GlyphRemapper) -> Result<CowSlice<'a, u8>, Error>
-        ensures { Gives cow_slice_items result (kept (seen self.now) order.now id) }
+    fn keep(
+        &self,
+        outlines: OutlineList<'a>,
+        id: u16,
+        order: &GlyphRemapper,
+    ) -> Result<OutlineList<'a>, Error>
+        ensures { Gives (λ list. list) result (with_last outlines.entry (kept (seen self.now) order.now id)) }
     {
         let outline = self.glyph_data(id).ok_or(Error::MalformedFont)?;
-        rewrite(alloc, outline, order)
+        outlines.push(outline, order)
     }
 }
 
@@ -111,7 +114,7 @@ pub fn subset<'a>(
 {
     let mut outlines = OutlineList::with_capacity(alloc, order.num_gids() as usize)?;
     for old in order.remapped_gids() {
-        outlines.push(table.kept(alloc, old, order)?)?;
+        outlines = table.keep(outlines, old, order)?;
     }
     outlines.shrink_to_fit();
     Ok(outlines)
