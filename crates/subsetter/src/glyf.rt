@@ -8,7 +8,7 @@ ghost use Rattle.std.specs.Prelude.{◌≡◌, ◌+◌, ◌<◌, ◌≤◌, ◌^
 ghost use Rattle.std.specs.Option.{option_copied};
 ghost use Rattle.subsetter_base.specs.Gives.{Gives};
 ghost use Rattle.subsetter_base.specs.Places.{IsWithoutRepeats};
-ghost use Rattle.subsetter.specs.Glyf.Closure.{components_in, others_in, lacks_head, IsFaulty, IsFull, IsVisited, StopsClosure};
+ghost use Rattle.subsetter.specs.Glyf.Closure.{head_in, composites_in, components_in, others_in, lacks_head, IsFaulty, IsFull, IsVisited, StopsClosure};
 ghost use Rattle.subsetter.specs.Sfnt.Read.{table_in};
 ghost use Rattle.subsetter.specs.Glyf.Read.{offset, outline_in};
 ghost use Rattle.subsetter.specs.Glyf.View.{seen};
@@ -180,16 +180,55 @@ fn visit(
     push_components(table, order, waiting, glyph)
 }
 
-/// The glyphs of a remapper, as a stack whose last member is taken first.
-fn stacked(alloc: Global, mapper: &GlyphRemapper) -> Result<Vec<u16>, Error>
-    ensures ok { IfOk result (λ v. v.items ≡ mapper.now) }
+/// The first byte of an outline, 0 where there is none.
+fn first_byte(outline: Option<&[u8]>) -> u8
+    ensures { result ≡ head_in (option_copied outline.entry) }
+{
+    match outline {
+        Some([first, ..]) => *first,
+        _ => 0,
+    }
+}
+
+/// The first bytes of the outlines of a remapper's glyphs.
+///
+/// No step waits for one of them, so that many are fetched from memory at a time.
+fn first_bytes(
+    alloc: Global,
+    table: &OutlineTables<'_>,
+    mapper: &GlyphRemapper,
+) -> Result<Vec<u8>, Error>
+    ensures ok { IfOk result (λ v. v.items ≡ map (λ g. head_in (outline_in (seen table.now) g)) mapper.now) }
+    ensures err { IfErr result (λ e. e ≡ OutOfMemory) }
+{
+    let mut heads = Vec::with_capacity(alloc, mapper.num_gids() as usize)?;
+    for glyph in mapper.remapped_gids() {
+        heads.push(first_byte(table.glyph_data(glyph)))?;
+    }
+    Ok(heads)
+}
+
+/// The composites among the glyphs of a remapper, as a stack whose last member is taken first.
+fn stacked(
+    alloc: Global,
+    table: &OutlineTables<'_>,
+    mapper: &GlyphRemapper,
+) -> Result<Vec<u16>, Error>
+    ensures ok { IfOk result (λ v. v.items ≡ composites_in (seen table.now) mapper.now) }
     ensures err { IfErr result (λ e. e ≡ OutOfMemory) }
     ensures once { IsWithoutRepeats mapper.now }
     ensures few { length mapper.now < 65536 }
 {
-    let mut glyphs = Vec::with_capacity(alloc, mapper.num_gids() as usize)?;
+    // What `num_gids` says of the mapper is promised here too.
+    let _count = mapper.num_gids();
+    let heads = first_bytes(alloc, table, mapper)?;
+    let mut glyphs = Vec::new(alloc);
+    let mut place: usize = 0;
     for glyph in mapper.remapped_gids() {
-        glyphs.push(glyph)?;
+        if is_composite(heads[place]) {
+            glyphs.push(glyph)?;
+        }
+        place += 1;
     }
     Ok(glyphs)
 }
@@ -208,7 +247,7 @@ pub fn closure(
     ensures err { IfErr result (λ e. StopsClosure (seen table.now) mapper.now e) }
 {
     let mut order = mapper.clone()?;
-    let mut given = stacked(alloc, mapper)?;
+    let mut given = stacked(alloc, table, mapper)?;
     let mut waiting = Vec::new(alloc);
     while let Some(glyph) = given.pop() {
         push_components(table, &order, &mut waiting, glyph)?;
