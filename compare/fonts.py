@@ -54,7 +54,7 @@ KEYED = [
     ("fonts-noto-cjk", f"{OPENTYPE}/noto/NotoSansCJK-Regular.ttc", 200),
     ("fonts-noto-cjk", f"{OPENTYPE}/noto/NotoSerifCJK-Regular.ttc", 200),
 ]
-TOOLS = ["time", "librust-rustc-hash-dev", "python3-fonttools"]
+TOOLS = ["time", "librust-rustc-hash-dev", "libharfbuzz-dev", "python3-fonttools"]
 
 # The mapper holds so many glyphs.
 GLYPHS_AT_MOST = 65535

@@ -1,5 +1,5 @@
 -- How the glyphs that a list reaches are found.
-use Rattle.std.specs.Prelude.{◌≡◌, ℕ, ◌+◌, ◌<◌, ◌^◌, Bool, true, false, not, ◌&&◌, List, [], ◌∷◌, ◌++◌, length, Option, Some, None, is_some, filter, slice_index, nat_lt, if◌then◌else◌}
+use Rattle.std.specs.Prelude.{◌≡◌, ℕ, ◌+◌, ◌<◌, ◌^◌, Bool, true, false, not, ◌&&◌, List, [], ◌∷◌, ◌++◌, length, Option, Some, None, is_some, filter, slice_index, nat_lt, nat_le, if◌then◌else◌}
 use Rattle.subsetter_base.specs.Places.{place, with_glyph}
 use Rattle.subsetter_base.specs.declared.error.Error.{Error}
 use Rattle.subsetter_base.specs.declared.error.Error.TheVariants.{MalformedFont, OverflowError, OutOfMemory}
@@ -15,6 +15,19 @@ components_in (Some bytes) = component_numbers bytes
 -- the numbers that aren't in a list
 abbrev pub others_in : List ℕ → List ℕ → List ℕ
 others_in order numbers = filter (λ h. not (is_some (place order h))) numbers
+
+-- the first byte of an outline, 0 where there is none
+abbrev pub head_in : Option (List ℕ) → ℕ
+head_in None = 0
+head_in (Some []) = 0
+head_in (Some (a ∷ bytes)) = a
+
+abbrev pub is_composite_in : Outlines → ℕ → Bool
+is_composite_in t g = nat_le 128 (head_in (outline_in t g))
+
+-- those of some glyphs that can have components
+abbrev pub composites_in : Outlines → List ℕ → List ℕ
+composites_in t glyphs = filter (λ g. is_composite_in t g) glyphs
 
 -- one byte, or a composite of fewer than ten bytes
 unfoldable pub lacks_head : List ℕ → Bool
