@@ -60,7 +60,7 @@ pub fn find_effect(operator: Operator) -> Option<Effect>
 
 /// What the operator of this byte does.
 #[inline(always)]
-fn one_byte_effect(first: u8) -> Option<Effect>
+pub fn one_byte_effect(first: u8) -> Option<Effect>
     ensures { result ≡ one_byte_effect first }
 {
     match first {
