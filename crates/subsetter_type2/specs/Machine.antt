@@ -6,13 +6,11 @@ use Rattle.subsetter_base.specs.declared.error.Error.{Error}
 use Rattle.subsetter_base.specs.declared.error.Error.TheVariants.{CFFError, Unimplemented}
 use Rattle.subsetter_cffdata.specs.declared.charstring_number.CharStringNumber.{CharStringNumber}
 use Rattle.subsetter_cffdata.specs.declared.operator.Operator.{Operator}
-use Rattle.subsetter_type2.specs.declared.token.Token.{Token}
-use Rattle.subsetter_type2.specs.declared.token.Token.TheVariants.{Operand, Operation}
 use Rattle.subsetter_type2.specs.declared.token.Effect.{Effect}
 use Rattle.subsetter_type2.specs.declared.token.Effect.TheVariants.{CountsStems, Draws, CallsLocal, CallsGlobal, Returns, Ends, Masks}
 use Rattle.subsetter_cffdata.specs.CharStringNumber.{number_at, whole_of}
 use Rattle.subsetter_type2.specs.Subroutines.{biased_entry}
-use Rattle.subsetter_type2.specs.Token.{token_of, effect_of}
+use Rattle.subsetter_type2.specs.Token.{Token, Operand, Operation, token_of, effect_of}
 
 -- the subroutines that a charstring may call, with none for an unreadable entry
 pub record Library : Type 0 where
