@@ -1,7 +1,7 @@
 -- The checksum by the weights of the bytes.
 use Rattle.std.proofs.Common.{◌≡◌, ℕ, zero, suc, ◌+◌, ◌-◌, ◌*◌, ◌%◌, ◌^◌, ◌<◌, ◌≤◌, Bool, true, false, List, [], ◌∷◌, ◌++◌, length, get_or, take, drop, refl, sym, ap, ◌∙◌, ◌⊎◌, inl, inr, arith}
 use Rattle.std.specs.Prelude.{sum, replicate}
-use Rattle.std.proofs.lemmas.List.{drop_more, drop-drop, length-drop, length-take, drop_all, take-append-drop}
+use Rattle.std.proofs.lemmas.List.{drop_more, length-take, drop_all, take-append-drop}
 use Rattle.std.proofs.lemmas.List.Sums.{sum_by-cons}
 use Rattle.subsetter_base.specs.Bytes.{be, aligned}
 use Rattle.subsetter_base.proofs.Lists.{rest_of}
@@ -58,21 +58,6 @@ weighed_four (a ∷ []) le = absurd (omega arith)
 weighed_four (a ∷ b ∷ []) le = absurd (omega arith)
 weighed_four (a ∷ b ∷ c ∷ []) le = absurd (omega arith)
 weighed_four (a ∷ b ∷ c ∷ d ∷ bs) le = omega (arith, weighed-mod 4 0 bs refl, ap (weighed 0) (rest_of 4 (a ∷ b ∷ c ∷ d ∷ bs)))
-
--- a word, and the bytes behind it
-weighed_front : (at : ℕ) (bs : List ℕ) → at + 4 ≤ length bs → weighed 0 (drop at bs) ≡ be (take 4 (drop at bs)) + weighed 0 (drop (at + 4) bs)
-weighed_front at bs le = by (drop at bs) (omega (arith, length-drop at bs)) ∙ ap (λ (l : List ℕ). be (take 4 (drop at bs)) + weighed 0 l) (drop-drop 4 at bs)
-  where
-    by : (l : List ℕ) → 4 ≤ length l → weighed 0 l ≡ be (take 4 l) + weighed 0 (drop 4 l)
-    by [] h = absurd (omega arith)
-    by (a ∷ []) h = absurd (omega arith)
-    by (a ∷ b ∷ []) h = absurd (omega arith)
-    by (a ∷ b ∷ c ∷ []) h = absurd (omega arith)
-    by (a ∷ b ∷ c ∷ d ∷ l) h = weighed_word a b c d l
-
--- four words, and the bytes behind them
-pub weighed_block : (bs : List ℕ) → 16 ≤ length bs → weighed 0 bs ≡ be (take 4 (drop 0 bs)) + be (take 4 (drop 4 bs)) + be (take 4 (drop 8 bs)) + be (take 4 (drop 12 bs)) + weighed 0 (take (length bs - 16) (drop 16 bs))
-weighed_block bs le = omega (arith, weighed_front 0 bs (omega arith), weighed_front 4 bs (omega arith), weighed_front 8 bs (omega arith), weighed_front 12 bs (omega arith), ap (weighed 0) (rest_of 16 bs))
 
 -- the bytes up to a multiple of four, and the words from there on
 pub weighed_split : (at n : ℕ) (bs : List ℕ) → n ≤ length bs → ((at + n) % 4 ≡ 0) ⊎ (n ≡ length bs) → weighed at bs ≡ weighed at (take n bs) + weighed 0 (take (length bs - n) (drop n bs))

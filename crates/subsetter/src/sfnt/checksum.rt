@@ -4,8 +4,6 @@ ghost use Rattle.std.specs.Prelude.{◌≡◌, ◌+◌, ◌-◌, ◌%◌, ◌^�
 ghost use Rattle.subsetter.specs.Sfnt.Checksum.{checksum};
 ghost use Rattle.subsetter.specs.Sfnt.Weights.{weighed};
 
-use subsetter_base::read::u32_at;
-
 /// What a byte at a place counts in its word.
 fn weight(at: usize) -> u32
     ensures exact { result ≡ 256 ^ (3 - at % 4) }
@@ -45,29 +43,9 @@ fn add_words(start: u32, bytes: &[u8]) -> u32
     add_bytes(sum, 0, rest)
 }
 
-/// Adds the bytes from a multiple of four on, four words at a time while there are as many, each into a sum of its own.
-fn add_blocks(bytes: &[u8]) -> u32
-    ensures { result ≡ weighed 0 bytes.now % 2 ^ 32 }
-{
-    let mut first: u32 = 0;
-    let mut second: u32 = 0;
-    let mut third: u32 = 0;
-    let mut fourth: u32 = 0;
-    let mut rest = bytes;
-    while rest.len() >= 16 {
-        first = first.wrapping_add(u32_at(rest, 0));
-        second = second.wrapping_add(u32_at(rest, 4));
-        third = third.wrapping_add(u32_at(rest, 8));
-        fourth = fourth.wrapping_add(u32_at(rest, 12));
-        rest = &rest[16..];
-    }
-    let sum = first.wrapping_add(second);
-    add_words(sum.wrapping_add(third).wrapping_add(fourth), rest)
-}
-
 /// The sum of the four-byte words, the last of them filled up with zeros.
 pub fn checksum(bytes: &[u8]) -> u32
     ensures { result ≡ checksum bytes.now }
 {
-    add_blocks(bytes)
+    add_words(0, bytes)
 }

@@ -3,4 +3,4 @@ use Rattle.subsetter.proofs.SfntLaws.Weights.{checksum-weighed}
 use Rattle.subsetter.proofs.sfnt.checksum.checksum.Goals as goal
 
 pub returns : goal.returns
-returns c = omega (arith, checksum-weighed c.args.bytes.now, c.add_blocks.ensures)
+returns c = omega (arith, checksum-weighed c.args.bytes.now, c.add_words.ensures)
