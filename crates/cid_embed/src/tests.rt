@@ -114,39 +114,39 @@ const CALLING: [u8; 40] = [
     0, 1, 1, 1, 2, 14, 0, // local subroutines
 ];
 
-/// A font of that table or of one in which the charstring is `endchar` alone, with an advance of 500 units of 1000.
-fn cff_font(alloc: Global, calls: bool, head: &[u8]) -> Result<Vec<u8>, Fail> {
+/// A font of that table or of one in which the charstring is `endchar` alone, with an advance of 500 units.
+fn cff_font(alloc: Global, calls: bool, units_per_em: Option<u16>) -> Result<Vec<u8>, Fail> {
     let mut table = CALLING;
     if !calls {
         table[28] = 2;
         table[29] = 14;
     }
-    let tables = [
-        part(Tag::CFF, &table),
-        part(Tag::HHEA, &hhea(1)),
-        part(Tag::HMTX, &[1, 0xf4, 0, 0]),
-        part(Tag::HEAD, head),
-    ];
-    let shown = if head.is_empty() {
-        &tables[..3]
-    } else {
-        &tables[..]
-    };
-    font(alloc, b"OTTO", shown)
+    let cff = part(Tag::CFF, &table);
+    let hhea = hhea(1);
+    let hmtx = [1, 0xf4, 0, 0];
+    let (hhea, hmtx) = (part(Tag::HHEA, &hhea), part(Tag::HMTX, &hmtx));
+    match units_per_em {
+        Some(units) => font(
+            alloc,
+            b"OTTO",
+            &[cff, part(Tag::HEAD, &head(units)), hhea, hmtx],
+        ),
+        None => font(alloc, b"OTTO", &[cff, hhea, hmtx]),
+    }
 }
 
 #[test]
 fn a_charstring_runs_within_the_limits(rt: HostRuntime) -> Result<(), Fail> {
     let alloc = rt.alloc();
     let shallow = Limits::new(1_000_000, 1).ok_or("limits")?;
-    let plain = cff_font(alloc, false, &head(1000))?;
+    let plain = cff_font(alloc, false, Some(1000))?;
     let embedded = embed_with_limits(alloc, &plain, 0, &[], &shallow)?;
     assert_eq!(rt; embedded.widths.as_slice(), [500].as_slice());
-    let calling = cff_font(alloc, true, &head(1000))?;
+    let calling = cff_font(alloc, true, Some(1000))?;
     let embedded = embed(alloc, &calling, 0, &[])?;
     assert_eq!(rt; embedded.widths.as_slice(), [500].as_slice());
     // What `subset` refuses comes before what the widths lack.
-    for file in [calling, cff_font(alloc, true, &[])?] {
+    for file in [calling, cff_font(alloc, true, None)?] {
         let error = embed_with_limits(alloc, &file, 0, &[], &shallow).err();
         assert_eq!(rt; error, Some(Error::CFFError));
     }
@@ -166,7 +166,7 @@ fn fonts_without_widths_are_refused(rt: HostRuntime) -> Result<(), Fail> {
         ],
     )?;
     let without_units = three_empty(alloc, 0, [500, 600, 250])?;
-    let without_head = cff_font(alloc, false, &[])?;
+    let without_head = cff_font(alloc, false, None)?;
     for file in [without_hmtx, without_units, without_head] {
         let error = embed(alloc, &file, 0, &[]).err();
         assert_eq!(rt; error, Some(Error::MalformedFont));

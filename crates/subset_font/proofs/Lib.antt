@@ -1,2 +1,3 @@
+mod Known
 mod Numbers
 mod Written
