@@ -3,3 +3,4 @@ mod Tables
 mod Reading
 mod Numbers
 mod Promises
+mod FewerCids

@@ -4,10 +4,13 @@
 mod array;
 mod embedding;
 mod reader;
+mod shrinking;
 mod widths;
 
 pub use array::write_widths;
 pub use embedding::{Embedded, embed, embed_with_limits};
+pub use shrinking::shrink;
+pub use subsetter_again::shrink_font;
 
 #[cfg(test)]
 mod tests;

@@ -180,3 +180,110 @@ fn fonts_without_widths_are_refused(rt: HostRuntime) -> Result<(), Fail> {
     assert_eq!(rt; error, Some(Error::OverflowError));
     Ok(())
 }
+
+/// A CFF font of 40 glyphs, whose charstrings are their numbers and `endchar`.
+fn forty_glyphs(alloc: Global) -> Result<Vec<u8>, Fail> {
+    // Header, Name INDEX, a top dict that names the charstrings, no strings, no subroutines, and the INDEX of 40.
+    let mut table = Vec::from_slice(
+        alloc,
+        &[
+            1, 0, 4, 1, 0, 1, 1, 1, 2, b'A', 0, 1, 1, 1, 3, 0xa0, 0x11, 0, 0, 0, 0, 0, 40, 1,
+        ],
+    )?;
+    for place in 0u8..=40 {
+        table.push(place.wrapping_mul(2).wrapping_add(1))?;
+    }
+    for glyph in 139u8..179 {
+        table.extend_from_slice(&[glyph, 14])?;
+    }
+    table.extend_from_slice(&[0, 0, 0])?;
+    let mut hmtx = [0; 84];
+    hmtx[1] = 250;
+    font(
+        alloc,
+        b"OTTO",
+        &[
+            part(Tag::CFF, &table),
+            part(Tag::HEAD, &head(1000)),
+            part(Tag::HHEA, &hhea(1)),
+            part(Tag::HMTX, &hmtx),
+        ],
+    )
+}
+
+/// Four bytes as a number.
+fn number(bytes: &[u8]) -> usize {
+    let mut value: u32 = 0;
+    for byte in bytes {
+        value = value.wrapping_mul(256).wrapping_add(u32::from(*byte));
+    }
+    value as usize
+}
+
+/// The last bytes of the table that a file's first record names.
+fn end_of_first_table(file: &[u8], size: usize) -> Option<&[u8]> {
+    let at = number(file.get(20..24)?);
+    let length = number(file.get(24..28)?);
+    file.get(at..)?
+        .get(..length)?
+        .get(length.wrapping_sub(size)..)
+}
+
+#[test]
+fn cids_of_an_embedded_font_are_glyphs_of_it(rt: HostRuntime) -> Result<(), Fail> {
+    let alloc = rt.alloc();
+    let source = forty_glyphs(alloc)?;
+    let embedded = embed(alloc, &source, 0, &[3, 39, 8, 10, 2])?;
+    let shrunk = shrink(alloc, &embedded, &[5, 2])?;
+    assert_eq!(rt; shrunk.cids.as_slice(), [1, 2].as_slice());
+    assert_eq!(rt; shrunk.widths.as_slice(), [250, 250, 250].as_slice());
+    // The charstrings of glyphs 0, 2 and 39, as of a direct subset.
+    let charstrings = [0, 3, 1, 1, 3, 5, 7, 139, 14, 141, 14, 178, 14];
+    let direct = embed(alloc, &source, 0, &[2, 39])?;
+    for file in [&shrunk.font, &direct.font] {
+        assert_eq!(rt; end_of_first_table(file, 13), Some(charstrings.as_slice()));
+    }
+    let error = shrink(alloc, &embedded, &[6]).err();
+    assert_eq!(rt; error, Some(Error::MalformedFont));
+    Ok(())
+}
+
+#[test]
+fn all_cids_give_a_truetype_font_back(rt: HostRuntime) -> Result<(), Fail> {
+    let alloc = rt.alloc();
+    // Glyph 1 is a composite of glyph 3, which is simple; the others are empty.
+    let mut glyf = [0; 28];
+    glyf[0] = 0xff;
+    glyf[1] = 0xff;
+    glyf[13] = 3;
+    let loca = [
+        0, 0, 0, 0, 0, 0, 0, 0, 0, 0, 0, 16, 0, 0, 0, 16, 0, 0, 0, 28,
+    ];
+    let hmtx = [1, 0xf4, 0, 0, 2, 0x58, 0, 1, 0, 250, 0, 2, 1, 0, 0, 3];
+    // The family name `A`, as Windows has it.
+    let name = [
+        0, 0, 0, 1, 0, 18, 0, 3, 0, 1, 4, 9, 0, 1, 0, 2, 0, 0, 0, b'A',
+    ];
+    let mut post = Vec::from_slice(alloc, &[0, 2, 0, 0])?;
+    post.extend_from_slice(&[0; 28])?;
+    post.extend_from_slice(&[0, 4, 0, 0, 1, 2, 0, 1, 1, 3, 1, b'a', 1, b'b', 0, 0])?;
+    let source = font(
+        alloc,
+        &[0, 1, 0, 0],
+        &[
+            part(Tag::GLYF, &glyf),
+            part(Tag::HEAD, &head(1000)),
+            part(Tag::HHEA, &hhea(4)),
+            part(Tag::HMTX, &hmtx),
+            part(Tag::LOCA, &loca),
+            part(Tag::NAME, &name),
+            part(Tag::POST, &post),
+        ],
+    )?;
+    let embedded = embed(alloc, &source, 0, &[1])?;
+    assert_eq!(rt; embedded.cids.as_slice(), [1].as_slice());
+    // Glyph 3, to which glyph 1 leads, has number 2.
+    let shrunk = shrink(alloc, &embedded, &[1, 2])?;
+    assert_eq!(rt; shrunk.font.as_slice(), embedded.font.as_slice());
+    Ok(())
+}

@@ -25,3 +25,4 @@ pub mod CidKeyed
 pub mod CharStringTables
 pub mod CharStringLaws
 pub mod Joined
+pub mod Shrunk

@@ -5,3 +5,6 @@ pub mod laws;
 mod shrink;
 
 pub use shrink::shrink_font;
+
+#[cfg(test)]
+mod tests;

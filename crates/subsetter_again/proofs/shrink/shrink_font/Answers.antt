@@ -1,4 +1,4 @@
-use Rattle.std.proofs.Common.{◌≡◌, ℕ, ◌≤◌, ◌⊎◌, inl, inr, List, [], ◌∷◌, length, Some, Result, Ok, Err, lit≤, arith}
+use Rattle.std.proofs.Common.{◌≡◌, ℕ, ◌≤◌, ◌⊎◌, inl, inr, List, [], ◌∷◌, length, Some, Result, Ok, Err, arith}
 use Rattle.std.specs.Prelude.{IfOk, IfErr, slice_get}
 use Rattle.subsetter_base.specs.Bytes.{IsBytes}
 use Rattle.subsetter_base.specs.declared.error.Error.{Error}
@@ -9,8 +9,8 @@ use Rattle.subsetter.specs.Limits.{token_limit, depth_limit}
 use Rattle.subsetter.specs.Sfnt.Read.{Font, as_font}
 use Rattle.subsetter.specs.Subset.{IsSubset}
 use Rattle.subsetter_again.specs.Again.{IsTrueTypeOrCidKeyed}
-use Rattle.subsetter_again.specs.Shrink.{OfEachSource, IsShrunk, IsGivenBack, HasNoFaultForAll}
-use Rattle.subsetter_again.proofs.Joined as joined
+use Rattle.subsetter_again.specs.Shrink.{OfEachSource, IsShrunk, IsGivenBack}
+use Rattle.subsetter_again.proofs.Shrunk.{is_shrunk, is_given_back, no_fault_for_all, fault_for_unknown}
 use Rattle.subsetter_again.proofs.shrink.shrink_font.Goals as goal
 
 -- a fact of each answer
@@ -31,38 +31,22 @@ no_other : (font : Font) (all : List ℕ) (e : Error) → ((order : List ℕ) �
 no_other font all e none (inl m) = m
 no_other font all e none (inr f) = absurd (none f.0 f.1)
 
-shrunk : (given more again : List ℕ) → 1 ≤ length more → IsSubset token_limit depth_limit (as_font given) more again → IsShrunk given more again
-shrunk given more again some second = record {
-  subset = second;
-  keeps = λ source glyphs bytes first. joined.composes_afresh token_limit depth_limit source glyphs given more again bytes (lit≤ tt) some first second;
-  whole = λ source glyphs bytes first settled. joined.is_composed token_limit depth_limit source glyphs given more again bytes (lit≤ tt) some settled first second;
-}
-
-back : (given more again : List ℕ) → 1 ≤ length more → IsSubset token_limit depth_limit (as_font given) more again → IsGivenBack given more again
-back given more again some second = record {
-  bytes = λ source glyphs bytes first all settled. joined.is_canonical token_limit depth_limit source glyphs given more again bytes (lit≤ tt) some settled first all second;
-  charstrings = λ source glyphs bytes first all kind. joined.keeps_all_charstrings token_limit depth_limit source glyphs given more again kind first all second;
-}
-
-sound : (given more : List ℕ) → IsBytes given → 1 ≤ length more → HasNoFaultForAll given more
-sound given more given_bytes some = λ source glyphs bytes first all settled order e fault. joined.no_fault_again token_limit depth_limit source glyphs given more order e bytes given_bytes (lit≤ tt) some settled first all fault
-
 pub returns-clause-ok : goal.returns-clause-ok
 returns-clause-ok c =
     let given = c.args.font.now in
     let more = c.args.mapper.now in
-    for_ok c.subset.result (λ out. IsSubset token_limit depth_limit (as_font given) more out.items) (λ out. IsShrunk given more out.items) (λ out second. shrunk given more out.items (some_given more c.num_gids-count.ensures.first) second) c.subset.ensures.ok
+    for_ok c.subset.result (λ out. IsSubset token_limit depth_limit (as_font given) more out.items) (λ out. IsShrunk given more out.items) (λ out second. is_shrunk given more out.items (some_given more c.num_gids-count.ensures.first) second) c.subset.ensures.ok
 
 pub returns-clause-given_back : goal.returns-clause-given_back
 returns-clause-given_back c =
     let given = c.args.font.now in
     let more = c.args.mapper.now in
-    for_ok c.subset.result (λ out. IsSubset token_limit depth_limit (as_font given) more out.items) (λ out. IsGivenBack given more out.items) (λ out second. back given more out.items (some_given more c.num_gids-count.ensures.first) second) c.subset.ensures.ok
+    for_ok c.subset.result (λ out. IsSubset token_limit depth_limit (as_font given) more out.items) (λ out. IsGivenBack given more out.items) (λ out second. is_given_back given more out.items (some_given more c.num_gids-count.ensures.first) second) c.subset.ensures.ok
 
 pub returns-clause-sound : goal.returns-clause-sound
 returns-clause-sound c =
     let fit : IsBytes c.args.font.now = λ k. omega (arith, c.type_inv.font k) in
-    sound c.args.font.now c.args.mapper.now fit (some_given c.args.mapper.now c.num_gids-count.ensures.first)
+    no_fault_for_all c.args.font.now c.args.mapper.now fit (some_given c.args.mapper.now c.num_gids-count.ensures.first)
 
 pub returns-clause-only_memory : goal.returns-clause-only_memory
 returns-clause-only_memory c =
@@ -70,7 +54,7 @@ returns-clause-only_memory c =
     let given = c.args.font.now in
     let more = c.args.mapper.now in
     for_err c.subset.result (λ e. (e ≡ OutOfMemory) ⊎ ((order : List ℕ) × HasFault token_limit depth_limit (as_font given) more order e)) (λ e. OfEachSource given (λ source first. AreAll (length first) more → IsTrueTypeOrCidKeyed source → e ≡ OutOfMemory))
-    (λ e found source glyphs bytes first all settled. no_other (as_font given) more e (λ order f. sound given more fit (some_given more c.num_gids-count.ensures.first) source glyphs bytes first all settled order e f) found) c.subset.ensures.err
+    (λ e found source glyphs bytes first all settled. no_other (as_font given) more e (λ order f. no_fault_for_all given more fit (some_given more c.num_gids-count.ensures.first) source glyphs bytes first all settled order e f) found) c.subset.ensures.err
 
 pub returns-clause-unknown : goal.returns-clause-unknown
-returns-clause-unknown c = λ source glyphs bytes first g order among past. joined.unknown_is_fault token_limit depth_limit source glyphs c.args.font.now c.args.mapper.now order g first among past
+returns-clause-unknown c = fault_for_unknown c.args.font.now c.args.mapper.now
