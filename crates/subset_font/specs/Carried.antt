@@ -1,7 +1,6 @@
 -- What a job that is carried out has written.
 use Rattle.std.specs.Prelude.{ℕ, List, [], ◌∷◌, Option, IfSome}
 use Rattle.std.specs.Io.KnownBytes.{Appends}
-use Rattle.subsetter.specs.Limits.{token_limit, depth_limit}
 use Rattle.subsetter.specs.Subset.{IsSubset}
 use Rattle.subsetter_base.specs.Places.{with_glyphs}
 use Rattle.subset_font.specs.declared.failure.Failure.{Failure}
@@ -12,10 +11,10 @@ use Rattle.subset_font.specs.declared.words.Job.{Job}
 abbrev pub numbering : Job → List ℕ
 numbering job = with_glyphs (0 ∷ []) job.glyphs.items
 
--- a font was written, a subset of the bytes that were read where these are known
+-- a font was written, a subset within the job's limits of the bytes that were read, where these are known
 pub record WritesSubset (job : Job) (source old new : Option (List ℕ)) : Type 0 where
   pub font : List ℕ
-  pub is_subset : IfSome source (λ bytes. IsSubset token_limit depth_limit (record { bytes = bytes; index = job.index }) (numbering job) font)
+  pub is_subset : IfSome source (λ bytes. IsSubset job.limits.tokens job.limits.depth (record { bytes = bytes; index = job.index }) (numbering job) font)
   pub is_written : Appends old new font
 
 -- the failure comes before the first byte is written

@@ -3,3 +3,4 @@ pub mod Failure
 pub mod Lines
 pub mod Made
 pub mod Words
+pub mod WordsView

@@ -36,8 +36,8 @@ pub fn carry_out<R: Read, W: Write, L: Write>(
     ensures unwritten { IsErrOf result Failure.Write → lines.new ≡ lines.old }
     ensures written { IsErrOf result Failure.Output → WritesSubset job.now (R.remaining reader.old) (W.contents output.old) (W.contents output.new) }
     // Why nothing is written.
-    ensures err { IfErr result (λ e. IsFailureToMake (R.remaining reader.old) job.now.index job.now.glyphs.items e ⊎ ((e ≡ CannotWrite) ⊎ (e ≡ Output))) }
+    ensures err { IfErr result (λ e. IsFailureToMake job.now.limits.tokens job.now.limits.depth (R.remaining reader.old) job.now.index job.now.glyphs.items e ⊎ ((e ≡ CannotWrite) ⊎ (e ≡ Output))) }
 {
-    let (font, mapper) = make_in_room(alloc, reader, room, job.index, &job.glyphs)?;
+    let (font, mapper) = make_in_room(alloc, reader, room, job.index, &job.glyphs, &job.limits)?;
     emit(&font, &job.glyphs, &mapper, output, lines)
 }

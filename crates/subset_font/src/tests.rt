@@ -5,7 +5,7 @@ use std::io::{ErrorKind, Read, Write};
 use std::process::{ExitCode, Termination};
 use std::test::*;
 use std::{env, fs, io};
-use subsetter::{Error, GlyphRemapper};
+use subsetter::{Error, GlyphRemapper, Limits};
 
 mod stage;
 
@@ -140,7 +140,10 @@ fn each_read_that_fails_is_told(rt: HostRuntime) -> Result<(), Fail> {
         } else {
             (0, "")
         };
-        let (status, text) = told(rt.alloc(), make(rt.alloc(), &mut reader, 0, &[2]))?;
+        let (status, text) = told(
+            rt.alloc(),
+            make(rt.alloc(), &mut reader, 0, &[2], &Limits::default()),
+        )?;
         assert_eq!(rt; (status, text.as_str()), want, "at {left}");
     }
     Ok(())

@@ -11,6 +11,7 @@ ghost use Rattle.subsetter.specs.Fault.{HasFault};
 ghost use Rattle.subsetter.specs.Sfnt.Fault.{HasOpeningFault};
 ghost use Rattle.subsetter.specs.Limits.{token_limit, depth_limit};
 ghost use Rattle.subsetter.specs.Subset.{IsSubset};
+ghost use Rattle.subsetter.specs.Answer.{IsAnswer, IsTheAnswer};
 
 use crate::cff;
 use crate::glyf::{self, OutlineTables};
@@ -124,6 +125,9 @@ pub fn subset(
     ensures ok { IfOk result (λ out. IsSubset token_limit depth_limit (record { bytes = «data».now; index = index }) mapper.now out.items) }
     // And then no fault stands in the source, the size limits being judged for the answer's order of glyphs.
     ensures clean { IfOk result (λ out. (s : IsSubset token_limit depth_limit (record { bytes = «data».now; index = index }) mapper.now out.items) × ((e : SpecError) → ¬ (HasFault token_limit depth_limit (record { bytes = «data».now; index = index }) mapper.now s.keeps.order e))) }
+    // Its glyphs stand in the order in which they are found, so that there is one answer.
+    ensures exact { IfOk result (λ out. IsAnswer token_limit depth_limit (record { bytes = «data».now; index = index }) mapper.now out.items) }
+    ensures same { IfOk result (λ out. IsTheAnswer (record { bytes = «data».now; index = index }) mapper.now out.items) }
     // What is refused has a fault of that name.
     ensures err { IfErr result (λ e. (e ≡ OutOfMemory) ⊎ ((order : List ℕ) × HasFault token_limit depth_limit (record { bytes = «data».now; index = index }) mapper.now order e)) }
     // Where a fault stands that is found before memory is taken, the answer isn't want of memory.
@@ -152,6 +156,9 @@ pub fn subset_with_limits(
     ensures ok { IfOk result (λ out. IsSubset limits.now.tokens limits.now.depth (record { bytes = «data».now; index = index }) mapper.now out.items) }
     // And then no fault stands in the source, the size limits being judged for the answer's order of glyphs.
     ensures clean { IfOk result (λ out. (s : IsSubset limits.now.tokens limits.now.depth (record { bytes = «data».now; index = index }) mapper.now out.items) × ((e : SpecError) → ¬ (HasFault limits.now.tokens limits.now.depth (record { bytes = «data».now; index = index }) mapper.now s.keeps.order e))) }
+    // Its glyphs stand in the order in which they are found, so that there is one answer, whatever the limits.
+    ensures exact { IfOk result (λ out. IsAnswer limits.now.tokens limits.now.depth (record { bytes = «data».now; index = index }) mapper.now out.items) }
+    ensures same { IfOk result (λ out. IsTheAnswer (record { bytes = «data».now; index = index }) mapper.now out.items) }
     // What is refused has a fault of that name.
     ensures err { IfErr result (λ e. (e ≡ OutOfMemory) ⊎ ((order : List ℕ) × HasFault limits.now.tokens limits.now.depth (record { bytes = «data».now; index = index }) mapper.now order e)) }
     // Where a fault stands that is found before memory is taken, the answer isn't want of memory.

@@ -47,3 +47,12 @@ pub data StopsClosure (t : Outlines) (glyphs : List ℕ) : Error → Type 0 wher
   no_memory : StopsClosure t glyphs OutOfMemory
   faulty_glyph : (g : ℕ) → IsReachableBy (outline_in t) glyphs g → IsFaulty t g → StopsClosure t glyphs MalformedFont
   all_reached : ((g : ℕ) → g < 65536 → IsReachableBy (outline_in t) glyphs g) → StopsClosure t glyphs OverflowError
+
+-- which list is found from an order, the given glyphs that are still to be followed, and the components that wait
+pub data Finds (t : Outlines) (found : List ℕ) : List ℕ → List ℕ → List ℕ → Type 0 where
+  -- no glyph is left to be followed, and none waits
+  all_found : {left waiting order : List ℕ} → left ≡ [] → waiting ≡ [] → order ≡ found → Finds t found left waiting order
+  -- none waits: the last given glyph is followed, and its components that aren't in the order wait
+  follows : {left waiting order : List ℕ} (rest : List ℕ) (g : ℕ) → left ≡ rest ++ g ∷ [] → waiting ≡ [] → Finds t found rest (others_in order (components_in (outline_in t g))) order → Finds t found left waiting order
+  -- the last of those that wait is taken
+  visits : {left waiting order : List ℕ} (rest : List ℕ) (g : ℕ) (order_after waiting_after : List ℕ) → waiting ≡ rest ++ g ∷ [] → IsVisited t order rest g order_after waiting_after → Finds t found left waiting_after order_after → Finds t found left waiting order

@@ -1,11 +1,13 @@
 use Rattle.std.proofs.Common.{◌≡◌, ℕ, subst, ◌⊎◌}
 use Rattle.std.specs.Prelude.{IfOk, IfErr}
+use Rattle.subsetter_base.specs.declared.error.Error.{Error}
 use Rattle.subsetter_base.specs.declared.error.Error.TheVariants.{OutOfMemory}
 use Rattle.subsetter.specs.Limits.{token_limit, depth_limit}
 use Rattle.subsetter.specs.Sfnt.Read.{Font}
 use Rattle.subsetter.specs.Subset.{IsSubset}
+use Rattle.subsetter.specs.Fault.{HasFault}
+use Rattle.subsetter.specs.Answer.{IsAnswer}
 use Rattle.subsetter.proofs.TruetypeLaws.Fault.{Stands}
-use Rattle.subsetter.proofs.TruetypeLaws.Subset.{IsClean}
 use Rattle.subsetter.proofs.subsetting.subset.Goals as goal
 
 -- what holds at two numbers holds at the default limits, which they are
@@ -20,9 +22,14 @@ returns-clause-ok c =
 pub returns-clause-clean : goal.returns-clause-clean
 returns-clause-clean c =
     let font : Font = record { bytes = c.args.«data».now; index = c.args.index } in
-    at_default (λ t d. IfOk c.subset_with_limits.result (λ out. IsClean t d font c.args.mapper.now out.items)) c.default.result.tokens c.default.result.depth c.default.ensures.0 c.default.ensures.1 c.subset_with_limits.ensures.clean
+    at_default (λ t d. IfOk c.subset_with_limits.result (λ out. (s : IsSubset t d font c.args.mapper.now out.items) × ((e : Error) → HasFault t d font c.args.mapper.now s.keeps.order e → ⊥))) c.default.result.tokens c.default.result.depth c.default.ensures.0 c.default.ensures.1 c.subset_with_limits.ensures.clean
 
 pub returns-clause-err : goal.returns-clause-err
 returns-clause-err c =
     let font : Font = record { bytes = c.args.«data».now; index = c.args.index } in
     at_default (λ t d. IfErr c.subset_with_limits.result (λ e. (e ≡ OutOfMemory) ⊎ Stands t d font c.args.mapper.now e)) c.default.result.tokens c.default.result.depth c.default.ensures.0 c.default.ensures.1 c.subset_with_limits.ensures.err
+
+pub returns-clause-exact : goal.returns-clause-exact
+returns-clause-exact c =
+    let font : Font = record { bytes = c.args.«data».now; index = c.args.index } in
+    at_default (λ t d. IfOk c.subset_with_limits.result (λ out. IsAnswer t d font c.args.mapper.now out.items)) c.default.result.tokens c.default.result.depth c.default.ensures.0 c.default.ensures.1 c.subset_with_limits.ensures.exact

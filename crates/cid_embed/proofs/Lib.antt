@@ -1,0 +1,5 @@
+mod Directory
+mod Tables
+mod Reading
+mod Numbers
+mod Promises
