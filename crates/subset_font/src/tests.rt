@@ -204,6 +204,24 @@ fn words_are_as_the_usage_says(rt: HostRuntime) -> Result<(), Fail> {
         ("in out +0 1", 2),
         ("in out  1", 2),
         ("", 2),
+        ("--limits 4294967295,255 in out 0 1", 0),
+        ("--limits 0,1 in out 0 1", 0),
+        ("in --limits 0 1", 0),
+        ("--limits", 2),
+        ("--limits in out 0 1", 2),
+        ("--limits 5 in out 0 1", 2),
+        ("--limits 5,0 in out 0 1", 2),
+        ("--limits 5,256 in out 0 1", 2),
+        ("--limits 4294967296,5 in out 0 1", 2),
+        ("--limits ,5 in out 0 1", 2),
+        ("--limits 5, in out 0 1", 2),
+        ("--limits +5,5 in out 0 1", 2),
+        ("--limits 5,+5 in out 0 1", 2),
+        ("--limits 5,5,5 in out 0 1", 2),
+        ("--limits 5,5 --limits 5,5 in out 0 1", 2),
+        ("--limits 5,5 --limits out 0 1", 2),
+        ("in --limits 5,5 out 0 1", 2),
+        ("in out 0 1 --limits 5,5", 2),
     ] {
         let mut words = Vec::new(rt.alloc());
         for word in line.split(' ') {
@@ -314,6 +332,47 @@ fn a_run_writes_the_subset_and_the_lines(rt: HostRuntime) -> Result<(), Fail> {
     let left = run_on(&rt, &words, true);
     assert_eq!(rt; left.status, ExitCode::SUCCESS);
     assert_eq!(rt; left.printed.as_slice(), b"0 -> 0\n".as_slice());
+    assert_eq!(rt; fs::read(&rt, "out.otf")?.as_slice(), CFF_SUBSET.as_slice());
+    fs::remove_dir_all(&rt, folder.as_str())?;
+    Ok(())
+}
+
+/// The words of a line, behind the program's name.
+fn words_of(alloc: Global, line: &'static str) -> Result<Vec<&'static str>, Fail> {
+    let mut words = Vec::new(alloc);
+    words.push("subset_font")?;
+    for word in line.split(' ') {
+        words.push(word)?;
+    }
+    Ok(words)
+}
+
+#[test]
+fn a_run_keeps_to_its_limits(rt: HostRuntime) -> Result<(), Fail> {
+    let folder = enter_folder(&rt)?;
+    let usage = "usage: subset_font IN OUT INDEX GID[,GID..]\n";
+    fs::write(&rt, "in.otf", CFF_FONT.as_slice())?;
+    for (line, status, text) in [
+        ("--limits 5,0 in.otf out.otf 0 0", 2, usage),
+        ("--limits 5,256 in.otf out.otf 0 0", 2, usage),
+        ("--limits in.otf out.otf 0 0", 2, usage),
+        ("in.otf --limits 5,5 out.otf 0 0", 2, usage),
+        (
+            "--limits 0,1 in.otf out.otf 0 0",
+            1,
+            "processing CFF table failed\n",
+        ),
+    ] {
+        let left = run_on(&rt, &words_of(rt.alloc(), line)?, true);
+        assert_eq!(rt; left.status, ExitCode::from(status), "at {line}");
+        assert_eq!(rt; left.told.as_slice(), text.as_bytes());
+        assert!(rt; left.printed.is_empty());
+        assert!(rt; fs::read(&rt, "out.otf").is_err());
+    }
+    // One token is enough for `endchar`.
+    let words = words_of(rt.alloc(), "--limits 1,1 in.otf out.otf 0 0")?;
+    let left = run_on(&rt, &words, true);
+    assert_eq!(rt; left.status, ExitCode::SUCCESS);
     assert_eq!(rt; fs::read(&rt, "out.otf")?.as_slice(), CFF_SUBSET.as_slice());
     fs::remove_dir_all(&rt, folder.as_str())?;
     Ok(())

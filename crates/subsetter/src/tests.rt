@@ -6,6 +6,7 @@ mod containers;
 mod faults;
 mod fonts;
 mod hostile;
+mod limits;
 mod metrics;
 mod names;
 mod simple;
