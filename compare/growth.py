@@ -12,7 +12,7 @@ COLOURS = {"original": "#b03a2e", "harfbuzz": "#b9770e", "port": "#1f618d", "flo
 TITLES = {"original": "Rust crate", "harfbuzz": "HarfBuzz", "port": "port", "floor": "floor"}
 # A panel's plot, and the room beside it for labels, in units of the picture.
 WIDTH, HEIGHT, LEFT, TOP, RIGHT, BOTTOM = 380, 250, 62, 34, 18, 40
-TICK_NAMES = {2: "100 ns", 3: "1 µs", 4: "10 µs", 5: "100 µs", 6: "1 ms", 7: "10 ms", 8: "100 ms", 9: "1 s", 10: "10 s"}
+TICK_NAMES = {0: "1 ns", 1: "10 ns", 2: "100 ns", 3: "1 µs", 4: "10 µs", 5: "100 µs", 6: "1 ms", 7: "10 ms", 8: "100 ms", 9: "1 s", 10: "10 s"}
 
 
 def sizes(count):
