@@ -12,7 +12,10 @@ fn main() {
     let library = folder.join("libsubsetter.a");
     println!("cargo:rerun-if-changed={}", library.display());
     if !library.is_file() {
-        panic!("{} isn't there: `make` in bindings/c builds it", library.display());
+        panic!(
+            "{} isn't there: `make` in bindings/c builds it",
+            library.display()
+        );
     }
     println!("cargo:rustc-link-search=native={}", folder.display());
     println!("cargo:rustc-link-lib=static=subsetter");
