@@ -1,5 +1,5 @@
 -- What is said of bytes that are handed over, in other words.
-use Rattle.std.proofs.Common.{◌≡◌, ℕ, List, refl, sym, ap, ◌∙◌, subst, ◌⊎◌, inl, inr, Vec, Global, Result, Ok, Err}
+use Rattle.std.proofs.Common.{◌≡◌, ℕ, List, sym, subst, ◌⊎◌, inl, inr, Vec, Global, Result, Ok, Err}
 use Rattle.std.specs.Prelude.{IfOk, IfErr}
 use Rattle.subsetter_base.specs.Places.{HasAllAboveZero}
 use Rattle.subsetter_base.specs.declared.error.Error.{Error}

@@ -16,8 +16,9 @@ fn each_call_answers_its_status(rt: HostRuntime) -> Result<(), Fail> {
     // The subset has 164 bytes, and the byte behind it is as it was.
     let status = subsetter_subset(alloc, &CFF_FONT, 0, &[], &mut out, &mut length);
     assert_eq!(rt; (status, length, out[3], out[164]), (0, 164, 79, 7));
-    let status = subsetter_subset(alloc, &CFF_FONT, 0, &[], &mut out[..163], &mut length);
-    assert_eq!(rt; (status, length), (8, 164));
+    let mut short = [7; 163];
+    let status = subsetter_subset(alloc, &CFF_FONT, 0, &[], &mut short, &mut length);
+    assert_eq!(rt; (status, length, short[0]), (8, 164, 7));
     let status = subsetter_subset(alloc, &CFF_FONT, 0, &[1], &mut out, &mut length);
     assert_eq!(rt; (status, length), (2, 0));
     for (tokens, depth, want) in [(1, 1, 0), (0, 1, 6), (1, 0, 9)] {
@@ -54,6 +55,9 @@ fn each_call_answers_its_status(rt: HostRuntime) -> Result<(), Fail> {
         (2, 0, 0, 0)
     );
     let status = subsetter_error_text(status, &mut out, &mut length);
-    assert_eq!(rt; (status, &out[..length]), (0, b"malformed font".as_slice()));
+    assert_eq!(rt;
+        (status, out.get(..length)),
+        (0, Some(b"malformed font".as_slice()))
+    );
     Ok(())
 }

@@ -1,4 +1,3 @@
-use Rattle.std.proofs.Common.{ℕ, subst}
 use Rattle.std.specs.Prelude.{IfOk, IfErr}
 use Rattle.subsetter.specs.Limits.{token_limit, depth_limit}
 use Rattle.subsetter.specs.Sfnt.Read.{Font}

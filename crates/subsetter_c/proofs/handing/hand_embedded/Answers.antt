@@ -1,4 +1,4 @@
-use Rattle.std.proofs.Common.{arith, refl, ap, ◌∙◌}
+use Rattle.std.proofs.Common.{arith, refl}
 use Rattle.subsetter_c.specs.Embedding.{whole, short, refused}
 use Rattle.subsetter_c.proofs.Lists.{all_placed}
 use Rattle.subsetter_c.proofs.handing.hand_embedded.Goals.{then-len-font-via-then-len-font, then-len-font-via-else-len-font+then-len-cids, then-len-font-via-else-len-font+else-len-cids+then-len-widths}
