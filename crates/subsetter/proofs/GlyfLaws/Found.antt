@@ -52,9 +52,9 @@ same_found t a b left waiting order (visits rest g longer after is v f) (visits 
 -- ---- glyphs without components are passed over
 
 -- a list by its last member
-data Ends (xs : List ℕ) : Type 0 where
-  is_empty : xs ≡ [] → Ends xs
-  has_last : (front : List ℕ) (x : ℕ) → xs ≡ front ++ x ∷ [] → Ends front → Ends xs
+data Ends : List ℕ → Type 0 where
+  is_empty : {xs : List ℕ} → xs ≡ [] → Ends xs
+  has_last : {xs : List ℕ} (front : List ℕ) (x : ℕ) → xs ≡ front ++ x ∷ [] → Ends front → Ends xs
 
 one_more : (x : ℕ) (xs : List ℕ) → Ends xs → Ends (x ∷ xs)
 one_more x xs (is_empty is) = has_last [] x (ap (λ (l : List ℕ). x ∷ l) is) (is_empty refl)
