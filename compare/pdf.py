@@ -31,6 +31,7 @@ import argparse
 import os
 import random
 import re
+import struct
 import subprocess
 import sys
 import tempfile
@@ -48,6 +49,10 @@ CELL, GRID, LINE = 56, 32, 10
 
 class Refused(Exception):
     """The program refused the font; what it said."""
+
+
+# What reading a source that is cut or is no font comes to.
+UNREADABLE = (OSError, KeyError, IndexError, struct.error)
 
 
 def subset(font, index, glyphs, out):
@@ -180,10 +185,10 @@ def differences(folder, count):
 
 def compare(font, index, glyphs, folder):
     """How a face is embedded, and what differs."""
-    with open(font, "rb") as file:
-        source = Face(file.read(), index)
     out = os.path.join(folder, "subset.font")
     numbers, widths = subset(font, index, glyphs, out)
+    with open(font, "rb") as file:
+        source = Face(file.read(), index)
     with open(out, "rb") as file:
         copy = Face(file.read())
     wrong = []
@@ -202,8 +207,11 @@ def faces():
                               key=lambda it: (it[1], it[0])):
         if not path.endswith((".ttf", ".otf", ".ttc")):
             continue
-        with open(path, "rb") as file:
-            tables = Face(file.read(), index).tables
+        try:
+            with open(path, "rb") as file:
+                tables = Face(file.read(), index).tables
+        except UNREADABLE:
+            continue
         if "glyf" in tables:
             kinds["TrueType"].append((path, index))
         elif "CFF " in tables:
@@ -248,6 +256,10 @@ def all_faces(count, keep):
                 refused += 1
                 print(f"{kind:9} {name}: refused: {it}", flush=True)
                 continue
+            except UNREADABLE as it:
+                refused += 1
+                print(f"{kind:9} {name}: not read by this script: {it!r}", flush=True)
+                continue
         glyphs += len(asked)
         alike, different = (alike, different + 1) if wrong else (alike + 1, different)
         print(f"{kind:9} {name}: {len(asked)} glyphs: {'; '.join(wrong) or 'drawn alike by three readers'}", flush=True)
@@ -279,6 +291,9 @@ def main():
             ways, wrong = compare(given.font, given.index, [int(g) for g in given.glyphs.split(",")], folder)
         except Refused as it:
             print(f"refused: {it}")
+            return 1
+        except UNREADABLE as it:
+            print(f"not read by this script: {it!r}")
             return 1
     print("\n".join(wrong) or f"drawn alike by three readers ({', '.join(ways)})")
     return 1 if wrong else 0

@@ -111,9 +111,9 @@ def embedded(pdf, face, program, name, widths):
     font = pdf.put(
         f"<< /Type /Font /Subtype {kind} /BaseFont /{name} /CIDSystemInfo << /Registry (Adobe) /Ordering (Identity)"
         f" /Supplement 0 >> /FontDescriptor {descriptor} 0 R /DW 1000 /W {widths} >>")
+    whole = name if program == "TrueType" else f"{name}-Identity-H"
     return pdf.put(
-        f"<< /Type /Font /Subtype /Type0 /BaseFont /{name}-Identity-H /Encoding /Identity-H"
-        f" /DescendantFonts [{font} 0 R] >>")
+        f"<< /Type /Font /Subtype /Type0 /BaseFont /{whole} /Encoding /Identity-H /DescendantFonts [{font} 0 R] >>")
 
 
 def pages(pdf, size, fonts, contents):
