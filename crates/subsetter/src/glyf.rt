@@ -8,7 +8,7 @@ ghost use Rattle.std.specs.Prelude.{◌≡◌, ◌+◌, ◌<◌, ◌≤◌, ◌^
 ghost use Rattle.std.specs.Option.{option_copied};
 ghost use Rattle.subsetter_base.specs.Gives.{Gives};
 ghost use Rattle.subsetter_base.specs.Places.{IsWithoutRepeats};
-ghost use Rattle.subsetter.specs.Glyf.Closure.{head_in, composites_in, components_in, others_in, lacks_head, IsFaulty, IsFull, IsVisited, StopsClosure, Finds};
+ghost use Rattle.subsetter.specs.Glyf.Closure.{first_byte_in, composites_in, components_in, others_in, lacks_head, IsFaulty, IsFull, IsVisited, StopsClosure, Finds};
 ghost use Rattle.subsetter.specs.Sfnt.Read.{table_in};
 ghost use Rattle.subsetter.specs.Glyf.Read.{offset, outline_in};
 ghost use Rattle.subsetter.specs.Glyf.View.{seen};
@@ -182,7 +182,7 @@ fn visit(
 
 /// The first byte of an outline, 0 where there is none.
 fn first_byte(outline: Option<&[u8]>) -> u8
-    ensures { result ≡ head_in (option_copied outline.entry) }
+    ensures { result ≡ first_byte_in (option_copied outline.entry) }
 {
     match outline {
         Some([first, ..]) => *first,
@@ -198,7 +198,7 @@ fn first_bytes(
     table: &OutlineTables<'_>,
     mapper: &GlyphRemapper,
 ) -> Result<Vec<u8>, Error>
-    ensures ok { IfOk result (λ v. v.items ≡ map (λ g. head_in (outline_in (seen table.now) g)) mapper.now) }
+    ensures ok { IfOk result (λ v. v.items ≡ map (λ g. first_byte_in (outline_in (seen table.now) g)) mapper.now) }
     ensures err { IfErr result (λ e. e ≡ OutOfMemory) }
 {
     let mut heads = Vec::with_capacity(alloc, mapper.num_gids() as usize)?;

@@ -16,6 +16,7 @@ IsTrueTypeOrCidKeyed font = (flavor font ≡ Some TrueType) ⊎ IsCidKeyed font
 
 -- ---- what a subset of a subset is of the first font: its glyph i is glyph first[second[i]]
 
+-- `first`: the order of the first subset's glyphs; `more`: the glyphs asked of it; `second`: the order of the second subset's glyphs; `again`: its bytes
 -- read afresh, it keeps what a subset of the first font keeps
 pub record KeepsFirst (tokens depth : ℕ) (font : Font) (first more second again : List ℕ) : Type 0 where
   pub keeps : KeepsFont tokens depth font (composed first more) again

@@ -17,7 +17,7 @@ use Rattle.subsetter_base.specs.declared.error.Error.TheVariants.{OutOfMemory, M
 use Rattle.subsetter_base.proofs.Lists.{Contains-later}
 use Rattle.subsetter_base.proofs.Options.{none_of}
 use Rattle.subsetter.proofs.GlyfLaws.Components.{components_few, components_simple}
-use Rattle.subsetter.specs.Glyf.Closure.{head_in, is_composite_in, composites_in, components_in, others_in, lacks_head, IsFaulty, IsFull, IsVisited, StopsClosure, no_memory, faulty_glyph, all_reached}
+use Rattle.subsetter.specs.Glyf.Closure.{first_byte_in, is_composite_in, composites_in, components_in, others_in, lacks_head, IsFaulty, IsFull, IsVisited, StopsClosure, no_memory, faulty_glyph, all_reached}
 
 -- ---- members of a list
 
@@ -94,7 +94,7 @@ composites_have t (g ∷ glyphs) h c is = by (λ d. composites_have t glyphs h d
     by again false e = elim (cons_cases g h glyphs c) [ inl same ↦ absurd (let k = sym e ∙ ap (is_composite_in t) same ∙ is in cc) | inr later ↦ again later ]
 
 -- the others have no components
-simple_none : (o : Option (List ℕ)) (h : ℕ) → nat_le 128 (head_in o) ≡ false → Contains (components_in o) h → ⊥
+simple_none : (o : Option (List ℕ)) (h : ℕ) → nat_le 128 (first_byte_in o) ≡ false → Contains (components_in o) h → ⊥
 simple_none None h e c = no_member h c
 simple_none (Some []) h e c = no_member h (subst (λ (l : List ℕ). Contains l h) (components_simple [] (omega arith)) c)
 simple_none (Some (a ∷ bytes)) h e c = no_member h (subst (λ (l : List ℕ). Contains l h) (components_simple (a ∷ bytes) (leb-false 128 a e)) c)

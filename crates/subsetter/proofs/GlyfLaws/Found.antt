@@ -6,7 +6,7 @@ use Rattle.std.proofs.lemmas.List.{length_push, append-nil}
 use Rattle.std.proofs.lemmas.List.Elements.{filter-append}
 use Rattle.subsetter_base.specs.Places.{place}
 use Rattle.subsetter.specs.Glyf.Read.{Outlines, outline_in}
-use Rattle.subsetter.specs.Glyf.Closure.{head_in, is_composite_in, composites_in, components_in, others_in, IsVisited, Finds, all_found, follows, visits}
+use Rattle.subsetter.specs.Glyf.Closure.{first_byte_in, is_composite_in, composites_in, components_in, others_in, IsVisited, Finds, all_found, follows, visits}
 use Rattle.subsetter.proofs.GlyfLaws.Components.{components_simple}
 
 -- ---- lists with a last member
@@ -64,7 +64,7 @@ ends : (xs : List ℕ) → Ends xs
 ends [] = is_empty refl
 ends (x ∷ xs) = one_more x xs (ends xs)
 
-simple_parts : (o : Option (List ℕ)) → nat_le 128 (head_in o) ≡ false → components_in o ≡ []
+simple_parts : (o : Option (List ℕ)) → nat_le 128 (first_byte_in o) ≡ false → components_in o ≡ []
 simple_parts None e = refl
 simple_parts (Some []) e = components_simple [] (omega arith)
 simple_parts (Some (a ∷ bytes)) e = components_simple (a ∷ bytes) (leb-false 128 a e)

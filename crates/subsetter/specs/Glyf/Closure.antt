@@ -17,13 +17,13 @@ abbrev pub others_in : List ℕ → List ℕ → List ℕ
 others_in order numbers = filter (λ h. not (is_some (place order h))) numbers
 
 -- the first byte of an outline, 0 where there is none
-abbrev pub head_in : Option (List ℕ) → ℕ
-head_in None = 0
-head_in (Some []) = 0
-head_in (Some (a ∷ bytes)) = a
+abbrev pub first_byte_in : Option (List ℕ) → ℕ
+first_byte_in None = 0
+first_byte_in (Some []) = 0
+first_byte_in (Some (a ∷ bytes)) = a
 
 abbrev pub is_composite_in : Outlines → ℕ → Bool
-is_composite_in t g = nat_le 128 (head_in (outline_in t g))
+is_composite_in t g = nat_le 128 (first_byte_in (outline_in t g))
 
 -- those of some glyphs that can have components
 abbrev pub composites_in : Outlines → List ℕ → List ℕ
@@ -52,7 +52,9 @@ pub record IsFull (order : List ℕ) (g : ℕ) : Type 0 where
 pub record IsVisited (t : Outlines) (order waiting : List ℕ) (g : ℕ) (order_after waiting_after : List ℕ) : Type 0 where
   pub is_last : order_after ≡ with_glyph order g
   pub wait : waiting_after ≡ (if is_some (place order g) then waiting else waiting ++ others_in order_after (components_in (outline_in t g)))
+  -- an outline has fewer than 2 ^ 32 components
   pub few : length waiting_after < length waiting + 2 ^ 32
+  -- the order has at most 65535 glyphs
   pub room : length order_after < 65536
 
 -- a glyph that the given ones reach is faulty, or they reach all numbers, or memory ran out
