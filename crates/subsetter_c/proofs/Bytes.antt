@@ -1,6 +1,7 @@
 -- What is said of bytes that are handed over, in other words.
-use Rattle.std.proofs.Common.{◌≡◌, ℕ, List, sym, subst, ◌⊎◌, inl, inr, Vec, Global, Result, Ok, Err}
-use Rattle.std.specs.Prelude.{IfOk, IfErr}
+use Rattle.std.proofs.Common.{◌≡◌, ℕ, ◌<◌, ◌≤◌, true, false, List, length, refl, sym, subst, ◌⊎◌, inl, inr, Vec, Global, Result, Ok, Err}
+use Rattle.std.specs.Prelude.{IfOk, IfErr, leb}
+use Rattle.std.proofs.lemmas.Bool.Decides.{leb_tells}
 use Rattle.subsetter_base.specs.Places.{HasAllAboveZero}
 use Rattle.subsetter_base.specs.declared.error.Error.{Error}
 use Rattle.subsetter_base.specs.declared.error.Error.TheVariants.{OutOfMemory, OverflowError}
@@ -8,7 +9,16 @@ use Rattle.subsetter.specs.Sfnt.Read.{Font}
 use Rattle.subsetter.specs.Subset.{IsSubset}
 use Rattle.subsetter.specs.Fault.{HasFault}
 use Rattle.cid_embed.specs.Embed.{numbering}
-use Rattle.subsetter_c.specs.Handed.{IsHandedOver, whole, short, refused, IsAnswered, IsSoundSubset, IsRefusal, HasCallFault, in_numbering, in_subset}
+use Rattle.subsetter_c.specs.Handed.{begun_with, IsHandedOver, whole, short, refused, IsAnswered, IsSoundSubset, IsRefusal, HasCallFault, in_numbering, in_subset}
+use Rattle.subsetter_c.specs.Status.{too_small}
+
+-- bytes are there as a whole, or they are longer than the buffer
+pub bytes_handed : (bytes before after : List ℕ) (told status : ℕ) → told ≡ length bytes → (length bytes ≤ length before → (after ≡ begun_with bytes before) × (status ≡ 0)) → (length before < length bytes → (after ≡ before) × (status ≡ too_small)) → IsHandedOver (λ b. b ≡ bytes) (λ e. ⊥) before after told status
+bytes_handed bytes before after told status t fits longer = by (leb_tells (length bytes) (length before))
+  where
+    by : ((leb (length bytes) (length before) ≡ true) × (length bytes ≤ length before)) ⊎ ((leb (length bytes) (length before) ≡ false) × (length before < length bytes)) → IsHandedOver (λ b. b ≡ bytes) (λ e. ⊥) before after told status
+    by (inl f) = let w = fits f.1 in whole bytes refl f.1 w.0 t w.1
+    by (inr f) = let w = longer f.1 in short bytes refl f.1 w.0 t w.1
 
 -- what holds of the bytes and of the error may be weakened
 pub said_as : (Is Said : List ℕ → Type 0) (Why Named : Error → Type 0) (before after : List ℕ) (told status : ℕ) → ((bytes : List ℕ) → Is bytes → Said bytes) → ((e : Error) → Why e → Named e) → IsHandedOver Is Why before after told status → IsHandedOver Said Named before after told status

@@ -1,8 +1,9 @@
 //! Handing an answer over in buffers of the caller.
 
-ghost use Rattle.std.specs.Prelude.{◌≡◌, ◌≤◌, length, Ok, Err};
+ghost use Rattle.std.specs.Prelude.{◌≡◌, ◌<◌, ◌≤◌, length, Ok, Err};
 ghost use Rattle.subsetter_c.specs.Embedding.{sizes_of, AreHandedOver};
 ghost use Rattle.subsetter_c.specs.Handed.{begun_with, IsHandedOver, IsAnswered};
+ghost use Rattle.subsetter_c.specs.Status.{too_small};
 
 use crate::status::{DONE, TOO_SMALL, status_of};
 use cid_embed::Embedded;
@@ -30,7 +31,9 @@ fn begin_with<T: Copy>(buffer: &mut [T], items: &[T])
 
 /// Hands bytes over: the status. Their size is told also where the buffer is too small.
 pub fn hand_bytes(bytes: &[u8], buffer: &mut [u8], told: &mut usize) -> u32
-    ensures { IsHandedOver (λ b. b ≡ bytes.now) (λ e. ⊥) buffer.old buffer.new told.new result }
+    ensures size { told.new ≡ length bytes.now }
+    ensures whole { length bytes.now ≤ length buffer.old → (buffer.new ≡ begun_with bytes.now buffer.old) × (result ≡ 0) }
+    ensures short { length buffer.old < length bytes.now → (buffer.new ≡ buffer.old) × (result ≡ too_small) }
 {
     *told = bytes.len();
     if bytes.len() > buffer.len() {
