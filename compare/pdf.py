@@ -14,7 +14,9 @@ The first page has the glyphs on a grid. The second has a line of them: in the s
 advances of the source's `hmtx` put it; in the subset it is one string, whose glyphs `/W` alone moves on.
 
 MuPDF, Poppler and Ghostscript draw both. Of each reader
-    the pictures of the grid must be the same, pixel for pixel, and not blank,
+    the pictures of the grid must be the same, pixel for pixel, and not blank. (Where a reader hints TrueType outlines that
+    have no hints of their own, as Ghostscript does by FreeType, it looks into `cmap`, which a subset has not: then the
+    picture must be that of the source without its `cmap`, and the line says so.)
     the line must end at the same place: by MuPDF's trace of the glyphs as near as widths in whole thousandths are, by
     each picture to a pixel; and
     no warning may come for the subset that doesn't come for the source.
@@ -101,12 +103,15 @@ def line_of(face, glyphs):
 
 
 def write(source, copy, glyphs, numbers, widths, program, folder):
-    """Both files for one way to embed the font; the number of glyphs in the line."""
+    """Both files for one way to embed the font, and that of the source without its `cmap`; the number of glyphs in the
+    line."""
     old = cids(source.tables["CFF "], max(glyphs) + 1) if source.is_cff else range(65536)
     line, places = line_of(source, glyphs)
     own = "[" + " ".join(f"{old[g]} [{source.advance(g) * 1000 / source.units:.4f}]" for g in sorted(set(glyphs))) + "]"
+    by_places = line_by_places([old[g] for g in line], places)
     for name, face, codes, array, second in (
-            ("source", source, [old[g] for g in glyphs], own, line_by_places([old[g] for g in line], places)),
+            ("source", source, [old[g] for g in glyphs], own, by_places),
+            ("bare", Face(source.file_without("cmap")), [old[g] for g in glyphs], own, by_places),
             ("subset", copy, [numbers[g] for g in glyphs], widths, line_by_widths([numbers[g] for g in line]))):
         pdf = Pdf()
         font = embedded(pdf, face, program, "AAAAAA+Shown", array)
@@ -158,8 +163,8 @@ def places_by_trace(folder):
 
 
 def differences(folder, count):
-    """What the readers show otherwise for the subset than for the source."""
-    wrong = []
+    """What the readers show otherwise for the subset than for the source, and which show what they would without `cmap`."""
+    wrong, noted = [], []
     source, copy = os.path.join(folder, "source"), os.path.join(folder, "subset")
     for reader in READERS:
         (before, said), (after, answer) = drawn(reader, source), drawn(reader, copy)
@@ -167,7 +172,9 @@ def differences(folder, count):
             wrong.append(f"{reader} draws nothing of the {'source' if before is None else 'subset'}")
             continue
         if before[0] != after[0]:
-            wrong.append(f"{reader}: other pixels")
+            bare, _ = drawn(reader, os.path.join(folder, "bare"))
+            same = bare is not None and bare[0] == after[0]
+            (noted if same else wrong).append(f"{reader}: {'as without cmap' if same else 'other pixels'}")
         if set(after[0][2]) == {255}:
             wrong.append(f"{reader}: blank")
         ends = end_of_ink(before[1]), end_of_ink(after[1])
@@ -180,7 +187,7 @@ def differences(folder, count):
     slack = count * 0.0005 * LINE + 0.01
     if len(before) != count or len(after) != count or any(abs(a - b) > slack for a, b in zip(before, after)):
         wrong.append("MuPDF: the line's glyphs stand elsewhere")
-    return wrong
+    return wrong, noted
 
 
 def compare(font, index, glyphs, folder):
@@ -191,12 +198,14 @@ def compare(font, index, glyphs, folder):
         source = Face(file.read(), index)
     with open(out, "rb") as file:
         copy = Face(file.read())
-    wrong = []
+    wrong, noted = [], []
     ways = ["CIDFontType0C", "OpenType"] if source.is_cff else ["TrueType"]
     for way in ways:
         room = os.path.join(folder, way)
-        wrong += [f"{way}: {it}" for it in differences(room, write(source, copy, glyphs, numbers, widths, way, room))]
-    return ways, wrong
+        found, known = differences(room, write(source, copy, glyphs, numbers, widths, way, room))
+        wrong += [f"{way}: {it}" for it in found]
+        noted += known
+    return ways, wrong, noted
 
 
 def faces():
@@ -243,7 +252,7 @@ def some_glyphs(path, index):
 
 def all_faces(count, keep):
     """A line a face, and the sum; whether all are alike."""
-    alike = refused = different = glyphs = 0
+    alike = refused = different = glyphs = bare = 0
     for kind, path, index in chosen(count):
         name = os.path.basename(path) + (f" #{index}" if path.endswith(".ttc") else "")
         with tempfile.TemporaryDirectory() as room:
@@ -251,7 +260,7 @@ def all_faces(count, keep):
             os.makedirs(folder, exist_ok=True)
             try:
                 asked = some_glyphs(path, index)
-                _, wrong = compare(path, index, asked, folder)
+                _, wrong, noted = compare(path, index, asked, folder)
             except Refused as it:
                 refused += 1
                 print(f"{kind:9} {name}: refused: {it}", flush=True)
@@ -262,9 +271,11 @@ def all_faces(count, keep):
                 continue
         glyphs += len(asked)
         alike, different = (alike, different + 1) if wrong else (alike + 1, different)
-        print(f"{kind:9} {name}: {len(asked)} glyphs: {'; '.join(wrong) or 'drawn alike by three readers'}", flush=True)
-    print(f"{alike + different + refused} faces, {glyphs} glyphs: {alike} drawn alike by three readers, {different} not, "
-          f"{refused} refused")
+        bare += bool(noted and not wrong)
+        said = "; ".join(wrong) or "drawn alike by three readers" + "".join(f" ({it})" for it in noted)
+        print(f"{kind:9} {name}: {len(asked)} glyphs: {said}", flush=True)
+    print(f"{alike + different + refused} faces, {glyphs} glyphs: {alike} drawn alike by three readers ({bare} of them as "
+          f"the source without its cmap), {different} not, {refused} refused")
     return different == 0
 
 
@@ -288,14 +299,14 @@ def main():
         folder = given.keep or room
         os.makedirs(folder, exist_ok=True)
         try:
-            ways, wrong = compare(given.font, given.index, [int(g) for g in given.glyphs.split(",")], folder)
+            ways, wrong, noted = compare(given.font, given.index, [int(g) for g in given.glyphs.split(",")], folder)
         except Refused as it:
             print(f"refused: {it}")
             return 1
         except UNREADABLE as it:
             print(f"not read by this script: {it!r}")
             return 1
-    print("\n".join(wrong) or f"drawn alike by three readers ({', '.join(ways)})")
+    print("\n".join(wrong) or f"drawn alike by three readers ({', '.join(ways + noted)})")
     return 1 if wrong else 0
 
 

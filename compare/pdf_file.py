@@ -48,19 +48,19 @@ class Face:
     def __init__(self, data, index=0):
         at = u32(data, 12 + 4 * index) if data[:4] == b"ttcf" else 0
         self.kind = data[at:at + 4]
-        self.records = sorted((tag, data[o:o + length]) for tag, (o, length) in directory(data, index).items())
-        self.tables = dict(self.records)
-        self.alone = data if data[:4] != b"ttcf" else self.single()
+        self.tables = {tag: data[o:o + length] for tag, (o, length) in sorted(directory(data, index).items())}
+        self.alone = data if data[:4] != b"ttcf" else self.file_without()
         self.is_cff = "glyf" not in self.tables
         self.units = u16(self.tables["head"], 18)
 
-    def single(self):
-        """The face of a collection as a font of its own: its tables, each where a new directory says."""
-        count = len(self.records)
+    def file_without(self, *left_out):
+        """The face as a font of its own: its tables but for some, each where a new directory says."""
+        records = [(tag, table) for tag, table in self.tables.items() if tag not in left_out]
+        count = len(records)
         power = count.bit_length() - 1
         head = self.kind + b"".join(n.to_bytes(2, "big") for n in (count, 16 << power, power, 16 * count - (16 << power)))
         place, rows, body = 12 + 16 * count, b"", b""
-        for tag, table in self.records:
+        for tag, table in records:
             padded = table + bytes(-len(table) % 4)
             total = sum(int.from_bytes(padded[k:k + 4], "big") for k in range(0, len(padded), 4)) % 2 ** 32
             rows += tag.encode("latin-1") + b"".join(n.to_bytes(4, "big") for n in (total, place + len(body), len(table)))
