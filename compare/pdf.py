@@ -14,9 +14,10 @@ The first page has the glyphs on a grid. The second has a line of them: in the s
 advances of the source's `hmtx` put it; in the subset it is one string, whose glyphs `/W` alone moves on.
 
 MuPDF, Poppler and Ghostscript draw both. Of each reader
-    the pictures of the grid must be the same, pixel for pixel, and not blank. (Where a reader hints TrueType outlines that
-    have no hints of their own, as Ghostscript does by FreeType, it looks into `cmap`, which a subset has not: then the
-    picture must be that of the source without its `cmap`, and the line says so.)
+    the pictures of the grid must be the same, pixel for pixel, and not blank. (Ghostscript lets FreeType hint outlines
+    that have no hints of their own, and that goes by letters which FreeType finds in the font by `cmap` or by the glyphs'
+    names. A subset may lack these letters. So where pictures differ, both fonts are drawn again without `cmap` and
+    `post`: these pictures must be the same, and the line says so.)
     the line must end at the same place: by MuPDF's trace of the glyphs as near as widths in whole thousandths are, by
     each picture to a pixel; and
     no warning may come for the subset that doesn't come for the source.
@@ -45,6 +46,8 @@ HERE = os.path.dirname(os.path.realpath(__file__))
 PROGRAM = os.environ.get("SUBSET_FONT", os.path.join(os.path.dirname(HERE), "crates", "subset_font", "out", "subset_font"))
 PAGE = (480, 560)
 GLYPHS_A_FACE = 40
+# The tables by which a reader finds letters in a font.
+NAMES = "cmap", "post"
 # Points: the grid's distance and letters, and the letters of the line.
 CELL, GRID, LINE = 56, 32, 10
 
@@ -103,16 +106,16 @@ def line_of(face, glyphs):
 
 
 def write(source, copy, glyphs, numbers, widths, program, folder):
-    """Both files for one way to embed the font, and that of the source without its `cmap`; the number of glyphs in the
-    line."""
+    """The files for one way to embed the font, with the glyphs' names and without; the number of glyphs in the line."""
     old = cids(source.tables["CFF "], max(glyphs) + 1) if source.is_cff else range(65536)
     line, places = line_of(source, glyphs)
     own = "[" + " ".join(f"{old[g]} [{source.advance(g) * 1000 / source.units:.4f}]" for g in sorted(set(glyphs))) + "]"
     by_places = line_by_places([old[g] for g in line], places)
     for name, face, codes, array, second in (
             ("source", source, [old[g] for g in glyphs], own, by_places),
-            ("bare", Face(source.file_without("cmap")), [old[g] for g in glyphs], own, by_places),
-            ("subset", copy, [numbers[g] for g in glyphs], widths, line_by_widths([numbers[g] for g in line]))):
+            ("source-nameless", Face(source.file_without(*NAMES)), [old[g] for g in glyphs], own, by_places),
+            ("subset", copy, [numbers[g] for g in glyphs], widths, line_by_widths([numbers[g] for g in line])),
+            ("subset-nameless", Face(copy.file_without(*NAMES)), [numbers[g] for g in glyphs], widths, "")):
         pdf = Pdf()
         font = embedded(pdf, face, program, "AAAAAA+Shown", array)
         os.makedirs(os.path.join(folder, name), exist_ok=True)
@@ -163,7 +166,7 @@ def places_by_trace(folder):
 
 
 def differences(folder, count):
-    """What the readers show otherwise for the subset than for the source, and which show what they would without `cmap`."""
+    """What the readers show otherwise for the subset than for the source, and which of them do so by names alone."""
     wrong, noted = [], []
     source, copy = os.path.join(folder, "source"), os.path.join(folder, "subset")
     for reader in READERS:
@@ -172,9 +175,9 @@ def differences(folder, count):
             wrong.append(f"{reader} draws nothing of the {'source' if before is None else 'subset'}")
             continue
         if before[0] != after[0]:
-            bare, _ = drawn(reader, os.path.join(folder, "bare"))
-            same = bare is not None and bare[0] == after[0]
-            (noted if same else wrong).append(f"{reader}: {'as without cmap' if same else 'other pixels'}")
+            (one, _), (other, _) = (drawn(reader, os.path.join(folder, f"{it}-nameless")) for it in ("source", "subset"))
+            same = one is not None and other is not None and one[0] == other[0]
+            (noted if same else wrong).append(f"{reader}: {'without names' if same else 'other pixels'}")
         if set(after[0][2]) == {255}:
             wrong.append(f"{reader}: blank")
         ends = end_of_ink(before[1]), end_of_ink(after[1])
@@ -252,7 +255,7 @@ def some_glyphs(path, index):
 
 def all_faces(count, keep):
     """A line a face, and the sum; whether all are alike."""
-    alike = refused = different = glyphs = bare = 0
+    alike = refused = different = glyphs = nameless = 0
     for kind, path, index in chosen(count):
         name = os.path.basename(path) + (f" #{index}" if path.endswith(".ttc") else "")
         with tempfile.TemporaryDirectory() as room:
@@ -271,11 +274,11 @@ def all_faces(count, keep):
                 continue
         glyphs += len(asked)
         alike, different = (alike, different + 1) if wrong else (alike + 1, different)
-        bare += bool(noted and not wrong)
+        nameless += bool(noted and not wrong)
         said = "; ".join(wrong) or "drawn alike by three readers" + "".join(f" ({it})" for it in noted)
         print(f"{kind:9} {name}: {len(asked)} glyphs: {said}", flush=True)
-    print(f"{alike + different + refused} faces, {glyphs} glyphs: {alike} drawn alike by three readers ({bare} of them as "
-          f"the source without its cmap), {different} not, {refused} refused")
+    print(f"{alike + different + refused} faces, {glyphs} glyphs: {alike} drawn alike by three readers ({nameless} of them by "
+          f"one reader without the glyphs' names alone), {different} not, {refused} refused")
     return different == 0
 
 

@@ -1,11 +1,14 @@
 /* subsetter: fonts cut down to some of their glyphs, for embedding in PDF.
  *
  * Every call is a function of its arguments. It keeps nothing between calls and shares nothing, so threads may call at
- * the same time, each with buffers of its own. It may not be called from a signal handler. It takes memory from malloc
- * and gives all of it back before it returns; the caller owns all that it passes, and the library keeps none of it.
+ * the same time, each with buffers of its own; the font and the glyph numbers they may share, as long as nobody writes
+ * them. It may not be called from a signal handler, nor from the forked child of a process with threads. It takes memory
+ * from malloc and gives all of it back before it returns (malloc, realloc and free are to come from one allocator); the
+ * caller owns all that it passes, and the library keeps none of it.
  *
- * A list is a pointer and a count of items. For a count of 0 the pointer may be null. A buffer that is written must not
- * overlap anything else that is passed. A size (`length`, `sizes`) is written by each call and must not be null.
+ * A list is a pointer and a count of items, and is aligned as its items are. For a count of 0 the pointer may be null. A
+ * buffer that is written must not overlap anything else that is passed. A size (`length`, `sizes`) is written by each
+ * call and must not be null.
  *
  * The font is the whole file: OpenType or a collection, as bytes. `index` is the face of a collection, from 0; in a file
  * with one font it isn't looked at. `glyphs` are glyph numbers of the font, in any order, with repeats if need be. The new
@@ -33,7 +36,8 @@ enum {
     SUBSETTER_UNIMPLEMENTED = 3,
     /* A kept string lies outside its table, or the new `name` would be too large. */
     SUBSETTER_SUBSET_ERROR = 4,
-    /* The glyphs leave no number for glyph 0, or the new font would be too large. */
+    /* The glyphs leave no number for glyph 0, or a limit is passed (of glyphs, names, font dicts or sizes); or `hhea` counts
+     * no metrics. */
     SUBSETTER_OVERFLOW_ERROR = 5,
     /* `CFF ` has another version than 1, or a charstring can't be run. */
     SUBSETTER_CFF_ERROR = 6,
@@ -49,7 +53,8 @@ enum {
  *
  * `out` is room for `out_size` bytes; the subset is mostly smaller than the font, but not always.
  *   0: `out` begins with the subset, the bytes behind it are as they were, and `*length` is its size in bytes.
- *   8: `out` is too small and as it was; `*length` is the exact size in bytes. Call again with that room.
+ *   8: `out` is too small and as it was; `*length` is the exact size in bytes. Call again with that room: the
+ *      same call answers the same bytes.
  *   1 to 7: `out` is as it was, and `*length` is 0.
  */
 uint32_t subsetter_subset(const uint8_t *font, size_t font_size, uint32_t index,
@@ -76,7 +81,8 @@ typedef struct subsetter_sizes {
 } subsetter_sizes;
 
 /* The subset of a font, the CID of each given glyph in the order given, and the width of each CID from 0 on, in
- * thousandths of the em, rounded to the nearest. `cid_count` and `width_count` are counts of items.
+ * thousandths of the em, rounded to the nearest. `cid_count` and `width_count` say for how many items there is room:
+ * `glyph_count` CIDs and `glyph_count` + 1 widths always suffice, so that only the font's size has to be asked.
  *   0: each buffer begins with its part, what is behind it is as it was, and `*sizes` are the sizes.
  *   8: one of the buffers is too small, and all are as they were; `*sizes` are the exact sizes.
  *   1 to 7: the buffers are as they were, and `*sizes` are 0. 2 also where the font has no `hmtx` or no `head`, or 0 units
@@ -89,7 +95,7 @@ uint32_t subsetter_embed(const uint8_t *font, size_t font_size, uint32_t index,
                          uint32_t *widths, size_t width_count,
                          subsetter_sizes *sizes);
 
-/* What a status says, in English and in ASCII, without a zero behind it.
+/* What a status says, in English and in ASCII, without a zero behind it: print it by "%.*s", with (int)length in front.
  *   0: `out` begins with the text, and `*length` is its size in bytes.
  *   8: `out` is too small and as it was; `*length` is the exact size (at most 27).
  */
