@@ -36,16 +36,21 @@ def cargo(folder):
     return os.path.join(HERE, folder, "target", "release", f"{folder}_bench")
 
 
+def build_binding():
+    """The driver over the binding, and the library under it."""
+    subprocess.run(["make"], cwd=os.path.join(ROOT, "bindings", "c"), check=True)
+    return cargo("binding")
+
+
 def build(wanted):
     """The drivers by their names."""
     drivers = {}
     if wanted:
-        subprocess.run(["make"], cwd=os.path.join(ROOT, "bindings", "c"), check=True)
         if not os.path.exists(PORT):
             subprocess.run(["rt", "run"], cwd=os.path.dirname(os.path.dirname(PORT)), check=False)
     if os.path.exists(PORT):
         drivers["port"] = PORT
-    drivers["binding"] = cargo("binding") if wanted else os.path.join(HERE, "binding/target/release/binding_bench")
+    drivers["binding"] = build_binding() if wanted else os.path.join(HERE, "binding/target/release/binding_bench")
     if os.environ.get("ORIGINAL"):
         if wanted:
             subprocess.run([sys.executable, os.path.join(HERE, "assemble.py")], check=True)

@@ -2,7 +2,7 @@
 """Compares the port with the original crate: bytes, times, memory and refusals.
 
     ORIGINAL=FOLDER compare/run.py [--cff | --all] [--original-only] [--only WORD] [--copies N] [--seconds S]
-                                   [--no-install] [--no-build] [--to FILE] [--growth FILE]
+                                   [--no-install] [--no-build] [--to FILE] [--growth FILE] [--binding]
 
 FOLDER holds the original crate (README.md says how to get it). Needs Debian (fonts.py names the packages), Cargo, gcc
 and `rt`.
@@ -12,6 +12,7 @@ It builds both drivers, which have the same words, print the same lines and time
     original  cargo build --release in compare/original, for x86-64-v2 too
     harfbuzz  gcc's build of harfbuzz.c, over Debian's HarfBuzz
     floor     gcc's build of floor.c, which copies and sums the output's bytes and does nothing else
+    binding   with --binding: the original's driver over the Rust binding (binding.py), which shows what the crossing costs
 Then it subsets each font to 3, 80, 2,000 and all glyphs by all, once with low numbers in order and once with numbers
 that are spread over the whole face and jumbled, in three rounds that take turns, and last gives damaged copies to the
 port and the original.
@@ -39,6 +40,7 @@ import sys
 import tempfile
 
 import assemble
+import binding
 import fonts
 import growth
 from damage import refusals
@@ -49,6 +51,7 @@ ROOT = os.path.dirname(HERE)
 BUILD = os.path.join(HERE, "build")
 ORIGINAL = os.path.join(HERE, "original", "target", "release", "original_bench")
 COUNTER = os.path.join(BUILD, "peak.so")
+BINDING = os.path.join(HERE, "binding", "target", "release", "binding_bench")
 PORT = os.path.join(ROOT, "crates", "subset_bench", "out", "subset_bench")
 HARFBUZZ = os.path.join(BUILD, "harfbuzz_bench")
 FLOOR = os.path.join(BUILD, "floor_bench")
@@ -97,9 +100,9 @@ def first_difference(one, two):
     return f"byte {at} ({inside}), {len(one)} and {len(two)} bytes"
 
 
-def case(drivers, task, seconds, room):
-    """One font and glyph set by all drivers: for each the answer with the least times, its memory, and its bytes; and
-    beside them the least times of HarfBuzz and of the floor."""
+def case(drivers, beside, task, seconds, room):
+    """One font and glyph set by all drivers: for each the answer with the least times, its memory, and its bytes; and the
+    least times of the programs beside them, and of the floor."""
     found, timed = {}, {name: (program, task) for name, program in drivers.items()}
     for name, program in drivers.items():
         out = os.path.join(room, name)
@@ -111,7 +114,7 @@ def case(drivers, task, seconds, room):
             timed["floor"] = (FLOOR, [out])
         it["asked"] = above_no_font(program, [*task, 1], room, counted=True)
         it["peak"] = above_no_font(program, [*task, 1], room, counted=False)
-    timed["harfbuzz"] = (HARFBUZZ, task)
+    timed |= {name: (program, task) for name, program in beside.items()}
     for name, (least, median) in least_times(timed, seconds, room).items():
         found.setdefault(name, {}).update(least=least, median=median)
     return found
@@ -131,16 +134,16 @@ def least_times(timed, seconds, room):
     return least
 
 
-def measure(drivers, taken, seconds):
+def measure(drivers, beside, taken, seconds):
     """The rows of the first three tables."""
     bytes_rows, time_rows, further_rows = [], [], []
     with tempfile.TemporaryDirectory(prefix="c") as room:
         for _, path, index in taken:
             count = glyph_count(path, index)
             for name, glyphs in glyph_sets(count):
-                found = case(drivers, [path, index, glyphs], seconds, room)
+                found = case(drivers, beside, [path, index, glyphs], seconds, room)
                 bytes_rows.append([label(path, index), count, name, *bytes_cells(found)])
-                time_rows.append([label(path, index), name, *time_cells(path, found)])
+                time_rows.append([label(path, index), name, *time_cells(path, found, beside)])
                 further_rows.append([label(path, index), name, *further_cells(found)])
                 print(*bytes_rows[-1], *time_rows[-1][2:], file=sys.stderr, flush=True)
     return bytes_rows, time_rows, further_rows
@@ -163,12 +166,12 @@ def subsetters(found):
     return [found[name] for name in ("original", "port") if name in found]
 
 
-def time_cells(path, found):
+def time_cells(path, found, beside):
     cells = [it["least"] or "" for it in subsetters(found)]
     if "port" in found:
         least = [found[it]["least"] for it in ("port", "original")]
         cells.append(f"{least[0] / least[1]:.2f}" if all(least) else "")
-    cells += [found[it]["least"] if it in found else "" for it in ("harfbuzz", "floor")]
+    cells += [found[it]["least"] if it in found else "" for it in (*beside, "floor")]
     bound = os.path.getsize(path) + 2 * len(found["original"]["bytes"])
     return cells + [kibibytes(it["asked"]) for it in subsetters(found)] + [kibibytes(bound)]
 
@@ -181,7 +184,7 @@ def kibibytes(count):
     return f"{count / 1024:.1f}"
 
 
-def build(original_only):
+def build(original_only, with_binding):
     assemble.main()
     gcc = ["gcc", "-O3", "-march=x86-64-v2", "-o"]
     subprocess.run([*gcc, COUNTER, "-shared", "-fPIC", os.path.join(HERE, "peak.c")], check=True)
@@ -190,6 +193,8 @@ def build(original_only):
     subprocess.run([*gcc, HARFBUZZ, *harfbuzz], check=True)
     flags = {**os.environ, "RUSTFLAGS": "-C target-cpu=x86-64-v2"}
     subprocess.run(["cargo", "build", "--release", "--offline", "--quiet"], cwd=os.path.join(HERE, "original"), env=flags, check=True)
+    if with_binding:
+        binding.build_binding()
     if not original_only:
         # It runs the program without words, which prints its usage and ends with status 2.
         subprocess.run([os.environ.get("RT", "rt"), "run"], cwd=os.path.join(ROOT, "crates", "subset_bench"), stdout=subprocess.DEVNULL)
@@ -200,7 +205,7 @@ def table(head, rows):
     return "".join(f"| {' | '.join(map(str, row))} |\n" for row in lines)
 
 
-def report(rows, refusal_rows, both):
+def report(rows, refusal_rows, both, beside):
     """The tables, and under the first two what stands out in them."""
     bytes_rows, time_rows, further_rows = rows
     port = ["Port"] if both else []
@@ -208,7 +213,8 @@ def report(rows, refusal_rows, both):
     if both:
         same = sum(row[-1] == "same" for row in bytes_rows)
         text += f"\nThe same bytes in {same} of {len(bytes_rows)} cases.\n"
-    head = ["Font", "Kept", "Original, ns"] + (["Port, ns", "Ratio"] if both else []) + ["HarfBuzz, ns", "Floor, ns"]
+    head = ["Font", "Kept", "Original, ns"] + (["Port, ns", "Ratio"] if both else [])
+    head += [f"{it}, ns" for it in (*beside, "Floor")]
     head += ["Original, held"] + (["Port, held"] if both else []) + ["Source and twice the output"]
     text += "\n## Least times in nanoseconds, and memory in KiB\n\n" + table(head, time_rows)
     if both:
@@ -222,7 +228,7 @@ def report(rows, refusal_rows, both):
 
 def read_words():
     words = argparse.ArgumentParser(usage=__doc__)
-    for flag in ("--original-only", "--no-install", "--no-build", "--cff", "--all"):
+    for flag in ("--original-only", "--no-install", "--no-build", "--cff", "--all", "--binding"):
         words.add_argument(flag, action="store_true")
     words.add_argument("--only", default="")
     words.add_argument("--growth")
@@ -267,17 +273,18 @@ def main():
     if not given.no_install:
         fonts.install(fonts.TOOLS + [it[0] for it in taken + damaged])
     if not given.no_build:
-        build(given.original_only)
+        build(given.original_only, given.binding)
     drivers = {"original": ORIGINAL} if given.original_only else {"original": ORIGINAL, "port": PORT}
-    for needed in [*drivers.values(), HARFBUZZ, FLOOR, *(it[1] for it in taken + damaged)]:
+    beside = {"HarfBuzz": HARFBUZZ} | ({"Binding": BINDING} if given.binding else {})
+    for needed in [*drivers.values(), *beside.values(), FLOOR, *(it[1] for it in taken + damaged)]:
         if not os.path.exists(needed):
             sys.exit(f"run.py: no {needed}")
     if given.growth:
         draw_growth(drivers, taken, given.seconds, given.growth)
         return
-    rows = measure(drivers, taken, given.seconds)
+    rows = measure(drivers, beside, taken, given.seconds)
     refusal_rows = refusals(drivers, [path for _, path in damaged], given.copies, os.path.join(BUILD, "damaged"))
-    text = report(rows, refusal_rows, len(drivers) == 2)
+    text = report(rows, refusal_rows, len(drivers) == 2, beside)
     os.makedirs(os.path.dirname(os.path.abspath(given.to)), exist_ok=True)
     with open(given.to, "w") as file:
         file.write(text)
