@@ -1,96 +1,127 @@
-"""Damaged copies of fonts, and what two drivers answer on them."""
+#!/usr/bin/python3
+"""Damaged copies of fonts, and what two drivers answer on them.
+
+    ORIGINAL=FOLDER compare/damage.py [--no-build] [--copies N] [--seed S] [--jobs J] [--only WORD] [--truetype]
+
+builds both drivers, as run.py does, gives N damaged copies (20,000) of fonts with CFF outlines to both, and prints how
+often each pair of answers came, and for those that differ which intended difference stands in the copy and not in the
+font (explain.py), or `not explained`. With --truetype they are the fonts and the damage of run.py without --cff.
+"""
+import argparse
 import os
 import random
-import struct
 import subprocess
 import sys
 import tempfile
+from concurrent.futures import ThreadPoolExecutor
 
-from fonts import directory, glyph_count, u16, u32
+import explain
+import fonts
+from fonts import directory, glyph_count
 
 # Tables in which a changed byte changes what the font says, and how many of their first bytes are changed.
 SMALL = {tag: 64 for tag in ("head", "hhea", "maxp", "hmtx", "loca", "name", "post")} | {"CFF ": 512}
-# Seconds for a list of tasks.
-AT_MOST = 120
+# Seconds for a list of tasks, and how many copies are made at once.
+AT_MOST, AT_ONCE = 30, 100
+# Words that are often a limit of something.
+WORDS = (0, 1, 2, 127, 128, 255, 256, 390, 391, 32767, 32768, 65535)
 
 
-def index_at(cff, at):
-    """An INDEX: the place that its offsets count from, and the offsets (a single 1 where it has no entries)."""
-    count = u16(cff, at)
-    if count == 0:
-        return at + 1, [1]
-    size = cff[at + 2]
-    base = at + 2 + (count + 1) * size
-    offsets = [int.from_bytes(cff[it:it + size], "big") for it in range(at + 3, base + 1, size)]
-    if size > 4 or base + offsets[-1] > len(cff):
-        raise ValueError("an INDEX is cut")
-    return base, offsets if offsets[-1] else [1]
-
-
-def dict_entries(data):
-    """The entries of a DICT as (first byte of the operator, operands that are whole numbers)."""
-    at, operands = 0, []
-    while at < len(data):
-        first, size = data[at], 1
-        if first <= 27 or first in (31, 255):
-            size = 2 if first == 12 else 1
-            yield first, operands
-            operands = []
-        elif first in (28, 29):
-            size = 3 if first == 28 else 5
-            operands.append(int.from_bytes(data[at + 1:at + size], "big", signed=True))
-        elif first == 30:
-            size = 2 + next((k for k, it in enumerate(data[at + 1:]) if 15 in (it >> 4, it & 15)), len(data))
-        elif first <= 246:
-            operands.append(first - 139)
-        else:
-            size, high = 2, (first - 247) % 4 * 256 + data[at + 1] + 108
-            operands.append(high if first <= 250 else -high)
-        at += size
-
-
-def has_unreadable_subroutine(data):
-    """Whether the global or the local subroutines of a SID-keyed font have an unreadable entry."""
-    def unreadable(offsets):
-        return offsets[0] == 0 or offsets != sorted(offsets)
-
+def regions(data, glyphs):
+    """The places of a CFF table that a damage is aimed at, as names and ranges of the file."""
     start, length = directory(data)["CFF "]
     cff = data[start:start + length]
-    lists, at = [], cff[2]
-    for _ in ("names", "top dicts", "strings", "global subroutines"):
-        lists.append(index_at(cff, at))
-        at = lists[-1][0] + lists[-1][1][-1]
-    if unreadable(lists[3][1]):
-        return True
-    base, offsets = lists[1]
-    length, start = dict(dict_entries(cff[base + offsets[0]:base + offsets[1]]))[18]
-    if start + length > len(cff):
-        return False
-    at = next((operands[0] for operator, operands in dict_entries(cff[start:start + length]) if operator == 19), None)
-    return at is not None and unreadable(index_at(cff, start + at)[1])
+    table = explain.Table(cff, glyphs)
+    found = [("header", (0, table.tops.end)), ("top dict", table.top_range), ("strings", (table.strings.start, table.strings.end))]
+    found += [("private dict", place) for place, _, _ in table.privates.values()]
+    charstrings = [("charstring", place) for place in map(table.charstrings.range, glyphs) if place]
+    for index in [table.subroutines] + [local for _, _, local in table.privates.values() if local]:
+        found.append(("offsets of subroutines", (index.start, index.base)))
+        charstrings += [("subroutine", place) for place in map(index.range, range(index.count)) if place][:40]
+    if table.is_keyed:
+        select = 1 + table.charstrings.count if cff[table.select] == 0 else 5 + 3 * fonts.u16(cff, table.select + 1)
+        found += [("FDSelect", (table.select, table.select + select))] * 2
+        found += [("FDArray", (table.font_dicts.start, table.font_dicts.end))] * 2
+    found += [("offsets of charstrings", (table.charstrings.start, table.charstrings.base))]
+    # (as often as all the others together)
+    found += [(name, place) for name, place in charstrings[::max(1, len(charstrings) // len(found))]]
+    return [(name, (start + first, start + last)) for name, (first, last) in found if first < last]
 
 
-def known_reason(data, original):
-    """Which of the intended differences in reading a font stands in a copy, if one does. `original` is the answer."""
-    try:
-        at = u32(data, 12) if data[:4] == b"ttcf" else 0
-        tags = [data[r:r + 4] for r in range(at + 12, at + 12 + 16 * u16(data, at + 4), 16) if r + 16 <= len(data)]
-        if tags != sorted(tags):
-            # (the original searches them by halves, the port takes the first)
-            return "the records don't ascend by tag"
-        if "hhea" in directory(data) and directory(data)["hhea"][1] != 36:
-            # (the original reads a short one at 0 and patches a long one at its end)
-            return "hhea isn't 36 bytes"
-        if original == "error processing CFF table failed" and has_unreadable_subroutine(data):
-            # (the original's list of subroutines ends there; to the port the others can still be called)
-            return "a subroutine's entry is unreadable"
-    except (struct.error, LookupError, ValueError):
-        pass
-    return "not explained"
+def changed_bytes(rng, copy, first, last):
+    places = [rng.randrange(first, last) for _ in range(rng.randint(1, 3))]
+    for place in places:
+        copy[place] ^= 1 << rng.randrange(8) if rng.random() < 0.5 else rng.randint(1, 255)
+    return f"bytes {places} are {[copy[it] for it in places]}"
+
+
+def changed_word(rng, copy, first, last):
+    size = rng.choice((2, 4))
+    place = rng.randrange(first, max(first + 1, last - size + 1))
+    value = rng.choice(WORDS) if rng.random() < 0.7 else rng.randrange(256 ** size)
+    size = min(size, len(copy) - place)
+    copy[place:place + size] = (value % 256 ** size).to_bytes(size, "big")
+    return f"word {place} is {value}"
+
+
+def changed_stretch(rng, copy, first, last):
+    length = min(rng.randint(2, 40), last - first)
+    place = rng.randrange(first, last - length + 1)
+    source = rng.randrange(len(copy) - length)
+    made = rng.choice((bytes(length), b"\xff" * length, bytes(copy[source:source + length]), rng.randbytes(length)))
+    copy[place:place + length] = made
+    return f"{length} bytes at {place} are {made.hex()}"
+
+
+def moved(rng, copy, first, last):
+    """Some bytes of a place are cut out, or stand twice; the last ones of the place are made or lost for it."""
+    length = min(rng.randint(1, 12), (last - first + 1) // 2)
+    place = rng.randrange(first, last - length + 1)
+    if rng.random() < 0.5:
+        copy[first:last] = copy[first:place] + copy[place + length:last] + bytes(length)
+        return f"{length} bytes at {place} are cut out of {first} to {last}"
+    copy[first:last] = (copy[first:place + length] + copy[place:last])[:last - first]
+    return f"{length} bytes at {place} stand twice in {first} to {last}"
+
+
+def record_moved(rng, copy):
+    """A record of the directory is cut out, or stands twice."""
+    count = fonts.u16(copy, 4)
+    at = 12 + 16 * rng.randrange(count)
+    if rng.random() < 0.5:
+        copy[at:12 + 16 * count] = copy[at + 16:12 + 16 * count] + bytes(16)
+        copy[4:6] = (count - 1).to_bytes(2, "big")
+        return f"the record at {at} is cut out"
+    to = 12 + 16 * rng.randrange(count)
+    copy[to:to + 16] = copy[at:at + 16]
+    return f"the record at {to} is that at {at}"
+
+
+KINDS = (changed_bytes, changed_bytes, changed_word, changed_stretch, moved)
+
+
+def aimed_damage(rng, data, places):
+    """A damaged copy of a font with a CFF table, and what was done to it."""
+    draw = rng.random()
+    if draw < 0.03:
+        length = rng.randrange(len(data))
+        return data[:length], f"cut to {length} bytes"
+    copy = bytearray(data)
+    if draw < 0.06:
+        return bytes(copy), record_moved(rng, copy)
+    if draw < 0.12:
+        first, last, name = 0, len(data), "anywhere"
+    elif draw < 0.16:
+        first, last, name = 0, 12 + 16 * len(directory(data)), "directory"
+    else:
+        name = rng.choice(sorted({it for it, _ in places}))
+        first, last = rng.choice([place for it, place in places if it == name])
+    done = [rng.choice(KINDS)(rng, copy, first, last) for _ in range(rng.choice((1, 1, 1, 2)))]
+    return bytes(copy), f"{name}: {', '.join(done)}"
 
 
 def damage(rng, data):
-    """A damaged copy, and what was done to it."""
+    """A damaged copy of any font, and what was done to it."""
     kind = rng.randrange(4)
     if kind == 0:
         length = rng.randrange(len(data))
@@ -121,7 +152,7 @@ def run_list(program, tasks, room):
             file.write("".join(f"{task}\n" for task in tasks[len(lines):]))
         how = "died"
         try:
-            words = [program, "--list", name]
+            words = ["sh", "-c", 'ulimit -v 4000000; exec "$@"', "", program, "--list", name]
             said = subprocess.run(words, stdout=subprocess.PIPE, stderr=subprocess.DEVNULL, timeout=AT_MOST).stdout
         except subprocess.TimeoutExpired as ended:
             said, how = ended.stdout or b"", "no end"
@@ -137,13 +168,18 @@ def without_times(line):
     return f"ok {words[3]} {words[4]}" if words[0] == "ok" else line
 
 
-def make_copies(rng, sources, numbers, room):
+def numbers_of(glyphs):
+    return [0, *map(int, glyphs.split(","))]
+
+
+def make_copies(rng, sources, numbers, room, is_aimed):
     """Damaged copies as (number, name, path of the source, what was done, glyphs, bytes)."""
     made = []
     for number in numbers:
         path = list(sources)[number % len(sources)]
-        copy, what = damage(rng, sources[path])
+        data = sources[path]
         glyphs = ",".join(str(rng.randrange(glyph_count(path, 0))) for _ in range(20))
+        copy, what = aimed_damage(rng, data, regions(data, numbers_of(glyphs))) if is_aimed else damage(rng, data)
         name = os.path.join(room, f"{number}.font")
         with open(name, "wb") as file:
             file.write(copy)
@@ -151,35 +187,108 @@ def make_copies(rng, sources, numbers, room):
     return made
 
 
-def kind_of(answers, copy):
-    """What is counted: the answers without their bytes, and why they differ."""
+def names_of(found):
+    return "; ".join(sorted({reason for reason, _ in found}))
+
+
+def answers_of(drivers, tasks, room):
+    """What each driver answers on each task."""
+    return list(zip(*([without_times(line) for line in run_list(program, tasks, room)] for program in drivers.values())))
+
+
+def reasons_of(drivers, sources, differing, room):
+    """Why the answers on some copies differ: the intended differences that stand in the copy and not in its source, where
+    the answers agree when what can be mended of them is mended, or one is left that can't be."""
+    kept = [numbers_of(glyphs) for _, _, _, _, glyphs, _ in differing]
+    before = [explain.reasons(sources[path], 0, it) for (_, _, path, _, _, _), it in zip(differing, kept)]
+    mended = [explain.mended(copy, it) for (_, _, _, _, _, copy), it in zip(differing, kept)]
+    tasks = []
+    for (_, name, _, _, glyphs, _), copy in zip(differing, mended):
+        with open(f"{name}.mended", "wb") as file:
+            file.write(copy)
+        tasks.append(f"{name}.mended 0 {glyphs} 1")
+    found = []
+    for (*_, copy), it, old, new, answers in zip(differing, kept, before, mended, answers_of(drivers, tasks, room)):
+        stands = explain.reasons(copy, 0, it) - old
+        left = explain.reasons(new, 0, it) - old
+        is_laid = stands and (len(set(answers)) == 1 or left)
+        found.append(names_of(stands) if is_laid else "not explained")
+    return found
+
+
+def kind_of(answers):
+    """What is counted: the answers without their bytes."""
     key = tuple("ok" if it.startswith("ok") else it for it in answers)
-    if len(set(answers)) > 1 and set(key) == {"ok"}:
-        key = ("ok", "ok, other bytes")
-    return key + (known_reason(copy, answers[0]) if len(set(key)) > 1 else "",)
+    return ("ok", "ok, other bytes") if len(set(answers)) > 1 and set(key) == {"ok"} else key
 
 
-def refusals(drivers, paths, copies, kept):
-    """How often each pair of answers came, with examples, which are kept in a folder where the answers differ."""
-    rng = random.Random(20240607)
+def judged(drivers, sources, numbers, seed, is_aimed):
+    """The kind of each copy of some numbers, the number, the bytes where the answers differ, and what was done to it."""
+    rng = random.Random(f"{seed} {numbers[0]}")
+    with tempfile.TemporaryDirectory(prefix="compare-") as room:
+        made = make_copies(rng, sources, numbers, room, is_aimed)
+        said = answers_of(drivers, [f"{name} 0 {glyphs} 1" for _, name, _, _, glyphs, _ in made], room)
+        differing = [it for it, answers in zip(made, said) if len(set(answers)) > 1]
+        reasons = dict(zip((it[0] for it in differing), reasons_of(drivers, sources, differing, room)))
+    found = []
+    for (number, _, path, what, glyphs, copy), answers in zip(made, said):
+        example = f"{number}.font: {os.path.basename(path)}, {what}; glyphs {glyphs}<br>"
+        found.append(((*kind_of(answers), reasons.get(number, "")), number, copy if number in reasons else b"", example))
+    return found
+
+
+def refusals(drivers, paths, copies, kept, seed=20240607, jobs=1, is_aimed=False):
+    """How often each pair of answers came, with three examples where they differ. These copies are kept in a folder, and
+    all that aren't explained."""
     sources = {}
     for path in paths:
         with open(path, "rb") as file:
             sources[path] = file.read()
     os.makedirs(kept, exist_ok=True)
     pairs = {}
-    for first in range(0, copies, 200):
-        with tempfile.TemporaryDirectory(prefix="compare-") as room:
-            made = make_copies(rng, sources, range(first, min(copies, first + 200)), room)
-            tasks = [f"{name} 0 {glyphs} 1" for _, name, _, _, glyphs, _ in made]
-            said = [[without_times(line) for line in run_list(program, tasks, room)] for program in drivers.values()]
-        for (number, _, path, what, glyphs, copy), answers in zip(made, zip(*said)):
-            key = kind_of(answers, copy)
-            seen = pairs.setdefault(key, [0, ""])
-            seen[0] += 1
-            if key[-1] and seen[0] <= 3:
-                with open(os.path.join(kept, f"{number}.font"), "wb") as file:
-                    file.write(copy)
-                seen[1] += f"{number}.font: {os.path.basename(path)}, {what}; glyphs {glyphs}<br>"
-        print(f"{first + len(made)} damaged copies", file=sys.stderr, flush=True)
+    lots = [range(first, min(copies, first + AT_ONCE)) for first in range(0, copies, AT_ONCE)]
+    with ThreadPoolExecutor(jobs) as pool:
+        for lot, found in zip(lots, pool.map(lambda it: judged(drivers, sources, it, seed, is_aimed), lots)):
+            for key, number, copy, example in found:
+                seen = pairs.setdefault(key, [0, ""])
+                seen[0] += 1
+                if key[-1] and (seen[0] <= 3 or key[-1] == "not explained"):
+                    seen[1] += example
+                    with open(os.path.join(kept, f"{number}.font"), "wb") as file:
+                        file.write(copy)
+            print(f"{lot[-1] + 1} damaged copies", file=sys.stderr, flush=True)
     return [[count, *key, example] for key, (count, example) in sorted(pairs.items(), key=lambda it: -it[1][0])]
+
+
+def main():
+    words = argparse.ArgumentParser(usage=__doc__)
+    words.add_argument("--no-build", action="store_true")
+    words.add_argument("--copies", type=int, default=20000)
+    words.add_argument("--seed", default="aimed")
+    words.add_argument("--jobs", type=int, default=2)
+    words.add_argument("--only", default="")
+    words.add_argument("--truetype", action="store_true")
+    given = words.parse_args()
+    import run  # (which takes `refusals` from here)
+
+    fonts.install(fonts.TOOLS + [it[0] for it in fonts.DAMAGED + fonts.DAMAGED_CFF + fonts.KEYED])
+    if not given.no_build:
+        run.build(False)
+    drivers = {"original": run.ORIGINAL, "port": run.PORT}
+    if given.truetype:
+        paths = [path for _, path in fonts.DAMAGED]
+    else:
+        paths = [path for _, path in fonts.DAMAGED_CFF] + [fonts.keyed_font(*it) for it in fonts.KEYED]
+    paths, kept = [it for it in paths if given.only in it], os.path.join(fonts.BUILD, "damaged")
+    rows = refusals(drivers, paths, given.copies, kept, given.seed, given.jobs, not given.truetype)
+    differing = [row for row in rows if row[3]]
+    print("| Copies | Original | Port | Why they differ | Examples |\n|---|---|---|---|---|")
+    for row in rows:
+        print("|", " | ".join(map(str, row)), "|")
+    total, unexplained = sum(row[0] for row in differing), sum(row[0] for row in differing if row[3] == "not explained")
+    print(f"\nOf {given.copies} copies the answers differ on {total}, of which {unexplained} are not explained.")
+    sys.exit(1 if unexplained else 0)
+
+
+if __name__ == "__main__":
+    main()

@@ -5,6 +5,7 @@ import struct
 import subprocess
 import sys
 
+BUILD = os.path.join(os.path.dirname(os.path.realpath(__file__)), "build")
 TRUETYPE = "/usr/share/fonts/truetype"
 OPENTYPE = "/usr/share/fonts/opentype"
 TEXMF = "/usr/share/texmf/fonts/opentype/public"
@@ -48,7 +49,12 @@ DAMAGED_CFF = [
     ("fonts-cantarell", f"{OPENTYPE}/cantarell/Cantarell-Regular.otf"),
     ("fonts-urw-base35", f"{OPENTYPE}/urw-base35/C059-Roman.otf"),
 ]
-TOOLS = ["time", "librust-rustc-hash-dev"]
+# CID-keyed fonts that are cut down to some glyphs before their copies are damaged: the package, the file, and how many.
+KEYED = [
+    ("fonts-noto-cjk", f"{OPENTYPE}/noto/NotoSansCJK-Regular.ttc", 200),
+    ("fonts-noto-cjk", f"{OPENTYPE}/noto/NotoSerifCJK-Regular.ttc", 200),
+]
+TOOLS = ["time", "librust-rustc-hash-dev", "libharfbuzz-dev", "python3-fonttools"]
 
 # The mapper holds so many glyphs.
 GLYPHS_AT_MOST = 65535
@@ -60,6 +66,24 @@ def install(packages):
     if missing:
         print(f"installing {' '.join(missing)}", file=sys.stderr, flush=True)
         subprocess.run(["apt-get", "install", "-y", "-qq", *missing], check=True, stdout=subprocess.DEVNULL)
+
+
+def keyed_font(_, path, count):
+    """A CID-keyed font of some glyphs of a collection's first one, with its subroutines and font dicts, by fontTools."""
+    from fontTools import subset
+
+    made = os.path.join(BUILD, os.path.basename(path).rsplit(".", 1)[0] + f"-{count}.otf")
+    if not os.path.exists(made):
+        os.makedirs(BUILD, exist_ok=True)
+        dropped = "GSUB GPOS GDEF BASE VORG vhea vmtx DSIG cmap OS/2".split()
+        options = subset.Options(layout_features=[], notdef_outline=True, glyph_names=False, font_number=0, drop_tables=dropped)
+        font = subset.load_font(path, options)
+        total = font["maxp"].numGlyphs
+        subsetter = subset.Subsetter(options)
+        subsetter.populate(gids=[total * k // count for k in range(count)])
+        subsetter.subset(font)
+        subset.save_font(font, made, options)
+    return made
 
 
 def u16(data, at):

@@ -2,7 +2,7 @@
 """Compares the port with the original crate: bytes, times, memory and refusals.
 
     ORIGINAL=FOLDER compare/run.py [--cff | --all] [--original-only] [--only WORD] [--copies N] [--seconds S]
-                                   [--no-install] [--no-build] [--to FILE]
+                                   [--no-install] [--no-build] [--to FILE] [--growth FILE] [--binding]
 
 FOLDER holds the original crate (README.md says how to get it). Needs Debian (fonts.py names the packages), Cargo, gcc
 and `rt`.
@@ -10,11 +10,16 @@ and `rt`.
 It builds both drivers, which have the same words, print the same lines and time the same call:
     port      `rt run` in crates/subset_bench proves and builds out/subset_bench (by LLVM, for x86-64-v2)
     original  cargo build --release in compare/original, for x86-64-v2 too
-Then it subsets each font to 3, 80, 2,000 and all glyphs by both, once with low numbers in order and once with numbers
-that are spread over the whole face and jumbled, in three rounds that take turns, and last gives damaged copies to both.
+    harfbuzz  gcc's build of harfbuzz.c, over Debian's HarfBuzz
+    floor     gcc's build of floor.c, which copies and sums the output's bytes and does nothing else
+    binding   with --binding: the original's driver over the Rust binding (binding.py), which shows what the crossing costs
+Then it subsets each font to 3, 80, 2,000 and all glyphs by all, once with low numbers in order and once with numbers
+that are spread over the whole face and jumbled, in three rounds that take turns, and last gives damaged copies to the
+port and the original.
 It prints four tables and writes them to compare/build/report.md:
     bytes     `same`, or the first place where the outputs differ and the table that it is in
-    times     the least of all calls in nanoseconds, and the port's as a part of the original's; the most bytes that a
+    times     the least of all calls in nanoseconds, and the port's as a part of the original's; those of HarfBuzz, which
+              keeps a preprocessed face and numbers the glyphs by their old order, and of the floor; the most bytes that a
               run with one call has asked of the allocator and not given back, in KiB above those of a run with a font
               of no bytes (so without the driver's words and the mapper; counted by peak.c), and the source plus twice
               the output
@@ -25,7 +30,8 @@ It prints four tables and writes them to compare/build/report.md:
 
 The fonts have TrueType outlines; with --cff they have CFF outlines, and with --all both kinds stand in one run.
 --original-only leaves the port out; --only WORD takes the fonts whose file names have this word; --copies N takes N
-damaged copies (2000; 0 for none); --seconds S gives each driver about S seconds a case and round (0.3).
+damaged copies (2000; 0 for none); --seconds S gives each driver about S seconds a case and round (0.3). --growth FILE
+does none of this: it times growing numbers of glyphs of four fonts (growth.py), and draws them into FILE, an SVG.
 """
 import argparse
 import os
@@ -34,16 +40,21 @@ import sys
 import tempfile
 
 import assemble
+import binding
 import fonts
+import growth
 from damage import refusals
-from fonts import directory, glyph_count, glyph_sets, label
+from fonts import GLYPHS_AT_MOST, directory, glyph_count, glyph_sets, label, spread
 
 HERE = os.path.dirname(os.path.realpath(__file__))
 ROOT = os.path.dirname(HERE)
 BUILD = os.path.join(HERE, "build")
 ORIGINAL = os.path.join(HERE, "original", "target", "release", "original_bench")
 COUNTER = os.path.join(BUILD, "peak.so")
+BINDING = os.path.join(HERE, "binding", "target", "release", "binding_bench")
 PORT = os.path.join(ROOT, "crates", "subset_bench", "out", "subset_bench")
+HARFBUZZ = os.path.join(BUILD, "harfbuzz_bench")
+FLOOR = os.path.join(BUILD, "floor_bench")
 CALLS_AT_MOST = 5000
 
 
@@ -89,9 +100,10 @@ def first_difference(one, two):
     return f"byte {at} ({inside}), {len(one)} and {len(two)} bytes"
 
 
-def case(drivers, task, seconds, room):
-    """One font and glyph set by all drivers: for each the answer with the least times, its memory, and its bytes."""
-    found = {}
+def case(drivers, beside, task, seconds, room):
+    """One font and glyph set by all drivers: for each the answer with the least times, its memory, and its bytes; and the
+    least times of the programs beside them, and of the floor."""
+    found, timed = {}, {name: (program, task) for name, program in drivers.items()}
     for name, program in drivers.items():
         out = os.path.join(room, name)
         got = answer(run(program, [*task, 1, out], room)[0])
@@ -99,30 +111,39 @@ def case(drivers, task, seconds, room):
         if got[0] == "ok":
             with open(out, "rb") as file:
                 it["bytes"] = file.read()
-            os.unlink(out)
+            timed["floor"] = (FLOOR, [out])
         it["asked"] = above_no_font(program, [*task, 1], room, counted=True)
         it["peak"] = above_no_font(program, [*task, 1], room, counted=False)
-    for _ in range(3):
-        for name, program in drivers.items():
-            it = found[name]
-            if it["answer"][0] == "ok":
-                calls = max(5, min(CALLS_AT_MOST, int(seconds * 1e9 / max(1, it["least"] or it["answer"][2]))))
-                got = answer(run(program, [*task, calls], room)[0])
-                it["least"] = min(got[2], it["least"] or got[2])
-                it["median"] = min(got[1], it["median"] or got[1])
+    timed |= {name: (program, task) for name, program in beside.items()}
+    for name, (least, median) in least_times(timed, seconds, room).items():
+        found.setdefault(name, {}).update(least=least, median=median)
     return found
 
 
-def measure(drivers, taken, seconds):
+def least_times(timed, seconds, room):
+    """The least time and the least median of each program at its task, in three rounds that take turns."""
+    least = {}
+    for _ in range(3):
+        for name, (program, task) in timed.items():
+            before = least.get(name) or answer(run(program, [*task, 1], room)[0])[1:][::-1]
+            if not before:
+                continue
+            calls = max(5, min(CALLS_AT_MOST, int(seconds * 1e9 / max(1, before[0]))))
+            _, median, fastest = answer(run(program, [*task, calls], room)[0])
+            least[name] = min(fastest, before[0]), min(median, before[1])
+    return least
+
+
+def measure(drivers, beside, taken, seconds):
     """The rows of the first three tables."""
     bytes_rows, time_rows, further_rows = [], [], []
     with tempfile.TemporaryDirectory(prefix="c") as room:
         for _, path, index in taken:
             count = glyph_count(path, index)
             for name, glyphs in glyph_sets(count):
-                found = case(drivers, [path, index, glyphs], seconds, room)
+                found = case(drivers, beside, [path, index, glyphs], seconds, room)
                 bytes_rows.append([label(path, index), count, name, *bytes_cells(found)])
-                time_rows.append([label(path, index), name, *time_cells(path, found)])
+                time_rows.append([label(path, index), name, *time_cells(path, found, beside)])
                 further_rows.append([label(path, index), name, *further_cells(found)])
                 print(*bytes_rows[-1], *time_rows[-1][2:], file=sys.stderr, flush=True)
     return bytes_rows, time_rows, further_rows
@@ -140,29 +161,40 @@ def bytes_cells(found):
     return cells
 
 
-def time_cells(path, found):
-    cells = [it["least"] or "" for it in found.values()]
+def subsetters(found):
+    """What was found of the original and the port."""
+    return [found[name] for name in ("original", "port") if name in found]
+
+
+def time_cells(path, found, beside):
+    cells = [it["least"] or "" for it in subsetters(found)]
     if "port" in found:
         least = [found[it]["least"] for it in ("port", "original")]
         cells.append(f"{least[0] / least[1]:.2f}" if all(least) else "")
+    cells += [found[it]["least"] if it in found else "" for it in (*beside, "floor")]
     bound = os.path.getsize(path) + 2 * len(found["original"]["bytes"])
-    return cells + [kibibytes(it["asked"]) for it in found.values()] + [kibibytes(bound)]
+    return cells + [kibibytes(it["asked"]) for it in subsetters(found)] + [kibibytes(bound)]
 
 
 def further_cells(found):
-    return [it["median"] or "" for it in found.values()] + [it["peak"] for it in found.values()]
+    return [it["median"] or "" for it in subsetters(found)] + [it["peak"] for it in subsetters(found)]
 
 
 def kibibytes(count):
     return f"{count / 1024:.1f}"
 
 
-def build(original_only):
+def build(original_only, with_binding):
     assemble.main()
-    counter = os.path.join(HERE, "peak.c")
-    subprocess.run(["gcc", "-O2", "-shared", "-fPIC", "-o", COUNTER, counter], check=True)
+    gcc = ["gcc", "-O3", "-march=x86-64-v2", "-o"]
+    subprocess.run([*gcc, COUNTER, "-shared", "-fPIC", os.path.join(HERE, "peak.c")], check=True)
+    subprocess.run([*gcc, FLOOR, os.path.join(HERE, "floor.c")], check=True)
+    harfbuzz = [os.path.join(HERE, "harfbuzz.c"), "-I/usr/include/harfbuzz", "-lharfbuzz-subset", "-lharfbuzz"]
+    subprocess.run([*gcc, HARFBUZZ, *harfbuzz], check=True)
     flags = {**os.environ, "RUSTFLAGS": "-C target-cpu=x86-64-v2"}
     subprocess.run(["cargo", "build", "--release", "--offline", "--quiet"], cwd=os.path.join(HERE, "original"), env=flags, check=True)
+    if with_binding:
+        binding.build_binding()
     if not original_only:
         # It runs the program without words, which prints its usage and ends with status 2.
         subprocess.run([os.environ.get("RT", "rt"), "run"], cwd=os.path.join(ROOT, "crates", "subset_bench"), stdout=subprocess.DEVNULL)
@@ -173,7 +205,7 @@ def table(head, rows):
     return "".join(f"| {' | '.join(map(str, row))} |\n" for row in lines)
 
 
-def report(rows, refusal_rows, both):
+def report(rows, refusal_rows, both, beside):
     """The tables, and under the first two what stands out in them."""
     bytes_rows, time_rows, further_rows = rows
     port = ["Port"] if both else []
@@ -182,6 +214,7 @@ def report(rows, refusal_rows, both):
         same = sum(row[-1] == "same" for row in bytes_rows)
         text += f"\nThe same bytes in {same} of {len(bytes_rows)} cases.\n"
     head = ["Font", "Kept", "Original, ns"] + (["Port, ns", "Ratio"] if both else [])
+    head += [f"{it}, ns" for it in (*beside, "Floor")]
     head += ["Original, held"] + (["Port, held"] if both else []) + ["Source and twice the output"]
     text += "\n## Least times in nanoseconds, and memory in KiB\n\n" + table(head, time_rows)
     if both:
@@ -195,33 +228,63 @@ def report(rows, refusal_rows, both):
 
 def read_words():
     words = argparse.ArgumentParser(usage=__doc__)
-    for flag in ("--original-only", "--no-install", "--no-build", "--cff", "--all"):
+    for flag in ("--original-only", "--no-install", "--no-build", "--cff", "--all", "--binding"):
         words.add_argument(flag, action="store_true")
     words.add_argument("--only", default="")
+    words.add_argument("--growth")
     words.add_argument("--copies", type=int, default=2000)
     words.add_argument("--seconds", type=float, default=0.3)
     words.add_argument("--to", default=os.path.join(BUILD, "report.md"))
     return words.parse_args()
 
 
+def grown(drivers, path, index, seconds):
+    """The times of growing numbers of spread glyphs of a font, by program as pairs of the number and nanoseconds."""
+    kept, curves = min(glyph_count(path, index), GLYPHS_AT_MOST), {}
+    with tempfile.TemporaryDirectory(prefix="c") as room:
+        for size in growth.sizes(kept):
+            task = [path, index, spread(kept, size)]
+            out = os.path.join(room, "out")
+            run(drivers["original"], [*task, 1, out], room)
+            timed = {name: (program, task) for name, program in {**drivers, "harfbuzz": HARFBUZZ}.items()}
+            for name, (least, _) in least_times({**timed, "floor": (FLOOR, [out])}, seconds, room).items():
+                curves.setdefault(name, []).append((size, least))
+            print(label(path, index), size, {name: points[-1][1] for name, points in curves.items()}, file=sys.stderr, flush=True)
+    return curves
+
+
+def draw_growth(drivers, taken, seconds, name):
+    """Writes the picture of the growth, of those fonts that were taken."""
+    shown = [(title, path, index) for file, index, title in growth.SHOWN for _, path, at in taken
+             if (os.path.basename(path), at) == (file, index)]
+    curves = [(title, grown(drivers, path, index, seconds)) for title, path, index in shown]
+    with open(name, "w") as file:
+        file.write(growth.picture(curves))
+
+
 def main():
     given = read_words()
     if not given.no_build:
         assemble.original_folder()
-    taken = ([] if given.cff else fonts.TRUETYPE_FONTS) + (fonts.CFF_FONTS if given.cff or given.all else [])
+    both_kinds = given.all or bool(given.growth)
+    taken = ([] if given.cff else fonts.TRUETYPE_FONTS) + (fonts.CFF_FONTS if given.cff or both_kinds else [])
     taken = [it for it in taken if given.only in it[1]]
     damaged = ([] if given.cff else fonts.DAMAGED) + (fonts.DAMAGED_CFF if given.cff or given.all else [])
     if not given.no_install:
         fonts.install(fonts.TOOLS + [it[0] for it in taken + damaged])
     if not given.no_build:
-        build(given.original_only)
+        build(given.original_only, given.binding)
     drivers = {"original": ORIGINAL} if given.original_only else {"original": ORIGINAL, "port": PORT}
-    for needed in [*drivers.values(), *(it[1] for it in taken + damaged)]:
+    beside = {"HarfBuzz": HARFBUZZ} | ({"Binding": BINDING} if given.binding else {})
+    for needed in [*drivers.values(), *beside.values(), FLOOR, *(it[1] for it in taken + damaged)]:
         if not os.path.exists(needed):
             sys.exit(f"run.py: no {needed}")
-    rows = measure(drivers, taken, given.seconds)
+    if given.growth:
+        draw_growth(drivers, taken, given.seconds, given.growth)
+        return
+    rows = measure(drivers, beside, taken, given.seconds)
     refusal_rows = refusals(drivers, [path for _, path in damaged], given.copies, os.path.join(BUILD, "damaged"))
-    text = report(rows, refusal_rows, len(drivers) == 2)
+    text = report(rows, refusal_rows, len(drivers) == 2, beside)
     os.makedirs(os.path.dirname(os.path.abspath(given.to)), exist_ok=True)
     with open(given.to, "w") as file:
         file.write(text)

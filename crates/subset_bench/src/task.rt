@@ -1,13 +1,13 @@
 //! What is to be measured.
 
-ghost use Rattle.std.specs.Prelude.{◌≡◌, ◌⊎◌, ◌==◌, ◌++◌, ℕ, List, map, OnOk, IfOk, IfErr, Some, None, slice_index, string_bytes};
+ghost use Rattle.std.specs.Prelude.{◌≡◌, ◌⊎◌, ◌++◌, ℕ, List, map, OnOk, IfOk, IfErr, Some, None, string_bytes};
 ghost use Rattle.std.specs.Option.{option_map};
-ghost use Rattle.std.specs.List.{slice_split};
-ghost use Rattle.subset_bench.specs.Words.{number_in_bits, numbers_between, part_glyphs, glyph_list, count_of, request};
+ghost use Rattle.subset_bench.specs.Words.{numbers_between, part_glyphs, glyph_list, count_of, request};
 ghost use Rattle.subset_bench.specs.declared.failure.Failure.TheVariants.{Usage, Memory};
 
 use crate::failure::Failure;
 use std::alloc::{AllocError, Global};
+use subsetter_words::{parts_of, u16_of, u32_of};
 
 /// A subset to measure.
 #[derive(Debug, Drop)]
@@ -24,45 +24,18 @@ pub struct Task {
     pub output: Option<String>,
 }
 
-/// Whether a plus stands first, which `parse` lets pass.
-fn begins_with_plus(word: &str) -> bool
-    ensures { result ≡ (slice_index word.now 0 == 43) }
-{
-    matches!(word.as_bytes(), [b'+', ..])
-}
-
-/// The number that a word of one or more ASCII digits writes, if it fits.
-fn number_of(word: &str) -> Option<u32>
-    ensures { result ≡ number_in_bits 32 word.now }
-{
-    if begins_with_plus(word) {
-        return None;
-    }
-    word.parse().ok()
-}
-
-/// The number that a word of one or more ASCII digits writes, if it fits.
-fn glyph_of(word: &str) -> Option<u16>
-    ensures { result ≡ number_in_bits 16 word.now }
-{
-    if begins_with_plus(word) {
-        return None;
-    }
-    word.parse().ok()
-}
-
 /// The first and the last glyph that a part of the list names; both are the same where it is one number.
 fn ends_of(part: &str) -> Option<(u16, u16)>
     ensures { option_map (λ ends. numbers_between ends.0 ends.1) result ≡ part_glyphs part.now }
 {
     match part.split_once('-') {
         Some((first, last)) => {
-            let first = glyph_of(first)?;
-            let last = glyph_of(last)?;
+            let first = u16_of(first)?;
+            let last = u16_of(last)?;
             Some((first, last))
         }
         None => {
-            let glyph = glyph_of(part)?;
+            let glyph = u16_of(part)?;
             Some((glyph, glyph))
         }
     }
@@ -76,13 +49,6 @@ fn add_glyphs(glyphs: &mut Vec<u16>, first: u16, last: u16) -> Result<(), AllocE
         glyphs.push(glyph)?;
     }
     Ok(())
-}
-
-/// The parts of a list between its commas.
-fn parts_of(alloc: Global, list: &str) -> Result<Vec<&str>, AllocError>
-    ensures { IfOk result (λ v. map (λ part. part.now) v.items ≡ slice_split (λ b. b == 44) list.now) }
-{
-    list.split(',').collect(alloc)
 }
 
 /// The glyphs of a list of numbers and ranges, as `3,10-12`.
@@ -103,7 +69,7 @@ fn glyphs_of(alloc: Global, list: &str) -> Result<Vec<u16>, Failure>
 fn calls_of(word: &str) -> Option<u32>
     ensures { result ≡ count_of word.now }
 {
-    let count = number_of(word)?;
+    let count = u32_of(word)?;
     if count == 0 {
         return None;
     }
@@ -132,7 +98,7 @@ pub fn read_task(alloc: Global, words: &[&str]) -> Result<Task, Failure>
         }
         _ => return Err(Failure::Usage),
     };
-    let index = number_of(index).ok_or(Failure::Usage)?;
+    let index = u32_of(index).ok_or(Failure::Usage)?;
     let count = calls_of(count).ok_or(Failure::Usage)?;
     let font = String::from_str(alloc, font).map_err(|_| Failure::Memory)?;
     let mut glyphs = glyphs_of(alloc, glyphs)?;

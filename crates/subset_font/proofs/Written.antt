@@ -1,7 +1,7 @@
 -- What a writer holds while lines are written to it.
 use Rattle.std.proofs.Common.{◌≡◌, ℕ, List, [], ◌++◌, refl, sym, ap, ◌∙◌, append_assoc, append-nil}
 use Rattle.std.specs.Prelude.{⊤, Option, Some, None}
-use Rattle.std.specs.Io.KnownBytes.{Appends, Keeps}
+use Rattle.std.specs.Io.KnownBytes.{Appends}
 
 -- with the rest, the writer will have gained all
 abbrev pub Reaches : Option (List ℕ) → Option (List ℕ) → List ℕ → List ℕ → Type 0
@@ -19,8 +19,14 @@ after_line (Some xs) None new line rest all h a = elim h [ ]
 after_line (Some xs) (Some ys) None line rest all h a = elim a [ ]
 after_line (Some xs) (Some ys) (Some zs) line rest all h a = ap (λ l. l ++ rest) a ∙ append_assoc ys line rest ∙ h
 
-pub at_last : (old now new : Option (List ℕ)) (all : List ℕ) → Reaches old now [] all → Keeps now new → Appends old new all
-at_last None now new all h k = tt
-at_last (Some xs) None new all h k = elim h [ ]
-at_last (Some xs) (Some ys) None all h k = elim k [ ]
-at_last (Some xs) (Some ys) (Some zs) all h k = k ∙ sym (append-nil ys) ∙ h
+pub at_last : (old now : Option (List ℕ)) (all : List ℕ) → Reaches old now [] all → Appends old now all
+at_last None now all h = tt
+at_last (Some xs) None all h = elim h [ ]
+at_last (Some xs) (Some ys) all h = sym (append-nil ys) ∙ h
+
+-- two texts that were written one after the other
+pub both : (old now new : Option (List ℕ)) (first second : List ℕ) → Appends old now first → Appends now new second → Appends old new (first ++ second)
+both None now new first second a b = tt
+both (Some xs) None new first second a b = elim a [ ]
+both (Some xs) (Some ys) None first second a b = elim b [ ]
+both (Some xs) (Some ys) (Some zs) first second a b = b ∙ ap (λ l. l ++ second) a ∙ append_assoc xs first second

@@ -11,3 +11,8 @@ line_of old (Some new) = decimal old ++ codes " -> " ++ decimal new ++ 10 ∷ []
 abbrev pub lines_of : List ℕ → List ℕ → List ℕ
 lines_of list [] = []
 lines_of list (old ∷ glyphs) = line_of old (place list old) ++ lines_of list glyphs
+
+-- a text as the last line, which an empty one isn't
+abbrev pub last_line : List ℕ → List ℕ
+last_line [] = []
+last_line (b ∷ text) = (b ∷ text) ++ 10 ∷ []

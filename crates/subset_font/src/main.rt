@@ -13,7 +13,7 @@ pub use carrying::carry_out;
 pub use emitting::emit;
 pub use failure::{Failure, Told, status_of_run};
 pub use late::LateFile;
-pub use making::{make, make_in_room};
+pub use making::{make, make_in_room, make_widths, make_widths_in_room};
 pub use words::{Job, read_words};
 
 #[cfg(test)]

@@ -63,9 +63,11 @@ fn room_of<F: OpenFile>(file: &F) -> Result<usize, Failure>
 fn perform<R: Files + Print + AllocGlobal>(rt: &R, job: &Job) -> Result<(), Failure>
     ensures { IfErr result (λ e. e ≢ Usage) }
 {
+    let Ok(mut lines) = BufWriter::new(rt.alloc(), io::writer(rt)) else {
+        return Err(Failure::Error(Error::OutOfMemory));
+    };
     let mut input = fs::open(rt, job.input.as_str()).map_err(|_| Failure::Read)?;
     let room = room_of(&input)?;
-    let mut lines = BufWriter::new(rt.alloc(), io::writer(rt)).map_err(|_| Failure::Output)?;
     let mut output = LateFile::new(rt, job.output.as_str());
     carry_out(rt.alloc(), job, &mut input, room, &mut output, &mut lines)
 }

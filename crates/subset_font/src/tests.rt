@@ -5,9 +5,11 @@ use std::io::{ErrorKind, Read, Write};
 use std::process::{ExitCode, Termination};
 use std::test::*;
 use std::{env, fs, io};
-use subsetter::{Error, GlyphRemapper};
+use subsetter::{Error, GlyphRemapper, Limits};
 
+mod hostile;
 mod stage;
+mod widths;
 
 use stage::Stage;
 
@@ -140,7 +142,10 @@ fn each_read_that_fails_is_told(rt: HostRuntime) -> Result<(), Fail> {
         } else {
             (0, "")
         };
-        let (status, text) = told(rt.alloc(), make(rt.alloc(), &mut reader, 0, &[2]))?;
+        let (status, text) = told(
+            rt.alloc(),
+            make(rt.alloc(), &mut reader, 0, &[2], &Limits::default()),
+        )?;
         assert_eq!(rt; (status, text.as_str()), want, "at {left}");
     }
     Ok(())
@@ -154,7 +159,7 @@ fn each_write_that_fails_is_told(rt: HostRuntime) -> Result<(), Fail> {
     for (left, flushes) in [(0, true), (1, true), (2, true), (3, false)] {
         let mut output = failing(rt.alloc(), left, flushes);
         let mut lines = Vec::new(rt.alloc());
-        let ended = emit(&font, &[7, 8], &mapper, &mut output, &mut lines);
+        let ended = emit(&font, &[7, 8], &mapper, &mut output, &mut lines, &[]);
         let (status, text) = told(rt.alloc(), ended)?;
         assert_eq!(rt; (status, text.as_str()), (3, "cannot write"), "at {left}");
         assert_eq!(rt; output.taken.as_slice(), &font[..font.len().min(3 * left)]);
@@ -171,7 +176,7 @@ fn each_line_that_fails_is_told(rt: HostRuntime) -> Result<(), Fail> {
     for (left, flushes, status) in [(0, true, 3), (1, true, 3), (99, false, 3), (99, true, 0)] {
         let mut output = Vec::new(rt.alloc());
         let mut lines = failing(rt.alloc(), left, flushes);
-        let ended = emit(&[1], &[7, 8, 0], &mapper, &mut output, &mut lines);
+        let ended = emit(&[1], &[7, 8, 0], &mapper, &mut output, &mut lines, &[]);
         assert_eq!(rt; status_of_run(&ended), status, "at {left}");
         assert_eq!(rt; output.as_slice(), [1].as_slice());
         if left == 99 {
@@ -201,6 +206,24 @@ fn words_are_as_the_usage_says(rt: HostRuntime) -> Result<(), Fail> {
         ("in out +0 1", 2),
         ("in out  1", 2),
         ("", 2),
+        ("--limits 4294967295,255 in out 0 1", 0),
+        ("--limits 0,1 in out 0 1", 0),
+        ("in --limits 0 1", 0),
+        ("--limits", 2),
+        ("--limits in out 0 1", 2),
+        ("--limits 5 in out 0 1", 2),
+        ("--limits 5,0 in out 0 1", 2),
+        ("--limits 5,256 in out 0 1", 2),
+        ("--limits 4294967296,5 in out 0 1", 2),
+        ("--limits ,5 in out 0 1", 2),
+        ("--limits 5, in out 0 1", 2),
+        ("--limits +5,5 in out 0 1", 2),
+        ("--limits 5,+5 in out 0 1", 2),
+        ("--limits 5,5,5 in out 0 1", 2),
+        ("--limits 5,5 --limits 5,5 in out 0 1", 2),
+        ("--limits 5,5 --limits out 0 1", 2),
+        ("in --limits 5,5 out 0 1", 2),
+        ("in out 0 1 --limits 5,5", 2),
     ] {
         let mut words = Vec::new(rt.alloc());
         for word in line.split(' ') {
@@ -311,6 +334,47 @@ fn a_run_writes_the_subset_and_the_lines(rt: HostRuntime) -> Result<(), Fail> {
     let left = run_on(&rt, &words, true);
     assert_eq!(rt; left.status, ExitCode::SUCCESS);
     assert_eq!(rt; left.printed.as_slice(), b"0 -> 0\n".as_slice());
+    assert_eq!(rt; fs::read(&rt, "out.otf")?.as_slice(), CFF_SUBSET.as_slice());
+    fs::remove_dir_all(&rt, folder.as_str())?;
+    Ok(())
+}
+
+/// The words of a line, behind the program's name.
+fn words_of(alloc: Global, line: &'static str) -> Result<Vec<&'static str>, Fail> {
+    let mut words = Vec::new(alloc);
+    words.push("subset_font")?;
+    for word in line.split(' ') {
+        words.push(word)?;
+    }
+    Ok(words)
+}
+
+#[test]
+fn a_run_keeps_to_its_limits(rt: HostRuntime) -> Result<(), Fail> {
+    let folder = enter_folder(&rt)?;
+    let usage = "usage: subset_font IN OUT INDEX GID[,GID..]\n";
+    fs::write(&rt, "in.otf", CFF_FONT.as_slice())?;
+    for (line, status, text) in [
+        ("--limits 5,0 in.otf out.otf 0 0", 2, usage),
+        ("--limits 5,256 in.otf out.otf 0 0", 2, usage),
+        ("--limits in.otf out.otf 0 0", 2, usage),
+        ("in.otf --limits 5,5 out.otf 0 0", 2, usage),
+        (
+            "--limits 0,1 in.otf out.otf 0 0",
+            1,
+            "processing CFF table failed\n",
+        ),
+    ] {
+        let left = run_on(&rt, &words_of(rt.alloc(), line)?, true);
+        assert_eq!(rt; left.status, ExitCode::from(status), "at {line}");
+        assert_eq!(rt; left.told.as_slice(), text.as_bytes());
+        assert!(rt; left.printed.is_empty());
+        assert!(rt; fs::read(&rt, "out.otf").is_err());
+    }
+    // One token is enough for `endchar`.
+    let words = words_of(rt.alloc(), "--limits 1,1 in.otf out.otf 0 0")?;
+    let left = run_on(&rt, &words, true);
+    assert_eq!(rt; left.status, ExitCode::SUCCESS);
     assert_eq!(rt; fs::read(&rt, "out.otf")?.as_slice(), CFF_SUBSET.as_slice());
     fs::remove_dir_all(&rt, folder.as_str())?;
     Ok(())

@@ -1,14 +1,16 @@
 //! What the words after the program's name ask for.
 
-ghost use Rattle.std.specs.Prelude.{◌≡◌, ◌⊎◌, ◌==◌, ℕ, List, map, IfOk, IfErr, Some, None, slice_index, string_bytes};
-ghost use Rattle.std.specs.List.{slice_split};
-ghost use Rattle.subset_font.specs.Words.{number_in_bits, glyph_list, request};
+ghost use Rattle.std.specs.Prelude.{◌≡◌, ◌⊎◌, ℕ, List, map, IfOk, IfErr, Some, None, string_bytes};
+ghost use Rattle.std.specs.Option.{option_map};
+ghost use Rattle.subset_font.specs.Words.{glyph_list, limits_in, is_limits_option, limited, is_widths_option, measured, request_within, request};
+ghost use Rattle.subset_font.specs.WordsView.{limits_view, job_view};
 ghost use Rattle.subset_font.specs.declared.failure.Failure.TheVariants.{Usage, Error as Refused};
 ghost use Rattle.subsetter_base.specs.declared.error.Error.TheVariants.{OutOfMemory};
 
 use crate::failure::Failure;
-use std::alloc::{AllocError, Global};
-use subsetter::Error;
+use std::alloc::Global;
+use subsetter::{Error, Limits};
+use subsetter_words::{parts_of, u8_of, u16_of, u32_of};
 
 /// What a run of the program is to do.
 #[derive(Debug, Drop)]
@@ -21,40 +23,58 @@ pub struct Job {
     pub index: u32,
     /// The old numbers of the glyphs to keep, in the order asked for.
     pub glyphs: Vec<u16>,
+    /// How far the charstring of a glyph may run.
+    pub limits: Limits,
+    /// Whether the widths of the glyphs are to be printed.
+    pub widths: bool,
 }
 
-/// Whether a plus stands first, which `parse` lets pass.
-fn begins_with_plus(word: &str) -> bool
-    ensures { result ≡ (slice_index word.now 0 == 43) }
+/// The limits that a word `TOKENS,DEPTH` writes.
+fn limits_of(word: &str) -> Option<Limits>
+    ensures { option_map (λ l. limits_view l) result ≡ limits_in word.now }
 {
-    matches!(word.as_bytes(), [b'+', ..])
+    let (tokens, depth) = word.split_once(',')?;
+    Limits::new(u32_of(tokens)?, u8_of(depth)?)
 }
 
-/// The number that a word of one or more ASCII digits writes, if it fits.
-fn index_of(word: &str) -> Option<u32>
-    ensures { result ≡ number_in_bits 32 word.now }
+/// Whether a word is the option `--limits`.
+fn is_limits(word: &str) -> bool
+    ensures { result ≡ is_limits_option word.now }
 {
-    if begins_with_plus(word) {
-        return None;
+    word == "--limits"
+}
+
+/// Whether a word is the option `--widths`.
+fn is_widths(word: &str) -> bool
+    ensures { result ≡ is_widths_option word.now }
+{
+    word == "--widths"
+}
+
+/// Whether the option `--widths` stands first, and the words behind it.
+fn widths_first(words: &[String]) -> (bool, &[String])
+    ensures { record { widths = result.0; words = map (λ word. string_bytes word) result.1.now } ≡ measured (map (λ word. string_bytes word) words.now) }
+{
+    match words {
+        [word, behind @ ..] if is_widths(word) => (true, behind),
+        _ => (false, words),
     }
-    word.parse().ok()
 }
 
-/// The number that a word of one or more ASCII digits writes, if it fits.
-fn glyph_of(word: &str) -> Option<u16>
-    ensures { result ≡ number_in_bits 16 word.now }
+/// The limits of the option `--limits TOKENS,DEPTH` where it stands first, else the default ones, and the words behind it.
+fn limits_first(words: &[String]) -> Option<(Limits, &[String])>
+    ensures { option_map (λ r. record { limits = limits_view r.0; words = map (λ word. string_bytes word) r.1.now }) result ≡ limited (map (λ word. string_bytes word) words.now) }
 {
-    if begins_with_plus(word) {
-        return None;
+    let [word, behind @ ..] = words else {
+        return Some((Limits::default(), words));
+    };
+    if !is_limits(word) {
+        return Some((Limits::default(), words));
     }
-    word.parse().ok()
-}
-
-/// The parts of a list between its commas.
-fn parts_of(alloc: Global, list: &str) -> Result<Vec<&str>, AllocError>
-    ensures { IfOk result (λ v. map (λ part. part.now) v.items ≡ slice_split (λ b. b == 44) list.now) }
-{
-    list.split(',').collect(alloc)
+    let [value, rest @ ..] = behind else {
+        return None;
+    };
+    Some((limits_of(value)?, rest))
 }
 
 /// The glyphs of a list with a comma between each two.
@@ -65,7 +85,7 @@ fn glyphs_of(alloc: Global, list: &str) -> Result<Vec<u16>, Failure>
     let parts = parts_of(alloc, list).map_err(|_| Failure::Error(Error::OutOfMemory))?;
     let mut glyphs = Vec::new(alloc);
     for part in &parts {
-        let glyph = glyph_of(part).ok_or(Failure::Usage)?;
+        let glyph = u16_of(part).ok_or(Failure::Usage)?;
         glyphs
             .push(glyph)
             .map_err(|_| Failure::Error(Error::OutOfMemory))?;
@@ -73,23 +93,26 @@ fn glyphs_of(alloc: Global, list: &str) -> Result<Vec<u16>, Failure>
     Ok(glyphs)
 }
 
-/// What the words after the program's name ask for: `IN OUT INDEX GID[,GID..]`.
+/// What the words `IN OUT INDEX GID[,GID..]` ask for.
 ///
-/// `Usage` where their count is another, or where INDEX or a GID isn't one or more ASCII digits whose value fits
-/// `u32` or `u16`; `Error` of want of memory.
-pub fn read_words(alloc: Global, words: &[String]) -> Result<Job, Failure>
-    ensures ok { IfOk result (λ job. request (map (λ word. string_bytes word) words.now) ≡ Some (record {
-      input = string_bytes job.input;
-      output = string_bytes job.output;
-      index = job.index;
-      glyphs = job.glyphs.items;
-    })) }
-    ensures err { IfErr result (λ e. (e ≡ Refused OutOfMemory) ⊎ ((e ≡ Usage) × (request (map (λ word. string_bytes word) words.now) ≡ None))) }
+/// `Usage` where their count is another, where INDEX or a GID isn't one or more ASCII digits whose value fits `u32` or
+/// `u16`, or where IN is an option; `Error` of want of memory.
+fn read_within(
+    alloc: Global,
+    widths: bool,
+    limits: Limits,
+    words: &[String],
+) -> Result<Job, Failure>
+    ensures ok { IfOk result (λ job. request_within widths (limits_view limits) (map (λ word. string_bytes word) words.now) ≡ Some (job_view job)) }
+    ensures err { IfErr result (λ e. (e ≡ Refused OutOfMemory) ⊎ ((e ≡ Usage) × (request_within widths (limits_view limits) (map (λ word. string_bytes word) words.now) ≡ None))) }
 {
     let [input, output, index, glyphs] = words else {
         return Err(Failure::Usage);
     };
-    let index = index_of(index).ok_or(Failure::Usage)?;
+    if is_limits(input) {
+        return Err(Failure::Usage);
+    }
+    let index = u32_of(index).ok_or(Failure::Usage)?;
     let glyphs = glyphs_of(alloc, glyphs)?;
     let input = input
         .clone()
@@ -102,5 +125,20 @@ pub fn read_words(alloc: Global, words: &[String]) -> Result<Job, Failure>
         output,
         index,
         glyphs,
+        limits,
+        widths,
     })
+}
+
+/// What the words after the program's name ask for: `[--widths] [--limits TOKENS,DEPTH] IN OUT INDEX GID[,GID..]`.
+///
+/// `Usage` where their count is another, where INDEX or a GID isn't one or more ASCII digits whose value fits `u32` or
+/// `u16`, or where the limits aren't such numbers that fit `u32` and `u8`, or the depth is 0; `Error` of want of memory.
+pub fn read_words(alloc: Global, words: &[String]) -> Result<Job, Failure>
+    ensures ok { IfOk result (λ job. request (map (λ word. string_bytes word) words.now) ≡ Some (job_view job)) }
+    ensures err { IfErr result (λ e. (e ≡ Refused OutOfMemory) ⊎ ((e ≡ Usage) × (request (map (λ word. string_bytes word) words.now) ≡ None))) }
+{
+    let (widths, behind) = widths_first(words);
+    let (limits, rest) = limits_first(behind).ok_or(Failure::Usage)?;
+    read_within(alloc, widths, limits, rest)
 }

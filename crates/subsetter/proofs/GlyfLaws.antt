@@ -10,3 +10,4 @@ pub mod Kept
 pub mod Fault
 pub mod Parts
 pub mod Unfold
+pub mod Found

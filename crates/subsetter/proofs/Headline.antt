@@ -11,12 +11,13 @@ use Rattle.subsetter.specs.declared.sfnt.flavor.FontFlavor.TheVariants.{TrueType
 use Rattle.subsetter.specs.Truetype.Answered.{IsAnswered, IsRefused}
 use Rattle.subsetter.specs.Cff.Plain.{cff_file}
 use Rattle.subsetter.specs.Fault as faults
+use Rattle.subsetter.specs.Answer.{IsAnswer}
 use Rattle.subsetter.specs.Sfnt.Read.{Font, table, table_in, flavor}
 use Rattle.subsetter.specs.Sfnt.Plain.{opened, flavored}
 use Rattle.subsetter.specs.Sfnt.Fault.{HasOpeningFault, no_kind, no_entry, entry_outside, no_face, nested, cut_directory, no_outlines, lone_cff2}
 use Rattle.subsetter.proofs.TruetypeLaws.Fault.{Stands, has_fault, no_fault}
 use Rattle.subsetter.proofs.SfntLaws.Fault.{opened_refused, opened_records, flavored_refused, opened_clean}
-use Rattle.subsetter.proofs.TruetypeLaws.Subset.{IsClean, is_subset}
+use Rattle.subsetter.proofs.TruetypeLaws.Subset.{is_subset}
 use Rattle.subsetter.proofs.CffLaws.Fault.{cff_has_fault, is_cff_subset}
 
 -- the tables of a font that was opened
@@ -74,7 +75,7 @@ module _ (tokens depth : ℕ) (font : Font) (glyphs : List ℕ) where
     glyf_there : IsSome (table font (codes "glyf"))
     glyf_there = has_glyf (table font (codes "glyf")) (table font (codes "CFF ")) (has_flavor font d TrueType o h)
 
-    pub truetype_subset : (out : List ℕ) → IsBytes font.bytes → slice_get glyphs 0 ≡ Some 0 → IsAnswered (table_in font.bytes d) glyphs out → IsClean tokens depth font glyphs out
+    pub truetype_subset : (out : List ℕ) → IsBytes font.bytes → slice_get glyphs 0 ≡ Some 0 → IsAnswered (table_in font.bytes d) glyphs out → IsAnswer tokens depth font glyphs out
     truetype_subset out bytes first a =
         let b : IsAnswered (table font) glyphs out = subst (λ (find : List ℕ → Option (List ℕ)). IsAnswered find glyphs out) (find_is font d o) a in
         is_subset tokens depth font glyphs out bytes (some_given glyphs first) (has_flavor font d TrueType o h) b (no_fault tokens depth font glyphs out bytes glyf_there (λ e. opened_clean font d TrueType e o h) b)
@@ -89,14 +90,14 @@ module _ (tokens depth : ℕ) (font : Font) (glyphs : List ℕ) where
     kind : flavor font ≡ Some Cff
     kind = has_flavor font d Cff o h
 
-    pub cff_answered : (out : List ℕ) → IsBytes font.bytes → 1 ≤ depth → slice_get glyphs 0 ≡ Some 0 → length glyphs ≤ 65535 → IsWithoutRepeats glyphs → cff_file (table_in font.bytes d) tokens depth glyphs ≡ Ok out → IsClean tokens depth font glyphs out
+    pub cff_answered : (out : List ℕ) → IsBytes font.bytes → 1 ≤ depth → slice_get glyphs 0 ≡ Some 0 → length glyphs ≤ 65535 → IsWithoutRepeats glyphs → cff_file (table_in font.bytes d) tokens depth glyphs ≡ Ok out → IsAnswer tokens depth font glyphs out
     cff_answered out bytes deep first few once a =
         let b : cff_file (table font) tokens depth glyphs ≡ Ok out = subst (λ (find : List ℕ → Option (List ℕ)). cff_file find tokens depth glyphs ≡ Ok out) (find_is font d o) a in
         is_cff_subset tokens depth font glyphs out bytes deep (some_given glyphs first) few once kind (λ e. opened_clean font d Cff e o h) b
 
-    pub cff_refused : (e : Error) → IsBytes font.bytes → IsWithoutRepeats glyphs → cff_file (table_in font.bytes d) tokens depth glyphs ≡ Err e → (e ≡ OutOfMemory) ⊎ Stands tokens depth font glyphs e
-    cff_refused e bytes once r =
-        inr (glyphs, cff_has_fault tokens depth font glyphs bytes kind (has_cff (table font (codes "glyf")) (table font (codes "CFF ")) kind) once e (subst (λ (find : List ℕ → Option (List ℕ)). cff_file find tokens depth glyphs ≡ Err e) (find_is font d o) r))
+    pub cff_refused : (e : Error) → IsWithoutRepeats glyphs → cff_file (table_in font.bytes d) tokens depth glyphs ≡ Err e → (e ≡ OutOfMemory) ⊎ Stands tokens depth font glyphs e
+    cff_refused e once r =
+        inr (glyphs, cff_has_fault tokens depth font glyphs kind (has_cff (table font (codes "glyf")) (table font (codes "CFF ")) kind) once e (subst (λ (find : List ℕ → Option (List ℕ)). cff_file find tokens depth glyphs ≡ Err e) (find_is font d o) r))
 
     pub cff_opening_clean : (e : Error) → HasOpeningFault font e → ⊥
     cff_opening_clean e f = opened_clean font d Cff e o h f

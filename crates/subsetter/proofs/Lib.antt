@@ -9,3 +9,4 @@ pub mod SharedLaws
 pub mod TruetypeLaws
 pub mod CffLaws
 pub mod Headline
+pub mod TwoLimits

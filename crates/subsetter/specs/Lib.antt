@@ -13,3 +13,4 @@ pub mod Laid
 pub mod Limits
 pub mod Fault
 pub mod Subset
+pub mod Answer

@@ -4,16 +4,15 @@
 //! components are other glyphs. The new `glyf` has the outlines of the given glyphs and of all that these reach, each as it
 //! is but for the numbers of its components.
 
-ghost use Rattle.std.specs.Prelude.{◌≡◌, ◌+◌, ◌<◌, ◌≤◌, ◌^◌, ◌++◌, ◌⊎◌, length, map, IfOk, IfErr, IfSome, OnOk, Ok, Err};
-ghost use Rattle.std.specs.Cow.{cow_slice_items};
+ghost use Rattle.std.specs.Prelude.{◌≡◌, ◌+◌, ◌<◌, ◌≤◌, ◌^◌, [], ◌++◌, ◌⊎◌, length, map, IfOk, IfErr, IfSome, OnOk, Ok, Err};
 ghost use Rattle.std.specs.Option.{option_copied};
 ghost use Rattle.subsetter_base.specs.Gives.{Gives};
 ghost use Rattle.subsetter_base.specs.Places.{IsWithoutRepeats};
-ghost use Rattle.subsetter.specs.Glyf.Closure.{components_in, others_in, lacks_head, IsFaulty, IsFull, IsVisited, StopsClosure};
+ghost use Rattle.subsetter.specs.Glyf.Closure.{first_byte_in, composites_in, components_in, others_in, lacks_head, IsFaulty, IsFull, IsVisited, StopsClosure, Finds};
 ghost use Rattle.subsetter.specs.Sfnt.Read.{table_in};
 ghost use Rattle.subsetter.specs.Glyf.Read.{offset, outline_in};
 ghost use Rattle.subsetter.specs.Glyf.View.{seen};
-ghost use Rattle.subsetter.specs.Glyf.Plain.{outlines_read, kept, kept_all};
+ghost use Rattle.subsetter.specs.Glyf.Plain.{outlines_read, kept, kept_all, with_last};
 ghost use Rattle.subsetter.specs.Glyf.Reach.{IsGlyphOrderBy};
 ghost use Rattle.subsetter_base.specs.declared.error.Error.TheVariants.{OutOfMemory, MalformedFont, OverflowError};
 
@@ -23,12 +22,11 @@ pub mod outlines;
 #[cfg(test)]
 mod tests;
 
-use crate::glyf::component::{Components, is_composite, rewrite};
+use crate::glyf::component::{Components, is_composite};
 use crate::glyf::outlines::OutlineList;
 use crate::head::loca_format;
 use crate::sfnt::face::Face;
 use std::alloc::Global;
-use std::borrow::CowSlice;
 use subsetter_base::read::Reader;
 use subsetter_base::{Error, GlyphRemapper, Tag};
 
@@ -90,14 +88,19 @@ impl<'a> OutlineTables<'a> {
         Reader::new_at(self.glyf, from).read_bytes(to - from)
     }
 
-    /// The outline of a kept glyph, with its components under their new numbers.
+    /// Puts the outline of a kept glyph last, with its components under their new numbers.
     /// `MalformedFont` where it can't be read, has one byte or is a composite that is cut.
     #[tactic(auto, unfolding(crate::specs::Glyf::Plain::kept))]
-    fn kept(&self, alloc: Global, id: u16, order: &GlyphRemapper) -> Result<CowSlice<'a, u8>, Error>
-        ensures { Gives cow_slice_items result (kept (seen self.now) order.now id) }
+    fn keep(
+        &self,
+        outlines: OutlineList<'a>,
+        id: u16,
+        order: &GlyphRemapper,
+    ) -> Result<OutlineList<'a>, Error>
+        ensures { Gives (λ list. list) result (with_last outlines.entry (kept (seen self.now) order.now id)) }
     {
         let outline = self.glyph_data(id).ok_or(Error::MalformedFont)?;
-        rewrite(alloc, outline, order)
+        outlines.push(outline, order)
     }
 }
 
@@ -111,7 +114,7 @@ pub fn subset<'a>(
 {
     let mut outlines = OutlineList::with_capacity(alloc, order.num_gids() as usize)?;
     for old in order.remapped_gids() {
-        outlines.push(table.kept(alloc, old, order)?)?;
+        outlines = table.keep(outlines, old, order)?;
     }
     outlines.shrink_to_fit();
     Ok(outlines)
@@ -177,16 +180,55 @@ fn visit(
     push_components(table, order, waiting, glyph)
 }
 
-/// The glyphs of a remapper, as a stack whose last member is taken first.
-fn stacked(alloc: Global, mapper: &GlyphRemapper) -> Result<Vec<u16>, Error>
-    ensures ok { IfOk result (λ v. v.items ≡ mapper.now) }
+/// The first byte of an outline, 0 where there is none.
+fn first_byte(outline: Option<&[u8]>) -> u8
+    ensures { result ≡ first_byte_in (option_copied outline.entry) }
+{
+    match outline {
+        Some([first, ..]) => *first,
+        _ => 0,
+    }
+}
+
+/// The first bytes of the outlines of a remapper's glyphs.
+///
+/// No step waits for one of them, so that many are fetched from memory at a time.
+fn first_bytes(
+    alloc: Global,
+    table: &OutlineTables<'_>,
+    mapper: &GlyphRemapper,
+) -> Result<Vec<u8>, Error>
+    ensures ok { IfOk result (λ v. v.items ≡ map (λ g. first_byte_in (outline_in (seen table.now) g)) mapper.now) }
+    ensures err { IfErr result (λ e. e ≡ OutOfMemory) }
+{
+    let mut heads = Vec::with_capacity(alloc, mapper.num_gids() as usize)?;
+    for glyph in mapper.remapped_gids() {
+        heads.push(first_byte(table.glyph_data(glyph)))?;
+    }
+    Ok(heads)
+}
+
+/// The composites among the glyphs of a remapper, as a stack whose last member is taken first.
+fn stacked(
+    alloc: Global,
+    table: &OutlineTables<'_>,
+    mapper: &GlyphRemapper,
+) -> Result<Vec<u16>, Error>
+    ensures ok { IfOk result (λ v. v.items ≡ composites_in (seen table.now) mapper.now) }
     ensures err { IfErr result (λ e. e ≡ OutOfMemory) }
     ensures once { IsWithoutRepeats mapper.now }
     ensures few { length mapper.now < 65536 }
 {
-    let mut glyphs = Vec::with_capacity(alloc, mapper.num_gids() as usize)?;
+    // What `num_gids` says of the mapper is promised here too.
+    let _count = mapper.num_gids();
+    let heads = first_bytes(alloc, table, mapper)?;
+    let mut glyphs = Vec::new(alloc);
+    let mut place: usize = 0;
     for glyph in mapper.remapped_gids() {
-        glyphs.push(glyph)?;
+        if is_composite(heads[place]) {
+            glyphs.push(glyph)?;
+        }
+        place += 1;
     }
     Ok(glyphs)
 }
@@ -202,10 +244,11 @@ pub fn closure(
     mapper: &GlyphRemapper,
 ) -> Result<GlyphRemapper, Error>
     ensures ok { IfOk result (λ order. IsGlyphOrderBy (outline_in (seen table.now)) mapper.now order) }
+    ensures found { IfOk result (λ order. Finds (seen table.now) order mapper.now [] mapper.now) }
     ensures err { IfErr result (λ e. StopsClosure (seen table.now) mapper.now e) }
 {
     let mut order = mapper.clone()?;
-    let mut given = stacked(alloc, mapper)?;
+    let mut given = stacked(alloc, table, mapper)?;
     let mut waiting = Vec::new(alloc);
     while let Some(glyph) = given.pop() {
         push_components(table, &order, &mut waiting, glyph)?;

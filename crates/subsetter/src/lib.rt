@@ -15,7 +15,8 @@ mod subsetting;
 mod truetype;
 
 pub use subsetter_base::{Error, GlyphRemapper, RemappedGids, Tag, TagLengthError};
-pub use subsetting::subset;
+pub use subsetter_type2::limits::Limits;
+pub use subsetting::{subset, subset_with_limits};
 
 #[cfg(test)]
 mod tests;

@@ -125,15 +125,16 @@ impl<'a> Model for Strings<'a> {
 }
 
 impl<'a> Strings<'a> {
-    /// No strings.
-    fn new(alloc: Global) -> Self
-        ensures { result ≡ [] }
+    /// No strings, and room for so many.
+    fn with_capacity(alloc: Global, count: usize) -> Result<Self, Error>
+        ensures ok { IfOk result (λ s. s ≡ []) }
+        ensures err { IfErr result (λ e. e ≡ OutOfMemory) }
     {
-        Self {
-            places: HashMap::new(alloc),
-            strings: Vec::new(alloc),
+        Ok(Self {
+            places: HashMap::with_capacity(alloc, count)?,
+            strings: Vec::with_capacity(alloc, count)?,
             size: 0,
-        }
+        })
     }
 
     /// Where a string begins, in bytes; a new one goes last. A place past 65535 is `SubsetError`.
@@ -242,13 +243,33 @@ impl Writeable for NameTable<'_> {
     }
 }
 
-/// The records that a subset keeps, and their strings, each once in the order of first use. `SubsetError` where a string is not inside the storage or begins past 65535 in the new one, and for more than 5460 records.
+/// For how many records room is taken at once: for those of a table, but for no more than are usual.
+fn usual_count(table: &NameTable<'_>) -> usize {
+    table.names.len().min(32)
+}
+
+/// No records, and room for so many.
+fn no_records(alloc: Global, count: usize) -> Result<Vec<NameRecord>, Error>
+    ensures ok { IfOk result (λ v. v.items ≡ []) }
+    ensures err { IfErr result (λ e. e ≡ OutOfMemory) }
+{
+    Ok(Vec::with_capacity(alloc, count)?)
+}
+
+/// The records that a subset keeps, and their strings, each once in the order of first use, where the lists of both are empty as yet.
 #[tactic(auto, unfolding(crate::specs::Name::Plain::subset_names))]
-pub fn kept_names<'a>(alloc: Global, table: &NameTable<'a>) -> Result<NameTable<'a>, Error>
+fn collect_names<'a, 'b>(
+    alloc: Global,
+    table: &'b NameTable<'a>,
+    records: Vec<NameRecord>,
+    strings: Strings<'b>,
+) -> Result<NameTable<'a>, Error>
+    requires records { records.items ≡ [] }
+    requires strings { strings ≡ [] }
     ensures { Gives seen_table result (subset_names (seen_table table.now)) }
 {
-    let mut names = Vec::new(alloc);
-    let mut strings = Strings::new(alloc);
+    let mut names = records;
+    let mut strings = strings;
     for record in &table.names {
         if record.is_kept() {
             let string = record.string(&table.storage).ok_or(Error::SubsetError)?;
@@ -266,6 +287,16 @@ pub fn kept_names<'a>(alloc: Global, table: &NameTable<'a>) -> Result<NameTable<
         names,
         storage: CowSlice::Owned(strings.join(alloc)?),
     })
+}
+
+/// The records that a subset keeps, and their strings, each once in the order of first use. `SubsetError` where a string is not inside the storage or begins past 65535 in the new one, and for more than 5460 records.
+pub fn kept_names<'a>(alloc: Global, table: &NameTable<'a>) -> Result<NameTable<'a>, Error>
+    ensures { Gives seen_table result (subset_names (seen_table table.now)) }
+{
+    let count = usual_count(table);
+    let records = no_records(alloc, count)?;
+    let strings = Strings::with_capacity(alloc, count)?;
+    collect_names(alloc, table, records, strings)
 }
 
 /// The names of a subset. A table of another version than 0 is copied whole; `MalformedFont` where the version, the header, a record or the start of the storage is cut, and the errors of `kept_names`.

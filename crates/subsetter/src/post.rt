@@ -106,19 +106,41 @@ impl<'a> Version2Table<'a> {
     }
 }
 
-/// Passes over names.
-fn pass(names: &mut Names<'_>, count: usize)
-    ensures { names_in names.new ≡ drop count (names_in names.old) }
+/// The place behind the name at a place; the end of the bytes where no name is there.
+#[tactic(auto, using(crate::proofs::PostLaws::Marks::behind_first, crate::proofs::PostLaws::Marks::behind_cut, crate::proofs::PostLaws::Marks::behind_end))]
+fn behind_name(bytes: &[u8], at: usize) -> usize
+    requires { at ≤ length bytes.now }
+    ensures names { names_in (drop result bytes.now) ≡ drop 1 (names_in (drop at bytes.now)) }
+    ensures within { result ≤ length bytes.now }
 {
-    for _ in 0..count {
-        let _ = names.next();
+    if at >= bytes.len() {
+        return at;
     }
+    let end = at + 1 + usize::from(bytes[at]);
+    if end > bytes.len() {
+        return bytes.len();
+    }
+    end
 }
 
-/// The bytes behind so many of eight names, where the eight have one length, so that one look at each length byte finds it out.
-fn behind_alike(bytes: &[u8], count: usize) -> Option<&[u8]>
+/// The place behind so many names from a place on.
+fn pass(bytes: &[u8], start: usize, count: usize) -> usize
+    requires { start ≤ length bytes.now }
+    ensures names { names_in (drop result bytes.now) ≡ drop count (names_in (drop start bytes.now)) }
+    ensures within { result ≤ length bytes.now }
+{
+    let mut at = start;
+    for _ in 0..count {
+        at = behind_name(bytes, at);
+    }
+    at
+}
+
+/// How many bytes so many of eight names have, where the eight have one length, so that one look at each length byte finds it out.
+fn alike_len(bytes: &[u8], count: usize) -> Option<usize>
     requires { count ≤ 8 }
-    ensures { IfSome result (λ rest. names_in rest.now ≡ drop count (names_in bytes.now)) }
+    ensures names { IfSome result (λ n. names_in (drop n bytes.now) ≡ drop count (names_in bytes.now)) }
+    ensures within { IfSome result (λ n. n ≤ length bytes.now) }
 {
     let len = *bytes.first()?;
     let step = usize::from(len) + 1;
@@ -130,41 +152,50 @@ fn behind_alike(bytes: &[u8], count: usize) -> Option<&[u8]>
             return None;
         }
     }
-    Some(&bytes[count * step..])
+    Some(count * step)
 }
 
-/// Passes over names, soon where eight names are alike.
-fn skip(names: &mut Names<'_>, count: usize)
-    ensures { names_in names.new ≡ drop count (names_in names.old) }
+/// The place behind so many names from a place on, found soon where eight names are alike.
+fn skip(bytes: &[u8], at: usize, count: usize) -> usize
+    requires { at ≤ length bytes.now }
+    ensures names { names_in (drop result bytes.now) ≡ drop count (names_in (drop at bytes.now)) }
+    ensures within { result ≤ length bytes.now }
 {
     if count > 8 {
-        return pass(names, count);
+        return pass(bytes, at, count);
     }
-    match behind_alike(names.rest, count) {
-        Some(rest) => names.rest = rest,
-        None => pass(names, count),
+    match alike_len(&bytes[at..], count) {
+        Some(len) => at + len,
+        None => pass(bytes, at, count),
     }
+}
+
+/// The bytes from a place on.
+fn from_place(bytes: &[u8], at: usize) -> &[u8]
+    requires { at ≤ length bytes.now }
+    ensures { result.now ≡ drop at bytes.now }
+{
+    &bytes[at..]
 }
 
 /// Names by their numbers. They stand one behind another, so the places of some are kept.
 #[derive(Drop)]
 struct NameList<'a> {
     all: &'a [u8],
-    /// The bytes from every eighth name on, up to some number.
-    marks: Vec<&'a [u8]>,
+    /// Where every eighth name begins, up to some number.
+    marks: Vec<u32>,
 }
 
 impl<'a> Model for NameList<'a> {
     ghost use Rattle.std.specs.Prelude.{ℕ, List};
     ghost use Rattle.subsetter.specs.Post.Read.{names_in};
     ghost use Rattle.subsetter.specs.Post.Marks.{AreMarks};
-    ghost use Rattle.subsetter.specs.Name.View.{nows};
 
     ghost Value = { List (List ℕ) };
 
     ghost view = { λ l. names_in l.all.now };
 
-    ghost invariant = { λ l. AreMarks (names_in l.all.now) (nows l.marks.items) };
+    ghost invariant = { λ l. AreMarks l.all.now (names_in l.all.now) l.marks.items };
 }
 
 impl<'a> NameList<'a> {
@@ -175,21 +206,24 @@ impl<'a> NameList<'a> {
     {
         let count = limit / 8 + 1;
         let mut marks = Vec::with_capacity(alloc, count)?;
-        let mut names = Names { rest: all };
+        let mut at: usize = 0;
         for _ in 0..count {
-            marks.push(names.rest)?;
-            skip(&mut names, 8);
+            if at > 0xffff_ffff {
+                break;
+            }
+            marks.push(at as u32)?;
+            at = skip(all, at, 8);
         }
         Ok(Self { all, marks })
     }
 
-    /// Names from which on a name is found, and how many to pass over.
-    fn from_mark(&self, number: usize) -> (Names<'a>, usize)
-        ensures { drop result.1 (names_in result.0) ≡ drop number self.now }
+    /// The bytes from a name on from which a name is found, and how many names to pass over.
+    fn from_mark(&self, number: usize) -> (&'a [u8], usize)
+        ensures { drop result.1 (names_in result.0.now) ≡ drop number self.now }
     {
         match self.marks.get(number / 8) {
-            Some(mark) => (Names { rest: *mark }, number % 8),
-            None => (Names { rest: self.all }, number),
+            Some(mark) => (from_place(self.all, *mark as usize), number % 8),
+            None => (self.all, number),
         }
     }
 
@@ -197,8 +231,9 @@ impl<'a> NameList<'a> {
     fn name(&self, number: usize) -> &'a [u8]
         ensures { result.now ≡ get_or self.now number [] }
     {
-        let (mut names, count) = self.from_mark(number);
-        skip(&mut names, count);
+        let (bytes, count) = self.from_mark(number);
+        let at = skip(bytes, 0, count);
+        let mut names = Names { rest: &bytes[at..] };
         match names.next() {
             Some(name) => name,
             None => &[],

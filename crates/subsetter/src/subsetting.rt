@@ -11,6 +11,7 @@ ghost use Rattle.subsetter.specs.Fault.{HasFault};
 ghost use Rattle.subsetter.specs.Sfnt.Fault.{HasOpeningFault};
 ghost use Rattle.subsetter.specs.Limits.{token_limit, depth_limit};
 ghost use Rattle.subsetter.specs.Subset.{IsSubset};
+ghost use Rattle.subsetter.specs.Answer.{IsAnswer, IsTheAnswer};
 
 use crate::cff;
 use crate::glyf::{self, OutlineTables};
@@ -42,11 +43,16 @@ fn truetype(alloc: Global, face: &Face<'_>, mapper: &GlyphRemapper) -> Result<Ve
 
 /// A subset of a font with a CFF table.
 #[tactic(auto, unfolding(crate::specs::Cff::Plain::cff_file))]
-fn charstrings(alloc: Global, face: &Face<'_>, mapper: &GlyphRemapper) -> Result<Vec<u8>, Error>
-    ensures { Gives (λ v. v.items) result (cff_file (table_in face.now.«data».now face.now.records.now) token_limit depth_limit mapper.now) }
+fn charstrings(
+    alloc: Global,
+    face: &Face<'_>,
+    limits: Limits,
+    mapper: &GlyphRemapper,
+) -> Result<Vec<u8>, Error>
+    ensures { Gives (λ v. v.items) result (cff_file (table_in face.now.«data».now face.now.records.now) limits.tokens limits.depth mapper.now) }
 {
     let source = face.table(Tag::CFF).ok_or(Error::MalformedFont)?;
-    let made = cff::make(alloc, face, source, Limits::default(), mapper)?;
+    let made = cff::make(alloc, face, source, limits, mapper)?;
     let list = in_order(alloc, cff::font_tables(made))?;
     finish(alloc, FontFlavor::Cff, &list)
 }
@@ -119,16 +125,52 @@ pub fn subset(
     ensures ok { IfOk result (λ out. IsSubset token_limit depth_limit (record { bytes = «data».now; index = index }) mapper.now out.items) }
     // And then no fault stands in the source, the size limits being judged for the answer's order of glyphs.
     ensures clean { IfOk result (λ out. (s : IsSubset token_limit depth_limit (record { bytes = «data».now; index = index }) mapper.now out.items) × ((e : SpecError) → ¬ (HasFault token_limit depth_limit (record { bytes = «data».now; index = index }) mapper.now s.keeps.order e))) }
+    // Its glyphs stand in the order in which they are found, so that there is one answer.
+    ensures exact { IfOk result (λ out. IsAnswer token_limit depth_limit (record { bytes = «data».now; index = index }) mapper.now out.items) }
+    ensures same { IfOk result (λ out. IsTheAnswer (record { bytes = «data».now; index = index }) mapper.now out.items) }
     // What is refused has a fault of that name.
     ensures err { IfErr result (λ e. (e ≡ OutOfMemory) ⊎ ((order : List ℕ) × HasFault token_limit depth_limit (record { bytes = «data».now; index = index }) mapper.now order e)) }
     // Where a fault stands that is found before memory is taken, the answer isn't want of memory.
     ensures before_memory { (e : SpecError) → HasOpeningFault (record { bytes = «data».now; index = index }) e → result ≢ Err OutOfMemory }
 {
+    subset_with_limits(alloc, data, index, mapper, &Limits::default())
+}
+
+/// As `subset`, where the charstring of a glyph may run for other limits than 1,000,000 tokens and depth 64.
+///
+/// The outlines of `glyf` know no such limits: for them the answer is that of `subset`.
+///
+/// # Errors
+///
+/// Those of `subset`, with the chosen limits in place of the default ones: `CFFError` where the charstring of a glyph of
+/// the mapper comes to a call from the depth `limits.depth()`, its own charstring being at depth 1, or to a token past
+/// `limits.tokens()`.
+pub fn subset_with_limits(
+    alloc: Global,
+    data: &[u8],
+    index: u32,
+    mapper: &GlyphRemapper,
+    limits: &Limits,
+) -> Result<Vec<u8>, Error>
+    // What is answered is a subset of the font.
+    ensures ok { IfOk result (λ out. IsSubset limits.now.tokens limits.now.depth (record { bytes = «data».now; index = index }) mapper.now out.items) }
+    // And then no fault stands in the source, the size limits being judged for the answer's order of glyphs.
+    ensures clean { IfOk result (λ out. (s : IsSubset limits.now.tokens limits.now.depth (record { bytes = «data».now; index = index }) mapper.now out.items) × ((e : SpecError) → ¬ (HasFault limits.now.tokens limits.now.depth (record { bytes = «data».now; index = index }) mapper.now s.keeps.order e))) }
+    // Its glyphs stand in the order in which they are found, so that there is one answer, whatever the limits.
+    ensures exact { IfOk result (λ out. IsAnswer limits.now.tokens limits.now.depth (record { bytes = «data».now; index = index }) mapper.now out.items) }
+    ensures same { IfOk result (λ out. IsTheAnswer (record { bytes = «data».now; index = index }) mapper.now out.items) }
+    // What is refused has a fault of that name.
+    ensures err { IfErr result (λ e. (e ≡ OutOfMemory) ⊎ ((order : List ℕ) × HasFault limits.now.tokens limits.now.depth (record { bytes = «data».now; index = index }) mapper.now order e)) }
+    // Where a fault stands that is found before memory is taken, the answer isn't want of memory.
+    ensures before_memory { (e : SpecError) → HasOpeningFault (record { bytes = «data».now; index = index }) e → result ≢ Err OutOfMemory }
+{
     // What `num_gids` says of the mapper, that glyph 0 comes first, is a premise of the proof.
     let _count = mapper.num_gids();
+    // So is what `depth` says of the limits, that a glyph's own charstring is within them.
+    let _depth = limits.depth();
     let face = parse(data, index)?;
     match flavor(&face)? {
         FontFlavor::TrueType => truetype(alloc, &face, mapper),
-        FontFlavor::Cff => charstrings(alloc, &face, mapper),
+        FontFlavor::Cff => charstrings(alloc, &face, *limits, mapper),
     }
 }

@@ -5,6 +5,7 @@
 --                                parts of `a ++ b`, a part between two others, no part past the end
 --   number_at                    a number between two other parts
 --   range-fits, range-take_drop  where there is a part, and what it is
+--   stays_inside                 a reading leads to no place past the end
 --   range-drop                   a part of what is left behind a place
 --   range-short, number-fits, number-short
 --                                how many bytes there are where a part or a number is there, or isn't
@@ -13,7 +14,8 @@
 --   flat_map-bytes               an array of bytes, as it is written
 use Rattle.std.proofs.Common.{◌≡◌, ℕ, suc, ◌+◌, ◌*◌, ◌^◌, ◌<◌, ◌≤◌, Bool, true, false, cond, leb, List, [], ◌∷◌, ◌++◌, length, take, drop, Option, Some, None, refl, sym, ap, subst, ◌∙◌, inl, inr, lit<, add_assoc, arith}
 use Rattle.std.specs.Prelude.{flat_map}
-use Rattle.std.specs.Option.{option_map}
+use Rattle.std.specs.Prelude.{is_some, if◌then◌else◌}
+use Rattle.std.specs.Option.{option_map, option_and_then}
 use Rattle.std.specs.Int.{w16, w32, to_be_bytes}
 use Rattle.std.proofs.lemmas.Bool.{le-leb, lt-leb, leb-true, leb-false, cases_lt}
 use Rattle.std.proofs.lemmas.Nat.{from_be_bytes-to_be_bytes_2, from_be_bytes-to_be_bytes_4, pow-add}
@@ -21,6 +23,7 @@ use Rattle.std.proofs.lemmas.List.{append-nil, take_at, drop_at, length-append, 
 use Rattle.std.proofs.Math.Seq.{drop-append-add}
 use Rattle.std.proofs.Math.Nat.{mul_assoc, add-mul, mul-le-mul_right}
 use Rattle.subsetter_base.specs.Bytes.{be, range, number, IsBytes}
+use Rattle.subsetter_base.specs.Read.{Source, IsInside}
 use Rattle.subsetter_base.proofs.Options.{map_some, map_none}
 
 -- ---- numbers
@@ -59,6 +62,16 @@ found false x y e = absurd cc
 -- where a part is found, there are as many bytes
 pub range-fits : (bytes part : List ℕ) (at size : ℕ) → range bytes at size ≡ Some part → at + size ≤ length bytes
 range-fits bytes p at size e = leb-true _ _ (found (leb (at + size) (length bytes)) (take size (drop at bytes)) p e).0
+
+-- a reading of a value leaves a place that was inside the data inside it
+pub stays_inside : {X : Type 0} (old new : Source) (size : ℕ) (value_of : List ℕ → Option X) (result : Option X) → result ≡ option_and_then value_of (range old.bytes old.place size)
+    → new ≡ (if is_some result then record old { place = old.place + size } else old) → IsInside old → IsInside new
+stays_inside old new size value_of None e moves inside = rw moves inside
+stays_inside {X} old new size value_of (Some x) e moves inside = rw moves (by (range old.bytes old.place size) refl e)
+  where
+    by : (o : Option (List ℕ)) → range old.bytes old.place size ≡ o → Some x ≡ option_and_then value_of o → old.place + size ≤ length old.bytes
+    by None k h = absurd cc
+    by (Some p) k h = range-fits old.bytes p old.place size k
 
 pub range-length : (bytes part : List ℕ) (at size : ℕ) → range bytes at size ≡ Some part → length part ≡ size
 range-length bytes p at size e =

@@ -19,8 +19,6 @@ use Rattle.subsetter_cff.specs.CffFault.{HasCffFault, in_opening, in_glyph, in_s
 use Rattle.subsetter_cff.proofs.Results.{passed}
 use Rattle.subsetter_cff.proofs.Refusals.{bind_err, none_of, failed}
 use Rattle.subsetter_cff.proofs.Faults.{opening_refused}
-use Rattle.subsetter_cff.proofs.ReadNumbers.{AreBytes, all_bytes}
-use Rattle.subsetter_cff.proofs.SourceBytes.{source_of}
 use Rattle.subsetter_cff.proofs.Soundness.{TopIsSound, was_opened}
 use Rattle.subsetter_cff.proofs.Headline.{opened_is}
 use Rattle.subsetter_cff.proofs.StringFaults.{string_refused}
@@ -35,10 +33,10 @@ opened_sound bytes cff e =
     subst TopIsSound (same_Some _ _ (sym w.cff_is ∙ opened_is bytes cff e)) w.top
 
 -- the strings of the top dict, then the font dicts
-made_refused : (cff : Cff) (tokens depth : ℕ) (glyphs : List ℕ) (kept : List KeptGlyph) (e : Error) → AreBytes cff.bytes → TopIsSound cff → kept_glyphs cff tokens depth glyphs ≡ Ok kept → parts_for cff kept ≡ Err e
+made_refused : (cff : Cff) (tokens depth : ℕ) (glyphs : List ℕ) (kept : List KeptGlyph) (e : Error) → TopIsSound cff → kept_glyphs cff tokens depth glyphs ≡ Ok kept → parts_for cff kept ≡ Err e
     → HasStringFault cff e ⊎ ((g : ℕ) × (Contains glyphs g × HasGlyphFault cff tokens depth g e))
 unfolding parts_for
-made_refused cff tokens depth glyphs kept e all sound are h =
+made_refused cff tokens depth glyphs kept e sound are h =
     elim (bind_err (ok_or (string_at cff.strings copyright_operator cff.top) SubsetError) _ e h) [
       | inl none ↦ (let n = none_of (string_at cff.strings copyright_operator cff.top) SubsetError e none in
           inl (subst (HasStringFault cff) n.1 (bad_copyright (string_refused top_demands cff.strings copyright_operator cff.top (1, omega arith, refl) sound.operands n.0))))
@@ -49,7 +47,7 @@ made_refused cff tokens depth glyphs kept e all sound are h =
           | inl none ↦ (let n = none_of (string_at cff.strings notice_operator cff.top) SubsetError e none in
               inl (subst (HasStringFault cff) n.1 (bad_notice (string_refused top_demands cff.strings notice_operator cff.top (0, omega arith, refl) sound.operands n.0))))
           | inr (notice, (notice_is, h3)) ↦ elim (bind_err (new_font_dicts cff (used_numbers kept)) _ e h3) [
-            | inl dicts ↦ inr (dicts_refused cff tokens depth glyphs (used_numbers kept) e all sound (all_used cff tokens depth glyphs kept are) dicts)
+            | inl dicts ↦ inr (dicts_refused cff tokens depth glyphs (used_numbers kept) e sound (all_used cff tokens depth glyphs kept are) dicts)
             | inr (dicts, (dicts_are, h4)) ↦ absurd cc
           ]
         ]
@@ -69,18 +67,17 @@ count_passed : (cff : Cff) (kept : List KeptGlyph) (p : Parts) → counted_parts
 unfolding counted_parts
 count_passed cff kept p e = (passed (ltb (length (used_numbers kept)) 256) OverflowError _ p e).1
 
-parts_refused : (bytes : List ℕ) (tokens depth : ℕ) (glyphs : List ℕ) (cff : Cff) (e : Error) → AreBytes bytes → opened bytes ≡ Ok cff → parts_of cff tokens depth glyphs ≡ Err e → HasCffFault bytes tokens depth glyphs e
+parts_refused : (bytes : List ℕ) (tokens depth : ℕ) (glyphs : List ℕ) (cff : Cff) (e : Error) → opened bytes ≡ Ok cff → parts_of cff tokens depth glyphs ≡ Err e → HasCffFault bytes tokens depth glyphs e
 unfolding parts_of
-parts_refused bytes tokens depth glyphs cff e all opened_ok h =
+parts_refused bytes tokens depth glyphs cff e opened_ok h =
     let is = opened_is bytes cff opened_ok in
     let sound = opened_sound bytes cff opened_ok in
-    let inside = subst AreBytes (sym (source_of bytes cff is).bytes_are) all in
     elim (bind_err (kept_glyphs cff tokens depth glyphs) _ e h) [
       | inl glyph ↦ (let g = refused_glyphs cff tokens depth glyphs e sound glyph in in_glyph cff g.0 is g.1.0 g.1.1)
       | inr (kept, (kept_are, h1)) ↦ elim (bind_err (counted_parts cff kept) _ e h1) [
         | inl counted ↦ elim (count_refused cff kept e counted) [
           | inl many ↦ in_limits cff is (subst (HasLimitFault cff tokens depth glyphs) many.1 (many_used cff tokens depth glyphs kept kept_are many.0))
-          | inr made ↦ elim (made_refused cff tokens depth glyphs kept e inside sound kept_are made) [
+          | inr made ↦ elim (made_refused cff tokens depth glyphs kept e sound kept_are made) [
             | inl string ↦ in_strings cff is string
             | inr glyph ↦ in_glyph cff glyph.0 is glyph.1.0 glyph.1.1
           ]
@@ -91,11 +88,11 @@ parts_refused bytes tokens depth glyphs cff e all opened_ok h =
 
 pub refused_stands : RefusedStands
 unfolding cff_subset
-refused_stands bytes tokens depth glyphs e all h =
+refused_stands bytes tokens depth glyphs e h =
     elim (bind_err (opened bytes) _ e h) [
       | inl opening ↦ in_opening (opening_refused bytes e opening)
       | inr (cff, (cff_is, h1)) ↦ elim (bind_err (parts_of cff tokens depth glyphs) _ e h1) [
-        | inl parts ↦ parts_refused bytes tokens depth glyphs cff e (all_bytes bytes all) cff_is parts
+        | inl parts ↦ parts_refused bytes tokens depth glyphs cff e cff_is parts
         | inr (p, (p_is, h2)) ↦ absurd cc
       ]
     ]

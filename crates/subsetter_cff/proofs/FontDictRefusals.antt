@@ -26,7 +26,6 @@ use Rattle.subsetter_cff.proofs.Results.{some_of}
 use Rattle.subsetter_cff.proofs.Refusals.{bind_err, none_of}
 use Rattle.subsetter_cff.proofs.Locals.{step}
 use Rattle.subsetter_cff.proofs.FontDicts.{all_at}
-use Rattle.subsetter_cff.proofs.ReadNumbers.{AreBytes}
 use Rattle.subsetter_cff.proofs.SourceBytes.{Fitting, last_of_fits, font_dicts_fit}
 use Rattle.subsetter_cff.proofs.Soundness.{TopIsSound}
 use Rattle.subsetter_cff.proofs.Holding.{last_holds, demand_holds}
@@ -87,14 +86,14 @@ no_own : (cff : Cff) (glyph : ℕ) (own : Option (List Number)) → is_cid_keyed
 unfolding own_matrix
 no_own cff glyph own sid e = same_Some _ _ (rw sid at e)
 
-scales : (cff : Cff) (glyph n : ℕ) (private : Private) (own : Option (List Number)) (xs : List Number) → AreBytes cff.bytes → TopIsSound cff → source_number cff glyph ≡ Some n → private_of cff glyph ≡ Some private
+scales : (cff : Cff) (glyph n : ℕ) (private : Private) (own : Option (List Number)) (xs : List Number) → TopIsSound cff → source_number cff glyph ≡ Some n → private_of cff glyph ≡ Some private
     → own_matrix cff glyph ≡ Some own → own ≡ Some xs → by_1000 xs ≢ None
-scales cff glyph n private own xs all sound numbered e own_is is =
+scales cff glyph n private own xs sound numbered e own_is is =
     elim (cases_Bool (is_cid_keyed cff)) [
       | inl cid ↦ (let d = dict_of_glyph cff glyph n private cid numbered e in
           let last : last_of font_matrix_operator d.dict ≡ Some xs = own_of cff glyph d.dict own cid d.dict_is own_is ∙ is in
           let six = last_holds (so_many 6) font_matrix_operator d.dict xs (demand_holds font_dict_demands (record { operator = font_matrix_operator; holds = so_many 6 }) d.dict (2, omega arith, refl) (sound_dict_of cff glyph d.dict sound cid d.dict_is).meets) last in
-          let read = last_of_fits font_matrix_operator d.dict xs (all_at Fitting d.dicts n d.dict (font_dicts_fit cff d.dicts all d.dicts_are) d.at) last in
+          let read = last_of_fits font_matrix_operator d.dict xs (all_at Fitting d.dicts n d.dict (font_dicts_fit cff d.dicts d.dicts_are) d.at) last in
           let scaled = by_1000_there xs read.each (eqb-true (length xs) 6 six) in
           λ h. none-some scaled.scaled (sym h ∙ scaled.is))
       | inr sid ↦ absurd (none-some xs (no_own cff glyph own sid own_is ∙ is))
@@ -115,10 +114,10 @@ own_six cff glyph xs sound e =
     ]
 
 -- ---- the whole
-pub dict_refused : (cff : Cff) (tokens depth : ℕ) (glyphs : List ℕ) (n : ℕ) (e : Error) → AreBytes cff.bytes → TopIsSound cff → UsedBy cff tokens depth glyphs n → new_font_dict cff n ≡ Err e
+pub dict_refused : (cff : Cff) (tokens depth : ℕ) (glyphs : List ℕ) (n : ℕ) (e : Error) → TopIsSound cff → UsedBy cff tokens depth glyphs n → new_font_dict cff n ≡ Err e
     → (g : ℕ) × (Contains glyphs g × HasGlyphFault cff tokens depth g e)
 unfolding new_font_dict
-dict_refused cff tokens depth glyphs n e all sound used h =
+dict_refused cff tokens depth glyphs n e sound used h =
     let steps = glyph_steps cff tokens depth used.glyph used.kept used.made in
     let numbered : source_number cff used.glyph ≡ Some n = steps.number_is ∙ ap Some used.number in
     elim (bind_err (ok_or (source_dict cff n) MalformedFont) _ e h) [
@@ -128,21 +127,21 @@ dict_refused cff tokens depth glyphs n e all sound used h =
             | inl none ↦ (let o = none_of dict.name SubsetError e none in
                 (used.glyph, (used.inside, subst (HasGlyphFault cff tokens depth used.glyph) o.1 (name_refused cff tokens depth used.glyph n steps.private sound numbered steps.private_is (agree.name_is ∙ o.0)))))
             | inr (name, (name_ok, h2)) ↦ elim (bind_err (ok_or (new_matrix (last_of font_matrix_operator cff.top) dict.own) OverflowError) _ e h2) [
-              | inl none ↦ absurd (matrix_there (last_of font_matrix_operator cff.top) dict.own (λ xs is. scales cff used.glyph n steps.private dict.own xs all sound numbered steps.private_is agree.own_is is)
+              | inl none ↦ absurd (matrix_there (last_of font_matrix_operator cff.top) dict.own (λ xs is. scales cff used.glyph n steps.private dict.own xs sound numbered steps.private_is agree.own_is is)
                   (none_of (new_matrix (last_of font_matrix_operator cff.top) dict.own) OverflowError e none).0)
               | inr (matrix, (matrix_ok, h3)) ↦ absurd cc
             ]
           ])
     ]
 
-pub dicts_refused : (cff : Cff) (tokens depth : ℕ) (glyphs ns : List ℕ) (e : Error) → AreBytes cff.bytes → TopIsSound cff → AllByRecursion (UsedBy cff tokens depth glyphs) ns → new_font_dicts cff ns ≡ Err e
+pub dicts_refused : (cff : Cff) (tokens depth : ℕ) (glyphs ns : List ℕ) (e : Error) → TopIsSound cff → AllByRecursion (UsedBy cff tokens depth glyphs) ns → new_font_dicts cff ns ≡ Err e
     → (g : ℕ) × (Contains glyphs g × HasGlyphFault cff tokens depth g e)
-dicts_refused cff tokens depth glyphs [] e all sound used h = absurd cc
-dicts_refused cff tokens depth glyphs (n ∷ ns) e all sound used h =
+dicts_refused cff tokens depth glyphs [] e sound used h = absurd cc
+dicts_refused cff tokens depth glyphs (n ∷ ns) e sound used h =
     elim (bind_err (new_font_dict cff n) (λ first. new_font_dicts cff ns >>= λ rest. Ok (first ∷ rest)) e h) [
-      | inl first ↦ dict_refused cff tokens depth glyphs n e all sound used.0 first
+      | inl first ↦ dict_refused cff tokens depth glyphs n e sound used.0 first
       | inr (f, (f_is, h1)) ↦ elim (bind_err (new_font_dicts cff ns) (λ rest. Ok (f ∷ rest)) e h1) [
-        | inl rest ↦ dicts_refused cff tokens depth glyphs ns e all sound used.1 rest
+        | inl rest ↦ dicts_refused cff tokens depth glyphs ns e sound used.1 rest
         | inr (fs, (fs_are, h2)) ↦ absurd cc
       ]
     ]

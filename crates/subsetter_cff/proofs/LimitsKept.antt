@@ -11,15 +11,17 @@ use Rattle.subsetter_cffdata.specs.Dict.{dict}
 use Rattle.subsetter_cffdata.specs.Index.{index}
 use Rattle.subsetter_cffdata.specs.Numbers.{Number, is_too_long}
 use Rattle.subsetter_cff.specs.declared.new_table.NewTable.{NewTable}
-use Rattle.subsetter_cff.specs.Layout.{FontDict, Parts, Places, TopDict, strings, front, nowhere, charset_bytes, select_bytes, privates, private_bytes, font_dicts_from, font_dicts_of, top_lines, top_lines_by, char_strings_place}
+use Rattle.subsetter_cff.specs.Layout.{FontDict, Parts, Places, strings, front, nowhere, placed_lines, top_of, charset_bytes, select_bytes, privates, private_bytes, font_dicts_from, font_dicts_of, top_lines, char_strings_place}
+use Rattle.subsetter_cff.specs.FrontDraft.{named_bytes}
 use Rattle.subsetter_cff.specs.NewTable.{font_dict_view, parts_view, top_by, front_by, select_of_table, HasCharStrings}
 use Rattle.subsetter_cff.specs.Opened.{check}
 use Rattle.subsetter_cff.specs.Plain.{limited}
 use Rattle.subsetter_cff.specs.WrittenNumbers.{any_long, entry_numbers, font_dict_numbers, written_numbers}
 use Rattle.subsetter_cff.specs.TableBy.{front_size, new_dicts}
-use Rattle.subsetter_cff.specs.TableLimits.{limit, short, is_offset, has_index, numbers_limits, top_limits, front_limits, dict_limits, dicts_limits, pieces_limits, places_limits, laid_limits, table_limits}
+use Rattle.subsetter_cff.specs.TableLimits.{limit, short, is_offset, has_index, numbers_limits, front_limits, dict_limits, dicts_limits, pieces_limits, places_limits, laid_limits, table_limits}
 use Rattle.subsetter_cff.proofs.FlatIndexes.{length-ends}
-use Rattle.subsetter_cff.proofs.Places.{length-front}
+use Rattle.subsetter_cff.proofs.FrontDrafts.{top_split}
+use Rattle.subsetter_cff.proofs.Places.{length-placed}
 use Rattle.subsetter_cff.proofs.Results.{bind_ok, passed}
 use Rattle.subsetter_cff.proofs.Sizes.{index_holds, in_front, length-font_dicts_from}
 use Rattle.subsetter_cff.proofs.SourceFits.{short_front, short_back}
@@ -37,13 +39,12 @@ then_either : {A : Type 0} (x : A) (r : Result (Unit {0}) Error) (s : Result A E
 then_either x r s (inl e) more = rw e more
 then_either x r s (inr e) more = inr (rw e refl)
 
-top_either : (top : TopDict) (o : Places) → Either tt (top_limits top o)
-unfolding top_limits numbers_limits
-top_either top o = then_either tt _ _ (then_either tt _ _ (limit_either (short top.matrix)) (limit_either (short top.box))) (limit_either (has_index (dict (top_lines_by top o) ∷ [])))
-
-front_either : (texts : List (List ℕ)) (t : NewTable) (o : Places) → Either tt (front_limits texts t o)
-unfolding front_limits
-front_either texts t o = then_either tt _ _ (top_either (top_by texts t) o) (limit_either (has_index texts))
+front_either : (texts : List (List ℕ)) (t : NewTable) → Either tt (front_limits texts t)
+unfolding front_limits numbers_limits
+front_either texts t =
+    let top = top_by texts t in
+    then_either tt _ _ (then_either tt _ _ (limit_either (short top.matrix)) (limit_either (short top.box)))
+    (then_either tt _ _ (limit_either (is_offset (length (named_bytes top) + 33))) (then_either tt _ _ (limit_either (has_index texts)) (limit_either (is_offset (front_size texts t)))))
 
 dict_either : (place : ℕ) (f : FontDict) → Either tt (dict_limits place f)
 unfolding dict_limits
@@ -67,12 +68,12 @@ places_either size charset private select dicts =
 
 laid_either : (texts : List (List ℕ)) (t : NewTable) (glyphs size : ℕ) → Either tt (laid_limits texts t glyphs size)
 unfolding laid_limits
-laid_either texts t glyphs size = then_either tt _ _ (pieces_either texts t glyphs size) (then_either tt _ _ (places_either size _ _ _ _) (front_either texts t _))
+laid_either texts t glyphs size = then_either tt _ _ (pieces_either texts t glyphs size) (places_either size _ _ _ _)
 
 table_either : (texts : List (List ℕ)) (t : NewTable) (glyphs : ℕ) → Either tt (table_limits texts t glyphs)
 unfolding table_limits
 table_either texts t glyphs =
-    then_either tt _ _ (front_either texts t nowhere) (then_either tt _ _ (laid_either texts t glyphs (front_size texts t)) (limit_either (nat_lt (length t.char_strings.items + 1) (2 ^ 32))))
+    then_either tt _ _ (front_either texts t) (then_either tt _ _ (laid_either texts t glyphs (front_size texts t)) (limit_either (nat_lt (length t.char_strings.items + 1) (2 ^ 32))))
 
 -- ---- the limits of the parts
 record Kept (p : Parts) : Type 0 where
@@ -128,16 +129,13 @@ both_short : (xs ys : List Number) → any_long xs ≡ false → any_long ys ≡
 both_short [] ys a b = b
 both_short (x ∷ xs) ys a b = rw (first_short (is_too_long x) (any_long xs) a) (both_short xs ys (rest_short (is_too_long x) (any_long xs) a) b)
 
-top_kept : (top : TopDict) (o : Places) (x : Unit {0}) → top_limits top o ≡ Ok x → (any_long top.matrix ≡ false) × (any_long top.box ≡ false)
-unfolding top_limits numbers_limits
-top_kept top o x e =
+front_kept : (texts : List (List ℕ)) (t : NewTable) (x : Unit {0}) → front_limits texts t ≡ Ok x → (any_long (top_by texts t).matrix ≡ false) × (any_long (top_by texts t).box ≡ false)
+unfolding front_limits numbers_limits
+front_kept texts t x e =
+    let top = top_by texts t in
     let n = bind_ok (numbers_limits top.matrix top.box) _ x e in
     let a = bind_ok (limit (short top.matrix)) _ n.0 n.1.0 in
     (not_true (any_long top.matrix) (is_kept (short top.matrix) a.0 a.1.0), not_true (any_long top.box) (is_kept (short top.box) n.0 a.1.1))
-
-front_kept : (texts : List (List ℕ)) (t : NewTable) (o : Places) (x : Unit {0}) → front_limits texts t o ≡ Ok x → (any_long (top_by texts t).matrix ≡ false) × (any_long (top_by texts t).box ≡ false)
-unfolding front_limits
-front_kept texts t o x e = let a = bind_ok (top_limits (top_by texts t) o) _ x e in top_kept (top_by texts t) o a.0 a.1.0
 
 dict_kept : (place : ℕ) (f : FontDict) (x : Unit {0}) → dict_limits place f ≡ Ok x → any_long (font_dict_numbers f) ≡ false
 unfolding dict_limits
@@ -182,8 +180,11 @@ laid_kept texts t glyphs size x e =
     let select = length (select_bytes glyphs (select_of_table t.numbers)) in
     let dicts = length (index (font_dicts_from texts (size + charset) (new_dicts t))) in
     let a = bind_ok (pieces_limits texts t glyphs size) _ x e in
-    let b = bind_ok (places_limits size charset private select dicts) _ x a.1.1 in
-    (pieces_kept texts t glyphs size a.0 a.1.0, places_kept size charset private select dicts b.0 b.1.0)
+    (pieces_kept texts t glyphs size a.0 a.1.0, places_kept size charset private select dicts x a.1.1)
+
+front_is : (t : NewTable) (cs : List (List ℕ)) → front (parts_view t cs) nowhere ≡ front_by (strings (parts_view t cs)) t nowhere
+unfolding front front_by index
+front_is t cs = refl
 
 place_is : (t : NewTable) (cs : List (List ℕ)) → char_strings_place (parts_view t cs) ≡ place_by (strings (parts_view t cs)) t (length cs) (front_size (strings (parts_view t cs)) t)
 unfolding front front_by font_dicts_of index
@@ -193,9 +194,9 @@ table_kept : (t : NewTable) (cs : List (List ℕ)) (x : Unit {0}) → t.char_str
 unfolding table_limits
 table_kept t cs x same e =
     let texts = strings (parts_view t cs) in
-    let a = bind_ok (front_limits texts t nowhere) _ x e in
+    let a = bind_ok (front_limits texts t) _ x e in
     let b = bind_ok (laid_limits texts t (length cs) (front_size texts t)) _ x a.1.1 in
-    let top = front_kept texts t nowhere a.0 a.1.0 in
+    let top = front_kept texts t a.0 a.1.0 in
     let laid = laid_kept texts t (length cs) (front_size texts t) b.0 b.1.0 in
     let size = ltb-true (length t.char_strings.items + 1) (2 ^ 32) (is_kept (nat_lt (length t.char_strings.items + 1) (2 ^ 32)) x b.1.1) in
     record {
@@ -221,16 +222,22 @@ index_there : (items : List (List ℕ)) → length items < 65536 → length (ind
 index_there items few small =
     rw (lt-ltb (length items) 65536 few, lt-ltb (length (concat items) + 1) (2 ^ 32) (omega (arith, index_holds items))) refl
 
-front_passes : (t : NewTable) (cs : List (List ℕ)) (o : Places) → length t.font_dicts.items ≤ 256 → Kept (parts_view t cs) → front_limits (strings (parts_view t cs)) t o ≡ Ok tt
-unfolding front_limits top_limits numbers_limits
-front_passes t cs o few k =
+named_in_top : (p : Parts) (o : Places) → length (named_bytes (top_of p)) + 33 ≤ length (index (dict (top_lines p o) ∷ []))
+named_in_top p o =
+    omega (arith, ap length (top_split (top_of p) o), length-append (named_bytes (top_of p)) (dict (placed_lines o)), length-placed o, index_holds (dict (top_lines p o) ∷ []), length-append (dict (top_lines p o)) [])
+
+front_passes : (t : NewTable) (cs : List (List ℕ)) → length t.font_dicts.items ≤ 256 → Kept (parts_view t cs) → front_limits (strings (parts_view t cs)) t ≡ Ok tt
+unfolding front_limits numbers_limits
+front_passes t cs few k =
     let p = parts_view t cs in
     let behind = short_back p.matrix _ k.short_numbers in
-    let room = in_front p o in
-    let same = length-front p o in
-    goes_on _ _ (goes_on _ _ (goes_on _ _ (short_holds p.matrix (short_front p.matrix _ k.short_numbers)) (short_holds p.box (short_front p.box _ behind)))
-    (index_there (dict (top_lines p o) ∷ []) (omega arith) (omega (arith, room, same, k.place))))
-    (index_there (strings p) (omega (arith, few_strings p, few, length-map t.font_dicts.items font_dict_view)) (omega (arith, room, same, k.place)))
+    let room = in_front p nowhere in
+    let whole : front_size (strings p) t < 2 ^ 31 = omega (arith, k.place, place_is t cs) in
+    let same : length (front p nowhere) ≡ front_size (strings p) t = ap length (front_is t cs) in
+    goes_on _ _ (goes_on _ _ (short_holds p.matrix (short_front p.matrix _ k.short_numbers)) (short_holds p.box (short_front p.box _ behind)))
+    (goes_on _ _ (offset_holds (length (named_bytes (top_of p)) + 33) (omega (arith, named_in_top p nowhere, room, same, whole)))
+    (goes_on _ _ (index_there (strings p) (omega (arith, few_strings p, few, length-map t.font_dicts.items font_dict_view)) (omega (arith, room, same, whole)))
+    (offset_holds (front_size (strings p) t) whole)))
 
 dict_passes : (place : ℕ) (f : FontDict) → any_long (font_dict_numbers f) ≡ false → place + length (private_bytes f) < 2 ^ 31 → dict_limits place f ≡ Ok tt
 unfolding dict_limits
@@ -265,13 +272,13 @@ laid_passes t cs few k =
     let texts = strings p in
     let dicts = short_back p.box (flat_map font_dict_numbers p.font_dicts) (short_back p.matrix _ k.short_numbers) in
     let place : place_by texts t (length cs) (front_size texts t) < 2 ^ 31 = omega (arith, k.place, place_is t cs) in
-    goes_on _ _ (pieces_pass texts t (length cs) (front_size texts t) few dicts place) (goes_on _ _ (places_pass (front_size texts t) _ _ _ _ place) (front_passes t cs _ few k))
+    goes_on _ _ (pieces_pass texts t (length cs) (front_size texts t) few dicts place) (places_pass (front_size texts t) _ _ _ _ place)
 
 table_passes : (t : NewTable) (cs : List (List ℕ)) → t.char_strings.items ≡ concat cs → length t.font_dicts.items ≤ 256 → Kept (parts_view t cs) → table_limits (strings (parts_view t cs)) t (length cs) ≡ Ok tt
 unfolding table_limits
 table_passes t cs same few k =
     let size : length t.char_strings.items + 1 < 2 ^ 32 = omega (arith, k.size, ap length same) in
-    goes_on _ _ (front_passes t cs nowhere few k) (goes_on _ _ (laid_passes t cs few k) (holds (nat_lt (length t.char_strings.items + 1) (2 ^ 32)) (lt-ltb (length t.char_strings.items + 1) (2 ^ 32) size)))
+    goes_on _ _ (front_passes t cs few k) (goes_on _ _ (laid_passes t cs few k) (holds (nat_lt (length t.char_strings.items + 1) (2 ^ 32)) (lt-ltb (length t.char_strings.items + 1) (2 ^ 32) size)))
 
 -- ---- both
 not_both : {A B : Type 0} (x : A) (r : Result A Error) → r ≡ Ok x → r ≡ Err OverflowError → B

@@ -1,6 +1,5 @@
 -- What can stand against a subset in a CFF table, under the name of the error that it is answered by; and its laws.
 use Rattle.std.specs.Prelude.{◌≡◌, ℕ, Contains, List, Some, Ok, Err}
-use Rattle.subsetter_base.specs.Bytes.{IsBytes}
 use Rattle.subsetter_base.specs.declared.error.Error.{Error}
 use Rattle.subsetter_base.specs.declared.error.Error.TheVariants.{UnknownKind, MalformedFont, Unimplemented, SubsetError, OverflowError, CFFError, OutOfMemory}
 use Rattle.subsetter_cff.specs.Cff.{Cff, cff_parts}
@@ -20,7 +19,7 @@ pub data HasCffFault (bytes : List ℕ) (tokens depth : ℕ) (glyphs : List ℕ)
 
 -- what is refused has a fault of the name that is answered
 abbrev pub RefusedStands : Type 0
-RefusedStands = (bytes : List ℕ) (tokens depth : ℕ) (glyphs : List ℕ) (e : Error) → IsBytes bytes → cff_subset bytes tokens depth glyphs ≡ Err e → HasCffFault bytes tokens depth glyphs e
+RefusedStands = (bytes : List ℕ) (tokens depth : ℕ) (glyphs : List ℕ) (e : Error) → cff_subset bytes tokens depth glyphs ≡ Err e → HasCffFault bytes tokens depth glyphs e
 
 -- where a table is answered, no fault stands
 abbrev pub AnsweredExcludes : Type 0

@@ -4,15 +4,15 @@ use Rattle.std.specs.List.{concat}
 use Rattle.subsetter_base.specs.Bytes.{◌>>=◌}
 use Rattle.subsetter_base.specs.declared.error.Error.{Error}
 use Rattle.subsetter_base.specs.declared.error.Error.TheVariants.{OverflowError}
-use Rattle.subsetter_cffdata.specs.Dict.{dict}
 use Rattle.subsetter_cffdata.specs.Index.{index}
 use Rattle.subsetter_cffdata.specs.Numbers.{Number}
 use Rattle.subsetter_cff.specs.declared.new_table.NewTable.{NewTable}
-use Rattle.subsetter_cff.specs.Layout.{FontDict, Places, TopDict, nowhere, charset_bytes, select_bytes, privates, private_bytes, font_dicts_from, top_lines_by}
+use Rattle.subsetter_cff.specs.FrontDraft.{named_bytes}
+use Rattle.subsetter_cff.specs.Layout.{FontDict, charset_bytes, select_bytes, privates, private_bytes, font_dicts_from}
 use Rattle.subsetter_cff.specs.NewTable.{select_of_table, top_by}
 use Rattle.subsetter_cff.specs.Opened.{check}
 use Rattle.subsetter_cff.specs.WrittenNumbers.{any_long, entry_numbers}
-use Rattle.subsetter_cff.specs.TableBy.{front_size, new_dicts, places_by}
+use Rattle.subsetter_cff.specs.TableBy.{front_size, new_dicts}
 
 -- goes on where a limit is kept
 abbrev pub limit : Bool → Result (Unit {0}) Error
@@ -33,17 +33,13 @@ has_index items = nat_lt (length items) 65536 && nat_lt (length (concat items) +
 unfoldable pub numbers_limits : List Number → List Number → Result (Unit {0}) Error
 numbers_limits matrix box = limit (short matrix) >>= λ first. limit (short box)
 
--- of the top dict and its INDEX
-unfoldable pub top_limits : TopDict → Places → Result (Unit {0}) Error
-top_limits top o = do
-  numbers ← numbers_limits top.matrix top.box
-  limit (has_index (dict (top_lines_by top o) ∷ []))
-
--- of the top dict and the strings
-unfoldable pub front_limits : List (List ℕ) → NewTable → Places → Result (Unit {0}) Error
-front_limits texts t o = do
-  top ← top_limits (top_by texts t) o
-  limit (has_index texts)
+-- of the front: the numbers of the top dict, its length, the strings, and the whole
+unfoldable pub front_limits : List (List ℕ) → NewTable → Result (Unit {0}) Error
+front_limits texts t = do
+  numbers ← numbers_limits (top_by texts t).matrix (top_by texts t).box
+  top ← limit (is_offset (length (named_bytes (top_by texts t)) + 33))
+  indexed ← limit (has_index texts)
+  limit (is_offset (front_size texts t))
 
 -- of a font dict whose private dict stands at a place
 unfoldable pub dict_limits : ℕ → FontDict → Result (Unit {0}) Error
@@ -72,17 +68,17 @@ places_limits size charset private select dicts = do
   behind_select ← limit (is_offset (size + charset + private + select))
   limit (is_offset (size + charset + private + select + dicts))
 
--- of all, where the front has a size
+-- of what stands behind the front
 unfoldable pub laid_limits : List (List ℕ) → NewTable → ℕ → ℕ → Result (Unit {0}) Error
 laid_limits texts t glyphs size =
     let charset = length (charset_bytes glyphs) in
     let private = length (privates (new_dicts t)) in
     let select = length (select_bytes glyphs (select_of_table t.numbers)) in
     let dicts = length (index (font_dicts_from texts (size + charset) (new_dicts t))) in
-    pieces_limits texts t glyphs size >>= λ pieces. places_limits size charset private select dicts >>= λ places. front_limits texts t (places_by size charset private select dicts)
+    pieces_limits texts t glyphs size >>= λ pieces. places_limits size charset private select dicts
 
 unfoldable pub table_limits : List (List ℕ) → NewTable → ℕ → Result (Unit {0}) Error
 table_limits texts t glyphs = do
-  front ← front_limits texts t nowhere
+  front ← front_limits texts t
   laid ← laid_limits texts t glyphs (front_size texts t)
   limit (nat_lt (length t.char_strings.items + 1) (2 ^ 32))

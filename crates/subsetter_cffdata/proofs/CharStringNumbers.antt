@@ -48,10 +48,10 @@ fixed_fits (a ∷ b ∷ c ∷ d ∷ rest) = long_fits (a * 16777216 + b * 65536 
 small_fits : (first : ℕ) → first < 247 → FitsSigned w16 (pos first -ℤ pos 139)
 small_fits first h = grind (arith, ints)
 
-above_fits : (first second : ℕ) → second < 256 → first < 251 → FitsSigned w16 (pos ((first - 247) * 256 + second + 108))
+pub above_fits : (first second : ℕ) → second < 256 → first < 251 → FitsSigned w16 (pos ((first - 247) * 256 + second + 108))
 above_fits first second h l = grind (arith, ints)
 
-below_fits : (first second : ℕ) → second < 256 → first < 255 → FitsSigned w16 (pos 0 -ℤ pos ((first - 251) * 256 + second + 108))
+pub below_fits : (first second : ℕ) → second < 256 → first < 255 → FitsSigned w16 (pos 0 -ℤ pos ((first - 251) * 256 + second + 108))
 below_fits first second h l = grind (arith, ints)
 
 middle_fits : (first : ℕ) (bytes : List ℕ) → first < 255 → FitsIn (middle_number first bytes)

@@ -17,6 +17,7 @@ pub mod RealTexts
 pub mod Entries
 pub mod Rows
 pub mod Values
+pub mod MiddleNumbers
 pub mod Options
 pub mod Powers
 pub mod BoundedNumbers

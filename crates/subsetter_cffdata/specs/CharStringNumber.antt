@@ -17,6 +17,12 @@ fixed_number (a ∷ b ∷ c ∷ d ∷ rest) =
     Some (Fixed (cast_signed w32 (a * 16777216 + b * 65536 + c * 256 + d)), rest)
 fixed_number _ = None
 
+-- the whole number of two bytes, the first of them 247 to 254
+abbrev pub middle_value : ℕ → ℕ → ℤ
+middle_value first second =
+    if nat_lt first 251 then pos ((first - 247) * 256 + second + 108)
+    else pos 0 -ℤ pos ((first - 251) * 256 + second + 108)
+
 -- 247 to 254: a whole number with one byte more
 abbrev pub middle_number : ℕ → List ℕ → Option (CharStringNumber × List ℕ)
 middle_number first [] = None

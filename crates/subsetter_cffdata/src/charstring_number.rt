@@ -2,7 +2,7 @@
 
 ghost use Rattle.std.specs.Prelude.{◌≡◌, ◌++◌, ◌∷◌, [], OnOk, OnErr, Some, None, pos, ◌≤◌, ◌<◌, ℕ, List, MatchOption};
 ghost use Rattle.subsetter_cffdata.specs.declared.charstring_number.CharStringNumber.{CharStringNumber};
-ghost use Rattle.subsetter_cffdata.specs.CharStringNumber.{number_at, short_number, middle_number, fixed_number, written, whole_of, NumberFits, FitsIn, IsReadAgain};
+ghost use Rattle.subsetter_cffdata.specs.CharStringNumber.{number_at, short_number, middle_number, middle_value, fixed_number, written, whole_of, NumberFits, FitsIn, IsReadAgain};
 
 use std::alloc::AllocError;
 use std::marker::Model;
@@ -94,16 +94,34 @@ fn read_middle(first: u8, bytes: &[u8]) -> Option<(CharStringNumber, &[u8])>
     ensures { MatchOption result (middle_number first bytes.now ≡ None) (λ r. middle_number first bytes.now ≡ Some (r.0, r.1.now)) }
 {
     match bytes {
-        [second, rest @ ..] => {
-            let value = if first < 251 {
-                ((first as u16 - 247) * 256 + *second as u16 + 108) as i16
-            } else {
-                -(((first as u16 - 251) * 256 + *second as u16 + 108) as i16)
-            };
-            Some((CharStringNumber::Integer(value), rest))
-        }
+        [second, rest @ ..] => Some((middle_of(first, *second), rest)),
         [] => None,
     }
+}
+
+// The value of two bytes, the first of them 247 to 254.
+#[inline(always)]
+fn middle_value(first: u8, second: u8) -> i16
+    requires low { 247 ≤ first }
+    requires high { first < 255 }
+    ensures { result ≡ middle_value first second }
+{
+    if first < 251 {
+        ((first as u16 - 247) * 256 + second as u16 + 108) as i16
+    } else {
+        -(((first as u16 - 251) * 256 + second as u16 + 108) as i16)
+    }
+}
+
+/// The whole number of two bytes, the first of them 247 to 254. They are its shortest form.
+#[inline(always)]
+pub fn middle_of(first: u8, second: u8) -> CharStringNumber
+    requires low { 247 ≤ first }
+    requires high { first < 255 }
+    ensures value { result ≡ CharStringNumber.Integer (middle_value first second) }
+    ensures shortest { written result ≡ first ∷ second ∷ [] }
+{
+    CharStringNumber::Integer(middle_value(first, second))
 }
 
 /// A number of 65536ths.

@@ -137,7 +137,9 @@ pub fn create_index(alloc: Global, items: &[Vec<u8>]) -> Result<OwnedIndex, Erro
     if count == 0 {
         return OwnedIndex::default(alloc);
     }
-    let mut data = Vec::new(alloc);
+    let width = usize::from(size_of_offset(total));
+    let room = 3 + width * (items.len() + 1) + total as usize;
+    let mut data = Vec::with_capacity(alloc, room)?;
     put_header(&mut data, items, count, total)?;
     let header_size = data.len();
     put_items(&mut data, items)?;

@@ -8,8 +8,7 @@ use Rattle.subsetter_cffdata.specs.declared.charstring_number.CharStringNumber.{
 use Rattle.subsetter_cffdata.specs.declared.operator.Operator.{Operator}
 use Rattle.subsetter_cffdata.specs.declared.operator.OperatorType.{OperatorType}
 use Rattle.subsetter_cffdata.specs.declared.operator.OperatorType.TheVariants.{OneByteOperator, TwoByteOperator}
-use Rattle.subsetter_type2.specs.declared.token.Token.{Token}
-use Rattle.subsetter_type2.specs.declared.token.Token.TheVariants.{Operand, Operation}
+use Rattle.subsetter_type2.specs.Token.{Token, Operand, Operation}
 use Rattle.subsetter_type2.specs.declared.token.Effect.{Effect}
 use Rattle.subsetter_type2.specs.declared.token.Effect.TheVariants.{CountsStems, Draws, CallsLocal, CallsGlobal, Returns, Ends, Masks}
 use Rattle.subsetter_cffdata.specs.CharStringNumber.{NumberFits, FitsIn, number_at}

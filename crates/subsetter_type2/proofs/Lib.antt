@@ -1,3 +1,4 @@
+pub mod Operating
 pub mod OutputLemmas
 pub mod ProgramLemmas
 pub mod Runs

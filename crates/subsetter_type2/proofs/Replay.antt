@@ -3,7 +3,7 @@ use Rattle.std.proofs.Common.{◌≡◌, ℕ, suc, ◌+◌, ◌<◌, ◌≤◌, 
 use Rattle.std.proofs.lemmas.Bool.{le-leb, lt-ltb}
 use Rattle.std.proofs.lemmas.Bool.Decides.{nat_tests}
 use Rattle.subsetter_cffdata.specs.declared.charstring_number.CharStringNumber.{CharStringNumber}
-use Rattle.subsetter_type2.specs.declared.token.Token.TheVariants.{Operand}
+use Rattle.subsetter_type2.specs.Token.{Operand}
 use Rattle.subsetter_cffdata.specs.CharStringNumber.{NumberFits, number_at, written}
 use Rattle.subsetter_type2.specs.Token.{token_of}
 use Rattle.subsetter_type2.specs.Flat.{flat_operands}

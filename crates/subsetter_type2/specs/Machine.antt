@@ -6,13 +6,11 @@ use Rattle.subsetter_base.specs.declared.error.Error.{Error}
 use Rattle.subsetter_base.specs.declared.error.Error.TheVariants.{CFFError, Unimplemented}
 use Rattle.subsetter_cffdata.specs.declared.charstring_number.CharStringNumber.{CharStringNumber}
 use Rattle.subsetter_cffdata.specs.declared.operator.Operator.{Operator}
-use Rattle.subsetter_type2.specs.declared.token.Token.{Token}
-use Rattle.subsetter_type2.specs.declared.token.Token.TheVariants.{Operand, Operation}
 use Rattle.subsetter_type2.specs.declared.token.Effect.{Effect}
 use Rattle.subsetter_type2.specs.declared.token.Effect.TheVariants.{CountsStems, Draws, CallsLocal, CallsGlobal, Returns, Ends, Masks}
-use Rattle.subsetter_cffdata.specs.CharStringNumber.{whole_of}
+use Rattle.subsetter_cffdata.specs.CharStringNumber.{number_at, whole_of}
 use Rattle.subsetter_type2.specs.Subroutines.{biased_entry}
-use Rattle.subsetter_type2.specs.Token.{token_of, effect_of}
+use Rattle.subsetter_type2.specs.Token.{Token, Operand, Operation, token_of, effect_of}
 
 -- the subroutines that a charstring may call, with none for an unreadable entry
 pub record Library : Type 0 where
@@ -131,6 +129,14 @@ act library (Operation operator) rest r = operate library operator (effect_of op
 abbrev pub act_on : Library → Option (Token × List ℕ) → Registers → Act
 act_on library None r = Fails CFFError
 act_on library (Some t) r = act library t.0 t.1 r
+
+-- what a number at the front of these bytes does
+abbrev pub pushed : Option (CharStringNumber × List ℕ) → Registers → Act
+pushed None r = Fails CFFError
+pushed (Some n) r = push n.0 n.1 r
+
+unfoldable pub push_at : List ℕ → Registers → Act
+push_at bytes r = pushed (number_at bytes) r
 
 -- what the token at the front of these bytes does
 unfoldable pub act_at : Library → List ℕ → Registers → Act

@@ -4,11 +4,14 @@ use Rattle.subsetter_cffdata.specs.declared.charstring_number.CharStringNumber.{
 use Rattle.subsetter_cffdata.specs.declared.operator.Operator.{Operator}
 use Rattle.subsetter_cffdata.specs.declared.operator.OperatorType.{OperatorType}
 use Rattle.subsetter_cffdata.specs.declared.operator.OperatorType.TheVariants.{OneByteOperator, TwoByteOperator}
-use Rattle.subsetter_type2.specs.declared.token.Token.{Token}
-use Rattle.subsetter_type2.specs.declared.token.Token.TheVariants.{Operand, Operation}
 use Rattle.subsetter_type2.specs.declared.token.Effect.{Effect}
 use Rattle.subsetter_type2.specs.declared.token.Effect.TheVariants.{CountsStems, Draws, CallsLocal, CallsGlobal, Returns, Ends, Masks}
 use Rattle.subsetter_cffdata.specs.CharStringNumber.{number_at}
+
+-- a number or an operator
+pub data Token : Type 0 where
+  Operand : CharStringNumber → Token
+  Operation : Operator → Token
 
 -- an operator of one byte, and one of the mark 12 and a second byte
 abbrev pub one_byte : ℕ → Operator

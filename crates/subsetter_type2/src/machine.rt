@@ -1,17 +1,19 @@
 //! What a token does to the stack, the stems and the output, and where it leads (Technical Note 5177, section 4).
 
-ghost use Rattle.std.specs.Prelude.{◌≡◌, ◌<◌, ◌≤◌, [], IfOk, IfErr};
+ghost use Rattle.std.specs.Prelude.{◌≡◌, ◌<◌, ◌≤◌, ◌∷◌, [], IfOk, IfErr};
 ghost use Rattle.std.specs.Option.{option_copied};
-ghost use Rattle.subsetter_type2.specs.Machine.{subroutine, push, draw, On, stems_after, count_stems, mask, call, end, act, act_at};
+ghost use Rattle.subsetter_type2.specs.Machine.{subroutine, push, draw, On, stems_after, count_stems, mask, call, end, operate, act_on, act_at, push_at, pushed};
+ghost use Rattle.subsetter_cffdata.specs.CharStringNumber.{middle_number};
+ghost use Rattle.subsetter_type2.specs.Token.{two_byte_token};
 ghost use Rattle.subsetter_type2.specs.MachineView.{registers_of, library_of, Performs};
 
 use crate::argstack::MAX_OPERANDS;
 use crate::sink::Sink;
 use crate::subroutines::SubroutineHandler;
-use crate::token::{self, Effect, Token};
+use crate::token::{Effect, find_effect, one_byte_effect};
 use subsetter_base::error::Error;
-use subsetter_cffdata::charstring_number::CharStringNumber;
-use subsetter_cffdata::operator::Operator;
+use subsetter_cffdata::charstring_number::{CharStringNumber, middle_of, read_number};
+use subsetter_cffdata::operator::{Operator, OperatorType};
 
 /// The subroutines that a charstring may call.
 #[derive(Drop)]
@@ -142,21 +144,18 @@ impl<'a, S: Sink<'a>> Machine<S> {
         Ok(Flow::Calls(body, rest))
     }
 
-    /// One token, with what stands after it in its charstring.
+    /// An operator of this effect, with what stands after it in its charstring.
     #[inline(always)]
-    fn act(
+    fn operate(
         &mut self,
         subroutines: &Subroutines<'a>,
-        token: Token,
+        operator: Operator,
+        effect: Option<Effect>,
         rest: &'a [u8],
     ) -> Result<Flow<'a>, Error>
-        ensures { Performs (act (library_of subroutines.now) token rest.now (registers_of S.written self.old)) S.written self.old self.new result }
+        ensures { Performs (operate (library_of subroutines.now) operator effect rest.now (registers_of S.written self.old)) S.written self.old self.new result }
     {
-        let operator = match token {
-            Token::Operand(number) => return self.push(number, rest),
-            Token::Operation(operator) => operator,
-        };
-        match token::find_effect(operator) {
+        match effect {
             None => Err(Error::CFFError),
             Some(Effect::CountsStems) => self.count_stems(operator, rest),
             Some(Effect::Draws) => self.draw(operator, rest),
@@ -168,9 +167,74 @@ impl<'a, S: Sink<'a>> Machine<S> {
         }
     }
 
-    /// The token at the front of these bytes.
+    /// An operator of two bytes, the second of them at the front of these.
+    #[tactic(auto, unfolding(crate::specs::Token::effect_of))]
+    fn operate_by_two(
+        &mut self,
+        subroutines: &Subroutines<'a>,
+        bytes: &'a [u8],
+    ) -> Result<Flow<'a>, Error>
+        ensures { Performs (act_on (library_of subroutines.now) (two_byte_token bytes.now) (registers_of S.written self.old)) S.written self.old self.new result }
+    {
+        match bytes {
+            [second, rest @ ..] => {
+                let operator = Operator::from_two_byte(*second);
+                self.operate(subroutines, operator, find_effect(operator), rest)
+            }
+            [] => Err(Error::CFFError),
+        }
+    }
+
+    /// A number of a first byte from 247 to 254 and one more.
     #[inline(always)]
-    #[tactic(auto, unfolding(crate::specs::Machine::act_at))]
+    fn push_middle(&mut self, first: u8, bytes: &'a [u8]) -> Result<Flow<'a>, Error>
+        requires low { 247 ≤ first }
+        requires high { first < 255 }
+        ensures { Performs (pushed (middle_number first bytes.now) (registers_of S.written self.old)) S.written self.old self.new result }
+    {
+        match bytes {
+            [second, rest @ ..] => {
+                if self.output.count() >= MAX_OPERANDS {
+                    return Err(Error::CFFError);
+                }
+                let number = middle_of(first, *second);
+                self.output.push_pair(number, [first, *second])?;
+                Ok(Flow::GoesOn(rest))
+            }
+            [] => Err(Error::CFFError),
+        }
+    }
+
+    /// A number of more than one byte at the front of these bytes.
+    #[inline(always)]
+    #[tactic(auto, unfolding(crate::specs::Machine::push_at))]
+    fn push_at(&mut self, bytes: &'a [u8]) -> Result<Flow<'a>, Error>
+        ensures { Performs (push_at bytes.now (registers_of S.written self.old)) S.written self.old self.new result }
+    {
+        let (number, rest) = read_number(bytes).ok_or(Error::CFFError)?;
+        self.push(number, rest)
+    }
+
+    /// A number whose first byte is 32 or more; most have just this one.
+    #[inline(always)]
+    #[tactic(auto, unfolding(crate::specs::Machine::push_at, subsetter_cffdata::specs::CharStringNumber::number_at))]
+    fn push_from(&mut self, first: u8, bytes: &'a [u8], rest: &'a [u8]) -> Result<Flow<'a>, Error>
+        requires low { 32 ≤ first }
+        requires split { bytes.now ≡ first ∷ rest.now }
+        ensures { Performs (push_at bytes.now (registers_of S.written self.old)) S.written self.old self.new result }
+    {
+        if first <= 246 {
+            return self.push(CharStringNumber::Integer(first as i16 - 139), rest);
+        }
+        if first < 255 {
+            return self.push_middle(first, rest);
+        }
+        self.push_at(bytes)
+    }
+
+    /// The token at the front of these bytes, which the first byte tells.
+    #[inline(always)]
+    #[tactic(auto, unfolding(crate::specs::Machine::act_at, crate::specs::Machine::push_at, crate::specs::Token::token_of, crate::specs::Token::effect_of))]
     pub fn act_at(
         &mut self,
         subroutines: &Subroutines<'a>,
@@ -178,7 +242,19 @@ impl<'a, S: Sink<'a>> Machine<S> {
     ) -> Result<Flow<'a>, Error>
         ensures { Performs (act_at (library_of subroutines.now) bytes.now (registers_of S.written self.old)) S.written self.old self.new result }
     {
-        let (token, rest) = token::read_token(bytes).ok_or(Error::CFFError)?;
-        self.act(subroutines, token, rest)
+        let [first, rest @ ..] = bytes else {
+            return Err(Error::CFFError);
+        };
+        if *first >= 32 {
+            return self.push_from(*first, bytes, rest);
+        }
+        if *first == 28 {
+            return self.push_at(bytes);
+        }
+        if *first == 12 {
+            return self.operate_by_two(subroutines, rest);
+        }
+        let operator = Operator(OperatorType::OneByteOperator([*first]));
+        self.operate(subroutines, operator, one_byte_effect(*first), rest)
     }
 }

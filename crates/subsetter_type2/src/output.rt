@@ -54,6 +54,14 @@ impl<'a> Sink<'a> for Output {
         Ok(())
     }
 
+    #[inline(always)]
+    fn push_pair(&mut self, value: CharStringNumber, text: [u8; 2]) -> Result<(), Error> {
+        let place = self.bytes.len();
+        self.bytes.extend_from_slice(&text)?;
+        self.operands.push(Operand { value, place });
+        Ok(())
+    }
+
     fn pop(&mut self) -> Option<CharStringNumber> {
         let operand = self.operands.pop()?;
         self.bytes.truncate(operand.place);

@@ -1,17 +1,9 @@
-//! One token of a charstring: a number, or an operator without its mask bytes (Technical Note 5177, section 3.1).
+//! What the operators of a charstring do (Technical Note 5177, section 4).
 
-ghost use Rattle.std.specs.Prelude.{◌≡◌, MatchOption};
-ghost use Rattle.subsetter_type2.specs.Token.{token_of, effect_of, one_byte_effect, two_byte_effect};
+ghost use Rattle.std.specs.Prelude.{◌≡◌};
+ghost use Rattle.subsetter_type2.specs.Token.{effect_of, one_byte_effect, two_byte_effect};
 
-use subsetter_cffdata::charstring_number::{self, CharStringNumber};
 use subsetter_cffdata::operator::{Operator, OperatorType};
-
-/// A number or an operator.
-#[derive(Clone, Copy, PartialEq, Eq, Debug)]
-pub enum Token {
-    Operand(CharStringNumber),
-    Operation(Operator),
-}
 
 /// What an operator does.
 #[derive(Clone, Copy, PartialEq, Eq, Debug)]
@@ -23,23 +15,6 @@ pub enum Effect {
     Returns,
     Ends,
     Masks,
-}
-
-/// The token at the front, and the bytes after it.
-#[inline(always)]
-#[tactic(auto, unfolding(crate::specs::Token::token_of))]
-pub fn read_token(bytes: &[u8]) -> Option<(Token, &[u8])>
-    ensures { MatchOption result (token_of bytes.now ≡ None) (λ r. token_of bytes.now ≡ Some (r.0, r.1.now)) }
-{
-    match bytes {
-        [28 | 32..=255, ..] => {
-            let (value, rest) = charstring_number::read_number(bytes)?;
-            Some((Token::Operand(value), rest))
-        }
-        [12, second, rest @ ..] => Some((Token::Operation(Operator::from_two_byte(*second)), rest)),
-        [12] | [] => None,
-        [first, rest @ ..] => Some((Token::Operation(Operator::from_one_byte(*first)), rest)),
-    }
 }
 
 /// What an operator does, if it is a known one.
@@ -60,7 +35,7 @@ pub fn find_effect(operator: Operator) -> Option<Effect>
 
 /// What the operator of this byte does.
 #[inline(always)]
-fn one_byte_effect(first: u8) -> Option<Effect>
+pub fn one_byte_effect(first: u8) -> Option<Effect>
     ensures { result ≡ one_byte_effect first }
 {
     match first {

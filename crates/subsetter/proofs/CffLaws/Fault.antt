@@ -1,5 +1,5 @@
 -- What is refused of a font with a CFF table has a fault of that name, and where a file is answered no fault stands.
-use Rattle.std.proofs.Common.{◌≡◌, ℕ, ◌<◌, ◌≤◌, Bool, true, false, List, [], length, Option, Some, None, Result, Ok, Err, refl, sym, ap, subst, ◌∙◌, arith}
+use Rattle.std.proofs.Common.{◌≡◌, ℕ, ◌<◌, ◌≤◌, true, false, List, length, Option, Some, None, Ok, Err, refl, sym, ap, subst, ◌∙◌, arith}
 use Rattle.std.specs.Prelude.{codes, is_some, IsSome}
 use Rattle.subsetter_base.specs.Bytes.{IsBytes}
 use Rattle.subsetter_base.specs.Places.{IsWithoutRepeats}
@@ -19,21 +19,19 @@ use Rattle.subsetter.specs.Glyf.Fault as outline_faults
 use Rattle.subsetter.specs.Glyf.Fault.{HasOutlineFault}
 use Rattle.subsetter.specs.Glyf.Read.{outlines, outline}
 use Rattle.subsetter.specs.Glyf.Reach.{IsGlyphOrder}
-use Rattle.subsetter.specs.Head.Written.{head_of}
 use Rattle.subsetter.specs.Cff.Plain.{Made, laid, cff_tables, cff_file, made_of}
 use Rattle.subsetter.specs.Fault as faults
 use Rattle.subsetter.specs.Fault.{HasFault}
 use Rattle.subsetter.specs.Laid.{of_outlines, of_charstrings}
-use Rattle.subsetter.proofs.SfntLaws.TableBytes.{table_bytes}
 use Rattle.subsetter.proofs.SharedLaws.Fault.{shared_refused, no_metrics_fault, no_max_profile_fault, no_name_fault, no_glyph_name_fault}
-use Rattle.subsetter.proofs.SharedLaws.Steps.{head_there, HeadFrom, head_from}
+use Rattle.subsetter.proofs.SharedLaws.Steps.{head_there, head_from}
 use Rattle.subsetter.proofs.TruetypeLaws.Fault.{not_chosen, is_true_is_false}
-use Rattle.subsetter.proofs.TruetypeLaws.Subset.{IsClean}
+use Rattle.subsetter.specs.Answer.{IsAnswer}
 use Rattle.subsetter.proofs.CffLaws.Order.{no_glyf, no_outlines, no_outline, given_order}
-use Rattle.subsetter.proofs.CffLaws.Steps.{MadeSteps, made_tables, FileStops, no_table, no_cff, no_shared, no_file, file_stops, FileSteps, file_of_steps}
+use Rattle.subsetter.proofs.CffLaws.Steps.{MadeSteps, made_tables, FileStops, no_table, no_cff, no_shared, no_file, file_stops, file_of_steps}
 use Rattle.subsetter.proofs.CffLaws.Subset.{made_clean}
 
-module _ (tokens depth : ℕ) (font : Font) (glyphs : List ℕ) (bytes : IsBytes font.bytes) (kind : flavor font ≡ Some Cff) (has : IsSome (table font (codes "CFF "))) (once : IsWithoutRepeats glyphs) where
+module _ (tokens depth : ℕ) (font : Font) (glyphs : List ℕ) (kind : flavor font ≡ Some Cff) (has : IsSome (table font (codes "CFF "))) (once : IsWithoutRepeats glyphs) where
   closed : IsGlyphOrder font glyphs glyphs
   closed = given_order font glyphs (no_glyf font kind) once
 
@@ -45,7 +43,7 @@ module _ (tokens depth : ℕ) (font : Font) (glyphs : List ℕ) (bytes : IsBytes
 
   stops : (e : Error) → FileStops (table font) tokens depth glyphs e → HasFault tokens depth font glyphs glyphs e
   stops e (no_table k) = absurd (let x = sym (ap (λ (o : Option (List ℕ)). is_some o) k) ∙ has in cc)
-  stops e (no_cff source there k) = faults.in_cff source kind there (refused_stands source tokens depth glyphs e (table_bytes font (codes "CFF ") source bytes there) k)
+  stops e (no_cff source there k) = faults.in_cff source kind there (refused_stands source tokens depth glyphs e k)
   stops e (no_shared k) = shared_refused tokens depth font glyphs glyphs closed Cff false e k
   stops e (no_file source m there made k) = not_laid_out source m e there made k
 
@@ -110,8 +108,8 @@ module _ (tokens depth : ℕ) (font : Font) (glyphs source : List ℕ) (bytes : 
 
 -- what is answered is a subset, and no fault stands
 pub is_cff_subset : (tokens depth : ℕ) (font : Font) (glyphs out : List ℕ) → IsBytes font.bytes → 1 ≤ depth → 0 < length glyphs → length glyphs ≤ 65535 → IsWithoutRepeats glyphs → flavor font ≡ Some Cff → ((e : Error) → HasOpeningFault font e → ⊥) → cff_file (table font) tokens depth glyphs ≡ Ok out
-    → IsClean tokens depth font glyphs out
+    → IsAnswer tokens depth font glyphs out
 is_cff_subset tokens depth font glyphs out bytes deep some few once kind opening h =
     let f = file_of_steps (table font) tokens depth glyphs out h in
-    subst (IsClean tokens depth font glyphs) f.out_is
+    subst (IsAnswer tokens depth font glyphs) f.out_is
     (made_clean tokens depth font glyphs f.source kind f.source_is f.made f.steps f.fit bytes deep (omega (arith, some)) few once (cff_clean tokens depth font glyphs f.source bytes kind once opening f.source_is f.made f.steps f.fit))

@@ -1,5 +1,5 @@
 -- The components of a composite, read in full and written under new numbers.
-use Rattle.std.proofs.Common.{◌≡◌, ℕ, zero, suc, ◌+◌, ◌-◌, ◌<◌, ◌≤◌, Bool, true, false, cond, leb, List, [], ◌∷◌, ◌++◌, length, get_or, take, drop, Option, Some, None, Err, refl, sym, ap, ◌∙◌, append_assoc, arith}
+use Rattle.std.proofs.Common.{◌≡◌, ℕ, zero, suc, ◌+◌, ◌-◌, ◌<◌, ◌≤◌, Bool, true, false, cond, leb, List, [], ◌∷◌, ◌++◌, length, get_or, take, drop, Option, Some, None, Ok, Err, refl, sym, ap, ◌∙◌, append_assoc, arith}
 use Rattle.std.specs.Option.{option_and_then, option_map, ok_or}
 use Rattle.std.specs.List.{flat_map}
 use Rattle.std.proofs.lemmas.Bool.{le-leb, lt-leb, leb-true, le-ltb}
@@ -8,7 +8,7 @@ use Rattle.subsetter_base.specs.Bytes.{range, number}
 use Rattle.subsetter_base.specs.declared.error.Error.TheVariants.{MalformedFont}
 use Rattle.subsetter_base.proofs.Options.{bind_some}
 use Rattle.subsetter.specs.Glyf.Parts.{Component, Chain, Composite, Simple, rest_size, has_more, has_instructions, component_at, with_component, last_component, chain_at, composite_parts, outline_parts, spelled, parts_bytes}
-use Rattle.subsetter.specs.Glyf.Plain.{renumbered_component, renumbered_chain, renumbered, rewritten_composite, rewritten}
+use Rattle.subsetter.specs.Glyf.Plain.{renumbered_component, renumbered_chain, renumbered, written_behind, rewritten_composite, rewritten}
 
 -- a component that is whole
 pub record IsComponent (bytes : List ℕ) (c : Component) : Type 0 where
@@ -149,6 +149,14 @@ composite_is order bytes le =
     let same = chain_enough (length bytes) (length rest) rest (omega arith) (omega arith) in
     ap (λ b. ok_or (option_map (λ p. parts_bytes (renumbered order p)) (option_and_then (λ head. option_and_then (λ chain. Some (Composite head chain)) (chain_at (length bytes) rest)) (cond b (Some (take 10 (drop 0 bytes))) None))) MalformedFont) (le-leb 10 (length bytes) le)
     ∙ ap (λ (o : Option (List ℕ)). ok_or o MalformedFont) (composite_by order (take 10 bytes) (chain_at (length bytes) rest) ∙ ap (λ (o : Option Chain). with_front (take 10 bytes) (option_map (chain_bytes order) o)) same)
+
+-- the same behind other bytes
+pub composite_behind : (before order bytes : List ℕ) → 10 ≤ length bytes → written_behind before (rewritten_composite order bytes) ≡ ok_or (with_front (before ++ take 10 bytes) (chain_text order (drop 10 bytes))) MalformedFont
+composite_behind before order bytes le = ap (written_behind before) (composite_is order bytes le) ∙ by (chain_text order (drop 10 bytes))
+  where
+    by : (o : Option (List ℕ)) → written_behind before (ok_or (with_front (take 10 bytes) o) MalformedFont) ≡ ok_or (with_front (before ++ take 10 bytes) o) MalformedFont
+    by None = refl
+    by (Some text) = ap Ok (sym (append_assoc before (take 10 bytes) text))
 
 -- an outline that is a composite
 pub rewritten_high : (order bytes : List ℕ) → 2 ≤ length bytes → 128 ≤ get_or bytes 0 0 → rewritten order bytes ≡ rewritten_composite order bytes

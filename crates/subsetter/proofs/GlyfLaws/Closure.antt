@@ -1,8 +1,8 @@
 -- The glyphs that a list reaches, while they are found.
 use Rattle.std.proofs.Common.{◌≡◌, ℕ, zero, suc, ◌+◌, ◌-◌, ◌*◌, ◌^◌, ◌<◌, ◌≤◌, Bool, true, false, cond, ltb, ◌&&◌, List, [], ◌∷◌, ◌++◌, length, drop, Option, Some, None, refl, sym, ap, subst, ◌∙◌, ◌⊎◌, inl, inr, append_assoc, arith}
-use Rattle.std.specs.Prelude.{Contains, is_some, not}
+use Rattle.std.specs.Prelude.{Contains, is_some, not, nat_le}
 use Rattle.std.specs.Option.{option_and_then}
-use Rattle.std.proofs.lemmas.Bool.{ltb-true}
+use Rattle.std.proofs.lemmas.Bool.{ltb-true, leb-false}
 use Rattle.std.proofs.lemmas.List.{append-nil, length_push, length-append}
 use Rattle.std.proofs.lemmas.List.Elements.{Contains-append_left, Contains-append_right, Contains-append_cases, Contains-push, Contains-push_cases}
 use Rattle.subsetter_base.specs.Places.{place, IsWithoutRepeats}
@@ -16,8 +16,8 @@ use Rattle.subsetter_base.specs.declared.error.Error.{Error}
 use Rattle.subsetter_base.specs.declared.error.Error.TheVariants.{OutOfMemory, MalformedFont, OverflowError}
 use Rattle.subsetter_base.proofs.Lists.{Contains-later}
 use Rattle.subsetter_base.proofs.Options.{none_of}
-use Rattle.subsetter.proofs.GlyfLaws.Components.{components_few}
-use Rattle.subsetter.specs.Glyf.Closure.{components_in, others_in, lacks_head, IsFaulty, IsFull, IsVisited, StopsClosure, no_memory, faulty_glyph, all_reached}
+use Rattle.subsetter.proofs.GlyfLaws.Components.{components_few, components_simple}
+use Rattle.subsetter.specs.Glyf.Closure.{first_byte_in, is_composite_in, composites_in, components_in, others_in, lacks_head, IsFaulty, IsFull, IsVisited, StopsClosure, no_memory, faulty_glyph, all_reached}
 
 -- ---- members of a list
 
@@ -76,17 +76,44 @@ pub record Follows (t : Outlines) (glyphs left waiting order : List ℕ) : Type 
   pub waits : (g : ℕ) → Contains waiting g → Reached t glyphs g
   pub closed : (g h : ℕ) → Contains order g → Contains (components_in (outline_in t g)) h → Contains left g ⊎ (Contains order h ⊎ Contains waiting h)
 
-pub begin : (t : Outlines) (glyphs : List ℕ) → IsWithoutRepeats glyphs → length glyphs < 65536 → Follows t glyphs glyphs [] glyphs
-begin t glyphs once room = record {
+-- the composites are among the glyphs
+composites_are : (t : Outlines) (glyphs : List ℕ) (h : ℕ) → Contains (composites_in t glyphs) h → Contains glyphs h
+composites_are t [] h c = c
+composites_are t (g ∷ glyphs) h c = by (λ d. composites_are t glyphs h d) (is_composite_in t g) c
+  where
+    by : (Contains (composites_in t glyphs) h → Contains glyphs h) → (b : Bool) → Contains (cond b (g ∷ composites_in t glyphs) (composites_in t glyphs)) h → Contains (g ∷ glyphs) h
+    by again true d = elim (cons_cases g h (composites_in t glyphs) d) [ inl is ↦ here g h glyphs is | inr later ↦ Contains-later g h glyphs (again later) ]
+    by again false d = Contains-later g h glyphs (again d)
+
+composites_have : (t : Outlines) (glyphs : List ℕ) (h : ℕ) → Contains glyphs h → is_composite_in t h ≡ true → Contains (composites_in t glyphs) h
+composites_have t [] h c is = absurd (no_member h c)
+composites_have t (g ∷ glyphs) h c is = by (λ d. composites_have t glyphs h d is) (is_composite_in t g) refl
+  where
+    by : (Contains glyphs h → Contains (composites_in t glyphs) h) → (b : Bool) → is_composite_in t g ≡ b → Contains (cond b (g ∷ composites_in t glyphs) (composites_in t glyphs)) h
+    by again true e = elim (cons_cases g h glyphs c) [ inl same ↦ here g h (composites_in t glyphs) same | inr later ↦ Contains-later g h (composites_in t glyphs) (again later) ]
+    by again false e = elim (cons_cases g h glyphs c) [ inl same ↦ absurd (let k = sym e ∙ ap (is_composite_in t) same ∙ is in cc) | inr later ↦ again later ]
+
+-- the others have no components
+simple_none : (o : Option (List ℕ)) (h : ℕ) → nat_le 128 (first_byte_in o) ≡ false → Contains (components_in o) h → ⊥
+simple_none None h e c = no_member h c
+simple_none (Some []) h e c = no_member h (subst (λ (l : List ℕ). Contains l h) (components_simple [] (omega arith)) c)
+simple_none (Some (a ∷ bytes)) h e c = no_member h (subst (λ (l : List ℕ). Contains l h) (components_simple (a ∷ bytes) (leb-false 128 a e)) c)
+
+pub begin : (t : Outlines) (glyphs left : List ℕ) → left ≡ composites_in t glyphs → IsWithoutRepeats glyphs → length glyphs < 65536 → Follows t glyphs left [] glyphs
+begin t glyphs left same once room = record {
   others = [];
   begins = sym (append-nil glyphs);
   once = once;
   room = room;
-  are_given = λ g c. c;
+  are_given = λ g c. composites_are t glyphs g (subst (λ (l : List ℕ). Contains l g) same c);
   reached = λ g c. given g c;
   waits = λ g c. absurd (no_member g c);
-  closed = λ g h at c. inl at;
+  closed = λ g h at c. by g h at c (is_composite_in t g) refl;
 }
+  where
+    by : (g h : ℕ) → Contains glyphs g → Contains (components_in (outline_in t g)) h → (b : Bool) → is_composite_in t g ≡ b → Contains left g ⊎ (Contains glyphs h ⊎ Contains {X = ℕ} [] h)
+    by g h at c true e = inl (subst (λ (l : List ℕ). Contains l g) (sym same) (composites_have t glyphs g at e))
+    by g h at c false e = absurd (simple_none (outline_in t g) h e c)
 
 -- a given glyph was followed
 pub follow : (t : Outlines) (glyphs left waiting order : List ℕ) (g : ℕ) (after : List ℕ) → after ≡ waiting ++ others_in order (components_in (outline_in t g)) → Follows t glyphs (left ++ g ∷ []) waiting order → Follows t glyphs left after order
@@ -216,8 +243,8 @@ overflows t glyphs left waiting order g full f q lt =
 
 -- ---- the steps, as the code takes them
 
-pub start : (t : Outlines) (glyphs left order : List ℕ) → left ≡ glyphs → order ≡ glyphs → IsWithoutRepeats glyphs → length glyphs < 65536 → Follows t glyphs left [] order
-start t glyphs left order a b once room = subst (λ (l : List ℕ). Follows t glyphs l [] order) (sym a) (subst (λ (l : List ℕ). Follows t glyphs glyphs [] l) (sym b) (begin t glyphs once room))
+pub start : (t : Outlines) (glyphs left order : List ℕ) → left ≡ composites_in t glyphs → order ≡ glyphs → IsWithoutRepeats glyphs → length glyphs < 65536 → Follows t glyphs left [] order
+start t glyphs left order a b once room = subst (λ (l : List ℕ). Follows t glyphs left [] l) (sym b) (begin t glyphs left a once room)
 
 pub followed : (t : Outlines) (glyphs before left waiting order : List ℕ) (g : ℕ) (after : List ℕ) → before ≡ left ++ g ∷ [] → waiting ≡ [] → after ≡ waiting ++ others_in order (components_in (outline_in t g)) → Follows t glyphs before [] order → Follows t glyphs left after order
 followed t glyphs before left waiting order g after e none is f =

@@ -1,26 +1,28 @@
 -- Names of `post` that are found from the marks of every eighth.
-use Rattle.std.proofs.Common.{◌≡◌, ℕ, zero, suc, ◌+◌, ◌*◌, ◌/◌, ◌%◌, List, [], ◌∷◌, ◌++◌, length, drop, Option, Some, None, refl, sym, ap, ◌∙◌, arith}
+use Rattle.std.proofs.Common.{◌≡◌, ◌<◌, ◌≤◌, ℕ, zero, suc, ◌+◌, ◌*◌, ◌/◌, ◌%◌, List, [], ◌∷◌, ◌++◌, cond, length, take, drop, Option, Some, None, refl, sym, ap, ◌∙◌, arith}
 use Rattle.std.specs.Prelude.{slice_get, get_or}
-use Rattle.std.specs.Iterator.{YieldsFirstRef}
-use Rattle.std.specs.Borrow.{Bor}
-use Rattle.std.proofs.lemmas.List.{drop-drop, length-append}
-use Rattle.subsetter.specs.Post.Read.{names_in}
+use Rattle.std.proofs.lemmas.Bool.{lt-leb}
+use Rattle.std.proofs.lemmas.List.{drop-drop, drop_all, drop_more, length-append, length-drop}
+use Rattle.subsetter.specs.Post.Read.{names_in, pascal_strings}
 use Rattle.subsetter.specs.Post.Marks.{AreMarks}
-use Rattle.subsetter.specs.Name.View.{nows}
-use Rattle.subsetter.proofs.NameLaws.Written.{nows-push}
+use Rattle.subsetter.proofs.PostLaws.Steps.{first_gone}
 
-pub marks_push : (names marks : List (List ℕ)) (m : List ℕ) → AreMarks names marks → names_in m ≡ drop (8 * length marks) names → AreMarks names (marks ++ m ∷ [])
-marks_push names [] m h e = (e, tt)
-marks_push names (x ∷ marks) m h e = (h.0, marks_push (drop 8 names) marks m h.1 (e ∙ ap (λ n. drop n names) (omega arith) ∙ sym (drop-drop (8 * length marks) 8 names)))
+pub marks_push : (all : List ℕ) (names : List (List ℕ)) (marks : List ℕ) (m : ℕ) → AreMarks all names marks → names_in (drop m all) ≡ drop (8 * length marks) names → m ≤ length all → AreMarks all names (marks ++ m ∷ [])
+marks_push all names [] m h e le = (e, (le, tt))
+marks_push all names (x ∷ marks) m h e le = (h.0, (h.1.0, marks_push all (drop 8 names) marks m h.1.1 (e ∙ ap (λ n. drop n names) (omega arith) ∙ sym (drop-drop (8 * length marks) 8 names)) le))
 
 -- the same of the code's marks
-pub mark_last : (names : List (List ℕ)) (marks after : List (Bor (List ℕ))) (m : Bor (List ℕ)) → after ≡ marks ++ m ∷ [] → AreMarks names (nows marks) → names_in m.now ≡ drop (8 * length (nows marks)) names → AreMarks names (nows after)
-mark_last names marks after m is h e = rw (ap nows is ∙ nows-push marks m) (marks_push names (nows marks) m.now h e)
+pub mark_last : (all : List ℕ) (names : List (List ℕ)) (marks after : List ℕ) (m : ℕ) → after ≡ marks ++ m ∷ [] → AreMarks all names marks → names_in (drop m all) ≡ drop (8 * length marks) names → m ≤ length all → AreMarks all names after
+mark_last all names marks after m is h e le = rw is (marks_push all names marks m h e le)
 
-pub mark_is : (names : List (List ℕ)) (marks : List (Bor (List ℕ))) (j : ℕ) (m : Bor (List ℕ)) → AreMarks names (nows marks) → slice_get marks j ≡ Some m → names_in m.now ≡ drop (8 * j) names
-mark_is names [] j m h e = absurd cc
-mark_is names (x ∷ marks) zero m h e = ap names_in (ap (λ (o : Option (Bor (List ℕ))). elim o as (λ _. List ℕ) [ None ↦ m.now | Some b ↦ b.now ]) (sym e)) ∙ h.0
-mark_is names (x ∷ marks) (suc j) m h e = mark_is (drop 8 names) marks j m h.1 e ∙ drop-drop (8 * j) 8 names ∙ ap (λ n. drop n names) (omega arith)
+pub mark_is : (all : List ℕ) (names : List (List ℕ)) (marks : List ℕ) (j m : ℕ) → AreMarks all names marks → slice_get marks j ≡ Some m → (names_in (drop m all) ≡ drop (8 * j) names) × (m ≤ length all)
+mark_is all names [] j m h e = absurd cc
+mark_is all names (x ∷ marks) zero m h e =
+    let same : m ≡ x = ap (λ (o : Option ℕ). elim o as (λ _. ℕ) [ None ↦ m | Some b ↦ b ]) (sym e) in
+    (ap (λ (n : ℕ). names_in (drop n all)) same ∙ h.0, omega (arith, same, h.1.0))
+mark_is all names (x ∷ marks) (suc j) m h e =
+    let later = mark_is all (drop 8 names) marks j m h.1.1 e in
+    (later.0 ∙ drop-drop (8 * j) 8 names ∙ ap (λ n. drop n names) (omega arith), later.1)
 
 -- the member at a place is the first behind the place
 pub first_behind : (names : List (List ℕ)) (i : ℕ) (x : List ℕ) (rest : List (List ℕ)) → drop i names ≡ x ∷ rest → get_or names i [] ≡ x
@@ -34,21 +36,39 @@ none_behind [] i e = refl
 none_behind (y ∷ names) zero e = absurd cc
 none_behind (y ∷ names) (suc i) e = none_behind names i e
 
--- a name less, where there is one
-one_less : (r : Option (Bor (List ℕ))) (s t : List ℕ) → YieldsFirstRef names_in s r t → names_in t ≡ drop 1 (names_in s)
-one_less None s t (a, b) = b ∙ sym (ap (λ (l : List (List ℕ)). drop 1 l) a)
-one_less (Some x) s t h = sym (ap (λ (l : List (List ℕ)). drop 1 l) h)
+-- behind the name at a place
+pub behind_first : (bytes : List ℕ) (at len : ℕ) → at < length bytes → len ≡ get_or bytes at 0 → at + 1 + len ≤ length bytes → names_in (drop (at + 1 + len) bytes) ≡ drop 1 (names_in (drop at bytes))
+behind_first bytes at len lt is le =
+    let front : drop at bytes ≡ len ∷ drop (at + 1) bytes = drop_more bytes at 0 lt ∙ ap (λ (x : ℕ). x ∷ drop (at + 1) bytes) (sym is) in
+    let behind : drop len (drop (at + 1) bytes) ≡ drop (at + 1 + len) bytes = drop-drop len (at + 1) bytes in
+    ap names_in (sym behind) ∙ first_gone len (drop (at + 1) bytes) (omega (arith, length-drop (at + 1) bytes)) ∙ ap (λ l. drop 1 (names_in l)) (sym front)
+
+-- a name that is cut ends the names
+pub behind_cut : (bytes : List ℕ) (at len : ℕ) → at < length bytes → len ≡ get_or bytes at 0 → length bytes < at + 1 + len → names_in (drop (length bytes) bytes) ≡ drop 1 (names_in (drop at bytes))
+behind_cut bytes at len lt is past =
+    let front : drop at bytes ≡ len ∷ drop (at + 1) bytes = drop_more bytes at 0 lt ∙ ap (λ (x : ℕ). x ∷ drop (at + 1) bytes) (sym is) in
+    let none : names_in (len ∷ drop (at + 1) bytes) ≡ [] = cut len (drop (at + 1) bytes) (omega (arith, length-drop (at + 1) bytes)) in
+    ap names_in (drop_all (length bytes) bytes (omega arith)) ∙ ap (drop 1) (sym (ap names_in front ∙ none))
+  where
+    cut : (len : ℕ) (rest : List ℕ) → length rest < len → names_in (len ∷ rest) ≡ []
+    cut len rest lt = ap (λ b. cond b (take len rest ∷ pascal_strings (length rest) (drop len rest)) []) (lt-leb _ _ lt)
+
+-- behind the last
+pub behind_end : (bytes : List ℕ) (at : ℕ) → length bytes ≤ at → names_in (drop at bytes) ≡ drop 1 (names_in (drop at bytes))
+behind_end bytes at le =
+    let none : drop at bytes ≡ [] = drop_all at bytes le in
+    ap names_in none ∙ ap (λ (l : List ℕ). drop 1 (names_in l)) (sym none)
 
 -- one name more is passed over
-pub passed : (r : Option (Bor (List ℕ))) (all s t : List ℕ) (n : ℕ) → names_in s ≡ drop n (names_in all) → YieldsFirstRef names_in s r t → names_in t ≡ drop (n + 1) (names_in all)
-passed r all s t n e h = one_less r s t h ∙ ap (drop 1) e ∙ drop-drop 1 n (names_in all)
+pub passed : (bytes : List ℕ) (start at next n : ℕ) → names_in (drop at bytes) ≡ drop n (names_in (drop start bytes)) → names_in (drop next bytes) ≡ drop 1 (names_in (drop at bytes)) → names_in (drop next bytes) ≡ drop (n + 1) (names_in (drop start bytes))
+passed bytes start at next n e h = h ∙ ap (drop 1) e ∙ drop-drop 1 n (names_in (drop start bytes))
 
--- behind a further mark
-pub mark_more : (names : List (List ℕ)) (marks after : List (Bor (List ℕ))) (m : Bor (List ℕ)) (s t : List ℕ) → after ≡ marks ++ m ∷ [] → names_in s ≡ drop (8 * length (nows marks)) names → names_in t ≡ drop 8 (names_in s) → names_in t ≡ drop (8 * length (nows after)) names
-mark_more names marks after m s t is at eight =
-    let len : length (nows after) ≡ length (nows marks) + 1 = ap length (ap nows is ∙ nows-push marks m) ∙ length-append (nows marks) (m.now ∷ []) in
-    eight ∙ ap (drop 8) at ∙ drop-drop 8 (8 * length (nows marks)) names ∙ ap (λ n. drop n names) (omega (arith, len))
+-- eight names further
+pub mark_more : (all : List ℕ) (names : List (List ℕ)) (marks after : List ℕ) (m at next : ℕ) → after ≡ marks ++ m ∷ [] → names_in (drop at all) ≡ drop (8 * length marks) names → names_in (drop next all) ≡ drop 8 (names_in (drop at all)) → names_in (drop next all) ≡ drop (8 * length after) names
+mark_more all names marks after m at next is here eight =
+    let len : length after ≡ length marks + 1 = ap length is ∙ length-append marks (m ∷ []) in
+    eight ∙ ap (drop 8) here ∙ drop-drop 8 (8 * length marks) names ∙ ap (λ n. drop n names) (omega (arith, len))
 
 -- found from a mark
-pub from_mark : (names : List (List ℕ)) (marks : List (Bor (List ℕ))) (i : ℕ) (m : Bor (List ℕ)) → AreMarks names (nows marks) → slice_get marks (i / 8) ≡ Some m → drop (i % 8) (names_in m.now) ≡ drop i names
-from_mark names marks i m h e = ap (drop (i % 8)) (mark_is names marks (i / 8) m h e) ∙ drop-drop (i % 8) (8 * (i / 8)) names ∙ ap (λ n. drop n names) (omega arith)
+pub from_mark : (all : List ℕ) (marks : List ℕ) (i m : ℕ) → AreMarks all (names_in all) marks → slice_get marks (i / 8) ≡ Some m → drop (i % 8) (names_in (drop m all)) ≡ drop i (names_in all)
+from_mark all marks i m h e = ap (drop (i % 8)) (mark_is all (names_in all) marks (i / 8) m h e).0 ∙ drop-drop (i % 8) (8 * (i / 8)) (names_in all) ∙ ap (λ n. drop n (names_in all)) (omega arith)

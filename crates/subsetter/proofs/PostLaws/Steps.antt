@@ -6,7 +6,7 @@ use Rattle.std.proofs.lemmas.List.{drop-drop, length-drop, drop_more}
 use Rattle.subsetter.specs.Post.Read.{pascal_strings, names_in}
 use Rattle.subsetter.proofs.PostLaws.Indexes.{enough}
 
-first_gone : (len : ℕ) (rest : List ℕ) → len ≤ length rest → names_in (drop len rest) ≡ drop 1 (names_in (len ∷ rest))
+pub first_gone : (len : ℕ) (rest : List ℕ) → len ≤ length rest → names_in (drop len rest) ≡ drop 1 (names_in (len ∷ rest))
 first_gone len rest le =
     let split : names_in (len ∷ rest) ≡ take len rest ∷ pascal_strings (length rest) (drop len rest) = ap (λ b. cond b (take len rest ∷ pascal_strings (length rest) (drop len rest)) []) (le-leb _ _ le) in
     enough (length (drop len rest)) (length rest) (drop len rest) (omega arith) (omega (arith, length-drop len rest)) ∙ sym (ap (drop 1) split)

@@ -1,5 +1,5 @@
 -- What an answer that gives a plain function's value says.
-use Rattle.std.proofs.Common.{◌≡◌, ℕ, ◌^◌, ◌<◌, List, length, Option, Result, Ok, Err, refl, sym, ap, subst, ◌∙◌, ◌⊎◌, inl, inr, arith}
+use Rattle.std.proofs.Common.{◌≡◌, ℕ, ◌^◌, ◌<◌, List, [], length, Option, Result, Ok, Err, refl, sym, ap, subst, ◌∙◌, ◌⊎◌, inl, inr, arith}
 use Rattle.std.specs.Prelude.{IfOk, IfErr}
 use Rattle.std.specs.List.{AllByRecursion}
 use Rattle.std.proofs.lemmas.List.{length-map}
@@ -16,6 +16,7 @@ use Rattle.subsetter.specs.Sfnt.Written.{Table, IsTable, kind_word}
 use Rattle.subsetter.specs.Truetype.Plain.{Made, made_of, font_of, laid, truetype_tables}
 use Rattle.subsetter.specs.Sfnt.Plain.{file_of}
 use Rattle.subsetter.specs.Glyf.Plain.{outlines_read}
+use Rattle.subsetter.specs.Glyf.Closure.{Finds}
 use Rattle.subsetter.specs.Glyf.Reach.{IsGlyphOrderBy}
 use Rattle.subsetter.specs.Sfnt.View.{view, views}
 use Rattle.subsetter.proofs.TruetypeLaws.Steps.{made_steps}
@@ -70,12 +71,13 @@ module _ (find : List ℕ → Option (List ℕ)) (glyphs order : List ℕ) (t : 
     pub all_tables : AllByRecursion IsTable (views ts)
     all_tables = subst (λ (l : List Table). AllByRecursion IsTable l) (sym are) (laid_all find t order m (made_steps find t order m made))
 
-    pub answered : (out : List ℕ) → length order < 2 ^ 16 → file_of (kind_word TrueType) (views ts) ≡ Ok out → IsAnswered find glyphs out
-    answered out few h = record {
+    pub answered : (out : List ℕ) → Finds t order glyphs [] glyphs → length order < 2 ^ 16 → file_of (kind_word TrueType) (views ts) ≡ Ok out → IsAnswered find glyphs out
+    answered out found few h = record {
       source = t;
       read = read;
       order = order;
       is_order = closed;
+      found = found;
       few = few;
       tables = laid find m;
       tables_are = made_tables m made;

@@ -1,5 +1,5 @@
 -- What subsetting answers is a subset.
-use Rattle.std.proofs.Common.{◌≡◌, ℕ, ◌+◌, ◌*◌, ◌^◌, ◌<◌, true, false, cond, List, ◌++◌, length, Option, Some, None, Ok, refl, sym, ap, subst, ◌∙◌, arith, inl}
+use Rattle.std.proofs.Common.{◌≡◌, ℕ, ◌+◌, ◌*◌, ◌^◌, ◌<◌, true, false, cond, List, [], ◌++◌, length, Option, Some, None, Ok, refl, sym, ap, subst, ◌∙◌, arith, inl}
 use Rattle.std.specs.Prelude.{codes, is_some}
 use Rattle.std.specs.Option.{option_map}
 use Rattle.std.specs.List.{AllByRecursion}
@@ -16,6 +16,7 @@ use Rattle.subsetter.specs.Sfnt.Read.{Font, as_font, table, flavor}
 use Rattle.subsetter.specs.Sfnt.Rows.{bytes_of, present, lookup, tags, rows, called_for, tags_of}
 use Rattle.subsetter.specs.Sfnt.Written.{Table, IsTable, with_adjustment, fits, file, start_of, kind_word}
 use Rattle.subsetter.specs.Glyf.Read.{Outlines, outlines}
+use Rattle.subsetter.specs.Glyf.Closure.{Finds}
 use Rattle.subsetter.specs.Glyf.Reach.{IsGlyphOrder}
 use Rattle.subsetter.specs.Glyf.Written.{is_long, glyf_bytes}
 use Rattle.subsetter.specs.Head.Written.{head_bytes}
@@ -26,6 +27,7 @@ use Rattle.subsetter.specs.Truetype.Read.{HasGlyphCount, KeepsPrograms, KeepsOut
 use Rattle.subsetter.specs.Fault.{HasFault}
 use Rattle.subsetter.specs.Laid.{of_outlines}
 use Rattle.subsetter.specs.Subset.{by_outlines, IsSubset}
+use Rattle.subsetter.specs.Answer.{IsAnswer}
 use Rattle.subsetter.proofs.SfntLaws.Back.{word_of}
 use Rattle.subsetter.proofs.SfntLaws.Container.{sound, table_of, head_of}
 use Rattle.subsetter.proofs.SfntLaws.Rows.{rows_ascend, present_ascends, lookup_row, rows_few, some_table, rows_tables, AreAlike, same_tags}
@@ -115,7 +117,7 @@ module _ (font : Font) (t : Outlines) (order : List ℕ) (m : Made) (read : outl
   back : (tag : List ℕ) → bytes_eq tag (codes "head") ≡ false → table out tag ≡ bytes_of tag (rows (font_of (table font) m))
   back tag other = table_of (kind_word TrueType) ts (inl refl) (laid_few (table font) m) (laid_all (table font) t order m s) fit tag other ∙ lookup_laid (table font) m tag
 
-  shared_back : AreBack out word m.shared
+  pub shared_back : AreBack out word m.shared
   shared_back = record {
     head = head_of (kind_word TrueType) ts (inl refl) (laid_few (table font) m) (laid_all (table font) t order m s) fit ∙ ap (option_map (with_adjustment word)) (lookup_laid (table font) m (codes "head"));
     hhea = back (codes "hhea") refl;
@@ -128,7 +130,7 @@ module _ (font : Font) (t : Outlines) (order : List ℕ) (m : Made) (read : outl
   head_back : table out (codes "head") ≡ Some (with_adjustment word (head_bytes (is_long m.outlines) t.head))
   head_back = shared_back.head ∙ ap (option_map (with_adjustment word)) (made_head (table font) t order m source s)
 
-  container : IsSoundContainer made_file (kind_word TrueType) (tags_of TrueType (table font))
+  pub container : IsSoundContainer made_file (kind_word TrueType) (tags_of TrueType (table font))
   container =
       let some = some_table (codes "loca") m.loca ts (lookup_laid (table font) m (codes "loca")) in
       let up = subst (λ (l : List Table). AscendFrom 0 (tags l)) (sym (laid_is (table font) m)) (present_ascends 0 (rows (font_of (table font) m)) (rows_ascend (font_of (table font) m))) in
@@ -138,7 +140,7 @@ module _ (font : Font) (t : Outlines) (order : List ℕ) (m : Made) (read : outl
   abbrev afresh : Outlines
   afresh = record { loca = m.loca; glyf = glyf_bytes (is_long m.outlines) m.outlines; head = with_adjustment word (head_bytes (is_long m.outlines) t.head); long = is_long m.outlines }
 
-  outlines_back : outlines out ≡ Some afresh
+  pub outlines_back : outlines out ≡ Some afresh
   outlines_back = outlines_afresh (table out) m.loca (glyf_bytes (is_long m.outlines) m.outlines) word (is_long m.outlines) t.head source.head_len (back (codes "loca") refl) (back (codes "glyf") refl) head_back
 
   written : AreWritten m.outlines afresh
@@ -150,7 +152,7 @@ module _ (font : Font) (t : Outlines) (order : List ℕ) (m : Made) (read : outl
   programs : KeepsPrograms font out
   programs = record { control_values = back (codes "cvt ") refl; font_program = back (codes "fpgm") refl; control_program = back (codes "prep") refl }
 
-  outlines_kept : (glyphs : List ℕ) → IsBytes font.bytes → IsGlyphOrder font glyphs order → length order < 2 ^ 16 → KeepsOutlines font order out
+  pub outlines_kept : (glyphs : List ℕ) → IsBytes font.bytes → IsGlyphOrder font glyphs order → length order < 2 ^ 16 → KeepsOutlines font order out
   outlines_kept glyphs bytes closed few =
       let glyf = table_bytes font (codes "glyf") t.glyf bytes source.glyf_is in
       record {
@@ -161,7 +163,7 @@ module _ (font : Font) (t : Outlines) (order : List ℕ) (m : Made) (read : outl
         programs = programs;
       }
 
-  pub made_subset : (tokens depth : ℕ) (glyphs : List ℕ) → IsBytes font.bytes → IsGlyphOrder font glyphs order → 0 < length order → length order < 2 ^ 16 → flavor font ≡ Some TrueType → (tables : List Table) → (tables ≡ ts) → truetype_tables (table font) t order ≡ Ok tables
+  unfoldable pub made_subset : (tokens depth : ℕ) (glyphs : List ℕ) → IsBytes font.bytes → IsGlyphOrder font glyphs order → 0 < length order → length order < 2 ^ 16 → flavor font ≡ Some TrueType → (tables : List Table) → (tables ≡ ts) → truetype_tables (table font) t order ≡ Ok tables
       → IsSubset tokens depth font glyphs made_file
   made_subset tokens depth glyphs bytes closed some few kind tables same made = record {
     keeps = record {
@@ -177,12 +179,8 @@ module _ (font : Font) (t : Outlines) (order : List ℕ) (m : Made) (read : outl
     layout = record { tables = tables; made = of_outlines t read made; bytes = ap (λ (l : List Table). file (kind_word TrueType) l) (sym same); room = subst (λ (l : List Table). fits (start_of l) l ≡ true) (sym same) fit };
   }
 
--- a subset, and no fault of its order
-abbrev pub IsClean : ℕ → ℕ → Font → List ℕ → List ℕ → Type 0
-IsClean tokens depth font glyphs out = (s : IsSubset tokens depth font glyphs out) × ((e : Error) → HasFault tokens depth font glyphs s.keeps.order e → ⊥)
-
 -- what is answered is a subset
-pub is_subset : (tokens depth : ℕ) (font : Font) (glyphs out : List ℕ) → IsBytes font.bytes → 0 < length glyphs → flavor font ≡ Some TrueType → (a : IsAnswered (table font) glyphs out) → ((e : Error) → HasFault tokens depth font glyphs a.order e → ⊥) → IsClean tokens depth font glyphs out
+pub is_subset : (tokens depth : ℕ) (font : Font) (glyphs out : List ℕ) → IsBytes font.bytes → 0 < length glyphs → flavor font ≡ Some TrueType → (a : IsAnswered (table font) glyphs out) → ((e : Error) → HasFault tokens depth font glyphs a.order e → ⊥) → IsAnswer tokens depth font glyphs out
 unfolding made_subset
 is_subset tokens depth font glyphs out bytes some kind a clean =
     let read : outlines font ≡ Some a.source = named_ok (outlines font) MalformedFont a.source a.read in
@@ -193,4 +191,8 @@ is_subset tokens depth font glyphs out bytes some kind a clean =
     let laid_out = file_steps (kind_word TrueType) a.tables out a.laid_out in
     let fit : fits (start_of (laid (table font) made.0)) (laid (table font) made.0) ≡ true = subst (λ (l : List Table). fits (start_of l) l ≡ true) (sym made.2) laid_out.0 in
     let same : file (kind_word TrueType) (laid (table font) made.0) ≡ out = ap (file (kind_word TrueType)) made.2 ∙ laid_out.1 in
-    subst (IsClean tokens depth font glyphs) same (made_subset font a.source a.order made.0 read s fit tokens depth glyphs bytes closed more a.few kind a.tables (sym made.2) a.tables_are, clean)
+    subst (IsAnswer tokens depth font glyphs) same (record {
+      subset = made_subset font a.source a.order made.0 read s fit tokens depth glyphs bytes closed more a.few kind a.tables (sym made.2) a.tables_are;
+      clean = clean;
+      found = λ source r. subst (λ (t : Outlines). Finds t a.order glyphs [] glyphs) (just_is a.source source (sym read ∙ r)) a.found;
+    })

@@ -1,5 +1,5 @@
 -- How the glyphs that a list reaches are found.
-use Rattle.std.specs.Prelude.{◌≡◌, ℕ, ◌+◌, ◌<◌, ◌^◌, Bool, true, false, not, ◌&&◌, List, [], ◌∷◌, ◌++◌, length, Option, Some, None, is_some, filter, slice_index, nat_lt, if◌then◌else◌}
+use Rattle.std.specs.Prelude.{◌≡◌, ℕ, ◌+◌, ◌<◌, ◌^◌, Bool, true, false, not, ◌&&◌, List, [], ◌∷◌, ◌++◌, length, Option, Some, None, is_some, filter, slice_index, nat_lt, nat_le, if◌then◌else◌}
 use Rattle.subsetter_base.specs.Places.{place, with_glyph}
 use Rattle.subsetter_base.specs.declared.error.Error.{Error}
 use Rattle.subsetter_base.specs.declared.error.Error.TheVariants.{MalformedFont, OverflowError, OutOfMemory}
@@ -15,6 +15,19 @@ components_in (Some bytes) = component_numbers bytes
 -- the numbers that aren't in a list
 abbrev pub others_in : List ℕ → List ℕ → List ℕ
 others_in order numbers = filter (λ h. not (is_some (place order h))) numbers
+
+-- the first byte of an outline, 0 where there is none
+abbrev pub first_byte_in : Option (List ℕ) → ℕ
+first_byte_in None = 0
+first_byte_in (Some []) = 0
+first_byte_in (Some (a ∷ bytes)) = a
+
+abbrev pub is_composite_in : Outlines → ℕ → Bool
+is_composite_in t g = nat_le 128 (first_byte_in (outline_in t g))
+
+-- those of some glyphs that can have components
+abbrev pub composites_in : Outlines → List ℕ → List ℕ
+composites_in t glyphs = filter (λ g. is_composite_in t g) glyphs
 
 -- one byte, or a composite of fewer than ten bytes
 unfoldable pub lacks_head : List ℕ → Bool
@@ -39,7 +52,9 @@ pub record IsFull (order : List ℕ) (g : ℕ) : Type 0 where
 pub record IsVisited (t : Outlines) (order waiting : List ℕ) (g : ℕ) (order_after waiting_after : List ℕ) : Type 0 where
   pub is_last : order_after ≡ with_glyph order g
   pub wait : waiting_after ≡ (if is_some (place order g) then waiting else waiting ++ others_in order_after (components_in (outline_in t g)))
+  -- an outline has fewer than 2 ^ 32 components
   pub few : length waiting_after < length waiting + 2 ^ 32
+  -- the order has at most 65535 glyphs
   pub room : length order_after < 65536
 
 -- a glyph that the given ones reach is faulty, or they reach all numbers, or memory ran out
@@ -47,3 +62,12 @@ pub data StopsClosure (t : Outlines) (glyphs : List ℕ) : Error → Type 0 wher
   no_memory : StopsClosure t glyphs OutOfMemory
   faulty_glyph : (g : ℕ) → IsReachableBy (outline_in t) glyphs g → IsFaulty t g → StopsClosure t glyphs MalformedFont
   all_reached : ((g : ℕ) → g < 65536 → IsReachableBy (outline_in t) glyphs g) → StopsClosure t glyphs OverflowError
+
+-- which list is found from an order, the given glyphs that are still to be followed, and the components that wait
+pub data Finds (t : Outlines) (found : List ℕ) : List ℕ → List ℕ → List ℕ → Type 0 where
+  -- no glyph is left to be followed, and none waits
+  all_found : {left waiting order : List ℕ} → left ≡ [] → waiting ≡ [] → order ≡ found → Finds t found left waiting order
+  -- none waits: the last given glyph is followed, and its components that aren't in the order wait
+  follows : {left waiting order : List ℕ} (rest : List ℕ) (g : ℕ) → left ≡ rest ++ g ∷ [] → waiting ≡ [] → Finds t found rest (others_in order (components_in (outline_in t g))) order → Finds t found left waiting order
+  -- the last of those that wait is taken
+  visits : {left waiting order : List ℕ} (rest : List ℕ) (g : ℕ) (order_after waiting_after : List ℕ) → waiting ≡ rest ++ g ∷ [] → IsVisited t order rest g order_after waiting_after → Finds t found left waiting_after order_after → Finds t found left waiting order

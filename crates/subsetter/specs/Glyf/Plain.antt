@@ -1,5 +1,5 @@
 -- The plain way to take the outlines of the kept glyphs, with the error that is answered where one can't be taken.
-use Rattle.std.specs.Prelude.{ℕ, List, [], ◌∷◌, map, Option, Result, Ok}
+use Rattle.std.specs.Prelude.{ℕ, List, [], ◌∷◌, ◌++◌, map, Option, Result, Ok}
 use Rattle.std.specs.Option.{option_map, unwrap_or, ok_or}
 use Rattle.subsetter_base.specs.Bytes.{◌>>=◌}
 use Rattle.subsetter_base.specs.Places.{place}
@@ -36,6 +36,14 @@ rewritten_composite order bytes = ok_or (option_map (λ p. parts_bytes (renumber
 -- an outline with its components under the new numbers
 unfoldable pub rewritten : List ℕ → List ℕ → Result (List ℕ) Error
 rewritten order bytes = ok_or (option_map (λ p. parts_bytes (renumbered order p)) (outline_parts bytes)) MalformedFont
+
+-- bytes that are written behind others
+abbrev pub written_behind : List ℕ → Result (List ℕ) Error → Result (List ℕ) Error
+written_behind front read = read >>= λ bytes. Ok (front ++ bytes)
+
+-- a list with one outline more
+abbrev pub with_last : List (List ℕ) → Result (List ℕ) Error → Result (List (List ℕ)) Error
+with_last outlines read = read >>= λ bytes. Ok (outlines ++ bytes ∷ [])
 
 -- the outline of a glyph that is kept
 unfoldable pub kept : Outlines → List ℕ → ℕ → Result (List ℕ) Error

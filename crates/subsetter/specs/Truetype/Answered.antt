@@ -1,9 +1,9 @@
 -- What subsetting a TrueType font comes to, step by step: the outlines are read, the order of the glyphs is found, the tables are made, and the file is laid out.
-use Rattle.std.specs.Prelude.{◌≡◌, ◌<◌, ◌^◌, ℕ, List, length, Option, Ok, Err}
+use Rattle.std.specs.Prelude.{◌≡◌, ◌<◌, ◌^◌, ℕ, List, [], length, Option, Ok, Err}
 use Rattle.subsetter_base.specs.declared.error.Error.{Error}
 use Rattle.subsetter_base.specs.declared.error.Error.TheVariants.{OutOfMemory}
 use Rattle.subsetter.specs.declared.sfnt.flavor.FontFlavor.TheVariants.{TrueType}
-use Rattle.subsetter.specs.Glyf.Closure.{StopsClosure}
+use Rattle.subsetter.specs.Glyf.Closure.{Finds, StopsClosure}
 use Rattle.subsetter.specs.Glyf.Read.{Outlines, outline_in}
 use Rattle.subsetter.specs.Sfnt.Written.{Table, kind_word}
 use Rattle.subsetter.specs.Truetype.Plain.{truetype_tables}
@@ -17,6 +17,7 @@ pub record IsAnswered (find : List ℕ → Option (List ℕ)) (glyphs out : List
   pub read : outlines_read find ≡ Ok source
   pub order : List ℕ
   pub is_order : IsGlyphOrderBy (outline_in source) glyphs order
+  pub found : Finds source order glyphs [] glyphs
   pub few : length order < 2 ^ 16
   pub tables : List Table
   pub tables_are : truetype_tables find source order ≡ Ok tables

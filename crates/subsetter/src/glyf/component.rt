@@ -1,19 +1,15 @@
 //! The components of a composite glyph (OpenType, "glyf": composite glyph description).
 
 ghost use Rattle.std.specs.Prelude.{◌≡◌, ◌+◌, [], ◌++◌, length, drop, OnOk, IfErr, if◌then◌else◌, nat_le};
-ghost use Rattle.std.specs.Cow.{cow_slice_items};
 ghost use Rattle.std.specs.Option.{option_map};
 ghost use Rattle.subsetter_base.specs.Gives.{Gives};
 ghost use Rattle.subsetter_base.specs.declared.error.Error.TheVariants.{OutOfMemory};
 ghost use Rattle.subsetter.specs.Glyf.View.{component_seen};
 ghost use Rattle.subsetter.specs.Glyf.Parts.{rest_size, has_more, has_instructions, component_at, numbers_at, component_numbers, spelled};
-ghost use Rattle.subsetter.specs.Glyf.Plain.{renumbered_component, rewritten_composite, rewritten};
+ghost use Rattle.subsetter.specs.Glyf.Plain.{renumbered_component, written_behind, rewritten_composite};
 
-use std::alloc::Global;
-use std::borrow::CowSlice;
 use std::marker::Model;
 use subsetter_base::read::{Reader, u16_at};
-use subsetter_base::write::Writer;
 use subsetter_base::{Error, GlyphRemapper};
 
 /// Two words of arguments follow, and not two bytes.
@@ -174,72 +170,54 @@ fn behind(bytes: &[u8], flags: u16) -> &[u8]
 
 /// Writes a component under the new number of its glyph.
 fn write_component(
-    w: &mut Writer,
+    out: &mut Vec<u8>,
     order: &GlyphRemapper,
     component: Component<'_>,
 ) -> Result<(), Error>
-    ensures ok { OnOk result (w.new ≡ w.old ++ spelled (renumbered_component order.now (component_seen component.entry))) }
+    ensures ok { OnOk result (out.new.items ≡ out.old.items ++ spelled (renumbered_component order.now (component_seen component.entry))) }
     ensures err { IfErr result (λ e. e ≡ OutOfMemory) }
 {
     let number = order.get(component.glyph).unwrap_or(0);
-    w.write(&component.flags)?;
-    w.write(&number)?;
-    w.extend(component.rest)
+    out.extend_from_slice(&component.flags.to_be_bytes())?;
+    out.extend_from_slice(&number.to_be_bytes())?;
+    out.extend_from_slice(component.rest)?;
+    Ok(())
 }
 
 /// Writes the bytes behind the last component, which are its instructions or nothing.
-fn write_tail(w: &mut Writer, flags: u16, rest: &[u8]) -> Result<(), Error>
-    ensures ok { OnOk result (w.new ≡ w.old ++ (if has_instructions flags then rest.now else [])) }
+fn write_tail(out: &mut Vec<u8>, flags: u16, rest: &[u8]) -> Result<(), Error>
+    ensures ok { OnOk result (out.new.items ≡ out.old.items ++ (if has_instructions flags then rest.now else [])) }
     ensures err { IfErr result (λ e. e ≡ OutOfMemory) }
 {
     if has_instructions(flags) {
-        w.extend(rest)?;
+        out.extend_from_slice(rest)?;
     }
     Ok(())
 }
 
-/// A composite with its components under their new numbers. `MalformedFont` where it is cut.
-fn rewrite_composite(alloc: Global, outline: &[u8], order: &GlyphRemapper) -> Result<Vec<u8>, Error>
-    ensures { Gives (λ v. v.items) result (rewritten_composite order.now outline.now) }
+/// Writes a composite with its components under their new numbers behind other bytes. `MalformedFont` where it is cut.
+pub fn rewrite_composite(
+    before: Vec<u8>,
+    outline: &[u8],
+    order: &GlyphRemapper,
+) -> Result<Vec<u8>, Error>
+    ensures { Gives (λ v. v.items) result (written_behind before.items (rewritten_composite order.now outline.now)) }
 {
     if outline.len() < 10 {
         return Err(Error::MalformedFont);
     }
-    let mut w = Writer::with_capacity(alloc, outline.len())?;
-    w.extend(&outline[..10])?;
+    let mut out = before;
+    out.extend_from_slice(&outline[..10])?;
     let mut rest = &outline[10..];
     loop {
         let Some(component) = read_component(rest) else {
             return Err(Error::MalformedFont);
         };
-        write_component(&mut w, order, component)?;
+        write_component(&mut out, order, component)?;
         rest = after(rest, component.flags);
         if !has_more(component.flags) {
-            write_tail(&mut w, component.flags, rest)?;
-            return Ok(w.finish());
-        }
-    }
-}
-
-/// An outline with its components under their new numbers; an empty or a simple one is borrowed.
-/// `MalformedFont` for one byte and for a composite that is cut.
-#[tactic(auto, unfolding(crate::specs::Glyf::Plain::rewritten, crate::specs::Glyf::Parts::outline_parts))]
-pub fn rewrite<'a>(
-    alloc: Global,
-    outline: &'a [u8],
-    order: &GlyphRemapper,
-) -> Result<CowSlice<'a, u8>, Error>
-    ensures { Gives cow_slice_items result (rewritten order.now outline.now) }
-{
-    match outline {
-        [] => Ok(CowSlice::Borrowed(outline)),
-        [_] => Err(Error::MalformedFont),
-        [high, _, ..] => {
-            if is_composite(*high) {
-                Ok(CowSlice::Owned(rewrite_composite(alloc, outline, order)?))
-            } else {
-                Ok(CowSlice::Borrowed(outline))
-            }
+            write_tail(&mut out, component.flags, rest)?;
+            return Ok(out);
         }
     }
 }

@@ -1,17 +1,18 @@
 //! The outlines of a new `glyf`.
 
 ghost use Rattle.std.specs.Prelude.{◌≡◌, ◌+◌, ◌<◌, ◌≤◌, ◌^◌, ◌++◌, ◌∷◌, [], length, vec_capacity, OnOk, IfOk, IfErr};
-ghost use Rattle.std.specs.Cow.{cow_slice_items};
 ghost use Rattle.std.specs.Iterator.{YieldsFirstRef, item_count};
+ghost use Rattle.subsetter_base.specs.Gives.{Gives};
 ghost use Rattle.subsetter_base.specs.declared.error.Error.TheVariants.{OutOfMemory};
+ghost use Rattle.subsetter.specs.Glyf.Plain.{rewritten, rewritten_composite, with_last};
 ghost use Rattle.subsetter.specs.Glyf.Unfold.{padded};
 ghost use Rattle.subsetter.specs.Glyf.Written.{glyf_bytes};
 
+use crate::glyf::component::{is_composite, rewrite_composite};
 use crate::sfnt::room::put;
 use std::alloc::Global;
-use std::borrow::CowSlice;
 use std::marker::Model;
-use subsetter_base::Error;
+use subsetter_base::{Error, GlyphRemapper};
 
 /// A list of outlines, in less room than a `CowSlice` each: borrowed ones stay in the source, and those that are made
 /// anew stand one after another.
@@ -62,15 +63,49 @@ impl<'a> OutlineList<'a> {
         })
     }
 
-    /// Puts an outline last.
-    pub fn push(&mut self, outline: CowSlice<'a, u8>) -> Result<(), Error>
-        ensures ok { OnOk result (self.new ≡ self.old ++ cow_slice_items outline.entry ∷ []) }
-        ensures err { IfErr result (λ e. e ≡ OutOfMemory) }
+    /// Puts an outline of the source last, with its components under their new numbers.
+    /// `MalformedFont` for one byte and for a composite that is cut.
+    #[tactic(auto, unfolding(crate::specs::Glyf::Plain::rewritten, crate::specs::Glyf::Parts::outline_parts))]
+    pub fn push(self, outline: &'a [u8], order: &GlyphRemapper) -> Result<Self, Error>
+        ensures { Gives (λ list. list) result (with_last self.entry (rewritten order.now outline.now)) }
     {
         match outline {
-            CowSlice::Borrowed(bytes) => self.push_kept(bytes),
-            CowSlice::Owned(bytes) => self.push_made(&bytes),
+            [_] => Err(Error::MalformedFont),
+            [high, _, ..] if is_composite(*high) => self.push_composite(outline, order),
+            _ => {
+                let mut list = self;
+                list.push_kept(outline)?;
+                Ok(list)
+            }
         }
+    }
+
+    /// Puts a composite last, with its components under their new numbers. `MalformedFont` where it is cut.
+    fn push_composite(self, outline: &[u8], order: &GlyphRemapper) -> Result<Self, Error>
+        ensures { Gives (λ list. list) result (with_last self.entry (rewritten_composite order.now outline.now)) }
+    {
+        let Self {
+            kept,
+            sizes,
+            made,
+            size,
+            even_size,
+        } = self;
+        let start = made.len();
+        let made = rewrite_composite(made, outline, order)?;
+        let written = &made[start..];
+        let (long_len, short_len) = (padded_len(written, true), padded_len(written, false));
+        let mut kept = kept;
+        let mut sizes = sizes;
+        kept.push(&[])?;
+        sizes.push(long_len)?;
+        Ok(Self {
+            kept,
+            sizes,
+            made,
+            size: size.saturating_add(long_len),
+            even_size: even_size.saturating_add(short_len),
+        })
     }
 
     /// Puts an outline of the source last.

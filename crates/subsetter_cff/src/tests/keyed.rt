@@ -196,6 +196,17 @@ fn matrices_of_font_dicts(rt: HostRuntime) {
     // FDSelect stands at 96, FDArray at 98.
     let scaled = ["00 00 0001 01 011A 1E1F1E0F1E0F1E1F1E0F1E0F0C07 1D00000000 1D00000060 12"];
     holds(&rt, alloc, own.table(alloc), &[], 96, &scaled);
+    // 0.0005 becomes 0.5.
+    let half = Keyed {
+        top: "",
+        strings: EMPTY,
+        privates: "",
+        select: "00 00",
+        font_dicts: "0001 01 0111 1E0A0005FF8B8B1E0A0005FF8B8B0C07",
+        char_strings: ENDS,
+    };
+    let halved = ["00 00 0001 01 011C 1E0A5F1E0F1E0F1E0A5F1E0F1E0F0C07 1D00000000 1D00000060 12"];
+    holds(&rt, alloc, half.table(alloc), &[], 96, &halved);
 }
 
 #[test]

@@ -46,6 +46,16 @@ fn ranges_in_order_and_out_of_order(rt: HostRuntime) -> Result<(), Fail> {
     let select = parse_fd_select(9, &cut).ok_or("format")?;
     assert!(rt; select.font_dict_index(4) == Some(7));
     assert!(rt; select.font_dict_index(5).is_none());
+    // A sentinel below the first glyph of the last range leaves that range empty.
+    let low = [3, 0, 2, 0, 0, 7, 0, 5, 9, 0, 3];
+    let select = parse_fd_select(9, &low).ok_or("format")?;
+    assert!(rt; select.font_dict_index(4) == Some(7));
+    assert!(rt; select.font_dict_index(5).is_none());
+    // No ranges, and 65535, which count as none.
+    let select = parse_fd_select(9, &[3, 0, 0, 0, 9]).ok_or("format")?;
+    assert!(rt; select.font_dict_index(0).is_none());
+    let select = parse_fd_select(9, &[3, 255, 255, 0, 0, 7, 0, 9]).ok_or("format")?;
+    assert!(rt; select.font_dict_index(0).is_none());
     assert!(rt; parse_fd_select(3, &[0, 1, 1]).is_none());
     assert!(rt; parse_fd_select(3, &[1, 1, 1, 1]).is_none());
     Ok(())

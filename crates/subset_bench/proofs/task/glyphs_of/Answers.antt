@@ -3,7 +3,7 @@ use Rattle.std.proofs.lemmas.Grind.{common_steps}
 use Rattle.std.proofs.lemmas.List.{drop_more}
 use Rattle.std.specs.Option.{option_map}
 use Rattle.subset_bench.specs.Words.{numbers_between, part_glyphs, all_glyphs}
-use Rattle.subset_bench.proofs.Numbers.{texts}
+use Rattle.subsetter_words.proofs.Numbers.{texts}
 use Rattle.subset_bench.proofs.Ranges.{next_part}
 use Rattle.subset_bench.proofs.task.glyphs_of.Goals as goal
 

@@ -1,7 +1,7 @@
 use Rattle.std.proofs.Common.{◌≡◌, ◌++◌, drop}
 use Rattle.std.specs.Option.{option_map}
 use Rattle.subset_bench.specs.Words.{all_glyphs, glyph_list}
-use Rattle.subset_bench.proofs.Numbers.{texts}
+use Rattle.subsetter_words.proofs.Numbers.{texts}
 use Rattle.subset_bench.proofs.task.glyphs_of.Given as goal
 
 abbrev pub invariant-loop-part : goal.invariant-loop-part

@@ -1,7 +1,8 @@
 use Rattle.std.proofs.Common.{◌≡◌, ◌++◌, map, drop}
 use Rattle.std.specs.Option.{option_map}
-use Rattle.subset_font.specs.Words.{number_in_bits, all_some, glyph_list}
-use Rattle.subset_font.proofs.Numbers.{texts}
+use Rattle.subsetter_words.specs.Numbers.{number_in_bits}
+use Rattle.subset_font.specs.Words.{all_some, glyph_list}
+use Rattle.subsetter_words.proofs.Numbers.{texts}
 use Rattle.subset_font.proofs.words.glyphs_of.Given as goal
 
 abbrev pub invariant-loop-part : goal.invariant-loop-part

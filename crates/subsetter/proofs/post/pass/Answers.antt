@@ -2,4 +2,7 @@ use Rattle.subsetter.proofs.PostLaws.Marks.{passed}
 use Rattle.subsetter.proofs.post.pass.Goals as goal
 
 pub loop-preserved : goal.loop-preserved
-loop-preserved c = passed c.next.result c.args.names.now c.loop.names c.next.new.self c.loop.counter c.loop.invariant c.next.ensures.steps
+loop-preserved c = record {
+  names = passed c.args.bytes.now c.args.start c.loop.at c.behind_name-at.result c.loop.counter c.loop.invariant.names c.behind_name-at.ensures.names;
+  within = c.behind_name-at.ensures.within;
+}

@@ -12,4 +12,4 @@ finish-requires-clause-few c = few_tables (made_seen c.in_ok-made.made) c.deref.
 pub finish-requires-clause-tables : goal.finish-requires-clause-tables
 finish-requires-clause-tables c =
     all_tables (made_seen c.in_ok-made.made) c.deref.result.now (ap views c.deref.ensures.value ∙ c.in_ok-list.ensures.ok ∙ ap (λ (t : FontTables). present (rows t)) c.font_tables.ensures) (table_in c.args.face.now.«data».now c.args.face.now.records.now) c.in_ok-source.source.now
-    c.default.result.tokens c.default.result.depth c.args.mapper.now c.in_ok-made.ensures
+    c.args.limits.tokens c.args.limits.depth c.args.mapper.now c.in_ok-made.ensures

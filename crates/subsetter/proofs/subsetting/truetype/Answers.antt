@@ -47,7 +47,7 @@ pub returns-clause-ok : goal.returns-clause-ok
 returns-clause-ok c =
     let find : List ℕ → Option (List ℕ) = table_in c.args.face.now.«data».now c.args.face.now.records.now in
     gave_ok (λ v. v.items) c.finish.result (file_of (kind_word TrueType) (views c.deref.result.now)) (IsAnswered find c.args.mapper.now) c.finish.ensures
-    (λ out h. answered find c.args.mapper.now c.in_ok-order.order (seen c.in_ok-table.table) c.in_ok-table.ensures.ok c.in_ok-order.ensures.ok (made_seen c.in_ok-made.made) c.in_ok-made.ensures.exact c.deref.result.now (ap views c.deref.ensures.value ∙ c.in_ok-list.ensures.ok ∙ ap (λ (t : FontTables). present (rows t)) c.font_tables.ensures) out (omega (arith, c.num_gids-count.ensures.few)) h)
+    (λ out h. answered find c.args.mapper.now c.in_ok-order.order (seen c.in_ok-table.table) c.in_ok-table.ensures.ok c.in_ok-order.ensures.ok (made_seen c.in_ok-made.made) c.in_ok-made.ensures.exact c.deref.result.now (ap views c.deref.ensures.value ∙ c.in_ok-list.ensures.ok ∙ ap (λ (t : FontTables). present (rows t)) c.font_tables.ensures) out c.in_ok-order.ensures.found (omega (arith, c.num_gids-count.ensures.few)) h)
 
 pub returns-clause-err : goal.returns-clause-err
 returns-clause-err c =

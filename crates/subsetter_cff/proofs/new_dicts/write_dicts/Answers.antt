@@ -8,7 +8,7 @@ use Rattle.subsetter_cff.proofs.new_dicts.write_dicts.Goals as goal
 
 pub returns-in_err-put_dict-clause-checked : goal.returns-in_err-put_dict-clause-checked
 returns-in_err-put_dict-clause-checked c =
-    let p = err_from_is_err_and c.from_residual.result c.from_residual.ensures.1 in
+    let p = err_from_is_err_and c.from_residual-in_err-put_dict.result c.from_residual-in_err-put_dict.ensures.1 in
     rw (p.1, p.2) (dict_fails c.args.dicts.now c.loop-dict.dict-index c.dict-item.result (c.args.place + length c.loop-dict.made.privates) _ _ c.loop-dict-test.true c.dict-item.is c.loop-dict.invariant.checked c.in_err-put_dict.ensures.checked)
 
 pub loop-dict-preserved : goal.loop-dict-preserved

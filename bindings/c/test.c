@@ -1,0 +1,408 @@
+/* Tests of the C library: each row of ../rows.txt, buffers that are too small, memory that is refused, and two threads. */
+#include "subsetter.h"
+
+#include <pthread.h>
+#include <stdio.h>
+#include <stdlib.h>
+#include <string.h>
+
+/* ---- memory that is counted, and refused at one request (the linker's --wrap) */
+
+void *__real_malloc(size_t size);
+void *__real_realloc(void *block, size_t size);
+void __real_free(void *block);
+
+/* The request that is refused, from 1 on; 0 for none. */
+static _Thread_local unsigned long refused;
+static _Thread_local unsigned long requests;
+/* Blocks that are held. */
+static _Thread_local long held;
+
+void *__wrap_malloc(size_t size)
+{
+    if (++requests == refused)
+        return NULL;
+    held++;
+    return __real_malloc(size);
+}
+
+void *__wrap_realloc(void *block, size_t size)
+{
+    if (++requests == refused)
+        return NULL;
+    held += block == NULL;
+    return __real_realloc(block, size);
+}
+
+void __wrap_free(void *block)
+{
+    held -= block != NULL;
+    __real_free(block);
+}
+
+/* ---- rows */
+
+enum { MOST = 128, WORDS = 9, BEHIND = 8 };
+
+struct row {
+    char *words[WORDS];
+    const uint8_t *font, *bytes;
+    const uint16_t *glyphs, *cids;
+    const uint32_t *widths;
+    size_t font_size, size, glyph_count, cid_count, width_count;
+    uint32_t index, tokens, status;
+    uint8_t depth;
+    int embeds, limits;
+};
+
+struct named_font {
+    char *name;
+    uint8_t *bytes;
+    size_t size;
+};
+
+static struct row rows[MOST];
+static struct named_font fonts[MOST];
+static size_t row_count, font_count, failures, checks;
+
+static void check(int holds, const char *what, const char *row)
+{
+    checks++;
+    if (!holds) {
+        failures++;
+        printf("FAILED: %s, %s\n", row, what);
+    }
+}
+
+static void *room(size_t size)
+{
+    void *block = __real_malloc(size + 1);
+    if (block == NULL)
+        exit(3);
+    return block;
+}
+
+/* The bytes of hexadecimal digits; null for `-`. */
+static uint8_t *hex(const char *digits, size_t *size)
+{
+    *size = 0;
+    if (strcmp(digits, "-") == 0)
+        return NULL;
+    *size = strlen(digits) / 2;
+    uint8_t *bytes = room(*size);
+    for (size_t i = 0; i < *size; i++) {
+        char two[3] = {digits[2 * i], digits[2 * i + 1], 0};
+        bytes[i] = (uint8_t)strtoul(two, NULL, 16);
+    }
+    return bytes;
+}
+
+/* The numbers of a list; null for `-`. */
+static uint32_t *numbers(char *list, size_t *count)
+{
+    *count = 0;
+    if (strcmp(list, "-") == 0)
+        return NULL;
+    uint32_t *found = room(65537 * sizeof *found);
+    for (char *at = list; at != NULL; at = *at == ',' ? at + 1 : NULL) {
+        unsigned long first = strtoul(at, &at, 10), last = first;
+        if (at[0] == '.')
+            last = strtoul(at + 2, &at, 10);
+        for (unsigned long number = first; number <= last; number++)
+            found[(*count)++] = (uint32_t)number;
+    }
+    return found;
+}
+
+static uint16_t *short_numbers(char *list, size_t *count)
+{
+    uint32_t *wide = numbers(list, count);
+    if (wide == NULL)
+        return NULL;
+    uint16_t *narrow = room(*count * sizeof *narrow);
+    for (size_t i = 0; i < *count; i++)
+        narrow[i] = (uint16_t)wide[i];
+    __real_free(wide);
+    return narrow;
+}
+
+static uint32_t number(const char *word)
+{
+    return (uint32_t)strtoul(word, NULL, 10);
+}
+
+/* A text of the table is checked at once. */
+static void check_text(uint32_t status, const char *digits)
+{
+    uint8_t text[64];
+    size_t size, length = 99;
+    uint8_t *wanted = hex(digits, &size);
+    memset(text, 0xA5, sizeof text);
+    check(subsetter_error_text(status, text, size - 1, &length) == 8 && length == size, "text too long", digits);
+    check(text[0] == 0xA5, "text not written", digits);
+    check(subsetter_error_text(status, NULL, 0, &length) == 8 && length == size, "no room", digits);
+    check(subsetter_error_text(status, text, sizeof text, &length) == 0 && length == size, "text", digits);
+    check(memcmp(text, wanted, size) == 0 && text[size] == 0xA5, "its bytes", digits);
+}
+
+static void find_font(struct row *row)
+{
+    for (size_t i = 0; i < font_count; i++)
+        if (strcmp(fonts[i].name, row->words[2]) == 0) {
+            row->font = fonts[i].bytes;
+            row->font_size = fonts[i].size;
+            return;
+        }
+    check(0, "its font is not in the table", row->words[1]);
+}
+
+static void add_row(char **words)
+{
+    struct row *row = &rows[row_count++];
+    memcpy(row->words, words, sizeof row->words);
+    find_font(row);
+    row->embeds = strcmp(words[0], "embed") == 0;
+    row->limits = strcmp(words[0], "limits") == 0;
+    row->index = number(words[3]);
+    row->glyphs = short_numbers(words[4], &row->glyph_count);
+    int next = 5;
+    if (row->limits) {
+        row->tokens = number(words[next++]);
+        row->depth = (uint8_t)number(words[next++]);
+    }
+    row->status = number(words[next++]);
+    row->bytes = hex(words[next++], &row->size);
+    if (row->embeds) {
+        row->cids = short_numbers(words[next++], &row->cid_count);
+        row->widths = numbers(words[next++], &row->width_count);
+    }
+}
+
+static void read_line(char *line)
+{
+    char *words[WORDS] = {0};
+    int count = 0;
+    for (char *word = strtok(line, " \n"); word != NULL && count < WORDS; word = strtok(NULL, " \n"))
+        words[count++] = word;
+    if (count == 0 || words[0][0] == '#')
+        return;
+    if (strcmp(words[0], "font") == 0) {
+        struct named_font *font = &fonts[font_count++];
+        font->name = words[1];
+        font->bytes = hex(words[2], &font->size);
+    } else if (strcmp(words[0], "text") == 0) {
+        check_text(number(words[1]), words[2]);
+    } else {
+        add_row(words);
+    }
+}
+
+static void read_rows(const char *name)
+{
+    static char text[1 << 20];
+    char *lines[1024];
+    int count = 0;
+    FILE *file = fopen(name, "r");
+    if (file == NULL) {
+        printf("cannot read %s\n", name);
+        exit(3);
+    }
+    text[fread(text, 1, sizeof text - 1, file)] = 0;
+    fclose(file);
+    for (char *line = text; line != NULL && count < 1024; line = strchr(line, '\n') ? strchr(line, '\n') + 1 : NULL)
+        lines[count++] = line;
+    for (int i = 1; i < count; i++)
+        lines[i][-1] = 0;
+    for (int i = 0; i < count; i++)
+        read_line(lines[i]);
+}
+
+/* ---- calls */
+
+/* Buffers, and what a call left in them. */
+struct answer {
+    uint8_t *font;
+    uint16_t *cids;
+    uint32_t *widths;
+    size_t room, cid_room, width_room;
+    subsetter_sizes told;
+    uint32_t status;
+};
+
+static void prepare(struct answer *a, size_t size, size_t cids, size_t widths)
+{
+    a->font = room(size + BEHIND);
+    a->cids = room((cids + BEHIND) * sizeof *a->cids);
+    a->widths = room((widths + BEHIND) * sizeof *a->widths);
+    a->room = size;
+    a->cid_room = cids;
+    a->width_room = widths;
+    memset(a->font, 0xA5, size + BEHIND);
+    memset(a->cids, 0xA5, (cids + BEHIND) * sizeof *a->cids);
+    memset(a->widths, 0xA5, (widths + BEHIND) * sizeof *a->widths);
+    a->told = (subsetter_sizes){77, 77, 77};
+}
+
+static void give_up(struct answer *a)
+{
+    __real_free(a->font);
+    __real_free(a->cids);
+    __real_free(a->widths);
+}
+
+static void call(const struct row *row, struct answer *a)
+{
+    if (row->embeds) {
+        a->status = subsetter_embed(row->font, row->font_size, row->index, row->glyphs, row->glyph_count,
+            a->font, a->room, a->cids, a->cid_room, a->widths, a->width_room, &a->told);
+        return;
+    }
+    a->told.cids = a->told.widths = 0;
+    if (row->limits)
+        a->status = subsetter_subset_with_limits(row->font, row->font_size, row->index, row->glyphs,
+            row->glyph_count, row->tokens, row->depth, a->font, a->room, &a->told.font);
+    else
+        a->status = subsetter_subset(row->font, row->font_size, row->index, row->glyphs, row->glyph_count,
+            a->font, a->room, &a->told.font);
+}
+
+static int all_are(const void *block, size_t from, size_t to)
+{
+    for (size_t i = from; i < to; i++)
+        if (((const uint8_t *)block)[i] != 0xA5)
+            return 0;
+    return 1;
+}
+
+/* Nothing stands in the buffers behind so many items. */
+static int untouched(const struct answer *a, size_t size, size_t cids, size_t widths)
+{
+    return all_are(a->font, size, a->room + BEHIND) && all_are(a->cids, 2 * cids, 2 * (a->cid_room + BEHIND))
+        && all_are(a->widths, 4 * widths, 4 * (a->width_room + BEHIND));
+}
+
+static int told(const struct answer *a, size_t size, size_t cids, size_t widths)
+{
+    return a->told.font == size && a->told.cids == cids && a->told.widths == widths;
+}
+
+static int is_same(const void *a, const void *b, size_t size)
+{
+    return size == 0 || memcmp(a, b, size) == 0;
+}
+
+/* The whole row, with so much more room than it needs. */
+static void check_whole(const struct row *row, size_t more)
+{
+    struct answer a;
+    prepare(&a, row->size + more, row->cid_count + more, row->width_count + more);
+    long before = held;
+    call(row, &a);
+    check(held == before, "all memory is given back", row->words[1]);
+    check(a.status == row->status, "status", row->words[1]);
+    check(told(&a, row->size, row->cid_count, row->width_count), "sizes", row->words[1]);
+    check(is_same(a.font, row->bytes, row->size), "bytes", row->words[1]);
+    check(is_same(a.cids, row->cids, 2 * row->cid_count), "CIDs", row->words[1]);
+    check(is_same(a.widths, row->widths, 4 * row->width_count), "widths", row->words[1]);
+    check(untouched(&a, row->size, row->cid_count, row->width_count), "what is behind", row->words[1]);
+    give_up(&a);
+}
+
+/* The row with buffers of these sizes, one of which is too small: nothing is written but the sizes. */
+static void check_short(const struct row *row, size_t size, size_t cids, size_t widths)
+{
+    struct answer a;
+    prepare(&a, size, cids, widths);
+    call(row, &a);
+    check(a.status == 8, "status of a buffer too small", row->words[1]);
+    check(told(&a, row->size, row->cid_count, row->width_count), "exact sizes", row->words[1]);
+    check(untouched(&a, 0, 0, 0), "nothing written", row->words[1]);
+    give_up(&a);
+}
+
+static void check_buffers(const struct row *row)
+{
+    size_t size = row->size, cids = row->cid_count, widths = row->width_count;
+    check_whole(row, 0);
+    check_whole(row, 3);
+    if (row->status != 0)
+        return;
+    check_short(row, size - 1, cids, widths);
+    check_short(row, 0, cids, widths);
+    if (cids > 0)
+        check_short(row, size, cids - 1, widths);
+    if (widths > 0)
+        check_short(row, size, cids, widths - 1);
+    struct answer nothing = {.told = {77, 77, 77}};
+    call(row, &nothing);
+    check(nothing.status == 8 && told(&nothing, size, cids, widths), "null buffers", row->words[1]);
+}
+
+/* Each request for memory refused in turn: nothing is written. One of them asks to give room back, and a call goes on
+ * without it. */
+static void check_memory(const struct row *row)
+{
+    struct answer a;
+    int harmless = 0, met = 1;
+    for (refused = 1; met; refused++) {
+        prepare(&a, row->size, row->cid_count, row->width_count);
+        long before = held;
+        requests = 0;
+        call(row, &a);
+        met = requests >= refused;
+        int is_clean = a.status == 7 && told(&a, 0, 0, 0) && untouched(&a, 0, 0, 0);
+        int is_whole = a.status == row->status && told(&a, row->size, row->cid_count, row->width_count)
+            && is_same(a.font, row->bytes, row->size);
+        check(held == before, "all memory is given back", row->words[1]);
+        check(is_whole || (met && is_clean), "out of memory", row->words[1]);
+        harmless += met && is_whole;
+        give_up(&a);
+    }
+    refused = 0;
+    check(harmless <= 1, "which requests may be refused", row->words[1]);
+}
+
+/* ---- two threads */
+
+static void *many_calls(void *wrong)
+{
+    for (int turn = 0; turn < 2000; turn++)
+        for (size_t i = 0; i < row_count; i++) {
+            const struct row *row = &rows[i];
+            struct answer a;
+            if (row->glyph_count > 1000)
+                continue;
+            prepare(&a, row->size, row->cid_count, row->width_count);
+            call(row, &a);
+            if (a.status != row->status || !told(&a, row->size, row->cid_count, row->width_count)
+                || !is_same(a.font, row->bytes, row->size))
+                (*(size_t *)wrong)++;
+            give_up(&a);
+        }
+    return NULL;
+}
+
+static void check_threads(void)
+{
+    pthread_t threads[2];
+    size_t wrong[2] = {0, 0};
+    for (int i = 0; i < 2; i++)
+        if (pthread_create(&threads[i], NULL, many_calls, &wrong[i]) != 0)
+            exit(3);
+    for (int i = 0; i < 2; i++)
+        pthread_join(threads[i], NULL);
+    check(wrong[0] == 0 && wrong[1] == 0, "two threads answer alike", "threads");
+}
+
+int main(int argc, char **argv)
+{
+    read_rows(argc > 1 ? argv[1] : "../rows.txt");
+    for (size_t i = 0; i < row_count; i++) {
+        check_buffers(&rows[i]);
+        if (rows[i].glyph_count < 1000)
+            check_memory(&rows[i]);
+    }
+    check_threads();
+    printf("C: %zu rows, %zu checks, %zu failed\n", row_count, checks, failures);
+    return failures != 0 || row_count == 0;
+}

@@ -1,0 +1,99 @@
+#!/usr/bin/python3
+"""Times what the crossing into the library costs: the Rust binding beside the port and the original crate.
+
+    ORIGINAL=FOLDER compare/binding.py [--calls N] [--no-build]
+
+The three drivers are subset_bench (the port, called by Rattle), the original's driver, and that same driver over the
+Rust binding (compare/binding, which differs in one line of its manifest). Each font is subset to few glyphs by the three
+in turns, so that what a call costs besides its work is seen best; the row says the least time of N calls (2000) in five
+rounds in nanoseconds, and whether the bytes are the same. It needs what compare/run.py needs, and `make` in bindings/c.
+Without ORIGINAL that driver is left out.
+"""
+import argparse
+import os
+import subprocess
+import sys
+import tempfile
+
+HERE = os.path.dirname(os.path.realpath(__file__))
+ROOT = os.path.dirname(HERE)
+PORT = os.path.join(ROOT, "crates", "subset_bench", "out", "subset_bench")
+TRUETYPE, OPENTYPE = "/usr/share/fonts/truetype", "/usr/share/fonts/opentype"
+FONTS = [
+    (f"{TRUETYPE}/dejavu/DejaVuSans.ttf", 0),
+    (f"{TRUETYPE}/liberation/LiberationSans-Regular.ttf", 0),
+    (f"{TRUETYPE}/wqy/wqy-zenhei.ttc", 1),
+    (f"{OPENTYPE}/linux-libertine/LinLibertine_R.otf", 0),
+    (f"{OPENTYPE}/noto/NotoSansCJK-Regular.ttc", 0),
+]
+GLYPHS = [("3", "36-38"), ("80", "1-80")]
+
+
+def cargo(folder):
+    """The driver that Cargo builds in a folder."""
+    flags = dict(os.environ, RUSTFLAGS="-C target-cpu=x86-64-v2")
+    subprocess.run(["cargo", "build", "--release", "--offline"], cwd=os.path.join(HERE, folder), env=flags, check=True)
+    return os.path.join(HERE, folder, "target", "release", f"{folder}_bench")
+
+
+def build_binding():
+    """The driver over the binding, and the library under it."""
+    subprocess.run(["make"], cwd=os.path.join(ROOT, "bindings", "c"), check=True)
+    return cargo("binding")
+
+
+def build(wanted):
+    """The drivers by their names."""
+    drivers = {}
+    if wanted:
+        if not os.path.exists(PORT):
+            subprocess.run(["rt", "run"], cwd=os.path.dirname(os.path.dirname(PORT)), check=False)
+    if os.path.exists(PORT):
+        drivers["port"] = PORT
+    drivers["binding"] = build_binding() if wanted else os.path.join(HERE, "binding/target/release/binding_bench")
+    if os.environ.get("ORIGINAL"):
+        if wanted:
+            subprocess.run([sys.executable, os.path.join(HERE, "assemble.py")], check=True)
+        drivers["original"] = cargo("original") if wanted else os.path.join(HERE, "original/target/release/original_bench")
+    return drivers
+
+
+def call(program, path, index, glyphs, calls, room):
+    """The least time of so many calls, and the bytes; the driver's line in its place where it is no success."""
+    out = os.path.join(room, "out")
+    ran = subprocess.run([program, path, str(index), glyphs, str(calls), out], stdout=subprocess.PIPE, text=True)
+    words = ran.stdout.split()
+    if not words or words[0] != "ok":
+        return ran.stdout.strip() or f"died with {ran.returncode}", b""
+    with open(out, "rb") as file:
+        return int(words[2]), file.read()
+
+
+def row(drivers, path, index, glyphs, calls, room):
+    least, found = {}, {}
+    for _ in range(5):
+        for name, program in drivers.items():
+            time, found[name] = call(program, path, index, glyphs, calls, room)
+            least[name] = min(time, least.get(name, time)) if isinstance(time, int) else time
+    same = all(it == found["binding"] for it in found.values())
+    return [str(least[name]) for name in drivers] + ["same" if same else "DIFFER"]
+
+
+def main():
+    parser = argparse.ArgumentParser()
+    parser.add_argument("--calls", type=int, default=2000)
+    parser.add_argument("--no-build", action="store_true")
+    words = parser.parse_args()
+    drivers = build(not words.no_build)
+    print("| Font | Glyphs | " + " | ".join(f"{name}, ns" for name in drivers) + " | Bytes |")
+    print("|" + "---|" * (len(drivers) + 3))
+    with tempfile.TemporaryDirectory(prefix="b") as room:
+        for path, index in FONTS:
+            if os.path.exists(path):
+                for name, glyphs in GLYPHS:
+                    cells = row(drivers, path, index, glyphs, words.calls, room)
+                    print(f"| {os.path.basename(path)} | {name} | " + " | ".join(cells) + " |", flush=True)
+
+
+if __name__ == "__main__":
+    main()

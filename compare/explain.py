@@ -1,0 +1,376 @@
+"""Which of the intended differences between both programs (docs/DIFFERENCES.md) stands in a font.
+
+CFF tables are read anew here, by Technical Note 5176, and charstrings are run by a small machine of Technical Note 5177.
+"""
+import re
+import struct
+
+from fonts import directory, u16, u32
+
+TOKENS_AT_MOST, STEMS_AT_MOST, OPERANDS_AT_MOST, DEPTH_AT_MOST = 1000000, 65535, 48, 64
+# Operators of a dict; one of two bytes, 12 and k, is 1200 + k.
+NOTICE, CHARSTRINGS, PRIVATE, SUBRS, COPYRIGHT, ROS, FDARRAY, FDSELECT, FONT_NAME = 1, 17, 18, 19, 1200, 1230, 1236, 1237, 1238
+STRINGS = (NOTICE, COPYRIGHT, FONT_NAME)
+
+
+# ---- INDEX and DICT
+
+class Index:
+    """An INDEX: where it starts, where its offsets count from, and its offsets."""
+
+    def __init__(self, cff, at):
+        self.cff, self.start, self.count = cff, at, u16(cff, at)
+        if self.count == 0:
+            self.base, self.offsets, self.end = at + 2, [], at + 2
+            return
+        size = cff[at + 2]
+        if not 1 <= size <= 4:
+            raise ValueError("an offset size")
+        self.base = at + 2 + (self.count + 1) * size
+        places = range(at + 3, at + 3 + (self.count + 1) * size, size)
+        self.offsets = [int.from_bytes(cff[it:it + size], "big") for it in places]
+        self.end = self.base + (self.offsets[-1] or 1)
+        self.is_cut = self.end > len(cff)
+
+    def range(self, k):
+        """Where an entry stands, or None where it can't be read."""
+        if not 0 <= k < self.count or self.offsets[-1] == 0:
+            return None
+        first, last = self.offsets[k], self.offsets[k + 1]
+        return (self.base + first, self.base + last) if 0 < first <= last <= self.offsets[-1] else None
+
+    def item(self, k):
+        place = self.range(k)
+        return None if place is None else self.cff[place[0]:place[1]]
+
+    def has_unreadable(self):
+        return any(self.range(k) is None for k in range(self.count if self.offsets and self.offsets[-1] else 0))
+
+
+def real_text(data, at):
+    """The text of the real whose nibbles begin here, and where it ends."""
+    text = ""
+    for place in range(at, len(data)):
+        for nibble in (data[place] >> 4, data[place] & 15):
+            if nibble == 15:
+                return text, place + 1
+            text += "0123456789.E|?-"[nibble] if nibble != 12 else "E-"
+    return text, len(data)
+
+
+def dict_entries(data):
+    """The entries of a dict as (operator, operands): whole numbers, and the texts of reals."""
+    at, operands = 0, []
+    while at < len(data):
+        first, size = data[at], 1
+        if first <= 27 or first in (31, 255):
+            if first == 12:
+                size, first = 2, 1200 + (data[at + 1] if at + 1 < len(data) else 0)
+            yield first, operands
+            operands = []
+        elif first in (28, 29):
+            size = 3 if first == 28 else 5
+            operands.append(int.from_bytes(data[at + 1:at + size], "big", signed=True))
+        elif first == 30:
+            text, end = real_text(data, at + 1)
+            operands.append(text)
+            size = end - at
+        elif first <= 246:
+            operands.append(first - 139)
+        else:
+            size, high = 2, (first - 247) % 4 * 256 + (data[at + 1] if at + 1 < len(data) else 0) + 108
+            operands.append(high if first <= 250 else -high)
+        at += size
+    if operands:
+        yield -1, operands
+
+
+def last(entries, operator):
+    found = [operands for it, operands in entries if it == operator]
+    return found[-1] if found else None
+
+
+def is_plain(text):
+    """Whether a real is the same as an f32 and as a decimal, and written alike: six digits at most, no great exponent."""
+    if text in ("", "0"):
+        return True
+    parts = re.fullmatch(r"(-?)(\d*)(?:\.(\d*))?(?:E(-?\d{1,2}))?", text)
+    if not parts or len(text) > 64:
+        return False
+    digits = ((parts[2] or "") + (parts[3] or "")).lstrip("0").rstrip("0")
+    return bool(digits) and len(digits) <= 6 and abs(int(parts[4] or 0)) <= 30
+
+
+# ---- a table
+
+class Table:
+    """The parts of a CFF table that a subset of some glyphs reads. Whatever can't be read is left out."""
+
+    def __init__(self, cff, glyphs):
+        self.cff, self.glyphs = cff, glyphs
+        self.names = Index(cff, cff[2])
+        self.tops = Index(cff, self.names.end)
+        self.strings = Index(cff, self.tops.end)
+        self.subroutines = Index(cff, self.strings.end)
+        self.top_range = self.tops.range(0)
+        self.top = list(dict_entries(self.tops.item(0) or b""))
+        self.charstrings = Index(cff, last(self.top, CHARSTRINGS)[0])
+        self.is_keyed = last(self.top, ROS) is not None
+        self.font_dicts = Index(cff, last(self.top, FDARRAY)[0]) if self.is_keyed else None
+        self.select = last(self.top, FDSELECT)[0] if self.is_keyed else None
+        self.privates = {}
+        for dict_number in {self.font_dict(glyph) for glyph in glyphs}:
+            self.read_private(dict_number)
+
+    def entries(self, dict_number):
+        """The entries of a font dict; a SID-keyed font has those of its top dict."""
+        if not self.is_keyed:
+            return self.top
+        return list(dict_entries(self.font_dicts.item(dict_number) or b""))
+
+    def read_private(self, dict_number):
+        """The range of a private dict, its entries, and its local subroutines."""
+        named = last(self.entries(dict_number), PRIVATE)
+        if named is None or len(named) != 2 or sum(named) > len(self.cff) or min(named) < 0:
+            return
+        length, start = named
+        entries = list(dict_entries(self.cff[start:start + length]))
+        local = next((operands for it, operands in entries if it == SUBRS), None)
+        try:
+            index = Index(self.cff, start + local[0]) if local else None
+        except (struct.error, IndexError, ValueError, TypeError):
+            index = None
+        self.privates[dict_number] = (start, start + length), entries, index
+
+    def font_dict(self, glyph):
+        """The number of a glyph's font dict."""
+        if not self.is_keyed:
+            return 0
+        at = self.select
+        if self.cff[at] == 0:
+            return self.cff[at + 1 + glyph]
+        for k in range(u16(self.cff, at + 1)):
+            if u16(self.cff, at + 3 + 3 * k) <= glyph < u16(self.cff, at + 6 + 3 * k):
+                return self.cff[at + 5 + 3 * k]
+        return None
+
+    def local_of(self, glyph):
+        private = self.privates.get(self.font_dict(glyph))
+        return private[2] if private else None
+
+
+# ---- charstrings
+
+class Fault(Exception):
+    pass
+
+
+def charstring_number(code, at):
+    """The number that begins here and its length, or None where an operator does."""
+    first = code[at]
+    if first == 28:
+        return int.from_bytes(code[at + 1:at + 3], "big", signed=True), 3
+    if first == 255:
+        return int.from_bytes(code[at + 1:at + 5], "big", signed=True) / 65536, 5
+    if first >= 247:
+        high = (first - 247) % 4 * 256 + code[at + 1] + 108
+        return (high if first <= 250 else -high), 2
+    return (first - 139, 1) if first >= 32 else None
+
+
+class Machine:
+    """Runs a charstring, and notes what both programs take differently."""
+
+    def __init__(self, table, glyph):
+        self.subroutines, self.local = table.subroutines, table.local_of(glyph)
+        self.notes, self.stack, self.stems, self.mask, self.tokens = set(), [], 0, 0, 0
+        self.bytes = table.charstrings.item(glyph)
+
+    def run(self):
+        try:
+            self.go(self.bytes or b"", 1)
+        except (Fault, IndexError):
+            pass
+        return self.notes
+
+    def push(self, value):
+        if len(self.stack) == OPERANDS_AT_MOST:
+            raise Fault
+        self.stack.append(value)
+
+    def count_stems(self):
+        self.stems += len(self.stack) // 2
+        if self.stems > STEMS_AT_MOST:
+            self.notes.add("more than 65535 stems")
+            raise Fault
+
+    def called(self, index):
+        value = self.stack.pop()
+        if value != int(value):
+            self.notes.add("a call index with a fraction")
+            raise Fault
+        if index is None:
+            raise Fault
+        bias = 107 if index.count < 1240 else 1131 if index.count < 33900 else 32768
+        found = index.item(int(value) + bias)
+        if found is None:
+            raise Fault
+        return found
+
+    def mask_length(self):
+        """The bytes of a mask, which the stems give when the first mask with a byte comes."""
+        if self.mask == 0:
+            self.count_stems()
+            self.mask = (self.stems + 7) // 8
+        elif self.stack:
+            self.notes.add("operands at a mask after the first")
+        return self.mask
+
+    def draw(self, first):
+        """Takes an operator that neither calls nor ends, and answers its length with its mask."""
+        size = 2 if first == 12 else 1
+        if first in (19, 20):
+            size += self.mask_length()
+        elif first in (1, 3, 18, 23):
+            self.count_stems()
+        self.stack.clear()
+        return size
+
+    def call(self, first, depth):
+        if not self.stack:
+            raise Fault
+        return self.go(self.called(self.local if first == 10 else self.subroutines), depth + 1)
+
+    def go(self, code, depth):
+        """Runs a charstring or a subroutine, and answers whether the run is finished."""
+        if depth > DEPTH_AT_MOST:
+            raise Fault
+        at = 0
+        while at < len(code):
+            self.tokens += 1
+            if self.tokens > TOKENS_AT_MOST:
+                self.notes.add("more than 1,000,000 tokens")
+                raise Fault
+            first, number = code[at], charstring_number(code, at)
+            if number:
+                self.push(number[0])
+                at += number[1]
+            elif first in (10, 29):
+                if self.call(first, depth):
+                    return True
+                at += 1
+            elif first in (11, 14):
+                return first == 14
+            else:
+                at += self.draw(first)
+            if at > len(code):
+                raise Fault
+        return False
+
+
+# ---- reasons
+
+def note_dict(found, entries):
+    """Notes what stands in a dict."""
+    for operator, operands in entries:
+        if operator in STRINGS and operands and isinstance(operands[-1], int) and 0 <= operands[-1] < 391:
+            found.add(("a notice or name is a standard string", operands[-1]))
+        reals = [it for it in operands if isinstance(it, str) and not is_plain(it)]
+        found.update(("a real isn't the same as an f32", it) for it in reals)
+
+
+def note_table(found, cff, glyphs):
+    """Notes what stands in a CFF table, for the glyphs that are kept. Where a part can't be read, it ends."""
+    names = Index(cff, cff[2])
+    if names.count and names.is_cut:
+        found.add(("the data of the Name INDEX is cut", ""))
+    # (a dict ends before a real that can't be read, and so may have no charstrings)
+    note_dict(found, dict_entries(Index(cff, names.end).item(0) or b""))
+    table = Table(cff, glyphs)
+    for number, (_, entries, _) in table.privates.items():
+        note_dict(found, table.entries(number) if table.is_keyed else [])
+        note_dict(found, entries)
+    indexes = [table.subroutines] + [local for _, _, local in table.privates.values() if local]
+    if any(it.has_unreadable() for it in indexes):
+        found.add(("a subroutine's entry is unreadable", ""))
+    for glyph in glyphs:
+        found.update((note, glyph) for note in Machine(table, glyph).run())
+
+
+def note_post(found, post):
+    """Notes an empty name among those of `post`."""
+    at = 34 + 2 * u16(post, 32) if u32(post, 0) == 0x00020000 else len(post)
+    while at < len(post):
+        if post[at] == 0:
+            found.add(("a name of post is empty", at))
+        at += 1 + post[at]
+
+
+def note_name(found, name):
+    """Notes a string of `name` that ends past byte 65535."""
+    for at in range(6, 6 + 12 * u16(name, 2) if u16(name, 0) == 0 else 0, 12):
+        if u16(name, 4) + u16(name, at + 8) + u16(name, at + 10) > 65535:
+            found.add(("a string of name ends past 65535", at))
+
+
+def reasons(data, index, glyphs):
+    """The intended differences that stand in a font, each with what it is seen by."""
+    found = set()
+    try:
+        at = u32(data, 12 + 4 * index) if data[:4] == b"ttcf" else 0
+        tags = [data[r:r + 4] for r in range(at + 12, at + 12 + 16 * u16(data, at + 4), 16) if r + 16 <= len(data)]
+        if tags != sorted(tags):
+            # (the original searches them by halves, the port takes the first)
+            found.add(("the records don't ascend by tag", ""))
+        tables = directory(data, index)
+        if "hhea" in tables and tables["hhea"][1] != 36:
+            # (the original reads a short one at 0 and patches a long one at its end)
+            found.add(("hhea isn't 36 bytes", ""))
+        for tag, note in (("post", note_post), ("name", note_name)):
+            if tag in tables:
+                note(found, data[tables[tag][0]:sum(tables[tag])])
+        if "CFF " in tables and "glyf" not in tables:
+            start, length = tables["CFF "]
+            note_table(found, data[start:start + length], glyphs)
+    except (struct.error, LookupError, ValueError, TypeError, RecursionError):
+        pass
+    return found
+
+
+# ---- mending
+
+def mended_directory(data):
+    """The same font with its records in the order of their tags, each tag once, and 36 bytes of `hhea`."""
+    count, records = u16(data, 4), {}
+    for at in range(12, 12 + 16 * count, 16):
+        record = data[at:at + 16]
+        if record[:4] == b"hhea":
+            record = record[:12] + (36).to_bytes(4, "big")
+        records.setdefault(record[:4], record)
+    front = b"".join(records[tag] for tag in sorted(records))
+    return data[:4] + len(records).to_bytes(2, "big") + data[6:12] + front + bytes(16 * count - len(front)) + data[12 + 16 * count:]
+
+
+def mend_offsets(copy, start, index):
+    """Raises the offsets of an INDEX of a table so that each entry can be read."""
+    if index.count == 0 or index.offsets[-1] == 0:
+        return
+    size, least = index.cff[index.start + 2], 1
+    for k, offset in enumerate(index.offsets):
+        least = min(max(offset, least), index.offsets[-1])
+        at = start + index.start + 3 + k * size
+        copy[at:at + size] = least.to_bytes(size, "big")
+
+
+def mended(data, glyphs):
+    """The same font with what can be mended of the differences: its directory, `hhea`, and the offsets of subroutines."""
+    copy = bytearray(data)
+    try:
+        copy = bytearray(mended_directory(data))
+        start, length = directory(copy)["CFF "]
+        table = Table(bytes(copy[start:start + length]), glyphs)
+        for index in [table.subroutines] + [local for _, _, local in table.privates.values() if local]:
+            mend_offsets(copy, start, index)
+    except (struct.error, LookupError, ValueError, TypeError):
+        pass
+    return bytes(copy)

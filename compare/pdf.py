@@ -1,0 +1,317 @@
+#!/usr/bin/python3
+"""Shows by three PDF readers that a subset is drawn as its source.
+
+    compare/pdf.py FONT INDEX GID[,GID..] [--keep FOLDER]
+    compare/pdf.py --faces N [--keep FOLDER]
+    compare/pdf.py --specimen PNG
+
+For a font and glyphs it writes two PDF files by hand. `source.pdf` embeds the whole font and shows the glyphs by their old
+numbers; `subset.pdf` embeds what `subset_font --widths` made of it and shows them by the numbers that this printed.
+TrueType outlines stand in them as CIDFontType2 with FontFile2; CFF ones twice, as CIDFontType0C (the bare table) and as
+OpenType (the whole file).
+
+The first page has the glyphs on a grid. The second has a line of them: in the source each glyph stands where the
+advances of the source's `hmtx` put it; in the subset it is one string, whose glyphs `/W` alone moves on.
+
+MuPDF, Poppler and Ghostscript draw both. Of each reader
+    the pictures of the grid must be the same, pixel for pixel, and not blank. (Ghostscript lets FreeType hint outlines
+    that have no hints of their own, and that goes by letters which FreeType finds in the font by `cmap` or by the glyphs'
+    names. A subset may lack these letters. So where pictures differ, both fonts are drawn again without `cmap` and
+    `post`: these pictures must be the same, and the line says so.)
+    the line must end at the same place: by MuPDF's trace of the glyphs as near as widths in whole thousandths are, by
+    each picture to a pixel; and
+    no warning may come for the subset that doesn't come for the source.
+
+--faces N takes N faces of the fonts that are installed (one after another TrueType, SID-keyed, CID-keyed), some glyphs
+of each, and prints a line a face and the sum. A font that is refused is named, and the next is taken.
+--specimen draws four scripts from subsets of three fonts into a picture.
+--keep FOLDER leaves the files there. Status 0 where nothing differs, else 1.
+
+Needs Debian's mupdf-tools, poppler-utils and ghostscript, for --specimen also libharfbuzz-bin, and the program
+(`rt run` in crates/subset_font builds it).
+"""
+import argparse
+import os
+import random
+import re
+import struct
+import subprocess
+import sys
+import tempfile
+
+from cids import cids
+from pdf_file import Face, Pdf, embedded, pages
+
+HERE = os.path.dirname(os.path.realpath(__file__))
+PROGRAM = os.environ.get("SUBSET_FONT", os.path.join(os.path.dirname(HERE), "crates", "subset_font", "out", "subset_font"))
+PAGE = (480, 560)
+GLYPHS_A_FACE = 40
+# The tables by which a reader finds letters in a font.
+NAMES = "cmap", "post"
+# Points: the grid's distance and letters, and the letters of the line.
+CELL, GRID, LINE = 56, 32, 10
+
+
+class Refused(Exception):
+    """The program refused the font; what it said."""
+
+
+# What reading a source that is cut or is no font comes to.
+UNREADABLE = (OSError, KeyError, IndexError, struct.error)
+
+
+def subset(font, index, glyphs, out):
+    """The new number of each glyph, and the widths of the new glyphs as the text of `/W`."""
+    words = [PROGRAM, "--widths", font, out, str(index), ",".join(map(str, glyphs))]
+    answer = subprocess.run(words, capture_output=True, text=True)
+    if answer.returncode:
+        raise Refused(answer.stderr.strip())
+    *lines, widths = answer.stdout.splitlines()
+    return {int(old): int(new) for old, new in (line.split(" -> ") for line in lines)}, widths
+
+
+def grid(codes):
+    """The first page: each code in a cell of its own."""
+    across = PAGE[0] // CELL
+    text = ["BT"]
+    for place, code in enumerate(codes):
+        x, y = 12 + CELL * (place % across), PAGE[1] - CELL * (place // across + 1)
+        text.append(f"/F0 {GRID} Tf 1 0 0 1 {x} {y} Tm <{code:04X}> Tj")
+    return "\n".join(text + ["ET"])
+
+
+def line_by_places(codes, places):
+    """The second page of the source: each code at its place."""
+    text = [f"BT /F0 {LINE} Tf"]
+    text += [f"1 0 0 1 {20 + x:.6f} 500 Tm <{code:04X}> Tj" for code, x in zip(codes, places)]
+    return "\n".join(text + ["ET"])
+
+
+def line_by_widths(codes):
+    """The second page of the subset: one string, moved on by `/W`."""
+    return f"BT /F0 {LINE} Tf 1 0 0 1 20 500 Tm <{''.join(f'{code:04X}' for code in codes)}> Tj ET"
+
+
+def line_of(face, glyphs):
+    """As many of the glyphs as a line holds, and where each begins, in points."""
+    held, places, x = [], [], 0.0
+    for glyph in glyphs:
+        advance = face.advance(glyph) * LINE / face.units
+        if x + advance > PAGE[0] - 60:
+            break
+        held.append(glyph)
+        places.append(x)
+        x += advance
+    return held, places
+
+
+def write(source, copy, glyphs, numbers, widths, program, folder):
+    """The files for one way to embed the font, with the glyphs' names and without; the number of glyphs in the line."""
+    old = cids(source.tables["CFF "], max(glyphs) + 1) if source.is_cff else range(65536)
+    line, places = line_of(source, glyphs)
+    own = "[" + " ".join(f"{old[g]} [{source.advance(g) * 1000 / source.units:.4f}]" for g in sorted(set(glyphs))) + "]"
+    by_places = line_by_places([old[g] for g in line], places)
+    for name, face, codes, array, second in (
+            ("source", source, [old[g] for g in glyphs], own, by_places),
+            ("source-nameless", Face(source.file_without(*NAMES)), [old[g] for g in glyphs], own, by_places),
+            ("subset", copy, [numbers[g] for g in glyphs], widths, line_by_widths([numbers[g] for g in line])),
+            ("subset-nameless", Face(copy.file_without(*NAMES)), [numbers[g] for g in glyphs], widths, "")):
+        pdf = Pdf()
+        font = embedded(pdf, face, program, "AAAAAA+Shown", array)
+        os.makedirs(os.path.join(folder, name), exist_ok=True)
+        with open(os.path.join(folder, name, "page.pdf"), "wb") as file:
+            file.write(pages(pdf, PAGE, [font], [grid(codes), second]))
+    return len(line)
+
+
+READERS = {
+    "MuPDF": ["mutool", "draw", "-r", "96", "-c", "gray", "-F", "pgm", "-o", "mupdf-%d.pgm", "page.pdf"],
+    "Poppler": ["pdftoppm", "-r", "96", "-gray", "page.pdf", "poppler"],
+    "Ghostscript": ["gs", "-q", "-dSAFER", "-dBATCH", "-dNOPAUSE", "-sDEVICE=pgmraw", "-r96", "-dTextAlphaBits=4",
+                    "-dGraphicsAlphaBits=4", "-sOutputFile=ghostscript-%d.pgm", "page.pdf"],
+}
+
+
+def drawn(reader, folder):
+    """A reader's pictures of the two pages, each as (width, height, bytes), and the lines that it says."""
+    said = subprocess.run(READERS[reader], cwd=folder, capture_output=True, text=True, errors="replace")
+    lines = {line for line in (said.stdout + said.stderr).splitlines() if line and not line.startswith("page page.pdf")}
+    if said.returncode:
+        lines.add(f"status {said.returncode}")
+    found = []
+    for page in (1, 2):
+        name = os.path.join(folder, f"{reader.lower()}-{page}.pgm")
+        if not os.path.exists(name):
+            return None, lines
+        with open(name, "rb") as file:
+            data = file.read()
+        head = re.match(rb"P5\s+(?:#[^\n]*\n\s*)*(\d+)\s+(\d+)\s+255\s", data)
+        found.append((int(head[1]), int(head[2]), data[head.end():]))
+    return found, lines
+
+
+def end_of_ink(picture):
+    """The last column that has ink, or None."""
+    width, _, data = picture
+    rows = [data[k:k + width] for k in range(0, len(data), width)]
+    columns = [x for x in range(width) if any(row[x] < 250 for row in rows)]
+    return columns[-1] if columns else None
+
+
+def places_by_trace(folder):
+    """Where MuPDF puts each glyph of the second page, in points."""
+    said = subprocess.run(["mutool", "draw", "-F", "trace", "page.pdf", "2"], cwd=folder, capture_output=True, text=True,
+                          errors="replace").stdout
+    return [float(x) for x in re.findall(r'<g [^>]*\bx="([-0-9.e]+)"', said)]
+
+
+def differences(folder, count):
+    """What the readers show otherwise for the subset than for the source, and which of them do so by names alone."""
+    wrong, noted = [], []
+    source, copy = os.path.join(folder, "source"), os.path.join(folder, "subset")
+    for reader in READERS:
+        (before, said), (after, answer) = drawn(reader, source), drawn(reader, copy)
+        if before is None or after is None:
+            wrong.append(f"{reader} draws nothing of the {'source' if before is None else 'subset'}")
+            continue
+        if before[0] != after[0]:
+            (one, _), (other, _) = (drawn(reader, os.path.join(folder, f"{it}-nameless")) for it in ("source", "subset"))
+            same = one is not None and other is not None and one[0] == other[0]
+            (noted if same else wrong).append(f"{reader}: {'without names' if same else 'other pixels'}")
+        if set(after[0][2]) == {255}:
+            wrong.append(f"{reader}: blank")
+        ends = end_of_ink(before[1]), end_of_ink(after[1])
+        if (ends[0] is None) != (ends[1] is None) or ends[0] is not None and abs(ends[0] - ends[1]) > 1:
+            wrong.append(f"{reader}: the line ends at column {ends[1]}, not {ends[0]}")
+        if answer - said:
+            wrong.append(f"{reader} warns of the subset alone: {min(answer - said)}")
+    # A width is off by half a thousandth at most, and the trace says places to a ten thousandth or so.
+    before, after = places_by_trace(source), places_by_trace(copy)
+    slack = count * 0.0005 * LINE + 0.01
+    if len(before) != count or len(after) != count or any(abs(a - b) > slack for a, b in zip(before, after)):
+        wrong.append("MuPDF: the line's glyphs stand elsewhere")
+    return wrong, noted
+
+
+def compare(font, index, glyphs, folder):
+    """How a face is embedded, and what differs."""
+    out = os.path.join(folder, "subset.font")
+    numbers, widths = subset(font, index, glyphs, out)
+    with open(font, "rb") as file:
+        source = Face(file.read(), index)
+    with open(out, "rb") as file:
+        copy = Face(file.read())
+    wrong, noted = [], []
+    ways = ["CIDFontType0C", "OpenType"] if source.is_cff else ["TrueType"]
+    for way in ways:
+        room = os.path.join(folder, way)
+        found, known = differences(room, write(source, copy, glyphs, numbers, widths, way, room))
+        wrong += [f"{way}: {it}" for it in found]
+        noted += known
+    return ways, wrong, noted
+
+
+def faces():
+    """The faces that are installed, by kind of outlines."""
+    listed = subprocess.run(["fc-list", "--format", "%{index} %{file}\n"], capture_output=True, text=True).stdout
+    kinds = {"TrueType": [], "SID-keyed": [], "CID-keyed": []}
+    for index, path in sorted({(int(i) & 0xFFFF, p) for i, p in (it.split(" ", 1) for it in listed.splitlines())},
+                              key=lambda it: (it[1], it[0])):
+        if not path.endswith((".ttf", ".otf", ".ttc")):
+            continue
+        try:
+            with open(path, "rb") as file:
+                tables = Face(file.read(), index).tables
+        except UNREADABLE:
+            continue
+        if "glyf" in tables:
+            kinds["TrueType"].append((path, index))
+        elif "CFF " in tables:
+            keyed = b"\x0c\x1e" in tables["CFF "][:400]
+            kinds["CID-keyed" if keyed else "SID-keyed"].append((path, index))
+    return kinds
+
+
+def chosen(count):
+    """So many faces: of each kind in turn, spread over its list."""
+    kinds = faces()
+    for listed in kinds.values():
+        random.Random(1).shuffle(listed)
+    taken = []
+    while len(taken) < count and any(kinds.values()):
+        for kind, listed in kinds.items():
+            if listed:
+                taken.append((kind, *listed.pop()))
+    return sorted(taken[:count])
+
+
+def some_glyphs(path, index):
+    """Some glyphs of a face, spread and jumbled (the same in each run)."""
+    with open(path, "rb") as file:
+        there = [g for g in Face(file.read(), index).glyphs_drawn() if g < 65535]
+    take = random.Random(os.path.basename(path)).sample(there, min(len(there), GLYPHS_A_FACE))
+    return take
+
+
+def all_faces(count, keep):
+    """A line a face, and the sum; whether all are alike."""
+    alike = refused = different = glyphs = nameless = 0
+    for kind, path, index in chosen(count):
+        name = os.path.basename(path) + (f" #{index}" if path.endswith(".ttc") else "")
+        with tempfile.TemporaryDirectory() as room:
+            folder = os.path.join(keep, f"{name.replace(' ', '')}") if keep else room
+            os.makedirs(folder, exist_ok=True)
+            try:
+                asked = some_glyphs(path, index)
+                _, wrong, noted = compare(path, index, asked, folder)
+            except Refused as it:
+                refused += 1
+                print(f"{kind:9} {name}: refused: {it}", flush=True)
+                continue
+            except UNREADABLE as it:
+                refused += 1
+                print(f"{kind:9} {name}: not read by this script: {it!r}", flush=True)
+                continue
+        glyphs += len(asked)
+        alike, different = (alike, different + 1) if wrong else (alike + 1, different)
+        nameless += bool(noted and not wrong)
+        said = "; ".join(wrong) or "drawn alike by three readers" + "".join(f" ({it})" for it in noted)
+        print(f"{kind:9} {name}: {len(asked)} glyphs: {said}", flush=True)
+    print(f"{alike + different + refused} faces, {glyphs} glyphs: {alike} drawn alike by three readers ({nameless} of them by "
+          f"one reader without the glyphs' names alone), {different} not, {refused} refused")
+    return different == 0
+
+
+def main():
+    words = argparse.ArgumentParser(description="shows by three PDF readers that a subset is drawn as its source")
+    words.add_argument("font", nargs="?")
+    words.add_argument("index", nargs="?", type=int)
+    words.add_argument("glyphs", nargs="?")
+    words.add_argument("--faces", type=int)
+    words.add_argument("--specimen")
+    words.add_argument("--keep")
+    given = words.parse_args()
+    if given.specimen:
+        import specimen
+        return specimen.draw(given.specimen)
+    if given.faces:
+        return 0 if all_faces(given.faces, given.keep) else 1
+    if given.glyphs is None:
+        words.error("FONT INDEX GID[,GID..], --faces N or --specimen PNG is wanted")
+    with tempfile.TemporaryDirectory() as room:
+        folder = given.keep or room
+        os.makedirs(folder, exist_ok=True)
+        try:
+            ways, wrong, noted = compare(given.font, given.index, [int(g) for g in given.glyphs.split(",")], folder)
+        except Refused as it:
+            print(f"refused: {it}")
+            return 1
+        except UNREADABLE as it:
+            print(f"not read by this script: {it!r}")
+            return 1
+    print("\n".join(wrong) or f"drawn alike by three readers ({', '.join(ways + noted)})")
+    return 1 if wrong else 0
+
+
+if __name__ == "__main__":
+    sys.exit(main())

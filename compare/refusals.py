@@ -1,0 +1,302 @@
+#!/usr/bin/python3
+"""Refuses each request for memory and fails each call for files, one at a time: refusals.py [--no-build] [--more]
+
+It builds refuse.c, the programs (`rt run`) and the tests of `subsetter` (`rt test`), and runs them, each time with the
+next request refused or the next call failed, until a run ends in which nothing was. Then it prints how many that were.
+At the first disagreement it tells it, and ends with status 1. What is demanded:
+
+    subset        what is timed by subset_bench answers `out of memory`, and nothing else changes
+    mapper        each call of GlyphRemapper answers, or wants memory and leaves the list as it was (the tests of
+                  crates/subsetter/src/tests/memory.rt)
+    no memory     with every request refused, the calls that take no memory answer, and so does `subset` on fonts that are
+                  refused by the first checks
+    subset_font   status 1 and `out of memory`, while IN is read status 3 and `cannot read IN`; OUT isn't touched
+    files         a failed call gives status 3 and its text; OUT isn't touched before the font is made, and is whole where
+                  the standard output fails
+    given back    no block of memory is held at the end that isn't held at the end of a run without a refusal
+
+The fonts are small ones of made.py; with --more also some of Debian's (fonts.py).
+"""
+import argparse
+import itertools
+import os
+import subprocess
+import sys
+import tempfile
+from dataclasses import dataclass
+
+import fonts
+import made
+
+HERE = os.path.dirname(os.path.realpath(__file__))
+ROOT = os.path.dirname(HERE)
+BUILD = os.path.join(HERE, "build")
+REFUSE = os.path.join(BUILD, "refuse.so")
+CALLS = ("open", "size", "read", "write", "write1", "write2")
+NO_MEMORY = b"error out of memory\n"
+
+
+def built(crate, name=None):
+    return os.path.join(ROOT, "crates", crate, "out", name or crate)
+
+
+BENCH, FONT, TESTS = built("subset_bench"), built("subset_font"), built("subsetter", "subsetter_tests")
+
+
+@dataclass
+class Ended:
+    """How a run ended: its status, what it printed, and what refuse.c counted."""
+    status: int
+    out: bytes
+    err: bytes
+    requests: int
+    refused: int
+    blocks: int
+    held: int
+    stage: str
+    is_less: bool
+    calls: dict
+
+
+def run(words, room, **wishes):
+    """Runs a program in a folder with these wishes."""
+    told = os.path.join(room, "told")
+    env = {"PATH": os.environ["PATH"], "LD_PRELOAD": REFUSE, "TOLD": told}
+    env |= {name: str(value) for name, value in wishes.items()}
+    ran = subprocess.run(words, cwd=room, env=env, capture_output=True, timeout=100)
+    if ran.returncode < 0:
+        stop(f"{words} with {wishes} died by signal {-ran.returncode}")
+    with open(told) as file:
+        said = file.read().split()
+    os.unlink(told)
+    counts = list(map(int, said[:4]))
+    calls = dict(zip(CALLS, map(int, said[6:])))
+    return Ended(ran.returncode, ran.stdout, ran.stderr, *counts, said[4], said[5] == "less", calls)
+
+
+def stop(why):
+    print(f"refusals.py: {why}")
+    sys.exit(1)
+
+
+def demand(holds, what, got):
+    if not holds:
+        stop(f"{what}: {str(got)[:400]}")
+
+
+def gives_back(base, got, what):
+    demand((got.blocks, got.held) == (base.blocks, base.held), f"{what}: memory is lost, {base.blocks} blocks were held", got)
+
+
+def each_refusal(words, room, **wishes):
+    """A run for each request that can be refused, with its number. There is no `out` before."""
+    for number in itertools.count(1):
+        remove(room, "out")
+        got = run(words, room, REFUSE=number, **wishes)
+        if got.refused == 0:
+            return
+        yield number, got
+
+
+def put(room, name, data):
+    path = os.path.join(room, name)
+    with open(path, "wb") as file:
+        file.write(data)
+    return path
+
+
+def take(room, name):
+    path = os.path.join(room, name)
+    if not os.path.exists(path):
+        return None
+    with open(path, "rb") as file:
+        return file.read()
+
+
+def remove(room, name):
+    if os.path.exists(os.path.join(room, name)):
+        os.unlink(os.path.join(room, name))
+
+
+# ---- the library
+
+def check_subset(name, path, glyphs, room):
+    """`subset` answers want of memory at each request, and nothing else changes. Where it is refused to give back a part
+    of a block, it answers as ever."""
+    words = [BENCH, path, "0", glyphs, "1", "out"]
+    base = run(words, room, WITHIN="clock")
+    demand(base.status == 0 and base.out.startswith(b"ok "), f"subset of {name}", base)
+    whole, count = take(room, "out"), 0
+    for count, got in each_refusal(words, room, WITHIN="clock"):
+        what, out = f"subset of {name}, request {count}", take(room, "out")
+        if got.is_less:
+            demand((got.status, got.out.split()[3:], out) == (0, base.out.split()[3:], whole), what, got)
+        else:
+            demand((got.status, got.out, got.err, out) == (0, NO_MEMORY, b"", None), what, got)
+        gives_back(base, got, what)
+    demand(count == base.requests, f"subset of {name}: {count} refusals", base)
+    return count
+
+
+# The first word, a collection in a collection (also with the last entry of all), and tables that aren't known.
+NESTED = b"ttcf" + made.u32s(0x00010000, 1, 16) + b"ttcf"
+REFUSED = [
+    (b"", 0, b"error unknown font kind\n"),
+    (NESTED, 0, b"error malformed font\n"),
+    (NESTED, 4294967295, b"error malformed font\n"),
+    (made.font([("CFF2", b"")], b"OTTO"), 0, b"error unsupported feature in font\n"),
+    (made.font([("head", made.HEAD)], b"OTTO"), 0, b"error unknown font kind\n"),
+]
+
+
+def check_without_memory(room):
+    """What takes no memory answers with every request refused; what takes some wants it."""
+    for data, index, answer in REFUSED:
+        got = run([BENCH, put(room, "font", data), str(index), "0", "1"], room, WITHIN="clock", REFUSE="all")
+        demand((got.status, got.out, got.refused) == (0, answer, 0), f"subset of {data!r} without memory", got)
+    for data, glyphs in made.WORKED.values():
+        got = run([BENCH, put(room, "font", data), "0", glyphs, "1"], room, WITHIN="clock", REFUSE="all")
+        demand((got.status, got.out) == (0, NO_MEMORY), f"subset of {data!r} without memory", got)
+    got = run_test("what_takes_no_memory_answers_without", room, REFUSE="all")
+    demand(got.refused == 0, "a call that takes no memory asked for some", got)
+    return len(REFUSED)
+
+
+def run_test(name, room, **wishes):
+    """Runs one test of crates/subsetter/src/tests/memory.rt."""
+    got = run([TESTS, f"tests::memory::{name}"], room, WITHIN="clock", **wishes)
+    demand(got.status == 0, f"the test {name} with {wishes}", got)
+    return got
+
+
+def check_mapper(room):
+    """Each call of a mapper answers, or wants memory and leaves the list as it was."""
+    name = "a_mapper_is_whole_or_wants_memory"
+    base = run_test(name, room)
+    for number in itertools.count(1):
+        got = run_test(name, room, REFUSE=number)
+        if got.refused == 0:
+            return number - 1
+        gives_back(base, got, f"the mapper, request {number}")
+
+
+# ---- the program
+
+OLD = b"what stood there before"
+
+
+def run_font(room, glyphs, **wishes):
+    """Runs the program on `in`, with an OUT that is there already."""
+    put(room, "out", OLD)
+    return run([FONT, "in", "out", "0", glyphs], room, **wishes)
+
+
+def base_of(name, data, glyphs, room):
+    put(room, "in", data)
+    base = run_font(room, glyphs)
+    demand((base.status, base.err) == (0, b"") and take(room, "out") != OLD, f"subset_font on {name}", base)
+    return base, take(room, "out")
+
+
+def check_program(name, data, glyphs, room):
+    """The program ends with its status at each refused request, and OUT isn't touched."""
+    base, whole = base_of(name, data, glyphs, room)
+    texts = {"reading": (3, b"cannot read in\n"), "before": (1, b"out of memory\n"), "after": (1, b"out of memory\n")}
+    counts = dict.fromkeys([*texts, "no change"], 0)
+    for number in itertools.count(1):
+        got = run_font(room, glyphs, REFUSE=number)
+        if got.refused == 0:
+            return counts
+        what = f"subset_font on {name}, request {number} ({got.stage})"
+        gives_back(base, got, what)
+        if got.status == 0:
+            # It could do without, as where a smaller block serves or a part of one isn't given back.
+            demand((got.out, got.err, take(room, "out")) == (base.out, b"", whole), what, got)
+            counts["no change"] += 1
+            continue
+        demand(not got.is_less and (got.status, got.err) == texts.get(got.stage), what, got)
+        demand(got.out == b"" and take(room, "out") == OLD, f"{what}: something was written", got)
+        counts[got.stage] += 1
+
+
+def check_files(name, data, glyphs, room):
+    """The program ends with its status at each failed call."""
+    base, whole = base_of(name, data, glyphs, room)
+    counts = {}
+    for what in CALLS[:5]:
+        for number in range(1, base.calls[what] + 1):
+            got = run_font(room, glyphs, FAIL=f"{what}:{number}")
+            told, out = (got.status, got.err), take(room, "out")
+            case = f"subset_font on {name}, {what} {number}"
+            if what == "write1":
+                demand(told == (3, b"cannot write standard output\n") and out == whole, case, got)
+                demand(base.out.startswith(got.out), case, got)
+            elif what == "write" or (what, number) == ("open", 2):
+                demand(told == (3, b"cannot write out\n") and got.out == b"", case, got)
+                demand(out == OLD if what == "open" else whole.startswith(out), f"{case}: {out!r}", got)
+            else:
+                demand(told == (3, b"cannot read in\n") and got.out == b"" and out == OLD, case, got)
+            gives_back(base, got, case)
+        counts[what] = base.calls[what]
+    return counts
+
+
+def check_silence(room):
+    """Where the standard error fails, too, the status tells all the same."""
+    got = run([FONT, "none", "out", "0", "1"], room, FAIL="write2:1")
+    demand((got.status, got.err) == (3, b""), "subset_font without a standard error", got)
+
+
+# ---- all
+
+def build():
+    os.makedirs(BUILD, exist_ok=True)
+    subprocess.run(["gcc", "-O2", "-shared", "-fPIC", "-o", REFUSE, os.path.join(HERE, "refuse.c")], check=True)
+    for crate, verb in (("subset_bench", "run"), ("subset_font", "run"), ("subsetter", "test")):
+        # (subset_bench without words ends with status 2)
+        subprocess.run([os.environ.get("RT", "rt"), verb], cwd=os.path.join(ROOT, "crates", crate), stdout=subprocess.DEVNULL)
+
+
+def debian_fonts():
+    """Some of Debian's fonts, of each kind of outlines, with 40 glyphs that are spread over the face."""
+    taken = [fonts.TRUETYPE_FONTS[0], fonts.TRUETYPE_FONTS[3], fonts.CFF_FONTS[2], fonts.CFF_FONTS[5], fonts.CFF_FONTS[7]]
+    fonts.install([it[0] for it in taken])
+    for _, path, index in taken:
+        with open(path, "rb") as file:
+            yield fonts.label(path, index), file.read(), fonts.spread(min(fonts.glyph_count(path, index), 65535), 40)
+
+
+def main():
+    words = argparse.ArgumentParser(usage=__doc__)
+    words.add_argument("--no-build", action="store_true")
+    words.add_argument("--more", action="store_true")
+    given = words.parse_args()
+    if not given.no_build:
+        build()
+    for needed in (REFUSE, BENCH, FONT, TESTS):
+        if not os.path.exists(needed):
+            sys.exit(f"refusals.py: no {needed}")
+    cases = [(name, *it) for name, it in made.WORKED.items()] + (list(debian_fonts()) if given.more else [])
+    refused = 0
+    with tempfile.TemporaryDirectory(prefix="refusals-") as room:
+        for name, data, glyphs in cases:
+            count = check_subset(name, put(room, "font", data), glyphs, room)
+            print(f"subset, {name}: {count} requests refused")
+            refused += count
+        count = check_mapper(room)
+        print(f"the calls of a mapper: {count} requests refused")
+        refused += count
+        print(f"without memory: {check_without_memory(room)} fonts are refused as ever, and the calls that take none answer")
+        for name, data, glyphs in cases:
+            counts = check_program(name, data, glyphs, room)
+            print(f"subset_font, {name}: {sum(counts.values())} requests refused, {counts}")
+            refused += sum(counts.values())
+        for name, data, glyphs in cases:
+            many = ",".join([glyphs] * 400)
+            print(f"subset_font, {name}: failed calls {check_files(name, data, many, room)}")
+        check_silence(room)
+    print(f"{refused} requests for memory were refused. All ended as they should, and all memory was given back.")
+
+
+if __name__ == "__main__":
+    main()

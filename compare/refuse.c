@@ -1,0 +1,211 @@
+/* Refuses requests for memory and fails calls for files, one at a time, and counts them. Loaded before the C library:
+ * LD_PRELOAD=refuse.so TOLD=FILE [REFUSE=N | REFUSE=all] [WITHIN=clock] [FAIL=WHAT:N] PROGRAM WORDS.
+ *
+ *     REFUSE=N       the Nth request for memory is refused; with `all` each is
+ *     WITHIN=clock   requests count from the first reading of the clock to the second: what a program times
+ *     FAIL=WHAT:N    the Nth call of WHAT fails: open, size, read, write, or write1 and write2 for the standard streams
+ *     TOLD=FILE      gets the counts at the end, where the last refused request stood, and whether it gave back a part of a
+ *                    block (`less`) or asked for memory (`more`)
+ *
+ * For programs of one thread. */
+#define _GNU_SOURCE
+#include <errno.h>
+#include <fcntl.h>
+#include <stdarg.h>
+#include <stdint.h>
+#include <stdio.h>
+#include <stdlib.h>
+#include <string.h>
+#include <sys/stat.h>
+#include <sys/syscall.h>
+#include <time.h>
+#include <unistd.h>
+
+extern void *__libc_malloc(size_t);
+extern void *__libc_realloc(void *, size_t);
+extern void __libc_free(void *);
+
+/* Stands in the 16 bytes before each block: what was asked for, and how far before the block its memory begins. */
+struct head {
+    size_t asked;
+    size_t before;
+};
+
+enum call { OPEN, SIZE, READ, WRITE, WRITE1, WRITE2, CALLS };
+static const char *const names[CALLS] = {"open", "size", "read", "write", "write1", "write2"};
+
+/* Where a program that reads a file and then writes one stands. */
+enum stage { BEFORE, READING, AFTER, WRITING };
+static const char *const stages[] = {"before", "reading", "after", "writing"};
+
+static size_t held, blocks, requests, refused, calls[CALLS], wanted_request, wanted_call;
+static int refuses_all, within_clock, clock_readings, is_ready, is_ended, refused_less;
+static enum call wanted = CALLS;
+static enum stage stage = BEFORE, refused_in = BEFORE;
+
+static void read_wishes(void) {
+    const char *refuse = getenv("REFUSE"), *within = getenv("WITHIN"), *fail = getenv("FAIL");
+    is_ready = 1;
+    refuses_all = refuse && !strcmp(refuse, "all");
+    wanted_request = refuse && !refuses_all ? strtoul(refuse, NULL, 10) : 0;
+    within_clock = within && !strcmp(within, "clock");
+    const char *colon = fail ? strchr(fail, ':') : NULL;
+    for (int k = 0; colon && k < CALLS; k++)
+        if (strlen(names[k]) == (size_t)(colon - fail) && !strncmp(fail, names[k], colon - fail)) wanted = k;
+    wanted_call = colon ? strtoul(colon + 1, NULL, 10) : 0;
+}
+
+/* The C library's own start isn't the program's: what it asks for before this is given. */
+__attribute__((constructor)) static void start(void) { read_wishes(); }
+
+/* Whether a request is to be refused. */
+static int is_refused(void) {
+    if (!is_ready || is_ended || (within_clock && clock_readings != 1)) return 0;
+    requests++;
+    if (!refuses_all && requests != wanted_request) return 0;
+    refused++;
+    refused_in = stage;
+    errno = ENOMEM;
+    return 1;
+}
+
+/* Whether a call is to fail. */
+static int fails(enum call what) {
+    if (!is_ready || is_ended || ++calls[what] != wanted_call || what != wanted) return 0;
+    errno = EIO;
+    return 1;
+}
+
+static struct head *head_of(void *block) { return (struct head *)block - 1; }
+
+static void *block_at(char *memory, size_t before, size_t asked) {
+    void *block = memory + before;
+    *head_of(block) = (struct head){asked, before};
+    held += asked;
+    blocks++;
+    return block;
+}
+
+static void forget(void *block) {
+    held -= head_of(block)->asked;
+    blocks--;
+}
+
+static void *given(size_t asked) {
+    char *memory = asked + 16 < asked ? NULL : __libc_malloc(asked + 16);
+    return memory ? block_at(memory, 16, asked) : NULL;
+}
+
+void *malloc(size_t asked) { return is_refused() ? NULL : given(asked); }
+
+void free(void *block) {
+    if (!block) return;
+    forget(block);
+    __libc_free((char *)block - head_of(block)->before);
+}
+
+void *calloc(size_t count, size_t size) {
+    size_t asked;
+    if (__builtin_mul_overflow(count, size, &asked) || is_refused()) return NULL;
+    void *block = given(asked);
+    return block ? memset(block, 0, asked) : NULL;
+}
+
+void *aligned_alloc(size_t align, size_t asked) {
+    if (is_refused()) return NULL;
+    if (align <= 16) return given(asked);
+    char *memory = __libc_malloc(asked + align + 16);
+    if (!memory) return NULL;
+    uintptr_t place = ((uintptr_t)memory + 16 + align - 1) / align * align;
+    return block_at(memory, place - (uintptr_t)memory, asked);
+}
+
+void *memalign(size_t align, size_t asked) { return aligned_alloc(align, asked); }
+
+int posix_memalign(void **block, size_t align, size_t asked) {
+    *block = aligned_alloc(align, asked);
+    return *block ? 0 : ENOMEM;
+}
+
+void *realloc(void *block, size_t asked) {
+    if (!block) return malloc(asked);
+    struct head old = *head_of(block);
+    if (is_refused()) {
+        refused_less = asked <= old.asked;
+        return NULL;
+    }
+    void *fresh = given(asked);
+    if (!fresh) return NULL;
+    memcpy(fresh, block, old.asked < asked ? old.asked : asked);
+    free(block);
+    return fresh;
+}
+
+int clock_gettime(clockid_t id, struct timespec *now) {
+    clock_readings++;
+    return syscall(SYS_clock_gettime, id, now);
+}
+
+static int opened(int folder, const char *name, int how, mode_t rights) {
+    if (fails(OPEN)) return -1;
+    int writes = (how & O_ACCMODE) != O_RDONLY;
+    stage = writes ? WRITING : stage == BEFORE ? READING : stage;
+    return syscall(SYS_openat, folder, name, how, rights);
+}
+
+static mode_t rights_of(int how, va_list more) { return how & (O_CREAT | O_TMPFILE) ? va_arg(more, mode_t) : 0; }
+
+int open(const char *name, int how, ...) {
+    va_list more;
+    va_start(more, how);
+    mode_t rights = rights_of(how, more);
+    va_end(more);
+    return opened(AT_FDCWD, name, how, rights);
+}
+
+int open64(const char *name, int how, ...) {
+    va_list more;
+    va_start(more, how);
+    mode_t rights = rights_of(how, more);
+    va_end(more);
+    return opened(AT_FDCWD, name, how, rights);
+}
+
+int openat(int folder, const char *name, int how, ...) {
+    va_list more;
+    va_start(more, how);
+    mode_t rights = rights_of(how, more);
+    va_end(more);
+    return opened(folder, name, how, rights);
+}
+
+int statx(int folder, const char *restrict name, int how, unsigned wanted_parts, struct statx *restrict about) {
+    return fails(SIZE) ? -1 : syscall(SYS_statx, folder, name, how, wanted_parts, about);
+}
+
+ssize_t read(int file, void *bytes, size_t count) {
+    if (fails(READ)) return -1;
+    ssize_t got = syscall(SYS_read, file, bytes, count);
+    if (got == 0 && stage == READING) stage = AFTER;
+    return got;
+}
+
+ssize_t write(int file, const void *bytes, size_t count) {
+    if (fails(file == 1 ? WRITE1 : file == 2 ? WRITE2 : WRITE)) return -1;
+    return syscall(SYS_write, file, bytes, count);
+}
+
+ssize_t __write(int file, const void *bytes, size_t count) { return write(file, bytes, count); }
+
+__attribute__((destructor)) static void tell(void) {
+    const char *name = getenv("TOLD");
+    char text[400];
+    is_ended = 1;
+    const char *where = stages[refused_in], *what = refused_less ? "less" : "more";
+    int length = snprintf(text, sizeof text, "%zu %zu %zu %zu %s %s", requests, refused, blocks, held, where, what);
+    for (int k = 0; k < CALLS; k++) length += snprintf(text + length, sizeof text - length, " %zu", calls[k]);
+    int file = name ? syscall(SYS_openat, AT_FDCWD, name, O_WRONLY | O_CREAT | O_TRUNC, 0644) : -1;
+    if (file < 0) return;
+    syscall(SYS_write, file, text, length);
+    syscall(SYS_close, file);
+}

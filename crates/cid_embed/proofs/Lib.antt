@@ -1,0 +1,6 @@
+mod Directory
+mod Tables
+mod Reading
+mod Numbers
+mod Promises
+mod FewerCids

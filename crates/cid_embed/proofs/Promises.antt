@@ -1,0 +1,77 @@
+-- What `embed` promises, by what `subset` promises and what is read of its answer.
+use Rattle.std.proofs.Common.{◌≡◌, ℕ, ◌<◌, ◌||◌, true, eqb, List, [], length, get_or, map, Some, Result, Ok, Err, refl, sym, ap, subst, ◌∙◌, ◌⊎◌, inl, inr}
+use Rattle.std.specs.Prelude.{IsSome}
+use Rattle.std.proofs.Math.Bool.{or-true}
+use Rattle.std.proofs.lemmas.List.{get_or_default}
+use Rattle.subsetter_base.specs.Gives.{Gives}
+use Rattle.subsetter_base.specs.Places.{place, HasAllAboveZero}
+use Rattle.subsetter_base.specs.declared.error.Error.{Error}
+use Rattle.subsetter_base.specs.declared.error.Error.TheVariants.{UnknownKind, MalformedFont, Unimplemented, SubsetError, OverflowError, CFFError, OutOfMemory}
+use Rattle.subsetter_base.proofs.GlyphLemmas.{known, known-all, Contains-place}
+use Rattle.subsetter.specs.Sfnt.Read.{Font}
+use Rattle.subsetter.specs.Fault.{HasFault}
+use Rattle.subsetter.specs.Subset.{IsSubset}
+use Rattle.cid_embed.specs.Afresh.{table_of, widths_of}
+use Rattle.cid_embed.specs.Embed.{numbering, IsEmbedded, HasEmbedFault, in_numbering, in_subset, in_widths}
+use Rattle.cid_embed.specs.Width.{HasWidthFault}
+use Rattle.cid_embed.specs.declared.embedding.Embedded.{Embedded}
+use Rattle.cid_embed.proofs.Reading.{IsReading, is_reading}
+
+-- each asked glyph has a number
+pub asked_known : (glyphs mapper : List ℕ) (k d : ℕ) → mapper ≡ numbering glyphs → k < length glyphs → IsSome (place mapper (get_or glyphs k d))
+asked_known glyphs mapper k d m lt =
+    let q = get_or glyphs k d in
+    let known_there : known glyphs q ≡ true = Contains-place glyphs q (k, lt, get_or_default glyphs k q d lt) in
+    ap (λ (l : List ℕ). known l q) m ∙ known-all glyphs q ∙ ap (λ b. eqb 0 q || b) known_there ∙ or-true (eqb 0 q)
+
+-- a subset in whose source no fault stands, the size limits being judged for its order of glyphs
+abbrev pub IsFaultless : ℕ → ℕ → Font → List ℕ → List ℕ → Type 0
+IsFaultless tokens depth font glyphs out = (s : IsSubset tokens depth font glyphs out) × ((e : Error) → ¬ (HasFault tokens depth font glyphs s.keeps.order e))
+
+-- why nothing is answered
+abbrev pub IsRefusal : ℕ → ℕ → Font → List ℕ → Error → Type 0
+IsRefusal tokens depth font glyphs why = (why ≡ OutOfMemory) ⊎ ((order : List ℕ) × HasEmbedFault tokens depth font glyphs order why)
+
+module _ (tokens depth : ℕ) (font : Font) (glyphs : List ℕ) where
+  pub mapper_refused : (why : Error) → (why ≡ OutOfMemory) ⊎ ((why ≡ OverflowError) × HasAllAboveZero glyphs) → IsRefusal tokens depth font glyphs why
+  mapper_refused why (inl memory) = inl memory
+  mapper_refused why (inr full) = inr ([], subst (HasEmbedFault tokens depth font glyphs []) (sym full.0) (in_numbering full.1))
+
+  pub subset_refused : (mapper : List ℕ) (why : Error) → mapper ≡ numbering glyphs → (why ≡ OutOfMemory) ⊎ ((order : List ℕ) × HasFault tokens depth font mapper order why) → IsRefusal tokens depth font glyphs why
+  subset_refused mapper why m (inl memory) = inl memory
+  subset_refused mapper why m (inr fault) = inr (fault.0, in_subset (subst (λ (l : List ℕ). HasFault tokens depth font l fault.0 why) m fault.1))
+
+  -- a reading that refuses has a fault of widths, unless memory ran out
+  unread : {X : Type 0} (view : X → List ℕ) (r : Result (List ℕ) Error) (why : Error) (order : List ℕ) → Gives view (Err why) r → IsReading font (numbering glyphs) r → IsRefusal tokens depth font glyphs why
+  unread view r OutOfMemory order g i = inl refl
+  unread view r UnknownKind order g i = inr (order, in_widths (subst (IsReading font (numbering glyphs)) g i))
+  unread view r MalformedFont order g i = inr (order, in_widths (subst (IsReading font (numbering glyphs)) g i))
+  unread view r Unimplemented order g i = inr (order, in_widths (subst (IsReading font (numbering glyphs)) g i))
+  unread view r SubsetError order g i = inr (order, in_widths (subst (IsReading font (numbering glyphs)) g i))
+  unread view r OverflowError order g i = inr (order, in_widths (subst (IsReading font (numbering glyphs)) g i))
+  unread view r CFFError order g i = inr (order, in_widths (subst (IsReading font (numbering glyphs)) g i))
+
+  module _ (mapper out bytes : List ℕ) (count : ℕ) (m : mapper ≡ numbering glyphs) (b : bytes ≡ out) (n : count ≡ length mapper) (clean : IsFaultless tokens depth font mapper out) where
+    renamed : IsFaultless tokens depth font (numbering glyphs) out
+    renamed = subst (λ (l : List ℕ). IsFaultless tokens depth font l out) m clean
+
+    reading : IsReading font (numbering glyphs) (widths_of (table_of bytes) count)
+    reading =
+        subst (λ (l : List ℕ). IsReading font (numbering glyphs) (widths_of (table_of l) count)) (sym b)
+        (subst (λ (k : ℕ). IsReading font (numbering glyphs) (widths_of (table_of out) k)) (sym (n ∙ ap length m))
+        (is_reading tokens depth font (numbering glyphs) out renamed.0 renamed.1))
+
+    pub widths_refused : {X : Type 0} (view : X → List ℕ) (why : Error) → Gives view (Err why) (widths_of (table_of bytes) count) → IsRefusal tokens depth font glyphs why
+    widths_refused view why g = unread view (widths_of (table_of bytes) count) why renamed.0.keeps.order g reading
+
+    -- all that is answered
+    pub answered : (e : Embedded) → out ≡ e.font.items → widths_of (table_of bytes) count ≡ Ok e.widths.items → map Some e.cids.items ≡ map (place mapper) glyphs → (HasAllAboveZero glyphs → ⊥) → (s : IsEmbedded tokens depth font glyphs e) × ((why : Error) → ¬ (HasEmbedFault tokens depth font glyphs s.subset.keeps.order why))
+    answered e f w cids room =
+        let whole : IsFaultless tokens depth font (numbering glyphs) e.font.items = subst (IsFaultless tokens depth font (numbering glyphs)) f renamed in
+        let read : IsReading font (numbering glyphs) (Ok e.widths.items) = subst (IsReading font (numbering glyphs)) w reading in
+        (record { subset = whole.0; cids = cids ∙ ap (λ (l : List ℕ). map (place l) glyphs) m; widths = read.0 }, none whole.0.keeps.order room whole.1 read.1)
+      where
+        none : (order : List ℕ) → (HasAllAboveZero glyphs → ⊥) → ((why : Error) → ¬ (HasFault tokens depth font (numbering glyphs) order why)) → ((why : Error) → HasWidthFault font why → ⊥) → (why : Error) → ¬ (HasEmbedFault tokens depth font glyphs order why)
+        none order r s w why (in_numbering all) = r all
+        none order r s w why (in_subset f) = s why f
+        none order r s w why (in_widths f) = w why f

@@ -1,0 +1,67 @@
+use Rattle.std.proofs.Common.{◌≡◌, ℕ, ◌⊎◌, List, length, Result, Ok, Err, subst}
+use Rattle.std.specs.Prelude.{IfOk, IfErr}
+use Rattle.subsetter_base.specs.Bytes.{IsBytes}
+use Rattle.subsetter_base.specs.declared.error.Error.{Error}
+use Rattle.subsetter_base.specs.declared.error.Error.TheVariants.{OutOfMemory}
+use Rattle.subsetter_cff.specs.Again.{AreAll}
+use Rattle.subsetter.specs.Answer.{IsTheAnswer}
+use Rattle.subsetter.specs.Limits.{token_limit, depth_limit}
+use Rattle.subsetter.specs.Sfnt.Read.{as_font}
+use Rattle.subsetter_again.specs.Again.{IsTrueTypeOrCidKeyed}
+use Rattle.subsetter_again.specs.Shrink.{OfEachSource, IsShrunk, IsGivenBack}
+use Rattle.subsetter_again.proofs.Shrunk.{is_shrunk, is_given_back, no_fault_for_all}
+use Rattle.cid_embed.specs.Embed.{numbering, IsEmbedded, HasEmbedFault}
+use Rattle.cid_embed.specs.Width.{HasWidthFault}
+use Rattle.cid_embed.proofs.FewerCids.{some_numbered, unknown_cid, only_widths}
+use Rattle.cid_embed.proofs.shrinking.shrink.Goals as goal
+
+-- a fact of each answer
+for_ok : {X : Type 0} (r : Result X Error) (P Q : X → Type 0) → ((x : X) → P x → Q x) → IfOk r P → IfOk r Q
+for_ok (Ok x) P Q f h = f x h
+for_ok (Err e) P Q f h = tt
+
+for_err : {X : Type 0} (r : Result X Error) (P Q : Error → Type 0) → ((e : Error) → P e → Q e) → IfErr r P → IfErr r Q
+for_err (Ok x) P Q f h = tt
+for_err (Err e) P Q f h = f e h
+
+pub returns-clause-clean : goal.returns-clause-clean
+returns-clause-clean c =
+    let cids = c.args.cids.now in
+    subst (λ (g : List ℕ). IfOk c.embed.result (λ s. (x : IsEmbedded token_limit depth_limit (as_font g) cids s) × ((why : Error) → HasEmbedFault token_limit depth_limit (as_font g) cids x.subset.keeps.order why → ⊥))) c.font_of.ensures.font c.embed.ensures.clean
+
+pub returns-clause-same : goal.returns-clause-same
+returns-clause-same c =
+    let cids = c.args.cids.now in
+    subst (λ (g : List ℕ). IfOk c.embed.result (λ s. IsTheAnswer (as_font g) (numbering cids) s.font.items)) c.font_of.ensures.font c.embed.ensures.same
+
+pub returns-clause-shrunk : goal.returns-clause-shrunk
+returns-clause-shrunk c =
+    let given = c.args.e.now.font.items in
+    let cids = c.args.cids.now in
+    let seen = c.font_of.result.now in
+    subst (λ (g : List ℕ). IfOk c.embed.result (λ s. IsShrunk g (numbering cids) s.font.items)) c.font_of.ensures.font
+    (for_ok c.embed.result (λ s. IsEmbedded token_limit depth_limit (as_font seen) cids s) (λ s. IsShrunk seen (numbering cids) s.font.items) (λ s x. is_shrunk seen (numbering cids) s.font.items (some_numbered cids) x.subset) c.embed.ensures.ok)
+
+pub returns-clause-given_back : goal.returns-clause-given_back
+returns-clause-given_back c =
+    let cids = c.args.cids.now in
+    let seen = c.font_of.result.now in
+    subst (λ (g : List ℕ). IfOk c.embed.result (λ s. IsGivenBack g (numbering cids) s.font.items)) c.font_of.ensures.font
+    (for_ok c.embed.result (λ s. IsEmbedded token_limit depth_limit (as_font seen) cids s) (λ s. IsGivenBack seen (numbering cids) s.font.items) (λ s x. is_given_back seen (numbering cids) s.font.items (some_numbered cids) x.subset) c.embed.ensures.ok)
+
+pub returns-clause-sound : goal.returns-clause-sound
+returns-clause-sound c =
+    let fit : IsBytes c.args.e.now.font.items = subst IsBytes c.font_of.ensures.font c.font_of.ensures.bytes in
+    no_fault_for_all c.args.e.now.font.items (numbering c.args.cids.now) fit (some_numbered c.args.cids.now)
+
+pub returns-clause-only_widths : goal.returns-clause-only_widths
+returns-clause-only_widths c =
+    let given = c.args.e.now.font.items in
+    let cids = c.args.cids.now in
+    let seen = c.font_of.result.now in
+    subst (λ (g : List ℕ). IfErr c.embed.result (λ why. OfEachSource g (λ source first. AreAll (length first) (numbering cids) → IsTrueTypeOrCidKeyed source → (why ≡ OutOfMemory) ⊎ HasWidthFault (as_font g) why))) c.font_of.ensures.font
+    (for_err c.embed.result (λ why. (why ≡ OutOfMemory) ⊎ ((order : List ℕ) × HasEmbedFault token_limit depth_limit (as_font seen) cids order why))
+    (λ why. OfEachSource seen (λ source first. AreAll (length first) (numbering cids) → IsTrueTypeOrCidKeyed source → (why ≡ OutOfMemory) ⊎ HasWidthFault (as_font seen) why)) (λ why found. only_widths seen cids why c.font_of.ensures.bytes found) c.embed.ensures.err)
+
+pub returns-clause-unknown : goal.returns-clause-unknown
+returns-clause-unknown c = unknown_cid c.args.e.now.font.items c.args.cids.now

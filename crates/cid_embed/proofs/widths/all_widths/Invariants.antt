@@ -1,0 +1,7 @@
+use Rattle.std.proofs.Common.{◌≡◌, ◌-◌}
+use Rattle.subsetter_base.proofs.Results.{with_front}
+use Rattle.cid_embed.specs.Afresh.{measures_seen, widths_from}
+use Rattle.cid_embed.proofs.widths.all_widths.Given as goal
+
+abbrev pub invariant-loop-glyph : goal.invariant-loop-glyph
+invariant-loop-glyph l = with_front l.widths.items (widths_from (measures_seen l.metrics) l.glyph (l.count - l.glyph)) ≡ widths_from (measures_seen l.metrics) 0 l.count

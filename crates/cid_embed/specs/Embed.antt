@@ -1,0 +1,31 @@
+-- What a PDF writer gets of a font for the glyphs that it asks for, and why it doesn't.
+use Rattle.std.specs.Prelude.{◌≡◌, ℕ, List, [], ◌∷◌, map, Some}
+use Rattle.subsetter_base.specs.Places.{place, with_glyphs, HasAllAboveZero}
+use Rattle.subsetter_base.specs.declared.error.Error.{Error}
+use Rattle.subsetter_base.specs.declared.error.Error.TheVariants.{OverflowError}
+use Rattle.subsetter.specs.Sfnt.Read.{Font}
+use Rattle.subsetter.specs.Subset.{IsSubset}
+use Rattle.subsetter.specs.Fault.{HasFault}
+use Rattle.cid_embed.specs.Width.{width, HasWidthFault}
+use Rattle.cid_embed.specs.declared.embedding.Embedded.{Embedded}
+
+-- the glyphs by their new numbers: 0, then the asked ones in order, each once
+abbrev pub numbering : List ℕ → List ℕ
+numbering glyphs = with_glyphs (0 ∷ []) glyphs
+
+-- a subset of the font for the asked glyphs, with their CIDs and the widths; a charstring is run within two limits
+pub record IsEmbedded (tokens depth : ℕ) (font : Font) (glyphs : List ℕ) (e : Embedded) : Type 0 where
+  pub subset : IsSubset tokens depth font (numbering glyphs) e.font.items
+  -- a CID for each asked glyph, in the order asked for: its new number
+  pub cids : map Some e.cids.items ≡ map (place (numbering glyphs)) glyphs
+  -- a width for each CID, from 0 on: that of its glyph in the source
+  pub widths : map Some e.widths.items ≡ map (width font) (numbering glyphs)
+
+-- what can stand against it, under the name of the error; the size limits are judged for an order of the new font's glyphs
+pub data HasEmbedFault (tokens depth : ℕ) (font : Font) (glyphs order : List ℕ) : Error → Type 0 where
+  -- the asked glyphs leave no number for glyph 0
+  in_numbering : HasAllAboveZero glyphs → HasEmbedFault tokens depth font glyphs order OverflowError
+  -- there is no subset
+  in_subset : {e : Error} → HasFault tokens depth font (numbering glyphs) order e → HasEmbedFault tokens depth font glyphs order e
+  -- there are no widths
+  in_widths : {e : Error} → HasWidthFault font e → HasEmbedFault tokens depth font glyphs order e

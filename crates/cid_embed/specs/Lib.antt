@@ -1,0 +1,4 @@
+pub mod Afresh
+pub mod Embed
+pub mod Text
+pub mod Width

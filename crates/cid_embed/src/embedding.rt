@@ -1,0 +1,94 @@
+//! The subset of a font with the CIDs and the widths of its glyphs.
+
+ghost use Rattle.std.specs.Prelude.{◌≡◌, ◌⊎◌, ℕ, List, map, All, IfOk, IfErr, IsSome, Some};
+ghost use Rattle.subsetter_base.specs.Places.{place};
+ghost use Rattle.subsetter_base.specs.declared.error.Error.{Error as SpecError};
+ghost use Rattle.subsetter_base.specs.declared.error.Error.TheVariants.{OutOfMemory};
+ghost use Rattle.subsetter.specs.Limits.{token_limit, depth_limit};
+ghost use Rattle.subsetter.specs.Answer.{IsAnswer, IsTheAnswer};
+ghost use Rattle.cid_embed.specs.Embed.{numbering, IsEmbedded, HasEmbedFault};
+
+use crate::widths::read_widths;
+use std::alloc::Global;
+use subsetter::{Error, GlyphRemapper, Limits, subset_with_limits};
+
+/// What a PDF writer needs of a font for the glyphs that it asks for.
+#[derive(Debug, Drop)]
+pub struct Embedded {
+    /// The font program: the subset of the font.
+    pub font: Vec<u8>,
+    /// The CID of each asked glyph, in the order asked for.
+    pub cids: Vec<u16>,
+    /// The width of each CID, from 0 on, in thousandths of the em.
+    pub widths: Vec<u32>,
+}
+
+/// The new numbers of the glyphs, which the mapper knows.
+fn cids(alloc: Global, mapper: &GlyphRemapper, glyphs: &[u16]) -> Result<Vec<u16>, Error>
+    requires { All (λ glyph. IsSome (place mapper.now glyph)) glyphs.now }
+    ensures ok { IfOk result (λ cids. map Some cids.items ≡ map (place mapper.now) glyphs.now) }
+    ensures err { IfErr result (λ e. e ≡ OutOfMemory) }
+{
+    let mut cids = Vec::with_capacity(alloc, glyphs.len())?;
+    for glyph in glyphs {
+        cids.push(mapper.get(*glyph).unwrap())?;
+    }
+    Ok(cids)
+}
+
+/// The subset of a font for the asked glyphs, with the CID of each of them and the width of each CID.
+///
+/// The font has glyph 0, then the asked glyphs in order, each once, and then each further glyph that these reach through
+/// components, once; the CID of a glyph is its number there. The widths are those of glyph 0 and the asked glyphs.
+/// `data` and `index` are as for `subset`.
+///
+/// # Errors
+///
+/// - `OverflowError`: all glyphs above 0 are asked for, which leaves no number for glyph 0.
+/// - Those of `subset`.
+/// - `MalformedFont`: there is no `hmtx` or no `head`, or unitsPerEm is 0.
+/// - `OutOfMemory`: a request for memory was refused.
+///
+/// They are looked for in this order.
+pub fn embed(alloc: Global, data: &[u8], index: u32, glyphs: &[u16]) -> Result<Embedded, Error>
+    // What is answered is a subset with CIDs and widths.
+    ensures ok { IfOk result (λ e. IsEmbedded token_limit depth_limit (record { bytes = «data».now; index = index }) glyphs.now e) }
+    // And then no fault stands in the source, the size limits being judged for the answer's order of glyphs.
+    ensures clean { IfOk result (λ e. (s : IsEmbedded token_limit depth_limit (record { bytes = «data».now; index = index }) glyphs.now e) × ((why : SpecError) → ¬ (HasEmbedFault token_limit depth_limit (record { bytes = «data».now; index = index }) glyphs.now s.subset.keeps.order why))) }
+    // Its font is the one that `subset` answers.
+    ensures exact { IfOk result (λ e. IsAnswer token_limit depth_limit (record { bytes = «data».now; index = index }) (numbering glyphs.now) e.font.items) }
+    ensures same { IfOk result (λ e. IsTheAnswer (record { bytes = «data».now; index = index }) (numbering glyphs.now) e.font.items) }
+    // What is refused has a fault of that name.
+    ensures err { IfErr result (λ why. (why ≡ OutOfMemory) ⊎ ((order : List ℕ) × HasEmbedFault token_limit depth_limit (record { bytes = «data».now; index = index }) glyphs.now order why)) }
+{
+    embed_with_limits(alloc, data, index, glyphs, &Limits::default())
+}
+
+/// As `embed`, where the charstring of a glyph may run for other limits than 1,000,000 tokens and depth 64.
+///
+/// # Errors
+///
+/// Those of `embed`, with the chosen limits in place of the default ones.
+pub fn embed_with_limits(
+    alloc: Global,
+    data: &[u8],
+    index: u32,
+    glyphs: &[u16],
+    limits: &Limits,
+) -> Result<Embedded, Error>
+    // What is answered is a subset with CIDs and widths.
+    ensures ok { IfOk result (λ e. IsEmbedded limits.now.tokens limits.now.depth (record { bytes = «data».now; index = index }) glyphs.now e) }
+    // And then no fault stands in the source, the size limits being judged for the answer's order of glyphs.
+    ensures clean { IfOk result (λ e. (s : IsEmbedded limits.now.tokens limits.now.depth (record { bytes = «data».now; index = index }) glyphs.now e) × ((why : SpecError) → ¬ (HasEmbedFault limits.now.tokens limits.now.depth (record { bytes = «data».now; index = index }) glyphs.now s.subset.keeps.order why))) }
+    // Its font is the one that `subset_with_limits` answers.
+    ensures exact { IfOk result (λ e. IsAnswer limits.now.tokens limits.now.depth (record { bytes = «data».now; index = index }) (numbering glyphs.now) e.font.items) }
+    ensures same { IfOk result (λ e. IsTheAnswer (record { bytes = «data».now; index = index }) (numbering glyphs.now) e.font.items) }
+    // What is refused has a fault of that name.
+    ensures err { IfErr result (λ why. (why ≡ OutOfMemory) ⊎ ((order : List ℕ) × HasEmbedFault limits.now.tokens limits.now.depth (record { bytes = «data».now; index = index }) glyphs.now order why)) }
+{
+    let mapper = GlyphRemapper::new_from_glyphs(alloc, glyphs)?;
+    let font = subset_with_limits(alloc, data, index, &mapper, limits)?;
+    let widths = read_widths(alloc, &font, mapper.num_gids())?;
+    let cids = cids(alloc, &mapper, glyphs)?;
+    Ok(Embedded { font, cids, widths })
+}

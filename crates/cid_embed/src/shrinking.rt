@@ -1,0 +1,67 @@
+//! Embedding an embedded font again, with some of its glyphs.
+
+ghost use Rattle.std.specs.Prelude.{◌≡◌, ◌≤◌, ◌⊎◌, ℕ, List, length, Contains, IfOk, IfErr};
+ghost use Rattle.subsetter_base.specs.Bytes.{IsBytes};
+ghost use Rattle.subsetter_base.specs.declared.error.Error.{Error as SpecError};
+ghost use Rattle.subsetter_base.specs.declared.error.Error.TheVariants.{MalformedFont, OutOfMemory};
+ghost use Rattle.subsetter.specs.Answer.{IsAnswer, IsTheAnswer};
+ghost use Rattle.subsetter.specs.Limits.{token_limit, depth_limit};
+ghost use Rattle.subsetter.specs.Sfnt.Read.{as_font};
+ghost use Rattle.subsetter_again.specs.Again.{IsTrueTypeOrCidKeyed};
+ghost use Rattle.subsetter_again.specs.Shrink.{OfEachSource, IsShrunk, IsGivenBack, HasNoFaultForAll};
+ghost use Rattle.subsetter_cff.specs.Again.{AreAll};
+ghost use Rattle.cid_embed.specs.Embed.{numbering, IsEmbedded, HasEmbedFault};
+ghost use Rattle.cid_embed.specs.Width.{HasWidthFault};
+
+use crate::embedding::{Embedded, embed};
+use std::alloc::Global;
+use subsetter::Error;
+
+/// The font of an embedded font, whose members are bytes: a premise of the proof of `shrink`.
+fn font_of(e: &Embedded) -> &[u8]
+    ensures font { result.now ≡ e.now.font.items }
+    ensures bytes { IsBytes result.now }
+{
+    as_bytes(&e.font)
+}
+
+/// The same bytes.
+fn as_bytes(font: &[u8]) -> &[u8]
+    ensures same { result.now ≡ font.now }
+    ensures bytes { IsBytes font.now }
+{
+    font
+}
+
+/// What a PDF writer needs of an embedded font for some of its CIDs: what `embed` answers for its font.
+///
+/// `cids` are glyph numbers of the embedded font, and the new CIDs those of the answer. Where the embedded font is a
+/// subset of some font within the default limits, as one that `embed` answered is, the answer's is a subset of that
+/// font too, for the glyphs that the CIDs stand for.
+///
+/// # Errors
+///
+/// Those of `embed`. A CID that the embedded font doesn't have is `MalformedFont`. With all CIDs in order a TrueType or
+/// CID-keyed font is refused for want of memory or of widths alone.
+pub fn shrink(alloc: Global, e: &Embedded, cids: &[u16]) -> Result<Embedded, Error>
+    // What is answered is a subset of the font with CIDs and widths.
+    ensures ok { IfOk result (λ s. IsEmbedded token_limit depth_limit (as_font e.now.font.items) cids.now s) }
+    // And then no fault stands in the font, the size limits being judged for the answer's order of glyphs.
+    ensures clean { IfOk result (λ s. (x : IsEmbedded token_limit depth_limit (as_font e.now.font.items) cids.now s) × ((why : SpecError) → ¬ (HasEmbedFault token_limit depth_limit (as_font e.now.font.items) cids.now x.subset.keeps.order why))) }
+    // Its font is the one that `subset` answers.
+    ensures exact { IfOk result (λ s. IsAnswer token_limit depth_limit (as_font e.now.font.items) (numbering cids.now) s.font.items) }
+    ensures same { IfOk result (λ s. IsTheAnswer (as_font e.now.font.items) (numbering cids.now) s.font.items) }
+    // It is a subset of each font of which the given one is a subset.
+    ensures shrunk { IfOk result (λ s. IsShrunk e.now.font.items (numbering cids.now) s.font.items) }
+    // All CIDs in order give the font back.
+    ensures given_back { IfOk result (λ s. IsGivenBack e.now.font.items (numbering cids.now) s.font.items) }
+    // What is refused has a fault of that name.
+    ensures err { IfErr result (λ why. (why ≡ OutOfMemory) ⊎ ((order : List ℕ) × HasEmbedFault token_limit depth_limit (as_font e.now.font.items) cids.now order why)) }
+    // No fault of the subset stands for all CIDs in order, so that they are refused for want of memory or of widths alone.
+    ensures sound { HasNoFaultForAll e.now.font.items (numbering cids.now) }
+    ensures only_widths { IfErr result (λ why. OfEachSource e.now.font.items (λ source first. AreAll (length first) (numbering cids.now) → IsTrueTypeOrCidKeyed source → (why ≡ OutOfMemory) ⊎ HasWidthFault (as_font e.now.font.items) why)) }
+    // A CID that the font doesn't have is a fault.
+    ensures unknown { OfEachSource e.now.font.items (λ source first. (cid : ℕ) (order : List ℕ) → Contains cids.now cid → length first ≤ cid → HasEmbedFault token_limit depth_limit (as_font e.now.font.items) cids.now order MalformedFont) }
+{
+    embed(alloc, font_of(e), 0, cids)
+}

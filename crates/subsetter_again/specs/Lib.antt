@@ -1,0 +1,3 @@
+pub mod CidKeyed
+pub mod Again
+pub mod Shrink

@@ -1,0 +1,39 @@
+//! The laws of a subset of a subset, which name no code. The second subset's glyphs are named by their places in the
+//! first one's order.
+
+ghost use Rattle.subsetter_again.specs.Again.{ComposesAfresh, HasNoFaultAgain, IsCanonical, IsComposed, IsKeyedByCids, KeepsAllCharStrings, UnknownIsFault};
+
+/// A subset of a subset keeps what a subset of the first font keeps, read afresh.
+pub fn composes_afresh()
+    ensures { ComposesAfresh }
+{}
+
+/// A subset of a subset is a subset of the first font, where that is TrueType or CID-keyed.
+pub fn is_composed()
+    ensures { IsComposed }
+{}
+
+/// Every subset is TrueType or CID-keyed.
+pub fn is_keyed_by_cids()
+    ensures { IsKeyedByCids }
+{}
+
+/// A subset of all glyphs of a subset, in order, is that subset, byte for byte.
+pub fn is_canonical()
+    ensures { IsCanonical }
+{}
+
+/// A subset of all glyphs of a subset has its charstrings, whatever the keying of the first font is.
+pub fn keeps_all_charstrings()
+    ensures { KeepsAllCharStrings }
+{}
+
+/// No fault stands in a subset for all its glyphs, in order.
+pub fn no_fault_again()
+    ensures { HasNoFaultAgain }
+{}
+
+/// A glyph that a subset doesn't have is a fault in it.
+pub fn unknown_is_fault()
+    ensures { UnknownIsFault }
+{}

@@ -1,0 +1,50 @@
+-- What is said of bytes that are handed over, in other words.
+use Rattle.std.proofs.Common.{◌≡◌, ℕ, ◌<◌, ◌≤◌, true, false, List, length, refl, sym, subst, ◌⊎◌, inl, inr, Vec, Global, Result, Ok, Err}
+use Rattle.std.specs.Prelude.{IfOk, IfErr, leb}
+use Rattle.std.proofs.lemmas.Bool.Decides.{leb_tells}
+use Rattle.subsetter_base.specs.Places.{HasAllAboveZero}
+use Rattle.subsetter_base.specs.declared.error.Error.{Error}
+use Rattle.subsetter_base.specs.declared.error.Error.TheVariants.{OutOfMemory, OverflowError}
+use Rattle.subsetter.specs.Sfnt.Read.{Font}
+use Rattle.subsetter.specs.Subset.{IsSubset}
+use Rattle.subsetter.specs.Fault.{HasFault}
+use Rattle.cid_embed.specs.Embed.{numbering}
+use Rattle.subsetter_c.specs.Handed.{begun_with, IsHandedOver, whole, short, refused, IsAnswered, IsSoundSubset, IsRefusal, HasCallFault, in_numbering, in_subset}
+use Rattle.subsetter_c.specs.Status.{too_small}
+
+-- bytes are there as a whole, or they are longer than the buffer
+pub bytes_handed : (bytes before after : List ℕ) (told status : ℕ) → told ≡ length bytes → (length bytes ≤ length before → (after ≡ begun_with bytes before) × (status ≡ 0)) → (length before < length bytes → (after ≡ before) × (status ≡ too_small)) → IsHandedOver (λ b. b ≡ bytes) (λ e. ⊥) before after told status
+bytes_handed bytes before after told status t fits longer = by (leb_tells (length bytes) (length before))
+  where
+    by : ((leb (length bytes) (length before) ≡ true) × (length bytes ≤ length before)) ⊎ ((leb (length bytes) (length before) ≡ false) × (length before < length bytes)) → IsHandedOver (λ b. b ≡ bytes) (λ e. ⊥) before after told status
+    by (inl f) = let w = fits f.1 in whole bytes refl f.1 w.0 t w.1
+    by (inr f) = let w = longer f.1 in short bytes refl f.1 w.0 t w.1
+
+-- what holds of the bytes and of the error may be weakened
+pub said_as : (Is Said : List ℕ → Type 0) (Why Named : Error → Type 0) (before after : List ℕ) (told status : ℕ) → ((bytes : List ℕ) → Is bytes → Said bytes) → ((e : Error) → Why e → Named e) → IsHandedOver Is Why before after told status → IsHandedOver Said Named before after told status
+said_as Is Said Why Named before after told status is why (whole bytes i f a t s) = whole bytes (is bytes i) f a t s
+said_as Is Said Why Named before after told status is why (short bytes i f a t s) = short bytes (is bytes i) f a t s
+said_as Is Said Why Named before after told status is why (refused e w a t s) = refused e (why e w) a t s
+
+-- an answer is handed over: then what is known of it
+pub answer_handed : (Said : List ℕ → Type 0) (Named : Error → Type 0) (answer : Result (Vec ℕ Global) Error) (before after : List ℕ) (told status : ℕ) → IfOk answer (λ v. Said v.items) → IfErr answer Named → IsHandedOver (IsAnswered answer) (λ e. answer ≡ Err e) before after told status → IsHandedOver Said Named before after told status
+answer_handed Said Named answer before after told status ok err = said_as (IsAnswered answer) Said (λ e. answer ≡ Err e) Named before after told status
+    (λ bytes a. subst Said a.2 (subst (λ (r : Result (Vec ℕ Global) Error). IfOk r (λ v. Said v.items)) a.1 ok))
+    (λ e is. subst (λ (r : Result (Vec ℕ Global) Error). IfErr r Named) is err)
+
+module _ (tokens depth : ℕ) (font : Font) (glyphs : List ℕ) where
+  pub mapper_refused : (e : Error) → (e ≡ OutOfMemory) ⊎ ((e ≡ OverflowError) × HasAllAboveZero glyphs) → IsRefusal tokens depth font glyphs e
+  mapper_refused e (inl memory) = inl memory
+  mapper_refused e (inr full) = inr (subst (HasCallFault tokens depth font glyphs) (sym full.0) (in_numbering full.1))
+
+  pub subset_refused : (mapper : List ℕ) (r : Result (Vec ℕ Global) Error) → mapper ≡ numbering glyphs → IfErr r (λ e. (e ≡ OutOfMemory) ⊎ ((order : List ℕ) × HasFault tokens depth font mapper order e)) → IfErr r (IsRefusal tokens depth font glyphs)
+  subset_refused mapper (Ok v) m h = h
+  subset_refused mapper (Err e) m (inl memory) = inl memory
+  subset_refused mapper (Err e) m (inr fault) = inr (in_subset fault.0 (subst (λ (l : List ℕ). HasFault tokens depth font l fault.0 e) m fault.1))
+
+  pub subset_sound : (mapper : List ℕ) (r : Result (Vec ℕ Global) Error) → mapper ≡ numbering glyphs → IfOk r (λ v. (s : IsSubset tokens depth font mapper v.items) × ((e : Error) → ¬ (HasFault tokens depth font mapper s.keeps.order e))) → IfOk r (λ v. IsSoundSubset tokens depth font glyphs v.items)
+  subset_sound mapper r m h = subst (λ (l : List ℕ). IfOk r (λ v. (s : IsSubset tokens depth font l v.items) × ((e : Error) → ¬ (HasFault tokens depth font l s.keeps.order e)))) m h
+
+-- what holds at two limits holds at others that equal them
+pub at_limits : (P : ℕ → ℕ → Type 0) (tokens t depth d : ℕ) → tokens ≡ t → depth ≡ d → P tokens depth → P t d
+at_limits P tokens t depth d et ed p = subst (λ (n : ℕ). P n d) et (subst (λ (n : ℕ). P tokens n) ed p)

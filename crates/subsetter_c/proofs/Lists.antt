@@ -1,0 +1,25 @@
+-- What is said of lists that are handed over, in other words.
+use Rattle.std.proofs.Common.{◌≡◌, ℕ, List, ap, ◌∙◌, subst, Result, Ok, Err}
+use Rattle.std.specs.Prelude.{IfOk, IfErr}
+use Rattle.subsetter_base.specs.declared.error.Error.{Error}
+use Rattle.cid_embed.specs.declared.embedding.Embedded.{Embedded}
+use Rattle.subsetter_c.specs.Embedding.{AreHandedOver, whole, short, refused, Buffers, all_begun}
+use Rattle.subsetter_c.specs.Handed.{begun_with}
+use Rattle.subsetter_c.specs.declared.handing.Sizes.{Sizes}
+
+-- an answer is handed over: then what is known of it
+pub answer_handed : (Said : Embedded → Type 0) (Named : Error → Type 0) (answer : Result Embedded Error) (before after : Buffers) (told : Sizes) (status : ℕ) → IfOk answer Said → IfErr answer Named → AreHandedOver (λ e. answer ≡ Ok e) (λ e. answer ≡ Err e) before after told status → AreHandedOver Said Named before after told status
+answer_handed Said Named answer before after told status ok err (whole e i f a t s) = whole e (subst (λ (r : Result Embedded Error). IfOk r Said) i ok) f a t s
+answer_handed Said Named answer before after told status ok err (short e i f a t s) = short e (subst (λ (r : Result Embedded Error). IfOk r Said) i ok) f a t s
+answer_handed Said Named answer before after told status ok err (refused e w a t s) = refused e (subst (λ (r : Result Embedded Error). IfErr r Named) w err) a t s
+
+abbrev make_buffers : List ℕ → List ℕ → List ℕ → Buffers
+make_buffers font cids widths = record { font = font; cids = cids; widths = widths }
+
+-- three lists put into their buffers one by one
+pub all_placed : (font cids widths : List ℕ) (e : Embedded) (f c w font_after cids_after widths_after : List ℕ) → f ≡ e.font.items → c ≡ e.cids.items → w ≡ e.widths.items → font_after ≡ begun_with f font → cids_after ≡ begun_with c cids → widths_after ≡ begun_with w widths → make_buffers font_after cids_after widths_after ≡ all_begun e (make_buffers font cids widths)
+all_placed font cids widths e f c w font_after cids_after widths_after pf pc pw bf bc bw =
+    let font_is : font_after ≡ begun_with e.font.items font = bf ∙ ap (λ l. begun_with l font) pf in
+    let cids_are : cids_after ≡ begun_with e.cids.items cids = bc ∙ ap (λ l. begun_with l cids) pc in
+    let widths_are : widths_after ≡ begun_with e.widths.items widths = bw ∙ ap (λ l. begun_with l widths) pw in
+    ap (λ x. make_buffers x cids_after widths_after) font_is ∙ ap (λ x. make_buffers (begun_with e.font.items font) x widths_after) cids_are ∙ ap (make_buffers (begun_with e.font.items font) (begun_with e.cids.items cids)) widths_are

@@ -1,0 +1,52 @@
+-- How a subset with its CIDs and widths is handed to C: in three buffers of the caller, by sizes and a status.
+use Rattle.std.specs.Prelude.{◌≡◌, ◌⊎◌, ◌≤◌, ℕ, List, length}
+use Rattle.subsetter_base.specs.declared.error.Error.{Error}
+use Rattle.subsetter_base.specs.declared.error.Error.TheVariants.{OutOfMemory}
+use Rattle.subsetter.specs.Sfnt.Read.{Font}
+use Rattle.cid_embed.specs.Embed.{IsEmbedded, HasEmbedFault}
+use Rattle.cid_embed.specs.declared.embedding.Embedded.{Embedded}
+use Rattle.subsetter_c.specs.Handed.{begun_with}
+use Rattle.subsetter_c.specs.Status.{status_of, too_small}
+use Rattle.subsetter_c.specs.declared.handing.Sizes.{Sizes}
+
+pub record Buffers : Type 0 where
+  pub font : List ℕ
+  pub cids : List ℕ
+  pub widths : List ℕ
+
+-- each list fits its buffer
+pub record Fits (e : Embedded) (before : Buffers) : Type 0 where
+  pub font : length e.font.items ≤ length before.font
+  pub cids : length e.cids.items ≤ length before.cids
+  pub widths : length e.widths.items ≤ length before.widths
+
+-- each list stands at the front of its buffer
+abbrev pub all_begun : Embedded → Buffers → Buffers
+all_begun e before = record { font = begun_with e.font.items before.font; cids = begun_with e.cids.items before.cids; widths = begun_with e.widths.items before.widths }
+
+abbrev pub sizes_of : Embedded → Sizes
+sizes_of e = record { font = length e.font.items; cids = length e.cids.items; widths = length e.widths.items }
+
+abbrev pub no_sizes : Sizes
+no_sizes = record { font = 0; cids = 0; widths = 0 }
+
+-- all of which `Is` holds, or an error of which `Why` holds, is handed over: the buffers before and after, the sizes that are told, and the status
+pub data AreHandedOver (Is : Embedded → Type 0) (Why : Error → Type 0) (before after : Buffers) (told : Sizes) (status : ℕ) : Type 0 where
+  -- each list stands at the front of its buffer
+  whole : (e : Embedded) → Is e → Fits e before → after ≡ all_begun e before → told ≡ sizes_of e → status ≡ 0 → AreHandedOver Is Why before after told status
+  -- a buffer is too small, all are unchanged, and the exact sizes are told
+  short : (e : Embedded) → Is e → ¬ (Fits e before) → after ≡ before → told ≡ sizes_of e → status ≡ too_small → AreHandedOver Is Why before after told status
+  -- the buffers are unchanged
+  refused : (e : Error) → Why e → after ≡ before → told ≡ no_sizes → status ≡ status_of e → AreHandedOver Is Why before after told status
+
+-- what is answered, with no fault in the source
+abbrev pub IsSoundEmbedding : ℕ → ℕ → Font → List ℕ → Embedded → Type 0
+IsSoundEmbedding tokens depth font glyphs e = (s : IsEmbedded tokens depth font glyphs e) × ((why : Error) → ¬ (HasEmbedFault tokens depth font glyphs s.subset.keeps.order why))
+
+-- why nothing is answered
+abbrev pub IsEmbeddingRefusal : ℕ → ℕ → Font → List ℕ → Error → Type 0
+IsEmbeddingRefusal tokens depth font glyphs why = (why ≡ OutOfMemory) ⊎ ((order : List ℕ) × HasEmbedFault tokens depth font glyphs order why)
+
+-- a subset with its CIDs and widths is handed over
+abbrev pub IsEmbeddingHanded : ℕ → ℕ → Font → List ℕ → Buffers → Buffers → Sizes → ℕ → Type 0
+IsEmbeddingHanded tokens depth font glyphs = AreHandedOver (IsSoundEmbedding tokens depth font glyphs) (IsEmbeddingRefusal tokens depth font glyphs)

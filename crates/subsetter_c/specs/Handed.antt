@@ -1,0 +1,56 @@
+-- How bytes are handed to C: in a buffer of the caller, by a size and a status.
+use Rattle.std.specs.Prelude.{◌≡◌, ◌⊎◌, ◌<◌, ◌≤◌, ℕ, List, ◌++◌, length, drop, Result, Ok, Vec}
+use Rattle.std.specs.Global.{Global}
+use Rattle.subsetter_base.specs.Places.{HasAllAboveZero}
+use Rattle.subsetter_base.specs.declared.error.Error.{Error}
+use Rattle.subsetter_base.specs.declared.error.Error.TheVariants.{OutOfMemory, OverflowError}
+use Rattle.subsetter.specs.Sfnt.Read.{Font}
+use Rattle.subsetter.specs.Subset.{IsSubset}
+use Rattle.subsetter.specs.Fault.{HasFault}
+use Rattle.cid_embed.specs.Embed.{numbering}
+use Rattle.subsetter_c.specs.Status.{status_of, too_small, no_depth}
+
+-- a buffer that begins with these items, and is unchanged behind them
+abbrev pub begun_with : {A : Type 0} → List A → List A → List A
+begun_with items buffer = items ++ drop (length items) buffer
+
+-- ---- bytes in one buffer
+
+-- bytes of which `Is` holds, or an error of which `Why` holds, are handed over: the buffer before and after, the size that is told, and the status
+pub data IsHandedOver (Is : List ℕ → Type 0) (Why : Error → Type 0) (before after : List ℕ) (told status : ℕ) : Type 0 where
+  -- they stand at the front of the buffer
+  whole : (bytes : List ℕ) → Is bytes → length bytes ≤ length before → after ≡ begun_with bytes before → told ≡ length bytes → status ≡ 0 → IsHandedOver Is Why before after told status
+  -- the buffer is too small and unchanged, and the exact size is told
+  short : (bytes : List ℕ) → Is bytes → length before < length bytes → after ≡ before → told ≡ length bytes → status ≡ too_small → IsHandedOver Is Why before after told status
+  -- the buffer is unchanged
+  refused : (e : Error) → Why e → after ≡ before → told ≡ 0 → status ≡ status_of e → IsHandedOver Is Why before after told status
+
+-- a call has answered these bytes
+abbrev pub IsAnswered : Result (Vec ℕ Global) Error → List ℕ → Type 0
+IsAnswered answer bytes = (v : Vec ℕ Global) × (answer ≡ Ok v) × (v.items ≡ bytes)
+
+-- nothing is handed over, as the limit of the depth is 0
+pub record IsNothingHanded (before after : List ℕ) (told status : ℕ) : Type 0 where
+  pub unchanged : after ≡ before
+  pub none : told ≡ 0
+  pub status_is : status ≡ no_depth
+
+-- ---- a subset
+
+-- what is answered: a subset for glyph 0 and the given glyphs, in whose source no fault stands, the size limits being judged for its order of glyphs
+abbrev pub IsSoundSubset : ℕ → ℕ → Font → List ℕ → List ℕ → Type 0
+IsSoundSubset tokens depth font glyphs out = (s : IsSubset tokens depth font (numbering glyphs) out) × ((e : Error) → ¬ (HasFault tokens depth font (numbering glyphs) s.keeps.order e))
+
+-- what can stand against it, but for want of memory
+pub data HasCallFault (tokens depth : ℕ) (font : Font) (glyphs : List ℕ) : Error → Type 0 where
+  -- the glyphs leave no number for glyph 0
+  in_numbering : HasAllAboveZero glyphs → HasCallFault tokens depth font glyphs OverflowError
+  in_subset : {e : Error} → (order : List ℕ) → HasFault tokens depth font (numbering glyphs) order e → HasCallFault tokens depth font glyphs e
+
+-- why no subset is answered
+abbrev pub IsRefusal : ℕ → ℕ → Font → List ℕ → Error → Type 0
+IsRefusal tokens depth font glyphs e = (e ≡ OutOfMemory) ⊎ HasCallFault tokens depth font glyphs e
+
+-- a subset is handed over
+abbrev pub IsSubsetHanded : ℕ → ℕ → Font → List ℕ → List ℕ → List ℕ → ℕ → ℕ → Type 0
+IsSubsetHanded tokens depth font glyphs = IsHandedOver (IsSoundSubset tokens depth font glyphs) (IsRefusal tokens depth font glyphs)

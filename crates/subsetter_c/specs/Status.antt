@@ -1,0 +1,38 @@
+-- What the calls answer to C: a number.
+use Rattle.std.specs.Prelude.{ℕ, List, codes, ◌==◌, if◌then◌else◌}
+use Rattle.subsetter_base.specs.Texts.{error_text}
+use Rattle.subsetter_base.specs.declared.error.Error.{Error}
+use Rattle.subsetter_base.specs.declared.error.Error.TheVariants.{UnknownKind, MalformedFont, Unimplemented, SubsetError, OverflowError, CFFError, OutOfMemory}
+
+-- the errors are numbered from 1 on, in the order of their names in `Error`; 0 is none
+abbrev pub status_of : Error → ℕ
+status_of UnknownKind = 1
+status_of MalformedFont = 2
+status_of Unimplemented = 3
+status_of SubsetError = 4
+status_of OverflowError = 5
+status_of CFFError = 6
+status_of OutOfMemory = 7
+
+-- a buffer is too small
+abbrev pub too_small : ℕ
+too_small = 8
+
+-- the limit of the depth is 0
+abbrev pub no_depth : ℕ
+no_depth = 9
+
+-- what a status says
+unfoldable pub status_text : ℕ → List ℕ
+status_text status =
+    if status == 0 then codes "all done"
+    else if status == 1 then error_text UnknownKind
+    else if status == 2 then error_text MalformedFont
+    else if status == 3 then error_text Unimplemented
+    else if status == 4 then error_text SubsetError
+    else if status == 5 then error_text OverflowError
+    else if status == 6 then error_text CFFError
+    else if status == 7 then error_text OutOfMemory
+    else if status == too_small then codes "a buffer is too small"
+    else if status == no_depth then codes "the limit of the depth is 0"
+    else codes "unknown status"

@@ -1,0 +1,23 @@
+-- An operator of one byte, by its first byte.
+use Rattle.std.proofs.Common.{◌≡◌, ℕ, ◌<◌, ◌≤◌, Bool, true, false, List, [], ◌∷◌, ◌-◌, length, take, drop, get_or, refl, ap, sym, ◌∙◌, arith, inl, inr, eqb}
+use Rattle.std.proofs.lemmas.Bool.{cases_Bool, eqb-true, lt-leb}
+use Rattle.std.proofs.lemmas.List.{take_all}
+use Rattle.subsetter_type2.specs.Machine.{Library, Registers, Act, operate, act_at}
+use Rattle.std.specs.Prelude.{Option}
+use Rattle.subsetter_type2.specs.declared.token.Effect.{Effect}
+use Rattle.subsetter_type2.specs.Token.{token_of, one_byte, one_byte_effect, effect_of}
+
+not_equal : (n m : ℕ) → (n ≡ m → ⊥) → eqb n m ≡ false
+not_equal n m ne = elim (cases_Bool (eqb n m)) [ inl e ↦ absurd (ne (eqb-true n m e)) | inr e ↦ e ]
+
+by_first : (library : Library) (first : ℕ) (rest : List ℕ) (r : Registers) → first < 32 → (first ≡ 28 → ⊥) → (first ≡ 12 → ⊥) → act_at library (first ∷ rest) r ≡ operate library (one_byte first) (one_byte_effect first) rest r
+unfolding act_at token_of effect_of
+by_first library first rest r low a b = rw (not_equal first 28 a, not_equal first 12 b, lt-leb 32 first low) refl
+
+pub operates : (library : Library) (bytes : List ℕ) (r : Registers) (effect : Option Effect) → 1 ≤ length bytes → get_or bytes 0 0 < 32 → (get_or bytes 0 0 ≡ 28 → ⊥) → (get_or bytes 0 0 ≡ 12 → ⊥)
+    → effect ≡ one_byte_effect (get_or bytes 0 0) → act_at library bytes r ≡ operate library (one_byte (get_or bytes 0 0)) effect (take (length bytes - 1) (drop 1 bytes)) r
+operates library [] r effect long low a b e = absurd (omega arith)
+operates library (first ∷ rest) r effect long low a b e =
+    by_first library first rest r low a b
+    ∙ ap (λ (f : Option Effect). operate library (one_byte first) f rest r) (sym e)
+    ∙ ap (λ (l : List ℕ). operate library (one_byte first) effect l r) (sym (take_all (length (first ∷ rest) - 1) rest (omega arith)))

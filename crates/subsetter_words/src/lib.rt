@@ -1,0 +1,52 @@
+//! The numbers and the lists that the words of a command line write.
+#![tactic(auto)]
+
+ghost use Rattle.std.specs.Prelude.{◌≡◌, ◌==◌, map, IfOk, slice_index};
+ghost use Rattle.std.specs.List.{slice_split};
+ghost use Rattle.subsetter_words.specs.Numbers.{number_in_bits};
+
+use std::alloc::{AllocError, Global};
+
+/// Whether a plus stands first, which `parse` lets pass.
+fn begins_with_plus(word: &str) -> bool
+    ensures { result ≡ (slice_index word.now 0 == 43) }
+{
+    matches!(word.as_bytes(), [b'+', ..])
+}
+
+/// The number that a word of one or more ASCII digits writes, if it fits 32 bits.
+pub fn u32_of(word: &str) -> Option<u32>
+    ensures { result ≡ number_in_bits 32 word.now }
+{
+    if begins_with_plus(word) {
+        return None;
+    }
+    word.parse().ok()
+}
+
+/// The number that a word of one or more ASCII digits writes, if it fits 16 bits.
+pub fn u16_of(word: &str) -> Option<u16>
+    ensures { result ≡ number_in_bits 16 word.now }
+{
+    if begins_with_plus(word) {
+        return None;
+    }
+    word.parse().ok()
+}
+
+/// The number that a word of one or more ASCII digits writes, if it fits 8 bits.
+pub fn u8_of(word: &str) -> Option<u8>
+    ensures { result ≡ number_in_bits 8 word.now }
+{
+    if begins_with_plus(word) {
+        return None;
+    }
+    word.parse().ok()
+}
+
+/// The parts of a list between its commas.
+pub fn parts_of(alloc: Global, list: &str) -> Result<Vec<&str>, AllocError>
+    ensures { IfOk result (λ v. map (λ part. part.now) v.items ≡ slice_split (λ b. b == 44) list.now) }
+{
+    list.split(',').collect(alloc)
+}
