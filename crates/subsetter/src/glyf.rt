@@ -180,11 +180,13 @@ fn visit(
     push_components(table, order, waiting, glyph)
 }
 
-/// The first byte of an outline, 0 where there is none.
+/// The first byte of an outline, 0 where there is none. A glyph of one byte counts as a composite: the closure finds it
+/// faulty.
 fn first_byte(outline: Option<&[u8]>) -> u8
     ensures { result ≡ first_byte_in (option_copied outline.entry) }
 {
     match outline {
+        Some([_]) => 255,
         Some([first, ..]) => *first,
         _ => 0,
     }

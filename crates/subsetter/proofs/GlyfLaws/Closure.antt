@@ -97,7 +97,8 @@ composites_have t (g ∷ glyphs) h c is = by (λ d. composites_have t glyphs h d
 simple_none : (o : Option (List ℕ)) (h : ℕ) → nat_le 128 (first_byte_in o) ≡ false → Contains (components_in o) h → ⊥
 simple_none None h e c = no_member h c
 simple_none (Some []) h e c = no_member h (subst (λ (l : List ℕ). Contains l h) (components_simple [] (omega arith)) c)
-simple_none (Some (a ∷ bytes)) h e c = no_member h (subst (λ (l : List ℕ). Contains l h) (components_simple (a ∷ bytes) (leb-false 128 a e)) c)
+simple_none (Some (a ∷ [])) h e c = absurd cc
+simple_none (Some (a ∷ b ∷ bytes)) h e c = no_member h (subst (λ (l : List ℕ). Contains l h) (components_simple (a ∷ b ∷ bytes) (leb-false 128 a e)) c)
 
 pub begin : (t : Outlines) (glyphs left : List ℕ) → left ≡ composites_in t glyphs → IsWithoutRepeats glyphs → length glyphs < 65536 → Follows t glyphs left [] glyphs
 begin t glyphs left same once room = record {

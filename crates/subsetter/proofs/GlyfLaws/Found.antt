@@ -67,7 +67,8 @@ ends (x ∷ xs) = one_more x xs (ends xs)
 simple_parts : (o : Option (List ℕ)) → nat_le 128 (first_byte_in o) ≡ false → components_in o ≡ []
 simple_parts None e = refl
 simple_parts (Some []) e = components_simple [] (omega arith)
-simple_parts (Some (a ∷ bytes)) e = components_simple (a ∷ bytes) (leb-false 128 a e)
+simple_parts (Some (a ∷ [])) e = absurd cc
+simple_parts (Some (a ∷ b ∷ bytes)) e = components_simple (a ∷ b ∷ bytes) (leb-false 128 a e)
 
 -- the composites of a list with one more glyph at its end
 split_last : (t : Outlines) (front : List ℕ) (g : ℕ) (b : Bool) → is_composite_in t g ≡ b → composites_in t (front ++ g ∷ []) ≡ composites_in t front ++ cond b (g ∷ []) []

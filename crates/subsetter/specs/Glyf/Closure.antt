@@ -16,11 +16,12 @@ components_in (Some bytes) = component_numbers bytes
 abbrev pub others_in : List ℕ → List ℕ → List ℕ
 others_in order numbers = filter (λ h. not (is_some (place order h))) numbers
 
--- the first byte of an outline, 0 where there is none
+-- the first byte of an outline, 0 where there is none; 255 where it is the only one, so that the glyph is followed and found faulty
 abbrev pub first_byte_in : Option (List ℕ) → ℕ
 first_byte_in None = 0
 first_byte_in (Some []) = 0
-first_byte_in (Some (a ∷ bytes)) = a
+first_byte_in (Some (a ∷ [])) = 255
+first_byte_in (Some (a ∷ b ∷ bytes)) = a
 
 abbrev pub is_composite_in : Outlines → ℕ → Bool
 is_composite_in t g = nat_le 128 (first_byte_in (outline_in t g))

@@ -82,7 +82,7 @@ fn a_mapper_is_whole_or_wants_memory(rt: HostRuntime) -> Result<(), Fail> {
 /// A text of at most 200 bytes.
 #[derive(Drop)]
 struct Text {
-    bytes: [u8; 200],
+    bytes: [u8; 8192],
     length: usize,
 }
 
@@ -111,7 +111,7 @@ fn what_takes_no_memory_answers_without(rt: HostRuntime) -> Result<(), Fail> {
     let one = GlyphRemapper::new_from_glyphs(rt.alloc(), &[9, 4])?;
     let mut two = one.clone()?;
     let mut text = Text {
-        bytes: [0; 200],
+        bytes: [0; 8192],
         length: 0,
     };
     let _ = Instant::now(&rt)?;
