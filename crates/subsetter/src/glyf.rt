@@ -12,7 +12,7 @@ ghost use Rattle.subsetter.specs.Glyf.Closure.{first_byte_in, composites_in, com
 ghost use Rattle.subsetter.specs.Sfnt.Read.{table_in};
 ghost use Rattle.subsetter.specs.Glyf.Read.{offset, outline_in};
 ghost use Rattle.subsetter.specs.Glyf.View.{seen};
-ghost use Rattle.subsetter.specs.Glyf.Plain.{outlines_read, kept, kept_all, with_last};
+ghost use Rattle.subsetter.specs.Glyf.Plain.{outlines_read, kept_outline, kept_outlines, kept_all, with_last, with_outlines};
 ghost use Rattle.subsetter.specs.Glyf.Reach.{IsGlyphOrderBy};
 ghost use Rattle.subsetter_base.specs.declared.error.Error.TheVariants.{OutOfMemory, MalformedFont, OverflowError};
 
@@ -88,23 +88,65 @@ impl<'a> OutlineTables<'a> {
         Reader::new_at(self.glyf, from).read_bytes(to - from)
     }
 
-    /// Puts the outline of a kept glyph last, with its components under their new numbers.
-    /// `MalformedFont` where it can't be read, has one byte or is a composite that is cut.
-    #[tactic(auto, unfolding(crate::specs::Glyf::Plain::kept))]
-    fn keep(
-        &self,
-        outlines: OutlineList<'a>,
-        id: u16,
-        order: &GlyphRemapper,
-    ) -> Result<OutlineList<'a>, Error>
-        ensures { Gives (λ list. list) result (with_last outlines.entry (kept (seen self.now) order.now id)) }
-    {
-        let outline = self.glyph_data(id).ok_or(Error::MalformedFont)?;
-        outlines.push(outline, order)
+}
+
+/// How many outlines are begun at a time.
+const BLOCK: usize = 64;
+
+/// The outlines of a remapper's glyphs, each if it is there.
+fn find_outlines<'a>(
+    alloc: Global,
+    table: &OutlineTables<'a>,
+    mapper: &GlyphRemapper,
+) -> Result<Vec<Option<&'a [u8]>>, Error>
+    ensures ok { IfOk result (λ v. map option_copied v.items ≡ map (outline_in (seen table.now)) mapper.now) }
+    ensures err { IfErr result (λ e. e ≡ OutOfMemory) }
+{
+    let mut outlines = Vec::with_capacity(alloc, mapper.num_gids() as usize)?;
+    for glyph in mapper.remapped_gids() {
+        outlines.push(table.glyph_data(glyph))?;
     }
+    Ok(outlines)
+}
+
+/// Puts an outline last, which begins with this byte, with its components under their new numbers.
+/// `MalformedFont` where it isn't there, has one byte or is a composite that is cut.
+#[tactic(auto, unfolding(crate::specs::Glyf::Plain::kept_outline))]
+fn keep<'a>(
+    list: OutlineList<'a>,
+    outline: Option<&'a [u8]>,
+    first: u8,
+    order: &GlyphRemapper,
+) -> Result<OutlineList<'a>, Error>
+    requires { first ≡ first_byte_in (option_copied outline) }
+    ensures { Gives (λ list. list) result (with_last list.entry (kept_outline order.now (option_copied outline.entry))) }
+{
+    let outline = outline.ok_or(Error::MalformedFont)?;
+    list.push(outline, first, order)
+}
+
+/// Puts outlines last, as `keep` puts each. `heads` is room for their first bytes.
+fn keep_block<'a>(
+    list: OutlineList<'a>,
+    heads: &mut Vec<u8>,
+    block: &[Option<&'a [u8]>],
+    order: &GlyphRemapper,
+) -> Result<OutlineList<'a>, Error>
+    ensures { Gives (λ list. list) result (with_outlines list.entry (kept_outlines order.now (map option_copied block.now))) }
+{
+    read_first_bytes(heads, block)?;
+    let mut list = list;
+    let mut place: usize = 0;
+    for outline in block {
+        list = keep(list, *outline, heads[place], order)?;
+        place += 1;
+    }
+    Ok(list)
 }
 
 /// The outlines of the glyphs of an order, each as it stands in the new `glyf` but for its padding.
+///
+/// Each block of them is begun before one of it is looked at, so that many are fetched from memory at a time.
 pub fn subset<'a>(
     alloc: Global,
     table: &OutlineTables<'a>,
@@ -112,12 +154,17 @@ pub fn subset<'a>(
 ) -> Result<OutlineList<'a>, Error>
     ensures { Gives (λ list. list) result (kept_all (seen table.now) order.now order.now) }
 {
-    let mut outlines = OutlineList::with_capacity(alloc, order.num_gids() as usize)?;
-    for old in order.remapped_gids() {
-        outlines = table.keep(outlines, old, order)?;
+    let found = find_outlines(alloc, table, order)?;
+    let mut list = OutlineList::with_capacity(alloc, found.len())?;
+    let mut heads = Vec::with_capacity(alloc, found.len().min(BLOCK))?;
+    let mut at: usize = 0;
+    while at < found.len() {
+        let count = (found.len() - at).min(BLOCK);
+        list = keep_block(list, &mut heads, &found[at..at + count], order)?;
+        at += count;
     }
-    outlines.shrink_to_fit();
-    Ok(outlines)
+    list.shrink_to_fit();
+    Ok(list)
 }
 
 /// Whether an outline has one byte, or is a composite that is shorter than its head.
@@ -190,6 +237,20 @@ fn first_byte(outline: Option<&[u8]>) -> u8
         Some([first, ..]) => *first,
         _ => 0,
     }
+}
+
+/// Reads the first bytes of outlines.
+///
+/// No step waits for one of them, so that many are fetched from memory at a time.
+fn read_first_bytes(heads: &mut Vec<u8>, outlines: &[Option<&[u8]>]) -> Result<(), Error>
+    ensures ok { OnOk result (heads.new.items ≡ map (λ o. first_byte_in (option_copied o)) outlines.now) }
+    ensures err { IfErr result (λ e. e ≡ OutOfMemory) }
+{
+    heads.clear();
+    for outline in outlines {
+        heads.push(first_byte(*outline))?;
+    }
+    Ok(())
 }
 
 /// The first bytes of the outlines of a remapper's glyphs.

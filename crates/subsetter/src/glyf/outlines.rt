@@ -1,9 +1,10 @@
 //! The outlines of a new `glyf`.
 
-ghost use Rattle.std.specs.Prelude.{◌≡◌, ◌+◌, ◌<◌, ◌≤◌, ◌^◌, ◌++◌, ◌∷◌, [], length, vec_capacity, OnOk, IfOk, IfErr};
+ghost use Rattle.std.specs.Prelude.{◌≡◌, ◌+◌, ◌<◌, ◌≤◌, ◌^◌, ◌++◌, ◌∷◌, [], length, vec_capacity, OnOk, IfOk, IfErr, Some};
 ghost use Rattle.std.specs.Iterator.{YieldsFirstRef, item_count};
 ghost use Rattle.subsetter_base.specs.Gives.{Gives};
 ghost use Rattle.subsetter_base.specs.declared.error.Error.TheVariants.{OutOfMemory};
+ghost use Rattle.subsetter.specs.Glyf.Closure.{first_byte_in};
 ghost use Rattle.subsetter.specs.Glyf.Plain.{rewritten, rewritten_composite, with_last};
 ghost use Rattle.subsetter.specs.Glyf.Unfold.{padded};
 ghost use Rattle.subsetter.specs.Glyf.Written.{glyf_bytes};
@@ -63,21 +64,23 @@ impl<'a> OutlineList<'a> {
         })
     }
 
-    /// Puts an outline of the source last, with its components under their new numbers.
+    /// Puts an outline of the source last, which begins with this byte, with its components under their new numbers.
     /// `MalformedFont` for one byte and for a composite that is cut.
-    #[tactic(auto, unfolding(crate::specs::Glyf::Plain::rewritten, crate::specs::Glyf::Parts::outline_parts))]
-    pub fn push(self, outline: &'a [u8], order: &GlyphRemapper) -> Result<Self, Error>
+    pub fn push(
+        self,
+        outline: &'a [u8],
+        first: u8,
+        order: &GlyphRemapper,
+    ) -> Result<Self, Error>
+        requires { first ≡ first_byte_in (Some outline.now) }
         ensures { Gives (λ list. list) result (with_last self.entry (rewritten order.now outline.now)) }
     {
-        match outline {
-            [_] => Err(Error::MalformedFont),
-            [high, _, ..] if is_composite(*high) => self.push_composite(outline, order),
-            _ => {
-                let mut list = self;
-                list.push_kept(outline)?;
-                Ok(list)
-            }
+        if is_composite(first) {
+            return self.push_composite(outline, order);
         }
+        let mut list = self;
+        list.push_kept(outline)?;
+        Ok(list)
     }
 
     /// Puts a composite last, with its components under their new numbers. `MalformedFont` where it is cut.
