@@ -8,11 +8,11 @@ ghost use Rattle.std.specs.Prelude.{◌≡◌, ◌+◌, ◌<◌, ◌≤◌, ◌^
 ghost use Rattle.std.specs.Option.{option_copied};
 ghost use Rattle.subsetter_base.specs.Gives.{Gives};
 ghost use Rattle.subsetter_base.specs.Places.{IsWithoutRepeats};
-ghost use Rattle.subsetter.specs.Glyf.Closure.{first_byte_in, composites_in, components_in, others_in, lacks_head, IsFaulty, IsFull, IsVisited, StopsClosure, Finds};
+ghost use Rattle.subsetter.specs.Glyf.Closure.{first_byte_in, AreFound, composites_in, components_in, others_in, lacks_head, IsFaulty, IsFull, IsVisited, StopsClosure, Finds};
 ghost use Rattle.subsetter.specs.Sfnt.Read.{table_in};
 ghost use Rattle.subsetter.specs.Glyf.Read.{offset, outline_in};
 ghost use Rattle.subsetter.specs.Glyf.View.{seen};
-ghost use Rattle.subsetter.specs.Glyf.Plain.{outlines_read, kept_outline, kept_outlines, kept_all, with_last, with_outlines};
+ghost use Rattle.subsetter.specs.Glyf.Plain.{outlines_read, kept_outline, kept_outlines, with_last, with_outlines};
 ghost use Rattle.subsetter.specs.Glyf.Reach.{IsGlyphOrderBy};
 ghost use Rattle.subsetter_base.specs.declared.error.Error.TheVariants.{OutOfMemory, MalformedFont, OverflowError};
 
@@ -90,6 +90,13 @@ impl<'a> OutlineTables<'a> {
 
 }
 
+/// The order of the glyphs of a subset, and the outline of each as it is looked up, if it is there.
+#[derive(Drop)]
+pub struct Reached<'a> {
+    pub order: GlyphRemapper,
+    pub outlines: Vec<Option<&'a [u8]>>,
+}
+
 /// How many outlines are begun at a time.
 const BLOCK: usize = 64;
 
@@ -99,7 +106,7 @@ fn find_outlines<'a>(
     table: &OutlineTables<'a>,
     mapper: &GlyphRemapper,
 ) -> Result<Vec<Option<&'a [u8]>>, Error>
-    ensures ok { IfOk result (λ v. map option_copied v.items ≡ map (outline_in (seen table.now)) mapper.now) }
+    ensures ok { IfOk result (λ v. AreFound (seen table.now) mapper.now v.items) }
     ensures err { IfErr result (λ e. e ≡ OutOfMemory) }
 {
     let mut outlines = Vec::with_capacity(alloc, mapper.num_gids() as usize)?;
@@ -144,17 +151,16 @@ fn keep_block<'a>(
     Ok(list)
 }
 
-/// The outlines of the glyphs of an order, each as it stands in the new `glyf` but for its padding.
+/// Outlines that were looked up, each as it stands in the new `glyf` but for its padding.
 ///
 /// Each block of them is begun before one of it is looked at, so that many are fetched from memory at a time.
 pub fn subset<'a>(
     alloc: Global,
-    table: &OutlineTables<'a>,
+    found: Vec<Option<&'a [u8]>>,
     order: &GlyphRemapper,
 ) -> Result<OutlineList<'a>, Error>
-    ensures { Gives (λ list. list) result (kept_all (seen table.now) order.now order.now) }
+    ensures { Gives (λ list. list) result (kept_outlines order.now (map option_copied found.entry.items)) }
 {
-    let found = find_outlines(alloc, table, order)?;
     let mut list = OutlineList::with_capacity(alloc, found.len())?;
     let mut heads = Vec::with_capacity(alloc, found.len().min(BLOCK))?;
     let mut at: usize = 0;
@@ -205,15 +211,18 @@ fn push_components(
     Ok(())
 }
 
-/// Takes a glyph that waited: a new one goes last in the order, and its components wait.
+/// Takes a glyph that waited: a new one goes last in the order, its outline last, and its components wait.
 /// `OverflowError` where there is no room for it; otherwise the errors of its components.
-fn visit(
-    table: &OutlineTables<'_>,
+fn visit<'a>(
+    table: &OutlineTables<'a>,
     order: &mut GlyphRemapper,
+    outlines: &mut Vec<Option<&'a [u8]>>,
     waiting: &mut Vec<u16>,
     glyph: u16,
 ) -> Result<(), Error>
+    requires { AreFound (seen table.now) order.old outlines.old.items }
     ensures ok { OnOk result (IsVisited (seen table.now) order.old waiting.old.items glyph order.new waiting.new.items) }
+    ensures found { OnOk result (AreFound (seen table.now) order.new outlines.new.items) }
     ensures err { IfErr result (λ e. (e ≡ OutOfMemory) ⊎ (((e ≡ MalformedFont) × IsFaulty (seen table.now) glyph) ⊎ ((e ≡ OverflowError) × IsFull order.old glyph))) }
 {
     let count = order.num_gids();
@@ -224,6 +233,7 @@ fn visit(
         return Err(Error::OverflowError);
     }
     order.remap(glyph)?;
+    outlines.push(table.glyph_data(glyph))?;
     push_components(table, order, waiting, glyph)
 }
 
@@ -253,30 +263,14 @@ fn read_first_bytes(heads: &mut Vec<u8>, outlines: &[Option<&[u8]>]) -> Result<(
     Ok(())
 }
 
-/// The first bytes of the outlines of a remapper's glyphs.
-///
-/// No step waits for one of them, so that many are fetched from memory at a time.
-fn first_bytes(
-    alloc: Global,
-    table: &OutlineTables<'_>,
-    mapper: &GlyphRemapper,
-) -> Result<Vec<u8>, Error>
-    ensures ok { IfOk result (λ v. v.items ≡ map (λ g. first_byte_in (outline_in (seen table.now) g)) mapper.now) }
-    ensures err { IfErr result (λ e. e ≡ OutOfMemory) }
-{
-    let mut heads = Vec::with_capacity(alloc, mapper.num_gids() as usize)?;
-    for glyph in mapper.remapped_gids() {
-        heads.push(first_byte(table.glyph_data(glyph)))?;
-    }
-    Ok(heads)
-}
-
 /// The composites among the glyphs of a remapper, as a stack whose last member is taken first.
 fn stacked(
     alloc: Global,
     table: &OutlineTables<'_>,
     mapper: &GlyphRemapper,
+    outlines: &[Option<&[u8]>],
 ) -> Result<Vec<u16>, Error>
+    requires { AreFound (seen table.now) mapper.now outlines.now }
     ensures ok { IfOk result (λ v. v.items ≡ composites_in (seen table.now) mapper.now) }
     ensures err { IfErr result (λ e. e ≡ OutOfMemory) }
     ensures once { IsWithoutRepeats mapper.now }
@@ -284,7 +278,8 @@ fn stacked(
 {
     // What `num_gids` says of the mapper is promised here too.
     let _count = mapper.num_gids();
-    let heads = first_bytes(alloc, table, mapper)?;
+    let mut heads = Vec::with_capacity(alloc, outlines.len())?;
+    read_first_bytes(&mut heads, outlines)?;
     let mut glyphs = Vec::new(alloc);
     let mut place: usize = 0;
     for glyph in mapper.remapped_gids() {
@@ -296,28 +291,30 @@ fn stacked(
     Ok(glyphs)
 }
 
-/// The mapper's glyphs, and then each further one that they reach through components.
+/// The mapper's glyphs, and then each further one that they reach through components, with the outlines of all.
 ///
 /// The last of the waiting glyphs is taken first, and the mapper's glyphs lie below all others.
 /// `OverflowError` where all 65536 numbers are reached; `MalformedFont` where a reached glyph has
 /// one byte or is a composite that is shorter than its head.
-pub fn closure(
+pub fn closure<'a>(
     alloc: Global,
-    table: &OutlineTables<'_>,
+    table: &OutlineTables<'a>,
     mapper: &GlyphRemapper,
-) -> Result<GlyphRemapper, Error>
-    ensures ok { IfOk result (λ order. IsGlyphOrderBy (outline_in (seen table.now)) mapper.now order) }
-    ensures found { IfOk result (λ order. Finds (seen table.now) order mapper.now [] mapper.now) }
+) -> Result<Reached<'a>, Error>
+    ensures ok { IfOk result (λ r. IsGlyphOrderBy (outline_in (seen table.now)) mapper.now r.order) }
+    ensures found { IfOk result (λ r. Finds (seen table.now) r.order mapper.now [] mapper.now) }
+    ensures outlines { IfOk result (λ r. AreFound (seen table.now) r.order r.outlines.items) }
     ensures err { IfErr result (λ e. StopsClosure (seen table.now) mapper.now e) }
 {
     let mut order = mapper.clone()?;
-    let mut given = stacked(alloc, table, mapper)?;
+    let mut outlines = find_outlines(alloc, table, mapper)?;
+    let mut given = stacked(alloc, table, mapper, &outlines)?;
     let mut waiting = Vec::new(alloc);
     while let Some(glyph) = given.pop() {
         push_components(table, &order, &mut waiting, glyph)?;
         while let Some(component) = waiting.pop() {
-            visit(table, &mut order, &mut waiting, component)?;
+            visit(table, &mut order, &mut outlines, &mut waiting, component)?;
         }
     }
-    Ok(order)
+    Ok(Reached { order, outlines })
 }

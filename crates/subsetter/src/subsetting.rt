@@ -14,7 +14,7 @@ ghost use Rattle.subsetter.specs.Subset.{IsSubset};
 ghost use Rattle.subsetter.specs.Answer.{IsAnswer, IsTheAnswer};
 
 use crate::cff;
-use crate::glyf::{self, OutlineTables};
+use crate::glyf::{self, OutlineTables, Reached};
 use crate::sfnt::construct::finish;
 use crate::sfnt::face::Face;
 use crate::sfnt::flavor::{FontFlavor, flavor};
@@ -31,10 +31,11 @@ fn truetype(alloc: Global, face: &Face<'_>, mapper: &GlyphRemapper) -> Result<Ve
     ensures err { IfErr result (λ e. IsRefused (table_in face.now.«data».now face.now.records.now) mapper.now e) }
 {
     let table = OutlineTables::new(face)?;
-    let order = glyf::closure(alloc, &table, mapper)?;
+    let reached = glyf::closure(alloc, &table, mapper)?;
+    let Reached { order, outlines } = reached;
     // What `num_gids` says of the order, that it has fewer than 65536 glyphs, is a premise of the proof.
     let _count = order.num_gids();
-    let made = make(alloc, face, &table, &order)?;
+    let made = make(alloc, face, &table, outlines, &order)?;
     // Its memory is free before room for the output is taken.
     drop(order);
     let list = in_order(alloc, font_tables(face, made))?;

@@ -2,25 +2,23 @@ use Rattle.std.proofs.Common.{◌≡◌, ◌+◌, ◌-◌, List, ℕ, drop, take
 use Rattle.std.specs.Option.{option_copied}
 use Rattle.std.specs.Prelude.{map}
 use Rattle.std.proofs.lemmas.Result.{err_from_is_err_and}
-use Rattle.subsetter.specs.Glyf.View.{seen}
-use Rattle.subsetter.specs.Glyf.Plain.{kept_all, kept_outlines, with_outlines}
-use Rattle.subsetter.proofs.GlyfLaws.KeptList.{all_by_outlines, none_before, block_of, outlines_block, outlines_fail}
+use Rattle.subsetter.specs.Glyf.Plain.{kept_outlines, with_outlines}
+use Rattle.subsetter.proofs.GlyfLaws.KeptList.{none_before, block_of, outlines_block, outlines_fail}
 use Rattle.subsetter.proofs.glyf.subset.Goals as goal
 
 pub loop-at-init : goal.loop-at-init
 loop-at-init c =
-    let t = seen c.args.table.now in
-    let order = c.args.order.now in
-    ap (λ (l : List (List ℕ)). with_outlines l (kept_outlines order (map option_copied c.in_ok-found.found.items))) c.in_ok-list.ensures.ok ∙ none_before (kept_outlines order (map option_copied c.in_ok-found.found.items)) ∙ ap (kept_outlines order) c.in_ok-found.ensures.ok ∙ sym (all_by_outlines t order order)
+    let all = kept_outlines c.args.order.now (map option_copied c.args.found.items) in
+    ap (λ (l : List (List ℕ)). with_outlines l all) c.in_ok-list.ensures.ok ∙ none_before all
 
 pub returns-in_err-list-2 : goal.returns-in_err-list-2
 returns-in_err-list-2 c =
     let p = err_from_is_err_and c.from_residual-in_err-list-2.result c.from_residual-in_err-list-2.ensures.1 in
     let order = c.args.order.now in
     let at = c.loop-at.at in
-    let items = c.in_ok-found.found.items in
+    let items = c.args.found.items in
     let list = c.loop-at.list in
-    let total = kept_all (seen c.args.table.now) order order in
+    let total = kept_outlines order (map option_copied c.args.found.items) in
     let n = at + c.min-count.result - at in
     let os = map option_copied (take n (drop at c.deref.result.now)) in
     let rest = map option_copied (drop (at + c.min-count.result) items) in
@@ -31,9 +29,9 @@ pub loop-at-preserved : goal.loop-at-preserved
 loop-at-preserved c =
     let order = c.args.order.now in
     let at = c.loop-at.at in
-    let items = c.in_ok-found.found.items in
+    let items = c.args.found.items in
     let list = c.loop-at.list in
-    let total = kept_all (seen c.args.table.now) order order in
+    let total = kept_outlines order (map option_copied c.args.found.items) in
     let n = at + c.min-count.result - at in
     let os = map option_copied (take n (drop at c.deref.result.now)) in
     let rest = map option_copied (drop (at + c.min-count.result) items) in
