@@ -6,6 +6,7 @@ pub mod argstack;
 pub mod charstring;
 mod fixed_stack;
 mod flattening;
+mod last_number;
 pub mod laws;
 pub mod limits;
 mod machine;
@@ -13,7 +14,9 @@ pub mod operators;
 mod output;
 mod program;
 mod recursion;
+mod scanning;
 mod sink;
+mod stretch;
 pub mod subroutines;
 #[cfg(test)]
 mod tests;

@@ -1,14 +1,15 @@
-use Rattle.subsetter_type2.proofs.OutputLemmas.{ends_after_pop, ends_at_settled, last_after_pop, written_after_pop}
+use Rattle.std.proofs.Common.{◌≡◌, ◌∙◌, ◌≤◌, refl}
+use Rattle.subsetter_type2.proofs.OutputLemmas.{stands_at, stands_less, slice_is, written_is}
 use Rattle.subsetter_type2.proofs.output.OutputSink.pop.Goals as goal
 
-pub invariant_of-self-2 : goal.invariant_of-self-2
-invariant_of-self-2 c =
-    ends_at_settled _ _ _ (ends_after_pop c.self.inside.bytes.items _ _ c.self.inside.operands _ c.in_ok-operand.operand c.in_ok-operand.ensures c.truncate.ensures.items c.self.invariant)
-
-pub returns-clause-value : goal.returns-clause-value
-returns-clause-value c =
-    rw (← c.self.view_is) (last_after_pop c.self.inside.operands _ c.in_ok-operand.operand c.in_ok-operand.ensures)
+pub invariant_of-self : goal.invariant_of-self
+invariant_of-self c =
+    let h = c.self.invariant in
+    let last = c.in_ok-value.ensures.last _ h.fit (rw c.deref.ensures.value (slice_is _ _ _ _ h _ refl)) h.many in
+    rw c.truncate.ensures.items (stands_at _ _ _ _ (stands_less _ _ _ _ _ h last.1 c.in_ok-value.ensures.some))
 
 pub returns-clause-rest : goal.returns-clause-rest
 returns-clause-rest c =
-    rw (← c.self.view_is) (written_after_pop c.self.inside.bytes.items _ _ c.self.inside.operands _ c.in_ok-operand.operand c.in_ok-operand.ensures c.truncate.ensures.items c.self.invariant)
+    let h = c.self.invariant in
+    let last = c.in_ok-value.ensures.last _ h.fit (rw c.deref.ensures.value (slice_is _ _ _ _ h _ refl)) h.many in
+    rw (← c.self.view_is, c.truncate.ensures.items) (written_is _ _ _ _ (stands_less _ _ _ _ _ h last.1 c.in_ok-value.ensures.some))

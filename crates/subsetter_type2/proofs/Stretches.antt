@@ -1,0 +1,218 @@
+-- Stretches of a charstring, one token longer.
+use Rattle.std.proofs.Common.{◌≡◌, ℕ, zero, suc, ◌+◌, ◌-◌, ◌*◌, ◌<◌, ◌≤◌, Bool, true, false, List, [], ◌∷◌, ◌++◌, length, take, drop, get_or, Some, None, Ok, refl, sym, ap, ◌∙◌, subst, arith, append_assoc, append-nil, pos, ◌-ℤ◌, w16, to_z, of_z, nat_lt, drop-cons, add-one, length-drop, length-append}
+use Rattle.std.specs.Prelude.{Option, reverse, IfSome, ℤ, if◌then◌else◌, nat_le}
+use Rattle.std.specs.Borrow.{Bor}
+use Rattle.std.proofs.lemmas.Int.{ints, to_z-of_z}
+use Rattle.std.proofs.lemmas.Bool.Decides.{nat_tests}
+use Rattle.std.proofs.lemmas.Bool.{lt-leb}
+use Rattle.std.proofs.lemmas.List.{length-take-le, length-map, length-reverse, take_all}
+use Rattle.std.proofs.lemmas.Grind.{take_at_read}
+use Rattle.subsetter_cffdata.specs.declared.charstring_number.CharStringNumber.{CharStringNumber}
+use Rattle.subsetter_cffdata.specs.declared.charstring_number.CharStringNumber.TheVariants.{Integer}
+use Rattle.subsetter_cffdata.specs.CharStringNumber.{FitsIn, NumberFits, number_at, middle_number, written, middle_value}
+use Rattle.subsetter_cffdata.proofs.CharStringNumbers.{number_fits}
+use Rattle.subsetter_cffdata.proofs.MiddleNumbers.{stored_written}
+use Rattle.subsetter_type2.specs.Machine.{Library, Registers, Event, Act, Does, On, Outcome, unended, act_at}
+use Rattle.subsetter_type2.specs.Behind.{ReachedBehind}
+use Rattle.subsetter_type2.specs.Flat.{flat_event, flat_operands}
+use Rattle.subsetter_type2.specs.Output.{Written}
+use Rattle.subsetter_type2.specs.OutputView.{Stands, place_after, written_at}
+use Rattle.subsetter_type2.specs.Stretch.{LeadsOn, Comes, Extends, registers_with}
+use Rattle.subsetter_type2.specs.Token.{one_byte, one_byte_effect, effect_of}
+use Rattle.subsetter_type2.specs.View.{Done, done, rests_of}
+use Rattle.subsetter_type2.specs.declared.stretch.Stretch.{Stretch}
+use Rattle.subsetter_type2.specs.declared.token.Effect.TheVariants.{Draws}
+use Rattle.subsetter_type2.proofs.Acts.{act_operator}
+use Rattle.subsetter_type2.proofs.BehindRuns.{behind_more, behind_same}
+use Rattle.subsetter_type2.proofs.OutputLemmas.{stands_more, stands_settled, settles, written_is}
+use Rattle.subsetter_type2.proofs.RecursionLemmas.{unended_front}
+use Rattle.subsetter_type2.proofs.Replay.{act_push, token_number}
+
+-- ---- numbers in their shortest form
+-- a number of one byte
+small_number : (first : ℕ) (rest : List ℕ) → 32 ≤ first → first < 247 → number_at (first ∷ rest) ≡ Some (Integer (pos first -ℤ pos 139), rest)
+unfolding number_at
+small_number first rest low high = grind (arith, nat_tests)
+
+small_written : (first : ℕ) → 32 ≤ first → first < 247 → written (Integer (pos first -ℤ pos 139)) ≡ first ∷ []
+unfolding written
+small_written first low high = grind (arith, nat_tests, ints)
+
+-- a number of two bytes
+by_half : (b : Bool) (x y : ℤ) (rest : List ℕ) → ◌≡◌ {A = Option (CharStringNumber × List ℕ)} (if b then Some (Integer x, rest) else Some (Integer y, rest)) (Some (Integer (if b then x else y), rest))
+by_half true x y rest = refl
+by_half false x y rest = refl
+
+middle_at : (first second : ℕ) (rest : List ℕ) → 247 ≤ first → first < 255 → second < 256 → number_at (first ∷ second ∷ rest) ≡ middle_number first (second ∷ rest)
+unfolding number_at
+middle_at first second rest low high small = grind (arith, nat_tests)
+
+middle_is : (first second : ℕ) (rest : List ℕ) → second < 256 → middle_number first (second ∷ rest) ≡ Some (Integer (middle_value first second), rest)
+middle_is first second rest small = rw (lt-leb 256 second small) (by_half (nat_lt first 251) _ _ rest)
+
+middle_read : (first second : ℕ) (rest : List ℕ) → 247 ≤ first → first < 255 → second < 256 → number_at (first ∷ second ∷ rest) ≡ Some (Integer (middle_value first second), rest)
+middle_read first second rest low high small = middle_at first second rest low high small ∙ middle_is first second rest small
+
+middle_written : (first second : ℕ) → 247 ≤ first → first < 255 → second < 256 → written (Integer (middle_value first second)) ≡ first ∷ second ∷ []
+middle_written first second low high small =
+    let fits = subst FitsIn (middle_read first second [] low high small) (number_fits (first ∷ second ∷ [])) in
+    ap (λ z. written (Integer z)) (sym (to_z-of_z w16 (middle_value first second) fits)) ∙ stored_written first second (middle_value first second) low high small refl
+
+-- ---- a token longer
+-- nothing is taken
+pub leads_nowhere : (text : List ℕ) (len tokens mask_len : ℕ) (w : Written) → len ≡ 0 → tokens ≡ 0 → LeadsOn text len tokens mask_len w w
+leads_nowhere text len tokens mask_len w l t = rw (l, t)
+    (λ front o library depth all left stems callers room e h.
+    let same : all ≡ left = omega arith in
+    subst (λ n. ReachedBehind front o library depth n (record { rests = text ∷ callers; registers = registers_with w stems mask_len }) w.settled) same h)
+
+pub comes_at_start : (text : List ℕ) (mask_len count : ℕ) (bytes : List ℕ) (settled : ℕ) (w : Written) → Stands bytes settled count w
+    → Comes text mask_len bytes settled w (record { len = 0; tokens = 0; settled = None; count = count })
+comes_at_start text mask_len count bytes settled w h = record {
+  now = w;
+  stands = subst (λ (b : List ℕ). Stands b settled count w) (sym (append-nil bytes)) h;
+  leads = leads_nowhere text 0 0 mask_len w refl refl;
+}
+
+done_push : (library : Library) (bytes rest : List ℕ) (n : CharStringNumber) (r : Registers) (settled : List ℕ) → number_at bytes ≡ Some (n, rest) → length r.operands < 48
+    → done (act_at library bytes r) settled ≡ Ok (record { registers = record r { operands = r.operands ++ n ∷ [] }; settled = settled; lead = On rest })
+done_push library bytes rest n r settled e l =
+    ap (λ (a : Act). done a settled) (act_push library bytes rest n r (token_number bytes n rest e) l)
+    ∙ ap (λ (s : List ℕ). Ok (record { registers = record r { operands = r.operands ++ n ∷ [] }; settled = s; lead = On rest })) (append-nil settled)
+
+module _ (text : List ℕ) (mask_len : ℕ) (bytes : List ℕ) (settled : ℕ) (w : Written) (s : Stretch) (h : Comes text mask_len bytes settled w s) (inside : s.len < length text) where
+  abbrev here : List ℕ
+  here = drop s.len text
+
+  some : 0 < length here
+  some = omega (arith, length-drop s.len text)
+
+  pub comes_by_number : (n : CharStringNumber) (size : ℕ) → number_at here ≡ Some (n, drop (s.len + size) text) → take (s.len + size) text ≡ take s.len text ++ written n → s.count < 48
+      → Comes text mask_len bytes settled w (record { len = s.len + size; tokens = s.tokens + 1; settled = s.settled; count = s.count + 1 })
+  comes_by_number n size e t few =
+      let fits : NumberFits n = subst FitsIn e (number_fits here) in
+      let rest = drop (s.len + size) text in
+      record {
+        now = record { settled = h.now.settled; operands = h.now.operands ++ n ∷ [] };
+        stands = stands_more _ _ _ _ _ h.now n h.stands fits (ap (λ (b : List ℕ). bytes ++ b) t ∙ sym (append_assoc bytes _ _)) refl;
+        leads = λ front o library depth all left stems callers room sum r.
+            let before = h.leads front o library depth all (suc left) stems callers room (omega arith) r in
+            let l : length h.now.operands < 48 = omega (arith, h.stands.many) in
+            behind_more front o library depth (suc left) _ h.now.settled before here callers left refl (unended_front here callers some) _ (rest ∷ callers)
+            (done_push library here rest n (registers_with h.now stems mask_len) h.now.settled e l) refl (omega arith);
+      }
+
+done_draw : (library : Library) (first : ℕ) (rest : List ℕ) (r : Registers) (settled : List ℕ) → one_byte_effect first ≡ Some Draws
+    → done (act_at library (first ∷ rest) r) settled ≡ Ok (record { registers = record r { operands = [] }; settled = settled ++ (flat_operands r.operands ++ (first ∷ [])); lead = On rest })
+unfolding effect_of
+done_draw library first rest r settled e =
+    ap (λ (a : Act). done a settled) (act_operator library (one_byte first) Draws rest r e)
+
+module _ (text : List ℕ) (mask_len : ℕ) (bytes : List ℕ) (settled : ℕ) (w : Written) (s : Stretch) (h : Comes text mask_len bytes settled w s) (inside : s.len < length text) where
+  pub comes_by_operator : (first : ℕ) (rest : List ℕ) → drop s.len text ≡ first ∷ rest → rest ≡ drop (s.len + 1) text → take (s.len + 1) text ≡ take s.len text ++ first ∷ [] → one_byte_effect first ≡ Some Draws
+      → Comes text mask_len bytes settled w (record { len = s.len + 1; tokens = s.tokens + 1; settled = Some (s.len + 1); count = 0 })
+  comes_by_operator first rest d r t e =
+      let all = bytes ++ take (s.len + 1) text in
+      let is : all ≡ h.now.settled ++ (flat_operands h.now.operands ++ (first ∷ [])) =
+      ap (λ (b : List ℕ). bytes ++ b) t ∙ sym (append_assoc bytes _ _) ∙ settles _ (first ∷ []) _ _ h.now h.stands in
+      record {
+        now = record { settled = all; operands = [] };
+        stands = stands_settled all (length bytes + (s.len + 1)) (omega (arith, length-append bytes (take (s.len + 1) text), length-take-le (s.len + 1) text (omega arith)));
+        leads = λ front o library depth all_tokens left stems callers room sum reached.
+            let before = subst (λ (b : List ℕ). ReachedBehind front o library depth (suc left) (record { rests = b ∷ callers; registers = registers_with h.now stems mask_len }) h.now.settled) d
+            (h.leads front o library depth all_tokens (suc left) stems callers room (omega arith) reached) in
+            let after = behind_more front o library depth (suc left) _ h.now.settled before (first ∷ rest) callers left refl refl _ (rest ∷ callers)
+            (done_draw library first rest (registers_with h.now stems mask_len) h.now.settled e) refl (omega arith) in
+            rw (is, ← r) after;
+      }
+
+-- ---- the steps of the scan
+extends_small : (text : List ℕ) (mask_len : ℕ) (s : Stretch) → s.len < length text → 32 ≤ get_or text s.len 0 → get_or text s.len 0 < 247 → s.count < 48
+    → Extends text mask_len s (record { len = s.len + 1; tokens = s.tokens + 1; settled = s.settled; count = s.count + 1 })
+extends_small text mask_len s inside low high few =
+    let first = get_or text s.len 0 in
+    let here : drop s.len text ≡ first ∷ drop (s.len + 1) text = drop-cons text s.len 0 inside ∙ ap (λ (k : ℕ). first ∷ drop k text) (sym (add-one s.len)) in
+    let t = (take_at_read text s.len 0 inside).1 ∙ ap (λ (b : List ℕ). take s.len text ++ b) (sym (small_written first low high)) in
+    record { step = λ bytes settled w h. comes_by_number text mask_len bytes settled w s h inside (Integer (pos first -ℤ pos 139)) 1 (ap number_at here ∙ small_number first (drop (s.len + 1) text) low high) t few }
+
+extends_middle : (text : List ℕ) (mask_len : ℕ) (s : Stretch) → s.len + 1 < length text → 247 ≤ get_or text s.len 0 → get_or text s.len 0 < 255 → get_or text (s.len + 1) 0 < 256 → s.count < 48
+    → Extends text mask_len s (record { len = s.len + 2; tokens = s.tokens + 1; settled = s.settled; count = s.count + 1 })
+extends_middle text mask_len s inside low high small few =
+    let first = get_or text s.len 0 in
+    let second = get_or text (s.len + 1) 0 in
+    let within : s.len < length text = omega arith in
+    let two : suc (s.len + 1) ≡ s.len + 2 = omega arith in
+    let more : s.len + 1 + 1 ≡ s.len + 2 = omega arith in
+    let here : drop s.len text ≡ first ∷ second ∷ drop (s.len + 2) text =
+    drop-cons text s.len 0 within ∙ ap (λ (k : ℕ). first ∷ drop k text) (sym (add-one s.len)) ∙ ap (λ (l : List ℕ). first ∷ l) (drop-cons text (s.len + 1) 0 inside ∙ ap (λ (k : ℕ). second ∷ drop k text) two) in
+    let t : take (s.len + 2) text ≡ take s.len text ++ written (Integer (middle_value first second)) =
+    ap (λ (k : ℕ). take k text) (sym more) ∙ (take_at_read text (s.len + 1) 0 inside).1 ∙ ap (λ (b : List ℕ). b ++ second ∷ []) (take_at_read text s.len 0 within).1
+    ∙ append_assoc (take s.len text) (first ∷ []) (second ∷ []) ∙ ap (λ (b : List ℕ). take s.len text ++ b) (sym (middle_written first second low high small)) in
+    record { step = λ bytes settled w h. comes_by_number text mask_len bytes settled w s h within (Integer (middle_value first second)) 2 (ap number_at here ∙ middle_read first second (drop (s.len + 2) text) low high small) t few }
+
+extends_drawn : (text : List ℕ) (mask_len : ℕ) (s : Stretch) → s.len < length text → one_byte_effect (get_or text s.len 0) ≡ Some Draws
+    → Extends text mask_len s (record { len = s.len + 1; tokens = s.tokens + 1; settled = Some (s.len + 1); count = 0 })
+extends_drawn text mask_len s inside e =
+    let first = get_or text s.len 0 in
+    let here : drop s.len text ≡ first ∷ drop (s.len + 1) text = drop-cons text s.len 0 inside ∙ ap (λ (k : ℕ). first ∷ drop k text) (sym (add-one s.len)) in
+    record { step = λ bytes settled w h. comes_by_operator text mask_len bytes settled w s h inside first (drop (s.len + 1) text) here refl (take_at_read text s.len 0 inside).1 e }
+
+-- the same, for what the code's calls answer
+pub by_small : (text : List ℕ) (mask_len : ℕ) (s longer : Stretch) → longer ≡ record { len = s.len + 1; tokens = s.tokens + 1; settled = s.settled; count = s.count + 1 } → s.len < length text → 32 ≤ get_or text s.len 0 → get_or text s.len 0 < 247 → s.count < 48
+    → Extends text mask_len s longer
+by_small text mask_len s longer e inside low high few = rw e (extends_small text mask_len s inside low high few)
+
+pub by_middle : (text : List ℕ) (mask_len : ℕ) (s longer : Stretch) → longer ≡ record { len = s.len + 2; tokens = s.tokens + 1; settled = s.settled; count = s.count + 1 } → s.len + 1 < length text → 247 ≤ get_or text s.len 0 → get_or text s.len 0 < 255 → get_or text (s.len + 1) 0 < 256 → s.count < 48
+    → Extends text mask_len s longer
+by_middle text mask_len s longer e inside low high small few = rw e (extends_middle text mask_len s inside low high small few)
+
+pub by_operator : (text : List ℕ) (mask_len : ℕ) (s : Stretch) (result : Option Stretch) → s.len < length text → IfSome result (λ _. one_byte_effect (get_or text s.len 0) ≡ Some Draws)
+    → IfSome result (λ longer. longer ≡ record { len = s.len + 1; tokens = s.tokens + 1; settled = Some (s.len + 1); count = 0 }) → IfSome result (λ longer. Extends text mask_len s longer)
+by_operator text mask_len s None inside d e = tt
+by_operator text mask_len s (Some longer) inside d e = rw e (extends_drawn text mask_len s inside d)
+
+-- what is written behind a stretch, as the code joins it
+pub stretch_stands : (text : List ℕ) (mask_len : ℕ) (bytes all : List ℕ) (settled before after : ℕ) (w : Written) (s : Stretch) (h : Comes text mask_len bytes settled w s)
+    → all ≡ bytes ++ take s.len text → before ≡ length bytes → after ≡ place_after s.settled settled before → Stands all after s.count h.now
+stretch_stands text mask_len bytes all settled before after w s h a b p = rw (a, p, b) h.stands
+
+pub stretch_leads : (text : List ℕ) (mask_len : ℕ) (bytes all : List ℕ) (settled before after : ℕ) (w : Written) (s : Stretch) (h : Comes text mask_len bytes settled w s)
+    → all ≡ bytes ++ take s.len text → before ≡ length bytes → after ≡ place_after s.settled settled before → LeadsOn text s.len s.tokens mask_len w (written_at all after s.count)
+stretch_leads text mask_len bytes all settled before after w s h a b p =
+    subst (λ (x : Written). LeadsOn text s.len s.tokens mask_len w x) (sym (written_is all after s.count h.now (stretch_stands text mask_len bytes all settled before after w s h a b p))) h.leads
+
+-- ---- a stretch of a run
+-- the innermost charstring that is not at its end stays that
+pub unended_again : (rests : List (List ℕ)) (text : List ℕ) (callers : List (List ℕ)) → unended rests ≡ text ∷ callers → unended (text ∷ callers) ≡ text ∷ callers
+unended_again [] text callers e = absurd (cc)
+unended_again ([] ∷ rests) text callers e = unended_again rests text callers e
+unended_again ((b ∷ bytes) ∷ rests) text callers e = subst (λ (l : List (List ℕ)). unended l ≡ l) e refl
+
+some_text : (text : List ℕ) (callers : List (List ℕ)) (rests : List (List ℕ)) → unended rests ≡ text ∷ callers → 0 < length text
+some_text [] callers [] e = absurd (cc)
+some_text [] callers ([] ∷ rests) e = some_text [] callers rests e
+some_text [] callers ((b ∷ bytes) ∷ rests) e = absurd (cc)
+some_text (b ∷ bytes) callers rests e = omega arith
+
+rest_of : (text : List ℕ) (len : ℕ) → take (length text - len) (drop len text) ≡ drop len text
+rest_of text len = take_all (length text - len) (drop len text) (omega (arith, length-drop len text))
+
+pub behind_stretch : (front : List ℕ) (o : Outcome) (library : Library) (depth tokens stems mask_len : ℕ) (rests callers : List (List ℕ)) (text : List ℕ) (len n : ℕ) (w now : Written)
+    → ReachedBehind front o library depth tokens (record { rests = rests; registers = registers_with w stems mask_len }) w.settled → unended rests ≡ text ∷ callers → LeadsOn text len n mask_len w now → length callers < depth → n ≤ tokens
+    → ReachedBehind front o library depth (tokens - n) (record { rests = take (length text - len) (drop len text) ∷ callers; registers = registers_with now stems mask_len }) now.settled
+behind_stretch front o library depth tokens stems mask_len rests callers text len n w now h e leads room few =
+    rw (rest_of text len)
+    (leads front o library depth tokens (tokens - n) stems callers room (omega arith)
+    (behind_same front o library depth tokens (registers_with w stems mask_len) rests (text ∷ callers) w.settled h (e ∙ sym (unended_again rests text callers e))))
+
+-- each turn takes a token
+pub fewer_tokens : (rests callers : List (List ℕ)) (text : List ℕ) (len n tokens : ℕ) → unended rests ≡ text ∷ callers → (n ≡ 0 → len ≡ 0) → n ≤ tokens → length (take (length text - len) (drop len text)) ≡ 0 → tokens - n < tokens
+fewer_tokens rests callers text len zero tokens e moves few z =
+    let some = some_text text callers rests e in
+    let none : len ≡ 0 = moves refl in
+    let left : length (drop len text) ≡ 0 = sym (ap length (rest_of text len)) ∙ z in
+    absurd (omega (arith, length-drop len text))
+fewer_tokens rests callers text len (suc n) tokens e moves few z = omega arith
+
+pub length_rests : (rests : List (Bor (List ℕ))) → length (rests_of rests) ≡ length rests
+length_rests rests = length-map (reverse rests) (λ r. r.now) ∙ length-reverse rests

@@ -1,0 +1,63 @@
+//! The stretch at the front of a charstring.
+
+ghost use Rattle.std.specs.Prelude.{◌≡◌, ◌≤◌, ◌<◌, length, IfSome, ℕ, List};
+ghost use Rattle.subsetter_type2.specs.Output.{Written};
+ghost use Rattle.subsetter_type2.specs.OutputView.{Stands};
+ghost use Rattle.subsetter_type2.specs.Stretch.{Comes, Extends, IsSound};
+
+use crate::argstack::MAX_OPERANDS;
+use crate::stretch::Stretch;
+
+/// One token longer, where a token follows that may stand in a stretch.
+#[inline(always)]
+fn longer(stretch: Stretch, text: &[u8], most: usize, mask_len: u16) -> Option<Stretch>
+    requires most { most ≤ length text.now }
+    requires sound { IsSound stretch }
+    ensures sound { IfSome result (λ longer. IsSound longer) }
+    ensures extends { IfSome result (λ longer. Extends text.now mask_len stretch longer) }
+    ensures more { IfSome result (λ longer. stretch.len < longer.len) }
+    ensures inside { IfSome result (λ longer. longer.len ≤ length text.now) }
+    ensures few { IfSome result (λ longer. longer.tokens ≤ most) }
+{
+    if stretch.len >= most {
+        return None;
+    }
+    let first = text[stretch.len];
+    if first < 32 {
+        return stretch.longer_by_operator(first);
+    }
+    if stretch.count >= MAX_OPERANDS {
+        return None;
+    }
+    if first <= 246 {
+        return Some(stretch.with_number(1));
+    }
+    if first == 255 {
+        return None;
+    }
+    if stretch.len + 1 >= text.len() {
+        return None;
+    }
+    Some(stretch.with_number(2))
+}
+
+/// The longest stretch of so many tokens at most at the front of a charstring, with so many operands on the stack.
+#[inline(always)]
+pub fn find_stretch(text: &[u8], tokens: u32, mask_len: u16, count: usize) -> Stretch
+    ensures comes { (bytes : List ℕ) (settled : ℕ) (w : Written) → Stands bytes settled count w → Comes text.now mask_len bytes settled w result }
+    ensures sound { IsSound result }
+    ensures inside { result.len ≤ length text.now }
+    ensures few { result.tokens ≤ tokens }
+{
+    let most = text.len().min(tokens as usize);
+    let mut stretch = Stretch {
+        len: 0,
+        tokens: 0,
+        settled: None,
+        count,
+    };
+    while let Some(next) = longer(stretch, text, most, mask_len) {
+        stretch = next;
+    }
+    stretch
+}
