@@ -53,11 +53,6 @@ taken s operator xs = record {
   private = if bytes_eq operator private_operator then range_operands xs else s.private;
 }
 
--- of the entry in front, if there is one
-abbrev pub taken_if_there : Said → List ℕ → Option (List Number) → Said
-taken_if_there s operator None = s
-taken_if_there s operator (Some xs) = taken s operator xs
-
 -- all entries
 abbrev pub said_after : Said → List Entry → Said
 said_after s [] = s

@@ -80,7 +80,7 @@ fn new_font_dicts<'a>(
     requires { IsSource source.now }
     ensures { Gives (λ v. map font_dict_view v.items) result (new_font_dicts (cff_of source.now) numbers.now) }
 {
-    let mut made = Vec::new(alloc);
+    let mut made = Vec::with_capacity(alloc, numbers.len())?;
     for number in numbers {
         let font_dict = new_font_dict(source, *number)?;
         made.push(font_dict)?;

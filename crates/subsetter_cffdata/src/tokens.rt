@@ -69,24 +69,42 @@ pub fn next_operator(bytes: &[u8], offset: usize) -> Option<(Operator, usize)>
     None
 }
 
-// The operands of the entry at the offset, as many as the buffer holds; None where no entry can be read.
+/// An entry whose operands were read.
+#[derive(Clone, Copy, Debug)]
+pub struct EntryRead {
+    /// Its operator.
+    pub operator: Operator,
+    /// How many of its operands the buffer holds.
+    pub len: usize,
+    /// Where the next entry begins.
+    pub end: usize,
+}
+
+// The entry at the offset, with its operands, as many as the buffer holds; None where no entry can be read.
 #[tactic(auto, unfolding(crate::specs::Operands::operands_at))]
-pub fn read_operands(bytes: &[u8], offset: usize, buffer: &mut [Number]) -> Option<usize>
+pub fn read_entry(bytes: &[u8], offset: usize, buffer: &mut [Number]) -> Option<EntryRead>
     requires { 0 < length buffer.old }
-    ensures within { IfSome result (λ n. n ≤ length buffer.old) }
-    ensures operands { option_map (λ n. map number_of (take n buffer.new)) result ≡ operands_at (length buffer.old) (drop offset bytes.now) }
+    ensures within { IfSome result (λ e. e.len ≤ length buffer.old) }
+    ensures operands { option_map (λ e. map number_of (take e.len buffer.new)) result ≡ operands_at (length buffer.old) (drop offset bytes.now) }
+    ensures operator { operator_part (entry_at (drop offset bytes.now)) ≡ option_map (λ e. (operator_of e.operator, drop e.end bytes.now)) result }
 {
     let mut r = Reader::new_at(bytes, offset);
     let mut len = 0;
     while let Some(found) = next_token(&mut r) {
         match found {
-            Token::Operator(_) => return Some(len),
+            Token::Operator(operator) => {
+                return Some(EntryRead {
+                    operator,
+                    len,
+                    end: r.offset(),
+                });
+            }
             Token::Operand(operand) => {
                 buffer[len] = operand;
                 len += 1;
                 if len == buffer.len() {
-                    next_operator(bytes, r.offset())?;
-                    return Some(len);
+                    let (operator, end) = next_operator(bytes, r.offset())?;
+                    return Some(EntryRead { operator, len, end });
                 }
             }
         }

@@ -3,7 +3,7 @@ use Rattle.subsetter_cffdata.specs.Dict.{entry_at}
 use Rattle.subsetter_cffdata.specs.Reading.{rest}
 use Rattle.subsetter_cffdata.specs.Tokens.{with_operands}
 use Rattle.subsetter_cffdata.specs.Views.{number_of}
-use Rattle.subsetter_cffdata.proofs.tokens.read_operands.Given as goal
+use Rattle.subsetter_cffdata.proofs.tokens.read_entry.Given as goal
 
 -- the operands so far and those that are left are those of the whole
 abbrev pub invariant-loop-found : goal.invariant-loop-found
