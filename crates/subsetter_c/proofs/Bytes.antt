@@ -6,7 +6,7 @@ use Rattle.subsetter_base.specs.Places.{HasAllAboveZero}
 use Rattle.subsetter_base.specs.declared.error.Error.{Error}
 use Rattle.subsetter_base.specs.declared.error.Error.TheVariants.{OutOfMemory, OverflowError}
 use Rattle.subsetter.specs.Sfnt.Read.{Font}
-use Rattle.subsetter.specs.Subset.{IsSubset}
+use Rattle.subsetter.specs.Answer.{IsAnswer, IsTheAnswer}
 use Rattle.subsetter.specs.Fault.{HasFault}
 use Rattle.cid_embed.specs.Embed.{numbering}
 use Rattle.subsetter_c.specs.Handed.{begun_with, IsHandedOver, whole, short, refused, IsAnswered, IsSoundSubset, IsRefusal, HasCallFault, in_numbering, in_subset}
@@ -42,8 +42,12 @@ module _ (tokens depth : ℕ) (font : Font) (glyphs : List ℕ) where
   subset_refused mapper (Err e) m (inl memory) = inl memory
   subset_refused mapper (Err e) m (inr fault) = inr (in_subset fault.0 (subst (λ (l : List ℕ). HasFault tokens depth font l fault.0 e) m fault.1))
 
-  pub subset_sound : (mapper : List ℕ) (r : Result (Vec ℕ Global) Error) → mapper ≡ numbering glyphs → IfOk r (λ v. (s : IsSubset tokens depth font mapper v.items) × ((e : Error) → ¬ (HasFault tokens depth font mapper s.keeps.order e))) → IfOk r (λ v. IsSoundSubset tokens depth font glyphs v.items)
-  subset_sound mapper r m h = subst (λ (l : List ℕ). IfOk r (λ v. (s : IsSubset tokens depth font l v.items) × ((e : Error) → ¬ (HasFault tokens depth font l s.keeps.order e)))) m h
+  pub subset_sound : (mapper : List ℕ) (r : Result (Vec ℕ Global) Error) → mapper ≡ numbering glyphs → IfOk r (λ v. IsAnswer tokens depth font mapper v.items) → IfOk r (λ v. IsTheAnswer font mapper v.items) → IfOk r (λ v. IsSoundSubset tokens depth font glyphs v.items)
+  subset_sound mapper (Ok v) m exact same = record {
+    answer = subst (λ (l : List ℕ). IsAnswer tokens depth font l v.items) m exact;
+    same = subst (λ (l : List ℕ). IsTheAnswer font l v.items) m same;
+  }
+  subset_sound mapper (Err e) m exact same = exact
 
 -- what holds at two limits holds at others that equal them
 pub at_limits : (P : ℕ → ℕ → Type 0) (tokens t depth d : ℕ) → tokens ≡ t → depth ≡ d → P tokens depth → P t d

@@ -3,7 +3,8 @@ use Rattle.std.specs.Prelude.{◌≡◌, ◌⊎◌, ◌≤◌, ℕ, List, length
 use Rattle.subsetter_base.specs.declared.error.Error.{Error}
 use Rattle.subsetter_base.specs.declared.error.Error.TheVariants.{OutOfMemory}
 use Rattle.subsetter.specs.Sfnt.Read.{Font}
-use Rattle.cid_embed.specs.Embed.{IsEmbedded, HasEmbedFault}
+use Rattle.subsetter.specs.Answer.{IsAnswer}
+use Rattle.cid_embed.specs.Embed.{numbering, IsEmbedded, HasEmbedFault}
 use Rattle.cid_embed.specs.declared.embedding.Embedded.{Embedded}
 use Rattle.subsetter_c.specs.Handed.{begun_with}
 use Rattle.subsetter_c.specs.Status.{status_of, too_small}
@@ -39,9 +40,21 @@ pub data AreHandedOver (Is : Embedded → Type 0) (Why : Error → Type 0) (befo
   -- the buffers are unchanged
   refused : (e : Error) → Why e → after ≡ before → told ≡ no_sizes → status ≡ status_of e → AreHandedOver Is Why before after told status
 
--- what is answered, with no fault in the source
-abbrev pub IsSoundEmbedding : ℕ → ℕ → Font → List ℕ → Embedded → Type 0
-IsSoundEmbedding tokens depth font glyphs e = (s : IsEmbedded tokens depth font glyphs e) × ((why : Error) → ¬ (HasEmbedFault tokens depth font glyphs s.subset.keeps.order why))
+-- a subset with its CIDs and widths, where no fault stands in the source, of glyphs in the order in which they are found
+pub record IsEmbeddingAnswer (tokens depth : ℕ) (font : Font) (glyphs : List ℕ) (e : Embedded) : Type 0 where
+  pub embedded : IsEmbedded tokens depth font glyphs e
+  pub clean : (why : Error) → ¬ (HasEmbedFault tokens depth font glyphs embedded.subset.keeps.order why)
+  -- the font is the answer for glyph 0 and the given glyphs
+  pub font_is : IsAnswer tokens depth font (numbering glyphs) e.font.items
+
+abbrev pub lists_of : Embedded → Buffers
+lists_of e = record { font = e.font.items; cids = e.cids.items; widths = e.widths.items }
+
+-- what is answered
+pub record IsSoundEmbedding (tokens depth : ℕ) (font : Font) (glyphs : List ℕ) (e : Embedded) : Type 0 where
+  pub answer : IsEmbeddingAnswer tokens depth font glyphs e
+  -- whatever is answered for the same glyphs of the font, within these limits or others, is these three lists: so is what a second call answers
+  pub same : (more deeper : ℕ) (other : Embedded) → IsEmbeddingAnswer more deeper font glyphs other → lists_of e ≡ lists_of other
 
 -- why nothing is answered
 abbrev pub IsEmbeddingRefusal : ℕ → ℕ → Font → List ℕ → Error → Type 0
