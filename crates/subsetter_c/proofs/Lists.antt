@@ -1,12 +1,13 @@
 -- What is said of lists that are handed over, in other words.
-use Rattle.std.proofs.Common.{◌≡◌, ℕ, List, [], ◌∷◌, map, Some, refl, sym, ap, ◌∙◌, subst, Result, Ok, Err}
+use Rattle.std.proofs.Common.{◌≡◌, ℕ, List, [], ◌∷◌, map, Some, refl, sym, ap, ◌∙◌, subst, ◌⊎◌, inl, inr, Result, Ok, Err}
 use Rattle.std.specs.Prelude.{IfOk, IfErr}
 use Rattle.subsetter_base.specs.declared.error.Error.{Error}
+use Rattle.subsetter_base.specs.declared.error.Error.TheVariants.{OutOfMemory}
 use Rattle.cid_embed.specs.declared.embedding.Embedded.{Embedded}
 use Rattle.subsetter.specs.Sfnt.Read.{Font}
 use Rattle.subsetter.specs.Answer.{IsAnswer, IsTheAnswer}
-use Rattle.cid_embed.specs.Embed.{numbering, IsEmbedded, HasEmbedFault}
-use Rattle.subsetter_c.specs.Embedding.{AreHandedOver, whole, short, refused, Buffers, all_begun, lists_of, IsEmbeddingAnswer, IsSoundEmbedding}
+use Rattle.cid_embed.specs.Embed.{numbering, IsEmbedded, HasEmbedFault, IsEmbeddingAnswer, HasNoEmbedding}
+use Rattle.subsetter_c.specs.Embedding.{AreHandedOver, whole, short, refused, Buffers, all_begun, lists_of, IsSoundEmbedding, IsEmbeddingRefusal}
 use Rattle.subsetter_c.specs.Handed.{begun_with}
 use Rattle.subsetter_c.specs.declared.handing.Sizes.{Sizes}
 
@@ -53,3 +54,9 @@ module _ (tokens depth : ℕ) (font : Font) (glyphs : List ℕ) where
     same = λ more deeper other b. same_lists more deeper e other clean.0 same b;
   }
   embedding_sound (Err why) clean exact same = clean
+
+  pub embedding_refused : (r : Result Embedded Error) → IfErr r (λ why. (why ≡ OutOfMemory) ⊎ ((order : List ℕ) × HasEmbedFault tokens depth font glyphs order why)) → IfErr r (λ why. (why ≡ OutOfMemory) ⊎ HasNoEmbedding tokens depth font glyphs) → IfErr r (IsEmbeddingRefusal tokens depth font glyphs)
+  embedding_refused (Ok e) fault none = fault
+  embedding_refused (Err why) (inl memory) none = inl memory
+  embedding_refused (Err why) (inr fault) (inl memory) = inl memory
+  embedding_refused (Err why) (inr fault) (inr none) = inr (fault, none)

@@ -5,7 +5,7 @@ use Rattle.subsetter_base.specs.Places.{HasAllAboveZero}
 use Rattle.subsetter_base.specs.declared.error.Error.{Error}
 use Rattle.subsetter_base.specs.declared.error.Error.TheVariants.{OutOfMemory, OverflowError}
 use Rattle.subsetter.specs.Sfnt.Read.{Font}
-use Rattle.subsetter.specs.Answer.{IsAnswer, IsTheAnswer}
+use Rattle.subsetter.specs.Answer.{IsAnswer, HasNoAnswer, IsTheAnswer}
 use Rattle.subsetter.specs.Fault.{HasFault}
 use Rattle.cid_embed.specs.Embed.{numbering}
 use Rattle.subsetter_c.specs.Status.{status_of, too_small, no_depth}
@@ -50,9 +50,9 @@ pub data HasCallFault (tokens depth : ℕ) (font : Font) (glyphs : List ℕ) : E
   in_numbering : HasAllAboveZero glyphs → HasCallFault tokens depth font glyphs OverflowError
   in_subset : {e : Error} → (order : List ℕ) → HasFault tokens depth font (numbering glyphs) order e → HasCallFault tokens depth font glyphs e
 
--- why no subset is answered
+-- why no subset is answered: memory ran out, or a fault stands, and then no call answers one
 abbrev pub IsRefusal : ℕ → ℕ → Font → List ℕ → Error → Type 0
-IsRefusal tokens depth font glyphs e = (e ≡ OutOfMemory) ⊎ HasCallFault tokens depth font glyphs e
+IsRefusal tokens depth font glyphs e = (e ≡ OutOfMemory) ⊎ (HasCallFault tokens depth font glyphs e × HasNoAnswer tokens depth font (numbering glyphs))
 
 -- a subset is handed over
 abbrev pub IsSubsetHanded : ℕ → ℕ → Font → List ℕ → List ℕ → List ℕ → ℕ → ℕ → Type 0

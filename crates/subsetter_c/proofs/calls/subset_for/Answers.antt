@@ -17,4 +17,4 @@ returns-clause-ok c =
 pub returns-clause-err : goal.returns-clause-err
 returns-clause-err c =
     let font : Font = record { bytes = c.args.font.now; index = c.args.index } in
-    subset_refused c.args.limits.now.tokens c.args.limits.now.depth font c.args.glyphs.now c.in_ok-mapper.mapper c.subset_with_limits.result c.in_ok-mapper.ensures.ok c.subset_with_limits.ensures.err
+    subset_refused c.args.limits.now.tokens c.args.limits.now.depth font c.args.glyphs.now c.in_ok-mapper.mapper c.subset_with_limits.result c.in_ok-mapper.ensures.ok c.subset_with_limits.ensures.err c.subset_with_limits.ensures.no_answer
