@@ -11,7 +11,7 @@ ghost use Rattle.subsetter.specs.Fault.{HasFault};
 ghost use Rattle.subsetter.specs.Sfnt.Fault.{HasOpeningFault};
 ghost use Rattle.subsetter.specs.Limits.{token_limit, depth_limit};
 ghost use Rattle.subsetter.specs.Subset.{IsSubset};
-ghost use Rattle.subsetter.specs.Answer.{IsAnswer, IsTheAnswer};
+ghost use Rattle.subsetter.specs.Answer.{IsAnswer, HasNoAnswer, IsTheAnswer};
 
 use crate::cff;
 use crate::glyf::{self, OutlineTables, Reached};
@@ -131,6 +131,8 @@ pub fn subset(
     ensures same { IfOk result (λ out. IsTheAnswer (record { bytes = «data».now; index = index }) mapper.now out.items) }
     // What is refused has a fault of that name.
     ensures err { IfErr result (λ e. (e ≡ OutOfMemory) ⊎ ((order : List ℕ) × HasFault token_limit depth_limit (record { bytes = «data».now; index = index }) mapper.now order e)) }
+    // And, but for want of memory, it has no answer: no call answers it within these limits.
+    ensures no_answer { IfErr result (λ e. (e ≡ OutOfMemory) ⊎ HasNoAnswer token_limit depth_limit (record { bytes = «data».now; index = index }) mapper.now) }
     // Where a fault stands that is found before memory is taken, the answer isn't want of memory.
     ensures before_memory { (e : SpecError) → HasOpeningFault (record { bytes = «data».now; index = index }) e → result ≢ Err OutOfMemory }
 {
@@ -162,6 +164,8 @@ pub fn subset_with_limits(
     ensures same { IfOk result (λ out. IsTheAnswer (record { bytes = «data».now; index = index }) mapper.now out.items) }
     // What is refused has a fault of that name.
     ensures err { IfErr result (λ e. (e ≡ OutOfMemory) ⊎ ((order : List ℕ) × HasFault limits.now.tokens limits.now.depth (record { bytes = «data».now; index = index }) mapper.now order e)) }
+    // And, but for want of memory, it has no answer: no call answers it within these limits.
+    ensures no_answer { IfErr result (λ e. (e ≡ OutOfMemory) ⊎ HasNoAnswer limits.now.tokens limits.now.depth (record { bytes = «data».now; index = index }) mapper.now) }
     // Where a fault stands that is found before memory is taken, the answer isn't want of memory.
     ensures before_memory { (e : SpecError) → HasOpeningFault (record { bytes = «data».now; index = index }) e → result ≢ Err OutOfMemory }
 {

@@ -26,7 +26,7 @@ pub returns-in_err-made-clause-err : goal.returns-in_err-made-clause-err
 returns-in_err-made-clause-err c =
     let p = err_from_is_err_and c.from_residual-in_err-made.result c.from_residual-in_err-made.ensures.1 in
     let find : List ℕ → Option (List ℕ) = table_in c.args.face.now.«data».now c.args.face.now.records.now in
-    rw (p.1, p.2) (refused_made find c.args.mapper.now c.in_ok-reached.reached.order (seen c.in_ok-table.table) c.in_ok-table.ensures.ok c.in_ok-reached.ensures.ok c.in_err-made.field-0.0 c.in_err-made.ensures.exact)
+    rw (p.1, p.2) (refused_made find c.args.mapper.now c.in_ok-reached.reached.order (seen c.in_ok-table.table) c.in_ok-table.ensures.ok c.in_ok-reached.ensures.ok c.in_err-made.field-0.0 c.in_ok-reached.ensures.found c.in_err-made.ensures.exact)
 
 pub returns-in_err-list-clause-err : goal.returns-in_err-list-clause-err
 returns-in_err-list-clause-err c =
@@ -53,4 +53,4 @@ pub returns-clause-err : goal.returns-clause-err
 returns-clause-err c =
     let find : List ℕ → Option (List ℕ) = table_in c.args.face.now.«data».now c.args.face.now.records.now in
     gave_err (λ v. v.items) c.finish.result (file_of (kind_word TrueType) (views c.deref.result.now)) (IsRefused find c.args.mapper.now) c.finish.ensures no_memory
-    (refused_file find c.args.mapper.now c.in_ok-reached.reached.order (seen c.in_ok-table.table) c.in_ok-table.ensures.ok c.in_ok-reached.ensures.ok (made_seen c.in_ok-made.made) c.in_ok-made.ensures.exact c.deref.result.now (ap views c.deref.ensures.value ∙ c.in_ok-list.ensures.ok ∙ ap (λ (t : FontTables). present (rows t)) c.font_tables.ensures))
+    (refused_file find c.args.mapper.now c.in_ok-reached.reached.order (seen c.in_ok-table.table) c.in_ok-table.ensures.ok c.in_ok-reached.ensures.ok (made_seen c.in_ok-made.made) c.in_ok-made.ensures.exact c.deref.result.now (ap views c.deref.ensures.value ∙ c.in_ok-list.ensures.ok ∙ ap (λ (t : FontTables). present (rows t)) c.font_tables.ensures) c.in_ok-reached.ensures.found)
