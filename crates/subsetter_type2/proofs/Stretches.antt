@@ -21,7 +21,9 @@ use Rattle.subsetter_type2.specs.Stretch.{LeadsOn, Comes, Extends, registers_wit
 use Rattle.subsetter_type2.specs.Token.{one_byte, one_byte_effect, effect_of}
 use Rattle.subsetter_type2.specs.View.{Done, done, rests_of}
 use Rattle.subsetter_type2.specs.declared.stretch.Stretch.{Stretch}
-use Rattle.subsetter_type2.specs.declared.token.Effect.TheVariants.{Draws}
+use Rattle.subsetter_type2.specs.declared.token.Effect.{Effect}
+use Rattle.subsetter_type2.specs.declared.token.Effect.TheVariants.{CountsStems, Draws, CallsLocal, CallsGlobal, Returns, Ends, Masks}
+use Rattle.subsetter_type2.specs.Plain.{draws, is_plain}
 use Rattle.subsetter_type2.proofs.Acts.{act_operator}
 use Rattle.subsetter_type2.proofs.BehindRuns.{behind_more, behind_same}
 use Rattle.subsetter_type2.proofs.OutputLemmas.{stands_more, stands_settled, settles, written_is}
@@ -67,7 +69,7 @@ leads_nowhere text len tokens mask_len w l t = rw (l, t)
     subst (λ n. ReachedBehind front o library depth n (record { rests = text ∷ callers; registers = registers_with w stems mask_len }) w.settled) same h)
 
 pub comes_at_start : (text : List ℕ) (mask_len count : ℕ) (bytes : List ℕ) (settled : ℕ) (w : Written) → Stands bytes settled count w
-    → Comes text mask_len bytes settled w (record { len = 0; tokens = 0; settled = None; count = count })
+    → Comes text mask_len bytes settled w (record { len = 0; tokens = 0; settled = 0; count = count })
 comes_at_start text mask_len count bytes settled w h = record {
   now = w;
   stands = subst (λ (b : List ℕ). Stands b settled count w) (sym (append-nil bytes)) h;
@@ -102,6 +104,9 @@ module _ (text : List ℕ) (mask_len : ℕ) (bytes : List ℕ) (settled : ℕ) (
             (done_push library here rest n (registers_with h.now stems mask_len) h.now.settled e l) refl (omega arith);
       }
 
+place_behind : (n settled before : ℕ) → place_after (n + 1) settled before ≡ before + (n + 1)
+place_behind n settled before = rw (add-one n) refl
+
 done_draw : (library : Library) (first : ℕ) (rest : List ℕ) (r : Registers) (settled : List ℕ) → one_byte_effect first ≡ Some Draws
     → done (act_at library (first ∷ rest) r) settled ≡ Ok (record { registers = record r { operands = [] }; settled = settled ++ (flat_operands r.operands ++ (first ∷ [])); lead = On rest })
 unfolding effect_of
@@ -110,14 +115,14 @@ done_draw library first rest r settled e =
 
 module _ (text : List ℕ) (mask_len : ℕ) (bytes : List ℕ) (settled : ℕ) (w : Written) (s : Stretch) (h : Comes text mask_len bytes settled w s) (inside : s.len < length text) where
   pub comes_by_operator : (first : ℕ) (rest : List ℕ) → drop s.len text ≡ first ∷ rest → rest ≡ drop (s.len + 1) text → take (s.len + 1) text ≡ take s.len text ++ first ∷ [] → one_byte_effect first ≡ Some Draws
-      → Comes text mask_len bytes settled w (record { len = s.len + 1; tokens = s.tokens + 1; settled = Some (s.len + 1); count = 0 })
+      → Comes text mask_len bytes settled w (record { len = s.len + 1; tokens = s.tokens + 1; settled = s.len + 1; count = 0 })
   comes_by_operator first rest d r t e =
       let all = bytes ++ take (s.len + 1) text in
       let is : all ≡ h.now.settled ++ (flat_operands h.now.operands ++ (first ∷ [])) =
       ap (λ (b : List ℕ). bytes ++ b) t ∙ sym (append_assoc bytes _ _) ∙ settles _ (first ∷ []) _ _ h.now h.stands in
       record {
         now = record { settled = all; operands = [] };
-        stands = stands_settled all (length bytes + (s.len + 1)) (omega (arith, length-append bytes (take (s.len + 1) text), length-take-le (s.len + 1) text (omega arith)));
+        stands = stands_settled all (place_after (s.len + 1) settled (length bytes)) (place_behind s.len settled (length bytes) ∙ omega (arith, length-append bytes (take (s.len + 1) text), length-take-le (s.len + 1) text (omega arith)));
         leads = λ front o library depth all_tokens left stems callers room sum reached.
             let before = subst (λ (b : List ℕ). ReachedBehind front o library depth (suc left) (record { rests = b ∷ callers; registers = registers_with h.now stems mask_len }) h.now.settled) d
             (h.leads front o library depth all_tokens (suc left) stems callers room (omega arith) reached) in
@@ -151,25 +156,55 @@ extends_middle text mask_len s inside low high small few =
     record { step = λ bytes settled w h. comes_by_number text mask_len bytes settled w s h within (Integer (middle_value first second)) 2 (ap number_at here ∙ middle_read first second (drop (s.len + 2) text) low high small) t few }
 
 extends_drawn : (text : List ℕ) (mask_len : ℕ) (s : Stretch) → s.len < length text → one_byte_effect (get_or text s.len 0) ≡ Some Draws
-    → Extends text mask_len s (record { len = s.len + 1; tokens = s.tokens + 1; settled = Some (s.len + 1); count = 0 })
+    → Extends text mask_len s (record { len = s.len + 1; tokens = s.tokens + 1; settled = s.len + 1; count = 0 })
 extends_drawn text mask_len s inside e =
     let first = get_or text s.len 0 in
     let here : drop s.len text ≡ first ∷ drop (s.len + 1) text = drop-cons text s.len 0 inside ∙ ap (λ (k : ℕ). first ∷ drop k text) (sym (add-one s.len)) in
     record { step = λ bytes settled w h. comes_by_operator text mask_len bytes settled w s h inside first (drop (s.len + 1) text) here refl (take_at_read text s.len 0 inside).1 e }
 
+draws_is : (effect : Option Effect) → draws effect ≡ true → effect ≡ Some Draws
+draws_is None e = absurd (cc)
+draws_is (Some CountsStems) e = absurd (cc)
+draws_is (Some Draws) e = refl
+draws_is (Some CallsLocal) e = absurd (cc)
+draws_is (Some CallsGlobal) e = absurd (cc)
+draws_is (Some Returns) e = absurd (cc)
+draws_is (Some Ends) e = absurd (cc)
+draws_is (Some Masks) e = absurd (cc)
+
+plain_operator : (first : ℕ) → is_plain first ≡ true → nat_lt first 32 ≡ true → one_byte_effect first ≡ Some Draws
+unfolding is_plain
+plain_operator first e low = draws_is (one_byte_effect first) (let p : (if nat_lt first 32 then draws (one_byte_effect first) else nat_lt first 255) ≡ true = e in rw low at p)
+
+plain_number : (first : ℕ) → is_plain first ≡ true → nat_lt first 32 ≡ false → nat_lt first 255 ≡ true
+unfolding is_plain
+plain_number first e low = let p : (if nat_lt first 32 then draws (one_byte_effect first) else nat_lt first 255) ≡ true = e in rw low at p
+
+longer_as : (text : List ℕ) (mask_len : ℕ) (s : Stretch) (len size : ℕ) (drawn two : Bool)
+    → nat_lt (get_or text s.len 0) 32 ≡ drawn → nat_lt (get_or text s.len 0) 247 ≡ two → s.len < length text → s.count < 48 → is_plain (get_or text s.len 0) ≡ true → len ≡ s.len + (if two then 1 else 2) → len ≤ length text → get_or text (s.len + 1) 0 < 256
+    → Extends text mask_len s (record { len = len; tokens = s.tokens + 1; settled = (if drawn then len else s.settled); count = (if drawn then 0 else s.count + 1) })
+longer_as text mask_len s len size true true d t inside few plain e within small = rw e (extends_drawn text mask_len s inside (plain_operator (get_or text s.len 0) plain d))
+longer_as text mask_len s len size true false d t inside few plain e within small =
+    let low : get_or text s.len 0 < 32 = grind (arith, nat_tests) in
+    let high : 247 ≤ get_or text s.len 0 = grind (arith, nat_tests) in
+    absurd (omega arith)
+longer_as text mask_len s len size false true d t inside few plain e within small =
+    let low : 32 ≤ get_or text s.len 0 = grind (arith, nat_tests) in
+    let high : get_or text s.len 0 < 247 = grind (arith, nat_tests) in
+    rw e (extends_small text mask_len s inside low high few)
+longer_as text mask_len s len size false false d t inside few plain e within small =
+    let low : 247 ≤ get_or text s.len 0 = grind (arith, nat_tests) in
+    let below = plain_number (get_or text s.len 0) plain d in
+    let high : get_or text s.len 0 < 255 = grind (arith, nat_tests) in
+    rw e (extends_middle text mask_len s (omega arith) low high small few)
+
 -- the same, for what the code's calls answer
-pub by_small : (text : List ℕ) (mask_len : ℕ) (s longer : Stretch) → longer ≡ record { len = s.len + 1; tokens = s.tokens + 1; settled = s.settled; count = s.count + 1 } → s.len < length text → 32 ≤ get_or text s.len 0 → get_or text s.len 0 < 247 → s.count < 48
+pub by_plain : (text : List ℕ) (mask_len : ℕ) (s longer : Stretch) (len size : ℕ) (drawn : Bool)
+    → longer ≡ record { len = len; tokens = s.tokens + 1; settled = (if drawn then len else s.settled); count = (if drawn then 0 else s.count + 1) } → drawn ≡ nat_lt (get_or text s.len 0) 32
+    → size ≡ (if nat_lt (get_or text s.len 0) 247 then 1 else 2) → len ≡ s.len + size → s.len < length text → s.count < 48 → is_plain (get_or text s.len 0) ≡ true → len ≤ length text → get_or text (s.len + 1) 0 < 256
     → Extends text mask_len s longer
-by_small text mask_len s longer e inside low high few = rw e (extends_small text mask_len s inside low high few)
-
-pub by_middle : (text : List ℕ) (mask_len : ℕ) (s longer : Stretch) → longer ≡ record { len = s.len + 2; tokens = s.tokens + 1; settled = s.settled; count = s.count + 1 } → s.len + 1 < length text → 247 ≤ get_or text s.len 0 → get_or text s.len 0 < 255 → get_or text (s.len + 1) 0 < 256 → s.count < 48
-    → Extends text mask_len s longer
-by_middle text mask_len s longer e inside low high small few = rw e (extends_middle text mask_len s inside low high small few)
-
-pub by_operator : (text : List ℕ) (mask_len : ℕ) (s : Stretch) (result : Option Stretch) → s.len < length text → IfSome result (λ _. one_byte_effect (get_or text s.len 0) ≡ Some Draws)
-    → IfSome result (λ longer. longer ≡ record { len = s.len + 1; tokens = s.tokens + 1; settled = Some (s.len + 1); count = 0 }) → IfSome result (λ longer. Extends text mask_len s longer)
-by_operator text mask_len s None inside d e = tt
-by_operator text mask_len s (Some longer) inside d e = rw e (extends_drawn text mask_len s inside d)
+by_plain text mask_len s longer len size drawn l d z e inside few plain within small =
+    rw (l, d) (longer_as text mask_len s len size (nat_lt (get_or text s.len 0) 32) (nat_lt (get_or text s.len 0) 247) refl refl inside few plain (e ∙ ap (λ (k : ℕ). s.len + k) z) within small)
 
 -- what is written behind a stretch, as the code joins it
 pub stretch_stands : (text : List ℕ) (mask_len : ℕ) (bytes all : List ℕ) (settled before after : ℕ) (w : Written) (s : Stretch) (h : Comes text mask_len bytes settled w s)

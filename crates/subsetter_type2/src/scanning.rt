@@ -6,6 +6,7 @@ ghost use Rattle.subsetter_type2.specs.OutputView.{Stands};
 ghost use Rattle.subsetter_type2.specs.Stretch.{Comes, Extends, IsSound};
 
 use crate::argstack::MAX_OPERANDS;
+use crate::plain::{begins_plain, plain_size};
 use crate::stretch::Stretch;
 
 /// One token longer, where a token follows that may stand in a stretch.
@@ -22,23 +23,18 @@ fn longer(stretch: Stretch, text: &[u8], most: usize, mask_len: u16) -> Option<S
     if stretch.len >= most {
         return None;
     }
-    let first = text[stretch.len];
-    if first < 32 {
-        return stretch.longer_by_operator(first);
-    }
     if stretch.count >= MAX_OPERANDS {
         return None;
     }
-    if first <= 246 {
-        return Some(stretch.with_number(1));
-    }
-    if first == 255 {
+    let first = text[stretch.len];
+    if !begins_plain(first) {
         return None;
     }
-    if stretch.len + 1 >= text.len() {
+    let len = stretch.len + plain_size(first);
+    if len > text.len() {
         return None;
     }
-    Some(stretch.with_number(2))
+    Some(stretch.with_token(len, first < 32))
 }
 
 /// The longest stretch of so many tokens at most at the front of a charstring, with so many operands on the stack.
@@ -53,7 +49,7 @@ pub fn find_stretch(text: &[u8], tokens: u32, mask_len: u16, count: usize) -> St
     let mut stretch = Stretch {
         len: 0,
         tokens: 0,
-        settled: None,
+        settled: 0,
         count,
     };
     while let Some(next) = longer(stretch, text, most, mask_len) {
