@@ -1,10 +1,10 @@
 -- Stretches of a charstring, one token longer.
-use Rattle.std.proofs.Common.{◌≡◌, ℕ, zero, suc, ◌+◌, ◌-◌, ◌*◌, ◌<◌, ◌≤◌, Bool, true, false, List, [], ◌∷◌, ◌++◌, length, take, drop, get_or, Some, None, Ok, refl, sym, ap, ◌∙◌, subst, arith, append_assoc, append-nil, pos, ◌-ℤ◌, w16, to_z, of_z, nat_lt, drop-cons, add-one, length-drop, length-append}
-use Rattle.std.specs.Prelude.{Option, reverse, IfSome, ℤ, if◌then◌else◌, nat_le}
+use Rattle.std.proofs.Common.{◌≡◌, ℕ, zero, suc, ◌+◌, ◌-◌, ◌*◌, ◌/◌, ◌%◌, ◌<◌, ◌≤◌, Bool, true, false, List, [], ◌∷◌, ◌++◌, length, take, drop, get_or, Some, None, Ok, refl, sym, ap, ◌∙◌, subst, arith, append_assoc, append-nil, pos, ◌-ℤ◌, w16, to_z, of_z, nat_lt, drop-cons, add-one, length-drop, length-append}
+use Rattle.std.specs.Prelude.{MatchBool, Option, reverse, IfSome, ℤ, if◌then◌else◌, nat_le}
 use Rattle.std.specs.Borrow.{Bor}
 use Rattle.std.proofs.lemmas.Int.{ints, to_z-of_z}
 use Rattle.std.proofs.lemmas.Bool.Decides.{nat_tests}
-use Rattle.std.proofs.lemmas.Bool.{lt-leb}
+use Rattle.std.proofs.lemmas.Bool.{lt-leb, lt-ltb}
 use Rattle.std.proofs.lemmas.List.{length-take-le, length-map, length-reverse, take_all}
 use Rattle.std.proofs.lemmas.Grind.{take_at_read}
 use Rattle.subsetter_cffdata.specs.declared.charstring_number.CharStringNumber.{CharStringNumber}
@@ -176,35 +176,63 @@ plain_operator : (first : ℕ) → is_plain first ≡ true → nat_lt first 32 �
 unfolding is_plain
 plain_operator first e low = draws_is (one_byte_effect first) (let p : (if nat_lt first 32 then draws (one_byte_effect first) else nat_lt first 255) ≡ true = e in rw low at p)
 
-plain_number : (first : ℕ) → is_plain first ≡ true → nat_lt first 32 ≡ false → nat_lt first 255 ≡ true
-unfolding is_plain
-plain_number first e low = let p : (if nat_lt first 32 then draws (one_byte_effect first) else nat_lt first 255) ≡ true = e in rw low at p
+short_at : (high low : ℕ) (rest : List ℕ) → number_at (28 ∷ high ∷ low ∷ rest) ≡ Some (Integer (to_z w16 (high * 256 + low)), rest)
+unfolding number_at
+short_at high low rest = refl
 
-longer_as : (text : List ℕ) (mask_len : ℕ) (s : Stretch) (len size : ℕ) (drawn two : Bool)
-    → nat_lt (get_or text s.len 0) 32 ≡ drawn → nat_lt (get_or text s.len 0) 247 ≡ two → s.len < length text → s.count < 48 → is_plain (get_or text s.len 0) ≡ true → len ≡ s.len + (if two then 1 else 2) → len ≤ length text → get_or text (s.len + 1) 0 < 256
-    → Extends text mask_len s (record { len = len; tokens = s.tokens + 1; settled = (if drawn then len else s.settled); count = (if drawn then 0 else s.count + 1) })
-longer_as text mask_len s len size true true d t inside few plain e within small = rw e (extends_drawn text mask_len s inside (plain_operator (get_or text s.len 0) plain d))
-longer_as text mask_len s len size true false d t inside few plain e within small =
-    let low : get_or text s.len 0 < 32 = grind (arith, nat_tests) in
-    let high : 247 ≤ get_or text s.len 0 = grind (arith, nat_tests) in
-    absurd (omega arith)
-longer_as text mask_len s len size false true d t inside few plain e within small =
-    let low : 32 ≤ get_or text s.len 0 = grind (arith, nat_tests) in
-    let high : get_or text s.len 0 < 247 = grind (arith, nat_tests) in
-    rw e (extends_small text mask_len s inside low high few)
-longer_as text mask_len s len size false false d t inside few plain e within small =
-    let low : 247 ≤ get_or text s.len 0 = grind (arith, nat_tests) in
-    let below = plain_number (get_or text s.len 0) plain d in
-    let high : get_or text s.len 0 < 255 = grind (arith, nat_tests) in
-    rw e (extends_middle text mask_len s (omega arith) low high small few)
+short_bits : (bits : ℕ) → 1132 ≤ bits → bits ≤ 64404 → written (Integer (to_z w16 bits)) ≡ 28 ∷ bits / 256 ∷ bits % 256 ∷ []
+unfolding written
+short_bits bits low high = grind (arith, nat_tests, ints)
+
+short_written : (high low : ℕ) → low < 256 → 1132 ≤ high * 256 + low → high * 256 + low ≤ 64404 → written (Integer (to_z w16 (high * 256 + low))) ≡ 28 ∷ high ∷ low ∷ []
+short_written high low small above below =
+    let h : (high * 256 + low) / 256 ≡ high = omega arith in
+    let l : (high * 256 + low) % 256 ≡ low = omega arith in
+    short_bits (high * 256 + low) above below ∙ ap (λ (x : ℕ). 28 ∷ x ∷ (high * 256 + low) % 256 ∷ []) h ∙ ap (λ (x : ℕ). 28 ∷ high ∷ x ∷ []) l
+
+extends_short : (text : List ℕ) (mask_len : ℕ) (s : Stretch) → s.len + 2 < length text → get_or text s.len 0 ≡ 28 → get_or text (s.len + 2) 0 < 256
+    → 1132 ≤ get_or text (s.len + 1) 0 * 256 + get_or text (s.len + 2) 0 → get_or text (s.len + 1) 0 * 256 + get_or text (s.len + 2) 0 ≤ 64404 → s.count < 48
+    → Extends text mask_len s (record { len = s.len + 3; tokens = s.tokens + 1; settled = s.settled; count = s.count + 1 })
+extends_short text mask_len s inside first small above below few =
+    let high = get_or text (s.len + 1) 0 in
+    let low = get_or text (s.len + 2) 0 in
+    let n = Integer (to_z w16 (high * 256 + low)) in
+    let within : s.len < length text = omega arith in
+    let next : s.len + 1 < length text = omega arith in
+    let one : suc s.len ≡ s.len + 1 = omega arith in
+    let two : suc (s.len + 1) ≡ s.len + 2 = omega arith in
+    let three : suc (s.len + 2) ≡ s.len + 3 = omega arith in
+    let more : s.len + 1 + 1 ≡ s.len + 2 = omega arith in
+    let most : s.len + 2 + 1 ≡ s.len + 3 = omega arith in
+    let third : drop (s.len + 2) text ≡ low ∷ drop (s.len + 3) text = drop-cons text (s.len + 2) 0 inside ∙ ap (λ (k : ℕ). low ∷ drop k text) three in
+    let second : drop (s.len + 1) text ≡ high ∷ low ∷ drop (s.len + 3) text = drop-cons text (s.len + 1) 0 next ∙ ap (λ (k : ℕ). high ∷ drop k text) two ∙ ap (λ (l : List ℕ). high ∷ l) third in
+    let here : drop s.len text ≡ 28 ∷ high ∷ low ∷ drop (s.len + 3) text =
+    drop-cons text s.len 0 within ∙ ap (λ (k : ℕ). get_or text s.len 0 ∷ drop k text) one ∙ ap (λ (l : List ℕ). get_or text s.len 0 ∷ l) second ∙ ap (λ (b : ℕ). b ∷ high ∷ low ∷ drop (s.len + 3) text) first in
+    let t1 : take (s.len + 1) text ≡ take s.len text ++ 28 ∷ [] = (take_at_read text s.len 0 within).1 ∙ ap (λ (b : ℕ). take s.len text ++ b ∷ []) first in
+    let t2 : take (s.len + 2) text ≡ (take s.len text ++ 28 ∷ []) ++ high ∷ [] = ap (λ (k : ℕ). take k text) (sym more) ∙ (take_at_read text (s.len + 1) 0 next).1 ∙ ap (λ (b : List ℕ). b ++ high ∷ []) t1 in
+    let t3 : take (s.len + 3) text ≡ ((take s.len text ++ 28 ∷ []) ++ high ∷ []) ++ low ∷ [] = ap (λ (k : ℕ). take k text) (sym most) ∙ (take_at_read text (s.len + 2) 0 inside).1 ∙ ap (λ (b : List ℕ). b ++ low ∷ []) t2 in
+    let t : take (s.len + 3) text ≡ take s.len text ++ written n =
+    t3 ∙ append_assoc (take s.len text ++ 28 ∷ []) (high ∷ []) (low ∷ []) ∙ append_assoc (take s.len text) (28 ∷ []) (high ∷ low ∷ []) ∙ ap (λ (b : List ℕ). take s.len text ++ b) (sym (short_written high low small above below)) in
+    record { step = λ bytes settled w h. comes_by_number text mask_len bytes settled w s h within n 3 (ap number_at here ∙ short_at high low (drop (s.len + 3) text)) t few }
 
 -- the same, for what the code's calls answer
-pub by_plain : (text : List ℕ) (mask_len : ℕ) (s longer : Stretch) (len size : ℕ) (drawn : Bool)
-    → longer ≡ record { len = len; tokens = s.tokens + 1; settled = (if drawn then len else s.settled); count = (if drawn then 0 else s.count + 1) } → drawn ≡ nat_lt (get_or text s.len 0) 32
-    → size ≡ (if nat_lt (get_or text s.len 0) 247 then 1 else 2) → len ≡ s.len + size → s.len < length text → s.count < 48 → is_plain (get_or text s.len 0) ≡ true → len ≤ length text → get_or text (s.len + 1) 0 < 256
+pub by_short : (text : List ℕ) (mask_len : ℕ) (s longer : Stretch) (shortest : Bool) → longer ≡ record { len = s.len + 3; tokens = s.tokens + 1; settled = s.settled; count = s.count + 1 } → s.len + 2 < length text → get_or text s.len 0 ≡ 28 → get_or text (s.len + 2) 0 < 256
+    → MatchBool shortest ((1132 ≤ get_or text (s.len + 1) 0 * 256 + get_or text (s.len + 2) 0) × (get_or text (s.len + 1) 0 * 256 + get_or text (s.len + 2) 0 ≤ 64404)) (Unit {0}) → shortest ≡ true → s.count < 48
     → Extends text mask_len s longer
-by_plain text mask_len s longer len size drawn l d z e inside few plain within small =
-    rw (l, d) (longer_as text mask_len s len size (nat_lt (get_or text s.len 0) 32) (nat_lt (get_or text s.len 0) 247) refl refl inside few plain (e ∙ ap (λ (k : ℕ). s.len + k) z) within small)
+by_short text mask_len s longer true e inside first small bounds t few = rw e (extends_short text mask_len s inside first small bounds.0 bounds.1 few)
+by_short text mask_len s longer false e inside first small bounds t few = absurd (cc)
+
+pub by_small : (text : List ℕ) (mask_len : ℕ) (s longer : Stretch) → longer ≡ record { len = s.len + 1; tokens = s.tokens + 1; settled = s.settled; count = s.count + 1 } → s.len < length text → 32 ≤ get_or text s.len 0 → get_or text s.len 0 < 247 → s.count < 48
+    → Extends text mask_len s longer
+by_small text mask_len s longer e inside low high few = rw e (extends_small text mask_len s inside low high few)
+
+pub by_middle : (text : List ℕ) (mask_len : ℕ) (s longer : Stretch) → longer ≡ record { len = s.len + 2; tokens = s.tokens + 1; settled = s.settled; count = s.count + 1 } → s.len + 1 < length text → 247 ≤ get_or text s.len 0 → get_or text s.len 0 < 255 → get_or text (s.len + 1) 0 < 256 → s.count < 48
+    → Extends text mask_len s longer
+by_middle text mask_len s longer e inside low high small few = rw e (extends_middle text mask_len s inside low high small few)
+
+pub by_operator : (text : List ℕ) (mask_len : ℕ) (s longer : Stretch) → longer ≡ record { len = s.len + 1; tokens = s.tokens + 1; settled = s.len + 1; count = 0 } → s.len < length text → get_or text s.len 0 < 32 → is_plain (get_or text s.len 0) ≡ true
+    → Extends text mask_len s longer
+by_operator text mask_len s longer e inside low plain = rw e (extends_drawn text mask_len s inside (plain_operator (get_or text s.len 0) plain (lt-ltb (get_or text s.len 0) 32 low)))
 
 -- what is written behind a stretch, as the code joins it
 pub stretch_stands : (text : List ℕ) (mask_len : ℕ) (bytes all : List ℕ) (settled before after : ℕ) (w : Written) (s : Stretch) (h : Comes text mask_len bytes settled w s)

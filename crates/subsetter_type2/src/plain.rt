@@ -1,6 +1,6 @@
 //! Tokens that stand in the flat form as they are, by their first byte.
 
-ghost use Rattle.std.specs.Prelude.{◌≡◌, ◌≤◌, nat_lt, if◌then◌else◌};
+ghost use Rattle.std.specs.Prelude.{◌≡◌, ◌≤◌, ◌+◌, ◌*◌, MatchBool};
 ghost use Rattle.subsetter_type2.specs.Plain.{is_plain};
 
 /// Whether such a token begins with this byte: a number of one or two bytes, or an operator that takes all operands.
@@ -32,11 +32,11 @@ pub fn begins_plain(first: u8) -> bool
     PLAIN[first as usize]
 }
 
-/// How many bytes such a token has.
+/// The whole number of these two bytes has no form of one or two bytes.
 #[inline(always)]
-pub fn plain_size(first: u8) -> usize
-    ensures size { result ≡ (if nat_lt first 247 then 1 else 2) }
-    ensures few { result ≤ 2 }
+pub fn is_shortest(high: u8, low: u8) -> bool
+    ensures { MatchBool result ((1132 ≤ high * 256 + low) × (high * 256 + low ≤ 64404)) (Unit {0}) }
 {
-    if first < 247 { 1 } else { 2 }
+    let bits = high as u16 * 256 + low as u16;
+    bits >= 1132 && bits <= 64404
 }

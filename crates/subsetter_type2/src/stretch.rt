@@ -1,6 +1,6 @@
 //! How far a stretch of a charstring goes.
 
-ghost use Rattle.std.specs.Prelude.{◌≡◌, ◌≤◌, ◌<◌, ◌+◌, if◌then◌else◌};
+ghost use Rattle.std.specs.Prelude.{◌≡◌, ◌≤◌, ◌<◌, ◌+◌};
 ghost use Rattle.subsetter_type2.specs.OutputView.{place_after};
 
 /// How far a stretch goes.
@@ -14,14 +14,6 @@ pub struct Stretch {
     pub settled: usize,
     /// How many operands are on the stack behind it.
     pub count: usize,
-}
-
-/// One of two numbers. The processor needn't guess which.
-#[inline(always)]
-fn choose(first: bool, one: usize, other: usize) -> usize
-    ensures { result ≡ (if first then one else other) }
-{
-    if first { one } else { other }
 }
 
 impl Stretch {
@@ -38,18 +30,32 @@ impl Stretch {
         before + self.settled
     }
 
-    /// With a token more, which ends here: an operator that takes all operands, or a number.
+    /// With a number more, which ends here.
     #[inline(always)]
-    pub fn with_token(self, len: usize, draws: bool) -> Stretch
+    pub fn with_number(self, len: usize) -> Stretch
         requires tokens { self.tokens < 18446744073709551615 }
         requires few { self.count < 48 }
-        ensures { result ≡ record { len = len; tokens = self.tokens + 1; settled = (if draws then len else self.settled); count = (if draws then 0 else self.count + 1) } }
+        ensures { result ≡ record { len = len; tokens = self.tokens + 1; settled = self.settled; count = self.count + 1 } }
     {
         Stretch {
             len,
             tokens: self.tokens + 1,
-            settled: choose(draws, len, self.settled),
-            count: choose(draws, 0, self.count + 1),
+            settled: self.settled,
+            count: self.count + 1,
+        }
+    }
+
+    /// With an operator more, which ends here and takes all operands.
+    #[inline(always)]
+    pub fn with_operator(self, len: usize) -> Stretch
+        requires { self.tokens < 18446744073709551615 }
+        ensures { result ≡ record { len = len; tokens = self.tokens + 1; settled = len; count = 0 } }
+    {
+        Stretch {
+            len,
+            tokens: self.tokens + 1,
+            settled: len,
+            count: 0,
         }
     }
 }
