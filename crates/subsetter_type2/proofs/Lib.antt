@@ -4,6 +4,7 @@ pub mod ProgramLemmas
 pub mod Runs
 pub mod BehindRuns
 pub mod Stretches
+pub mod PlainTables
 pub mod RecursionLemmas
 pub mod Replay
 pub mod Acts

@@ -1,10 +1,10 @@
 -- Stretches of a charstring, one token longer.
-use Rattle.std.proofs.Common.{◌≡◌, ℕ, zero, suc, ◌+◌, ◌-◌, ◌*◌, ◌<◌, ◌≤◌, Bool, true, false, List, [], ◌∷◌, ◌++◌, length, take, drop, get_or, Some, None, Ok, refl, sym, ap, ◌∙◌, subst, arith, append_assoc, append-nil, pos, ◌-ℤ◌, w16, to_z, of_z, nat_lt, drop-cons, add-one, length-drop, length-append}
-use Rattle.std.specs.Prelude.{Option, reverse, IfSome, ℤ, if◌then◌else◌, nat_le}
+use Rattle.std.proofs.Common.{◌≡◌, ℕ, zero, suc, ◌+◌, ◌-◌, ◌*◌, ◌/◌, ◌%◌, ◌<◌, ◌≤◌, Bool, true, false, List, [], ◌∷◌, ◌++◌, length, take, drop, get_or, Some, None, Ok, refl, sym, ap, ◌∙◌, subst, arith, append_assoc, append-nil, pos, ◌-ℤ◌, w16, to_z, of_z, nat_lt, drop-cons, add-one, length-drop, length-append}
+use Rattle.std.specs.Prelude.{MatchBool, Option, reverse, IfSome, ℤ, if◌then◌else◌, nat_le}
 use Rattle.std.specs.Borrow.{Bor}
 use Rattle.std.proofs.lemmas.Int.{ints, to_z-of_z}
 use Rattle.std.proofs.lemmas.Bool.Decides.{nat_tests}
-use Rattle.std.proofs.lemmas.Bool.{lt-leb}
+use Rattle.std.proofs.lemmas.Bool.{lt-leb, lt-ltb}
 use Rattle.std.proofs.lemmas.List.{length-take-le, length-map, length-reverse, take_all}
 use Rattle.std.proofs.lemmas.Grind.{take_at_read}
 use Rattle.subsetter_cffdata.specs.declared.charstring_number.CharStringNumber.{CharStringNumber}
@@ -21,7 +21,9 @@ use Rattle.subsetter_type2.specs.Stretch.{LeadsOn, Comes, Extends, registers_wit
 use Rattle.subsetter_type2.specs.Token.{one_byte, one_byte_effect, effect_of}
 use Rattle.subsetter_type2.specs.View.{Done, done, rests_of}
 use Rattle.subsetter_type2.specs.declared.stretch.Stretch.{Stretch}
-use Rattle.subsetter_type2.specs.declared.token.Effect.TheVariants.{Draws}
+use Rattle.subsetter_type2.specs.declared.token.Effect.{Effect}
+use Rattle.subsetter_type2.specs.declared.token.Effect.TheVariants.{CountsStems, Draws, CallsLocal, CallsGlobal, Returns, Ends, Masks}
+use Rattle.subsetter_type2.specs.Plain.{draws, is_plain}
 use Rattle.subsetter_type2.proofs.Acts.{act_operator}
 use Rattle.subsetter_type2.proofs.BehindRuns.{behind_more, behind_same}
 use Rattle.subsetter_type2.proofs.OutputLemmas.{stands_more, stands_settled, settles, written_is}
@@ -67,7 +69,7 @@ leads_nowhere text len tokens mask_len w l t = rw (l, t)
     subst (λ n. ReachedBehind front o library depth n (record { rests = text ∷ callers; registers = registers_with w stems mask_len }) w.settled) same h)
 
 pub comes_at_start : (text : List ℕ) (mask_len count : ℕ) (bytes : List ℕ) (settled : ℕ) (w : Written) → Stands bytes settled count w
-    → Comes text mask_len bytes settled w (record { len = 0; tokens = 0; settled = None; count = count })
+    → Comes text mask_len bytes settled w (record { len = 0; tokens = 0; settled = 0; count = count })
 comes_at_start text mask_len count bytes settled w h = record {
   now = w;
   stands = subst (λ (b : List ℕ). Stands b settled count w) (sym (append-nil bytes)) h;
@@ -102,6 +104,9 @@ module _ (text : List ℕ) (mask_len : ℕ) (bytes : List ℕ) (settled : ℕ) (
             (done_push library here rest n (registers_with h.now stems mask_len) h.now.settled e l) refl (omega arith);
       }
 
+place_behind : (n settled before : ℕ) → place_after (n + 1) settled before ≡ before + (n + 1)
+place_behind n settled before = rw (add-one n) refl
+
 done_draw : (library : Library) (first : ℕ) (rest : List ℕ) (r : Registers) (settled : List ℕ) → one_byte_effect first ≡ Some Draws
     → done (act_at library (first ∷ rest) r) settled ≡ Ok (record { registers = record r { operands = [] }; settled = settled ++ (flat_operands r.operands ++ (first ∷ [])); lead = On rest })
 unfolding effect_of
@@ -110,14 +115,14 @@ done_draw library first rest r settled e =
 
 module _ (text : List ℕ) (mask_len : ℕ) (bytes : List ℕ) (settled : ℕ) (w : Written) (s : Stretch) (h : Comes text mask_len bytes settled w s) (inside : s.len < length text) where
   pub comes_by_operator : (first : ℕ) (rest : List ℕ) → drop s.len text ≡ first ∷ rest → rest ≡ drop (s.len + 1) text → take (s.len + 1) text ≡ take s.len text ++ first ∷ [] → one_byte_effect first ≡ Some Draws
-      → Comes text mask_len bytes settled w (record { len = s.len + 1; tokens = s.tokens + 1; settled = Some (s.len + 1); count = 0 })
+      → Comes text mask_len bytes settled w (record { len = s.len + 1; tokens = s.tokens + 1; settled = s.len + 1; count = 0 })
   comes_by_operator first rest d r t e =
       let all = bytes ++ take (s.len + 1) text in
       let is : all ≡ h.now.settled ++ (flat_operands h.now.operands ++ (first ∷ [])) =
       ap (λ (b : List ℕ). bytes ++ b) t ∙ sym (append_assoc bytes _ _) ∙ settles _ (first ∷ []) _ _ h.now h.stands in
       record {
         now = record { settled = all; operands = [] };
-        stands = stands_settled all (length bytes + (s.len + 1)) (omega (arith, length-append bytes (take (s.len + 1) text), length-take-le (s.len + 1) text (omega arith)));
+        stands = stands_settled all (place_after (s.len + 1) settled (length bytes)) (place_behind s.len settled (length bytes) ∙ omega (arith, length-append bytes (take (s.len + 1) text), length-take-le (s.len + 1) text (omega arith)));
         leads = λ front o library depth all_tokens left stems callers room sum reached.
             let before = subst (λ (b : List ℕ). ReachedBehind front o library depth (suc left) (record { rests = b ∷ callers; registers = registers_with h.now stems mask_len }) h.now.settled) d
             (h.leads front o library depth all_tokens (suc left) stems callers room (omega arith) reached) in
@@ -151,13 +156,72 @@ extends_middle text mask_len s inside low high small few =
     record { step = λ bytes settled w h. comes_by_number text mask_len bytes settled w s h within (Integer (middle_value first second)) 2 (ap number_at here ∙ middle_read first second (drop (s.len + 2) text) low high small) t few }
 
 extends_drawn : (text : List ℕ) (mask_len : ℕ) (s : Stretch) → s.len < length text → one_byte_effect (get_or text s.len 0) ≡ Some Draws
-    → Extends text mask_len s (record { len = s.len + 1; tokens = s.tokens + 1; settled = Some (s.len + 1); count = 0 })
+    → Extends text mask_len s (record { len = s.len + 1; tokens = s.tokens + 1; settled = s.len + 1; count = 0 })
 extends_drawn text mask_len s inside e =
     let first = get_or text s.len 0 in
     let here : drop s.len text ≡ first ∷ drop (s.len + 1) text = drop-cons text s.len 0 inside ∙ ap (λ (k : ℕ). first ∷ drop k text) (sym (add-one s.len)) in
     record { step = λ bytes settled w h. comes_by_operator text mask_len bytes settled w s h inside first (drop (s.len + 1) text) here refl (take_at_read text s.len 0 inside).1 e }
 
+draws_is : (effect : Option Effect) → draws effect ≡ true → effect ≡ Some Draws
+draws_is None e = absurd (cc)
+draws_is (Some CountsStems) e = absurd (cc)
+draws_is (Some Draws) e = refl
+draws_is (Some CallsLocal) e = absurd (cc)
+draws_is (Some CallsGlobal) e = absurd (cc)
+draws_is (Some Returns) e = absurd (cc)
+draws_is (Some Ends) e = absurd (cc)
+draws_is (Some Masks) e = absurd (cc)
+
+plain_operator : (first : ℕ) → is_plain first ≡ true → nat_lt first 32 ≡ true → one_byte_effect first ≡ Some Draws
+unfolding is_plain
+plain_operator first e low = draws_is (one_byte_effect first) (let p : (if nat_lt first 32 then draws (one_byte_effect first) else nat_lt first 255) ≡ true = e in rw low at p)
+
+short_at : (high low : ℕ) (rest : List ℕ) → number_at (28 ∷ high ∷ low ∷ rest) ≡ Some (Integer (to_z w16 (high * 256 + low)), rest)
+unfolding number_at
+short_at high low rest = refl
+
+short_bits : (bits : ℕ) → 1132 ≤ bits → bits ≤ 64404 → written (Integer (to_z w16 bits)) ≡ 28 ∷ bits / 256 ∷ bits % 256 ∷ []
+unfolding written
+short_bits bits low high = grind (arith, nat_tests, ints)
+
+short_written : (high low : ℕ) → low < 256 → 1132 ≤ high * 256 + low → high * 256 + low ≤ 64404 → written (Integer (to_z w16 (high * 256 + low))) ≡ 28 ∷ high ∷ low ∷ []
+short_written high low small above below =
+    let h : (high * 256 + low) / 256 ≡ high = omega arith in
+    let l : (high * 256 + low) % 256 ≡ low = omega arith in
+    short_bits (high * 256 + low) above below ∙ ap (λ (x : ℕ). 28 ∷ x ∷ (high * 256 + low) % 256 ∷ []) h ∙ ap (λ (x : ℕ). 28 ∷ high ∷ x ∷ []) l
+
+extends_short : (text : List ℕ) (mask_len : ℕ) (s : Stretch) → s.len + 2 < length text → get_or text s.len 0 ≡ 28 → get_or text (s.len + 2) 0 < 256
+    → 1132 ≤ get_or text (s.len + 1) 0 * 256 + get_or text (s.len + 2) 0 → get_or text (s.len + 1) 0 * 256 + get_or text (s.len + 2) 0 ≤ 64404 → s.count < 48
+    → Extends text mask_len s (record { len = s.len + 3; tokens = s.tokens + 1; settled = s.settled; count = s.count + 1 })
+extends_short text mask_len s inside first small above below few =
+    let high = get_or text (s.len + 1) 0 in
+    let low = get_or text (s.len + 2) 0 in
+    let n = Integer (to_z w16 (high * 256 + low)) in
+    let within : s.len < length text = omega arith in
+    let next : s.len + 1 < length text = omega arith in
+    let one : suc s.len ≡ s.len + 1 = omega arith in
+    let two : suc (s.len + 1) ≡ s.len + 2 = omega arith in
+    let three : suc (s.len + 2) ≡ s.len + 3 = omega arith in
+    let more : s.len + 1 + 1 ≡ s.len + 2 = omega arith in
+    let most : s.len + 2 + 1 ≡ s.len + 3 = omega arith in
+    let third : drop (s.len + 2) text ≡ low ∷ drop (s.len + 3) text = drop-cons text (s.len + 2) 0 inside ∙ ap (λ (k : ℕ). low ∷ drop k text) three in
+    let second : drop (s.len + 1) text ≡ high ∷ low ∷ drop (s.len + 3) text = drop-cons text (s.len + 1) 0 next ∙ ap (λ (k : ℕ). high ∷ drop k text) two ∙ ap (λ (l : List ℕ). high ∷ l) third in
+    let here : drop s.len text ≡ 28 ∷ high ∷ low ∷ drop (s.len + 3) text =
+    drop-cons text s.len 0 within ∙ ap (λ (k : ℕ). get_or text s.len 0 ∷ drop k text) one ∙ ap (λ (l : List ℕ). get_or text s.len 0 ∷ l) second ∙ ap (λ (b : ℕ). b ∷ high ∷ low ∷ drop (s.len + 3) text) first in
+    let t1 : take (s.len + 1) text ≡ take s.len text ++ 28 ∷ [] = (take_at_read text s.len 0 within).1 ∙ ap (λ (b : ℕ). take s.len text ++ b ∷ []) first in
+    let t2 : take (s.len + 2) text ≡ (take s.len text ++ 28 ∷ []) ++ high ∷ [] = ap (λ (k : ℕ). take k text) (sym more) ∙ (take_at_read text (s.len + 1) 0 next).1 ∙ ap (λ (b : List ℕ). b ++ high ∷ []) t1 in
+    let t3 : take (s.len + 3) text ≡ ((take s.len text ++ 28 ∷ []) ++ high ∷ []) ++ low ∷ [] = ap (λ (k : ℕ). take k text) (sym most) ∙ (take_at_read text (s.len + 2) 0 inside).1 ∙ ap (λ (b : List ℕ). b ++ low ∷ []) t2 in
+    let t : take (s.len + 3) text ≡ take s.len text ++ written n =
+    t3 ∙ append_assoc (take s.len text ++ 28 ∷ []) (high ∷ []) (low ∷ []) ∙ append_assoc (take s.len text) (28 ∷ []) (high ∷ low ∷ []) ∙ ap (λ (b : List ℕ). take s.len text ++ b) (sym (short_written high low small above below)) in
+    record { step = λ bytes settled w h. comes_by_number text mask_len bytes settled w s h within n 3 (ap number_at here ∙ short_at high low (drop (s.len + 3) text)) t few }
+
 -- the same, for what the code's calls answer
+pub by_short : (text : List ℕ) (mask_len : ℕ) (s longer : Stretch) (shortest : Bool) → longer ≡ record { len = s.len + 3; tokens = s.tokens + 1; settled = s.settled; count = s.count + 1 } → s.len + 2 < length text → get_or text s.len 0 ≡ 28 → get_or text (s.len + 2) 0 < 256
+    → MatchBool shortest ((1132 ≤ get_or text (s.len + 1) 0 * 256 + get_or text (s.len + 2) 0) × (get_or text (s.len + 1) 0 * 256 + get_or text (s.len + 2) 0 ≤ 64404)) (Unit {0}) → shortest ≡ true → s.count < 48
+    → Extends text mask_len s longer
+by_short text mask_len s longer true e inside first small bounds t few = rw e (extends_short text mask_len s inside first small bounds.0 bounds.1 few)
+by_short text mask_len s longer false e inside first small bounds t few = absurd (cc)
+
 pub by_small : (text : List ℕ) (mask_len : ℕ) (s longer : Stretch) → longer ≡ record { len = s.len + 1; tokens = s.tokens + 1; settled = s.settled; count = s.count + 1 } → s.len < length text → 32 ≤ get_or text s.len 0 → get_or text s.len 0 < 247 → s.count < 48
     → Extends text mask_len s longer
 by_small text mask_len s longer e inside low high few = rw e (extends_small text mask_len s inside low high few)
@@ -166,10 +230,9 @@ pub by_middle : (text : List ℕ) (mask_len : ℕ) (s longer : Stretch) → long
     → Extends text mask_len s longer
 by_middle text mask_len s longer e inside low high small few = rw e (extends_middle text mask_len s inside low high small few)
 
-pub by_operator : (text : List ℕ) (mask_len : ℕ) (s : Stretch) (result : Option Stretch) → s.len < length text → IfSome result (λ _. one_byte_effect (get_or text s.len 0) ≡ Some Draws)
-    → IfSome result (λ longer. longer ≡ record { len = s.len + 1; tokens = s.tokens + 1; settled = Some (s.len + 1); count = 0 }) → IfSome result (λ longer. Extends text mask_len s longer)
-by_operator text mask_len s None inside d e = tt
-by_operator text mask_len s (Some longer) inside d e = rw e (extends_drawn text mask_len s inside d)
+pub by_operator : (text : List ℕ) (mask_len : ℕ) (s longer : Stretch) → longer ≡ record { len = s.len + 1; tokens = s.tokens + 1; settled = s.len + 1; count = 0 } → s.len < length text → get_or text s.len 0 < 32 → is_plain (get_or text s.len 0) ≡ true
+    → Extends text mask_len s longer
+by_operator text mask_len s longer e inside low plain = rw e (extends_drawn text mask_len s inside (plain_operator (get_or text s.len 0) plain (lt-ltb (get_or text s.len 0) 32 low)))
 
 -- what is written behind a stretch, as the code joins it
 pub stretch_stands : (text : List ℕ) (mask_len : ℕ) (bytes all : List ℕ) (settled before after : ℕ) (w : Written) (s : Stretch) (h : Comes text mask_len bytes settled w s)

@@ -1,5 +1,5 @@
 -- How the output holds what is written.
-use Rattle.std.specs.Prelude.{◌≡◌, ℕ, zero, suc, ◌+◌, ◌≤◌, List, [], ◌∷◌, ◌++◌, length, take, drop, Option, Some, None, MatchOption}
+use Rattle.std.specs.Prelude.{◌≡◌, ℕ, zero, suc, ◌+◌, List, [], ◌∷◌, ◌++◌, length, take, drop, Option, Some, None, MatchOption}
 use Rattle.subsetter_cffdata.specs.declared.charstring_number.CharStringNumber.{CharStringNumber}
 use Rattle.subsetter_cffdata.specs.CharStringNumber.{NumberFits, number_at}
 use Rattle.subsetter_type2.specs.Flat.{flat_operands}
@@ -30,15 +30,10 @@ pub record Stands (bytes : List ℕ) (settled count : ℕ) (w : Written) : Type 
   pub many : count ≡ length w.operands
   pub fit : AllFit w.operands
 
--- where the operands begin: behind the last operator of a stretch that stands behind so many bytes, if it has one
-abbrev pub place_after : Option ℕ → ℕ → ℕ → ℕ
-place_after None settled before = settled
-place_after (Some end) settled before = before + end
-
--- the last operator, if there is one, ends within so many bytes
-abbrev pub HasEnd : Option ℕ → ℕ → Type 0
-HasEnd None len = Unit {0}
-HasEnd (Some end) len = end ≤ len
+-- where the operands begin: behind the last operator of a stretch that stands behind so many bytes; 0 where it has none
+abbrev pub place_after : ℕ → ℕ → ℕ → ℕ
+place_after zero settled before = settled
+place_after (suc end) settled before = before + suc end
 
 -- the last of these numbers, and how many bytes stand before it
 abbrev pub IsLast : List CharStringNumber → Option (CharStringNumber × ℕ) → Type 0

@@ -3,7 +3,7 @@ use Rattle.std.specs.Prelude.{◌≡◌, ℕ, ◌+◌, ◌<◌, ◌≤◌, List,
 use Rattle.subsetter_type2.specs.Machine.{Library, Registers, Outcome}
 use Rattle.subsetter_type2.specs.Behind.{ReachedBehind}
 use Rattle.subsetter_type2.specs.Output.{Written}
-use Rattle.subsetter_type2.specs.OutputView.{Stands, HasEnd, place_after}
+use Rattle.subsetter_type2.specs.OutputView.{Stands, place_after}
 use Rattle.subsetter_type2.specs.declared.stretch.Stretch.{Stretch}
 
 abbrev pub registers_with : Written → ℕ → ℕ → Registers
@@ -21,7 +21,7 @@ LeadsOn text len tokens mask_len w now =
 pub record IsSound (s : Stretch) : Type 0 where
   pub few : s.tokens ≤ s.len
   pub moves : s.tokens ≡ 0 → s.len ≡ 0
-  pub ends : HasEnd s.settled s.len
+  pub ends : s.settled ≤ s.len
 
 -- what is written behind a stretch whose bytes stand behind these, of which the operands begin at this place
 pub record Comes (text : List ℕ) (mask_len : ℕ) (bytes : List ℕ) (settled : ℕ) (w : Written) (s : Stretch) : Type 0 where

@@ -12,6 +12,7 @@ pub mod limits;
 mod machine;
 pub mod operators;
 mod output;
+mod plain;
 mod program;
 mod recursion;
 mod scanning;

@@ -133,6 +133,7 @@ impl<'a, S: Sink<'a>> Machine<S> {
     }
 
     /// A call of one of these subroutines.
+    #[inline(always)]
     fn call(
         &mut self,
         subroutines: &SubroutineHandler<'a>,
@@ -146,7 +147,6 @@ impl<'a, S: Sink<'a>> Machine<S> {
     }
 
     /// An operator of this effect, with what stands after it in its charstring.
-    #[inline(always)]
     fn operate(
         &mut self,
         subroutines: &Subroutines<'a>,
@@ -196,9 +196,8 @@ impl<'a, S: Sink<'a>> Machine<S> {
     }
 
     /// The token at the front of these bytes, which the first byte tells.
-    #[inline(always)]
     #[tactic(auto, unfolding(crate::specs::Machine::act_at, crate::specs::Machine::push_at, crate::specs::Token::token_of, crate::specs::Token::effect_of))]
-    pub fn act_at(
+    fn act_on_any(
         &mut self,
         subroutines: &Subroutines<'a>,
         bytes: &'a [u8],
@@ -219,5 +218,31 @@ impl<'a, S: Sink<'a>> Machine<S> {
         }
         let operator = Operator(OperatorType::OneByteOperator([*first]));
         self.operate(subroutines, operator, one_byte_effect(*first), rest)
+    }
+
+    /// The token at the front of these bytes. Calls and returns, which are frequent, are told first.
+    #[inline(always)]
+    #[tactic(auto, unfolding(crate::specs::Machine::act_at, crate::specs::Token::token_of))]
+    pub fn act_at(
+        &mut self,
+        subroutines: &Subroutines<'a>,
+        bytes: &'a [u8],
+    ) -> Result<Flow<'a>, Error>
+        ensures { Performs (act_at (library_of subroutines.now) bytes.now (registers_of S.written self.old)) S.written self.old self.new result }
+    {
+        let [first, rest @ ..] = bytes else {
+            return Err(Error::CFFError);
+        };
+        if *first == 11 {
+            return Ok(Flow::Returns);
+        }
+        if *first == 10 {
+            return self.call(&subroutines.local, rest);
+        }
+        if *first == 29 {
+            return self.call(&subroutines.global, rest);
+        }
+        let flow = self.act_on_any(subroutines, bytes)?;
+        Ok(flow)
     }
 }

@@ -6,7 +6,35 @@ ghost use Rattle.subsetter_type2.specs.OutputView.{Stands};
 ghost use Rattle.subsetter_type2.specs.Stretch.{Comes, Extends, IsSound};
 
 use crate::argstack::MAX_OPERANDS;
+use crate::plain::{begins_plain, is_shortest};
 use crate::stretch::Stretch;
+
+/// One token longer, where a whole number of three bytes follows in its shortest form.
+#[inline(always)]
+fn longer_by_short(stretch: Stretch, text: &[u8], most: usize, mask_len: u16) -> Option<Stretch>
+    requires here { stretch.len < most }
+    requires most { most ≤ length text.now }
+    requires sound { IsSound stretch }
+    ensures sound { IfSome result (λ longer. IsSound longer) }
+    ensures extends { IfSome result (λ longer. Extends text.now mask_len stretch longer) }
+    ensures more { IfSome result (λ longer. stretch.len < longer.len) }
+    ensures inside { IfSome result (λ longer. longer.len ≤ length text.now) }
+    ensures few { IfSome result (λ longer. longer.tokens ≤ most) }
+{
+    if text[stretch.len] != 28 {
+        return None;
+    }
+    if stretch.count >= MAX_OPERANDS {
+        return None;
+    }
+    if stretch.len + 2 >= text.len() {
+        return None;
+    }
+    if !is_shortest(text[stretch.len + 1], text[stretch.len + 2]) {
+        return None;
+    }
+    Some(stretch.with_number(stretch.len + 3))
+}
 
 /// One token longer, where a token follows that may stand in a stretch.
 #[inline(always)]
@@ -24,13 +52,16 @@ fn longer(stretch: Stretch, text: &[u8], most: usize, mask_len: u16) -> Option<S
     }
     let first = text[stretch.len];
     if first < 32 {
-        return stretch.longer_by_operator(first);
+        if !begins_plain(first) {
+            return longer_by_short(stretch, text, most, mask_len);
+        }
+        return Some(stretch.with_operator(stretch.len + 1));
     }
     if stretch.count >= MAX_OPERANDS {
         return None;
     }
     if first <= 246 {
-        return Some(stretch.with_number(1));
+        return Some(stretch.with_number(stretch.len + 1));
     }
     if first == 255 {
         return None;
@@ -38,7 +69,7 @@ fn longer(stretch: Stretch, text: &[u8], most: usize, mask_len: u16) -> Option<S
     if stretch.len + 1 >= text.len() {
         return None;
     }
-    Some(stretch.with_number(2))
+    Some(stretch.with_number(stretch.len + 2))
 }
 
 /// The longest stretch of so many tokens at most at the front of a charstring, with so many operands on the stack.
@@ -53,7 +84,7 @@ pub fn find_stretch(text: &[u8], tokens: u32, mask_len: u16, count: usize) -> St
     let mut stretch = Stretch {
         len: 0,
         tokens: 0,
-        settled: None,
+        settled: 0,
         count,
     };
     while let Some(next) = longer(stretch, text, most, mask_len) {

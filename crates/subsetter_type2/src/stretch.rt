@@ -1,12 +1,7 @@
-//! Stretches of a charstring that stand in its flat form as they are: numbers in their shortest form, and operators that
-//! take all operands.
+//! How far a stretch of a charstring goes.
 
-ghost use Rattle.std.specs.Prelude.{◌≡◌, ◌≤◌, ◌<◌, ◌+◌, IfSome, Some};
-ghost use Rattle.subsetter_type2.specs.OutputView.{place_after, HasEnd};
-ghost use Rattle.subsetter_type2.specs.Token.{one_byte_effect};
-ghost use Rattle.subsetter_type2.specs.declared.token.Effect.TheVariants.{Draws};
-
-use crate::token::{Effect, one_byte_effect};
+ghost use Rattle.std.specs.Prelude.{◌≡◌, ◌≤◌, ◌<◌, ◌+◌};
+ghost use Rattle.subsetter_type2.specs.OutputView.{place_after};
 
 /// How far a stretch goes.
 #[derive(Clone, Copy)]
@@ -15,8 +10,8 @@ pub struct Stretch {
     pub len: usize,
     /// How many tokens it has.
     pub tokens: usize,
-    /// Where the last of its operators ends, if it has any.
-    pub settled: Option<usize>,
+    /// Where the last of its operators ends; 0 where it has none.
+    pub settled: usize,
     /// How many operands are on the stack behind it.
     pub count: usize,
 }
@@ -25,49 +20,42 @@ impl Stretch {
     /// Where the operands begin behind this stretch, which stands behind so many bytes.
     #[inline(always)]
     pub fn settled_after(&self, settled: usize, before: usize) -> usize
-        requires inside { HasEnd self.now.settled self.now.len }
+        requires inside { self.now.settled ≤ self.now.len }
         requires room { before + self.now.len ≤ 18446744073709551615 }
         ensures { result ≡ place_after self.now.settled settled before }
     {
-        match self.settled {
-            Some(end) => before + end,
-            None => settled,
+        if self.settled == 0 {
+            return settled;
         }
+        before + self.settled
     }
 
-    /// With a number of so many bytes more.
+    /// With a number more, which ends here.
     #[inline(always)]
-    pub fn with_number(self, size: usize) -> Stretch
-        requires room { self.len + size ≤ 18446744073709551615 }
-        requires tokens { self.tokens ≤ self.len }
-        requires some { 1 ≤ size }
+    pub fn with_number(self, len: usize) -> Stretch
+        requires tokens { self.tokens < 18446744073709551615 }
         requires few { self.count < 48 }
-        ensures { result ≡ record { len = self.len + size; tokens = self.tokens + 1; settled = self.settled; count = self.count + 1 } }
+        ensures { result ≡ record { len = len; tokens = self.tokens + 1; settled = self.settled; count = self.count + 1 } }
     {
         Stretch {
-            len: self.len + size,
+            len,
             tokens: self.tokens + 1,
             settled: self.settled,
             count: self.count + 1,
         }
     }
 
-    /// With an operator more, of this byte, if it takes all operands.
+    /// With an operator more, which ends here and takes all operands.
     #[inline(always)]
-    pub fn longer_by_operator(self, first: u8) -> Option<Stretch>
-        requires tokens { self.tokens ≤ self.len }
-        requires room { self.len < 18446744073709551615 }
-        ensures drawn { IfSome result (λ longer. one_byte_effect first ≡ Some Draws) }
-        ensures longer { IfSome result (λ longer. longer ≡ record { len = self.len + 1; tokens = self.tokens + 1; settled = Some (self.len + 1); count = 0 }) }
+    pub fn with_operator(self, len: usize) -> Stretch
+        requires { self.tokens < 18446744073709551615 }
+        ensures { result ≡ record { len = len; tokens = self.tokens + 1; settled = len; count = 0 } }
     {
-        match one_byte_effect(first) {
-            Some(Effect::Draws) => Some(Stretch {
-                len: self.len + 1,
-                tokens: self.tokens + 1,
-                settled: Some(self.len + 1),
-                count: 0,
-            }),
-            _ => None,
+        Stretch {
+            len,
+            tokens: self.tokens + 1,
+            settled: len,
+            count: 0,
         }
     }
 }

@@ -1,0 +1,42 @@
+//! Tokens that stand in the flat form as they are, by their first byte.
+
+ghost use Rattle.std.specs.Prelude.{◌≡◌, ◌≤◌, ◌+◌, ◌*◌, MatchBool};
+ghost use Rattle.subsetter_type2.specs.Plain.{is_plain};
+
+/// Whether such a token begins with this byte: a number of one or two bytes, or an operator that takes all operands.
+static PLAIN: [bool; 256] = [
+    false, false, false, false, true, true, true, true, true, false, false, false, false, false,
+    false, false, false, false, false, false, false, true, true, false, true, true, true, true,
+    false, false, true, true, true, true, true, true, true, true, true, true, true, true, true,
+    true, true, true, true, true, true, true, true, true, true, true, true, true, true, true, true,
+    true, true, true, true, true, true, true, true, true, true, true, true, true, true, true, true,
+    true, true, true, true, true, true, true, true, true, true, true, true, true, true, true, true,
+    true, true, true, true, true, true, true, true, true, true, true, true, true, true, true, true,
+    true, true, true, true, true, true, true, true, true, true, true, true, true, true, true, true,
+    true, true, true, true, true, true, true, true, true, true, true, true, true, true, true, true,
+    true, true, true, true, true, true, true, true, true, true, true, true, true, true, true, true,
+    true, true, true, true, true, true, true, true, true, true, true, true, true, true, true, true,
+    true, true, true, true, true, true, true, true, true, true, true, true, true, true, true, true,
+    true, true, true, true, true, true, true, true, true, true, true, true, true, true, true, true,
+    true, true, true, true, true, true, true, true, true, true, true, true, true, true, true, true,
+    true, true, true, true, true, true, true, true, true, true, true, true, true, true, true, true,
+    true, true, true, true, true, true, true, true, true, true, true, true, true, true, true, true,
+    true, true, true, true, false,
+];
+
+/// A number of one or two bytes, or an operator of one byte that takes all operands, begins with this byte.
+#[inline(always)]
+pub fn begins_plain(first: u8) -> bool
+    ensures { result ≡ is_plain first }
+{
+    PLAIN[first as usize]
+}
+
+/// The whole number of these two bytes has no form of one or two bytes.
+#[inline(always)]
+pub fn is_shortest(high: u8, low: u8) -> bool
+    ensures { MatchBool result ((1132 ≤ high * 256 + low) × (high * 256 + low ≤ 64404)) (Unit {0}) }
+{
+    let bits = high as u16 * 256 + low as u16;
+    bits >= 1132 && bits <= 64404
+}
