@@ -45,6 +45,7 @@ enum Token {
 }
 
 // The next token. An operand is put into a place of its own, so that it is moved just once.
+#[inline(always)]
 #[tactic(auto, unfolding(crate::specs::Dict::token_at))]
 fn next_token(r: &mut Reader<'_>, operand: &mut Number) -> Option<Token>
     ensures value { token_at (rest r.old) ≡ option_map (λ t. (token_of operand.new t, rest r.new)) result }
@@ -59,6 +60,7 @@ fn next_token(r: &mut Reader<'_>, operand: &mut Number) -> Option<Token>
 }
 
 // The operator of the entry at the offset, and where the next one begins.
+#[inline(never)]
 pub fn next_operator(bytes: &[u8], offset: usize) -> Option<(Operator, usize)>
     ensures { operator_part (entry_at (drop offset bytes.now)) ≡ option_map (λ x. (operator_of x.0, drop x.1 bytes.now)) result }
 {
