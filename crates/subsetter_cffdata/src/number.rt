@@ -218,6 +218,7 @@ impl Number {
     }
 
     /// Becomes the number of a DICT whose first byte was read; None where no number stands there or it can't be read.
+    #[inline(always)]
     #[tactic(auto, unfolding(crate::specs::Numbers::dict_number_from))]
     pub fn read_dict_number(&mut self, b0: u8, r: &mut Reader<'_>) -> Option<()>
         ensures value { dict_number_from b0 (rest r.old) ≡ option_map (λ _. (number_of self.new, rest r.new)) result }

@@ -95,8 +95,7 @@ pub fn read_entry(bytes: &[u8], offset: usize, buffer: &mut [Number]) -> Option<
 {
     let mut r = Reader::new_at(bytes, offset);
     let mut len = 0;
-    let mut operand = Number::zero();
-    while let Some(found) = next_token(&mut r, &mut operand) {
+    while let Some(found) = next_token(&mut r, &mut buffer[len]) {
         match found {
             Token::Operator(operator) => {
                 return Some(EntryRead {
@@ -106,7 +105,6 @@ pub fn read_entry(bytes: &[u8], offset: usize, buffer: &mut [Number]) -> Option<
                 });
             }
             Token::Operand => {
-                buffer[len] = operand;
                 len += 1;
                 if len == buffer.len() {
                     let (operator, end) = next_operator(bytes, r.offset())?;

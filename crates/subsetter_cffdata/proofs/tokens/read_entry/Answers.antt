@@ -1,6 +1,7 @@
 use Rattle.std.proofs.Common.{◌≡◌, Some, arith, ◌+◌, ◌∙◌, sym, ap, take, map, length, length-take, drop, List, ℕ}
 use Rattle.std.proofs.Math.ListN.{set, length-set}
-use Rattle.std.proofs.lemmas.List.{length-map}
+use Rattle.std.proofs.lemmas.List.{length-map, take-set}
+use Rattle.subsetter_cffdata.specs.declared.number.Number.{Number as StoredNumber}
 use Rattle.subsetter_cffdata.specs.Dict.{entry_at}
 use Rattle.subsetter_cffdata.specs.Views.{number_of, operator_of}
 use Rattle.subsetter_cffdata.specs.Operands.{operands_at}
@@ -23,7 +24,8 @@ loop-found-preserved c = record {
 pub returns-in-Operator-clause-operands : goal.returns-in-Operator-clause-operands
 unfolding operands_at
 returns-in-Operator-clause-operands c =
-    ends_here (map number_of (take c.loop-found.len c.loop-found.buffer)) (rest c.loop-found.r) _ _ (length c.args.buffer.now) _ (rw c.in-Operator.is at c.in-Some.ensures.value) c.loop-found.invariant.operands
+    ap (λ (xs : List StoredNumber). Some (map number_of xs)) (take-set c.loop-found.buffer c.loop-found.len c.next_token.new.operand)
+    ∙ ends_here (map number_of (take c.loop-found.len c.loop-found.buffer)) (rest c.loop-found.r) _ _ (length c.args.buffer.now) _ (rw c.in-Operator.is at c.in-Some.ensures.value) c.loop-found.invariant.operands
     (omega (arith, length-map (take c.loop-found.len c.loop-found.buffer) number_of, length-take c.loop-found.len c.loop-found.buffer, c.loop-found.invariant.room, c.loop-found.auto.buffer))
 
 pub returns-in-Operator-clause-operator : goal.returns-in-Operator-clause-operator
