@@ -55,6 +55,7 @@ impl RealNumber {
     }
 
     /// Reads the text behind a byte 30.
+    #[inline(never)]
     #[tactic(auto, using(crate::proofs::Texts::real_by_text))]
     pub fn parse_text(r: &mut Reader<'_>) -> Option<RealNumber>
         ensures value { Takes decimal_of result r.old r.new real_at }
