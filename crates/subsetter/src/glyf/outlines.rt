@@ -66,12 +66,7 @@ impl<'a> OutlineList<'a> {
 
     /// Puts an outline of the source last, which begins with this byte, with its components under their new numbers.
     /// `MalformedFont` for one byte and for a composite that is cut.
-    pub fn push(
-        self,
-        outline: &'a [u8],
-        first: u8,
-        order: &GlyphRemapper,
-    ) -> Result<Self, Error>
+    pub fn push(self, outline: &'a [u8], first: u8, order: &GlyphRemapper) -> Result<Self, Error>
         requires { first ≡ first_byte_in (Some outline.now) }
         ensures { Gives (λ list. list) result (with_last self.entry (rewritten order.now outline.now)) }
     {
