@@ -87,7 +87,6 @@ impl<'a> OutlineTables<'a> {
         }
         Reader::new_at(self.glyf, from).read_bytes(to - from)
     }
-
 }
 
 /// The order of the glyphs of a subset, and the outline of each as it is looked up, if it is there.

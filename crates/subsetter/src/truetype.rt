@@ -43,11 +43,7 @@ fn locate(alloc: Global, outlines: &OutlineList<'_>, long: bool) -> Result<Vec<u
 }
 
 /// Makes the tables that depend on the glyphs of the new font.
-#[tactic(
-    auto,
-    using(crate::proofs::GlyfLaws::KeptList::all_by_outlines),
-    unfolding(crate::specs::Truetype::Plain::made_of)
-)]
+#[tactic(auto, using(crate::proofs::GlyfLaws::KeptList::all_by_outlines), unfolding(crate::specs::Truetype::Plain::made_of))]
 pub fn make<'a>(
     alloc: Global,
     face: &Face<'a>,

@@ -8,8 +8,10 @@ ghost use Rattle.subsetter.specs.Glyf.Closure.{first_byte_in};
 ghost use Rattle.subsetter.specs.Glyf.Plain.{rewritten, rewritten_composite, with_last};
 ghost use Rattle.subsetter.specs.Glyf.Unfold.{padded};
 ghost use Rattle.subsetter.specs.Glyf.Written.{glyf_bytes};
+ghost use Rattle.subsetter.specs.Sfnt.Checksum.{checksum};
 
 use crate::glyf::component::{is_composite, rewrite_composite};
+use crate::sfnt::checksum::Sum;
 use crate::sfnt::room::put;
 use std::alloc::Global;
 use std::marker::Model;
@@ -66,12 +68,7 @@ impl<'a> OutlineList<'a> {
 
     /// Puts an outline of the source last, which begins with this byte, with its components under their new numbers.
     /// `MalformedFont` for one byte and for a composite that is cut.
-    pub fn push(
-        self,
-        outline: &'a [u8],
-        first: u8,
-        order: &GlyphRemapper,
-    ) -> Result<Self, Error>
+    pub fn push(self, outline: &'a [u8], first: u8, order: &GlyphRemapper) -> Result<Self, Error>
         requires { first ≡ first_byte_in (Some outline.now) }
         ensures { Gives (λ list. list) result (with_last self.entry (rewritten order.now outline.now)) }
     {
@@ -249,13 +246,19 @@ fn write_outline(out: &mut Vec<u8>, outline: &[u8], long: bool)
     }
 }
 
-/// Writes the outlines one after another.
-pub fn write_outlines(out: &mut Vec<u8>, outlines: &OutlineList<'_>, long: bool)
+/// Writes the outlines one after another, and answers the checksum of what it wrote.
+/// They are summed in pieces, while these are at hand.
+pub fn write_outlines(out: &mut Vec<u8>, outlines: &OutlineList<'_>, long: bool) -> u32
     requires { length out.old.items + length (glyf_bytes long outlines.now) ≤ vec_capacity out.old }
     ensures items { out.new.items ≡ out.old.items ++ glyf_bytes long outlines.now }
     ensures capacity { vec_capacity out.old ≤ vec_capacity out.new }
+    ensures sum { result ≡ checksum (glyf_bytes long outlines.now) }
 {
+    let start = out.len();
+    let mut sum = Sum::new();
     for outline in outlines.iter() {
         write_outline(out, outline, long);
+        sum = sum.go_on(&out[start..]);
     }
+    sum.finish(&out[start..])
 }

@@ -13,7 +13,7 @@ ghost use Rattle.subsetter.specs.Sfnt.View.{view, views};
 use crate::sfnt::checksum::checksum;
 use crate::sfnt::flavor::FontFlavor;
 use crate::sfnt::room::{align, aligned_len, patch, put};
-use crate::sfnt::tables::NewTable;
+use crate::sfnt::tables::{NewTable, write_summed};
 use std::alloc::Global;
 use subsetter_base::{Error, Tag};
 
@@ -94,43 +94,48 @@ fn write_record(out: &mut Vec<u8>, at: usize, len: usize, sum: u32, table: &NewT
     put(out, &(len as u32).to_be_bytes());
 }
 
-/// Writes the records of tables that stand from a place on, and answers the checksum of all the tables.
-/// The checksums are taken of the tables as they were laid out.
-fn write_directory(out: &mut Vec<u8>, start: usize, tables: &[NewTable<'_>], laid: &[u8]) -> u32
+/// Writes a table, with zeros up to a multiple of four, and its record, and answers its checksum.
+fn write_table(out: &mut Vec<u8>, front: &mut Vec<u8>, at: usize, table: &NewTable<'_>) -> u32
+    requires at { (at < 2 ^ 32) × (length (view table.now).bytes < 2 ^ 32) }
+    requires multiple { length out.old.items % 4 ≡ 0 }
+    requires room { length out.old.items + length (aligned 4 (view table.now).bytes) ≤ vec_capacity out.old }
+    requires front_room { length front.old.items + 16 ≤ vec_capacity front.old }
+    ensures items { out.new.items ≡ out.old.items ++ aligned 4 (view table.now).bytes }
+    ensures capacity { vec_capacity out.old ≤ vec_capacity out.new }
+    ensures front_items { front.new.items ≡ front.old.items ++ record_bytes at (view table.now) }
+    ensures front_capacity { vec_capacity front.old ≤ vec_capacity front.new }
+    ensures sum { result ≡ checksum (view table.now).bytes }
+{
+    let sum = write_summed(out, &table.data);
+    align(out);
+    write_record(front, at, table.data.len(), sum, table);
+    sum
+}
+
+/// Writes tables, each with zeros up to a multiple of four, and the records of tables that stand from a place on.
+/// Answers the checksum of all the tables.
+fn write_tables(
+    out: &mut Vec<u8>,
+    front: &mut Vec<u8>,
+    start: usize,
+    tables: &[NewTable<'_>],
+) -> u32
     requires tables { AllByRecursion IsTable (views tables.now) }
     requires fit { fits start (views tables.now) ≡ true }
-    requires laid { laid.now ≡ body (views tables.now) }
-    requires room { length out.old.items + 16 * length tables.now ≤ vec_capacity out.old }
-    ensures items { out.new.items ≡ out.old.items ++ directory_bytes start (views tables.now) }
-    ensures capacity { vec_capacity out.old ≤ vec_capacity out.new }
+    requires multiple { length out.old.items % 4 ≡ 0 }
+    requires room { length out.old.items + length (body (views tables.now)) ≤ vec_capacity out.old }
+    requires front_room { length front.old.items + 16 * length tables.now ≤ vec_capacity front.old }
+    ensures items { out.new.items ≡ out.old.items ++ body (views tables.now) }
+    ensures front_items { front.new.items ≡ front.old.items ++ directory_bytes start (views tables.now) }
     ensures sum { result ≡ checksum (body (views tables.now)) }
 {
     let mut at = start;
     let mut sum: u32 = 0;
-    let mut rest = laid;
     for table in tables {
-        let len = table.data.len();
-        let size = aligned_len(len);
-        let (bytes, behind) = rest.split_at(size);
-        let table_sum = checksum(bytes);
-        write_record(out, at, len, table_sum, table);
-        sum = sum.wrapping_add(table_sum);
-        rest = behind;
-        at += size;
+        sum = sum.wrapping_add(write_table(out, front, at, table));
+        at += aligned_len(table.data.len());
     }
     sum
-}
-
-/// Writes the tables, each with zeros up to a multiple of four.
-fn write_body(out: &mut Vec<u8>, tables: &[NewTable<'_>])
-    requires multiple { length out.old.items % 4 ≡ 0 }
-    requires room { length out.old.items + length (body (views tables.now)) ≤ vec_capacity out.old }
-    ensures { out.new.items ≡ out.old.items ++ body (views tables.now) }
-{
-    for table in tables {
-        table.data.write(out);
-        align(out);
-    }
 }
 
 /// Puts the adjustment into a table that stands at a place, if it is `head`.
@@ -179,7 +184,7 @@ fn patch_bytes(out: &mut Vec<u8>, at: usize, bytes: &[u8])
 }
 
 /// Lays out a file in room that its caller reserved, also for what stands before the tables. No memory is taken.
-/// The tables are written first, so that their checksums are taken of one piece.
+/// Each table is summed as it is written.
 pub fn construct(
     out: Vec<u8>,
     front: Vec<u8>,
@@ -198,9 +203,8 @@ pub fn construct(
     let mut front = front;
     let start = 12 + 16 * tables.len();
     skip_front(&mut out, start);
-    write_body(&mut out, tables);
     write_header(&mut front, flavor.kind(), tables.len() as u16);
-    let tables_sum = write_directory(&mut front, start, tables, &out[start..]);
+    let tables_sum = write_tables(&mut out, &mut front, start, tables);
     patch_bytes(&mut out, 0, &front);
     // Each table begins at a multiple of four, so the sum of the file is that of its parts.
     let sum = checksum(&front).wrapping_add(tables_sum);

@@ -3,11 +3,13 @@
 ghost use Rattle.std.specs.Prelude.{◌≡◌, ◌+◌, ◌<◌, ◌≤◌, ◌^◌, ◌++◌, length, vec_capacity, IfOk, IfErr};
 ghost use Rattle.std.specs.Option.{option_copied, option_map};
 ghost use Rattle.std.specs.Cow.{cow_slice_items};
+ghost use Rattle.subsetter.specs.Sfnt.Checksum.{checksum};
 ghost use Rattle.subsetter.specs.Sfnt.Rows.{opt, rows, present};
 ghost use Rattle.subsetter.specs.Sfnt.View.{table_bytes, views, font_seen};
 ghost use Rattle.subsetter_base.specs.declared.error.Error.TheVariants.{OutOfMemory};
 
 use crate::glyf::outlines::{OutlineList, outlines_len, write_outlines};
+use crate::sfnt::checksum::checksum;
 use crate::sfnt::room::put;
 use std::alloc::Global;
 use std::borrow::CowSlice;
@@ -49,13 +51,30 @@ impl<'a> TableData<'a> {
     {
         match self {
             TableData::Whole(bytes) => put(out, bytes),
-            TableData::Outlines { outlines, long } => write_outlines(out, outlines, *long),
+            TableData::Outlines { outlines, long } => {
+                write_outlines(out, outlines, *long);
+            }
             TableData::Pieces(table) => {
                 put(out, &table.front);
                 put(out, &table.char_strings);
             }
         }
     }
+}
+
+/// Writes the bytes of a table, and answers their checksum.
+pub fn write_summed(out: &mut Vec<u8>, data: &TableData<'_>) -> u32
+    requires { length out.old.items + length (table_bytes «data».now) ≤ vec_capacity out.old }
+    ensures items { out.new.items ≡ out.old.items ++ table_bytes «data».now }
+    ensures capacity { vec_capacity out.old ≤ vec_capacity out.new }
+    ensures sum { result ≡ checksum (table_bytes «data».now) }
+{
+    if let TableData::Outlines { outlines, long } = data {
+        return write_outlines(out, outlines, *long);
+    }
+    let start = out.len();
+    data.write(out);
+    checksum(&out[start..])
 }
 
 /// A table that stays as it is in the source.

@@ -3,15 +3,16 @@ use Rattle.std.specs.Prelude.{vec_capacity}
 use Rattle.subsetter.specs.Sfnt.Written.{fits, directory_bytes, body}
 use Rattle.subsetter.specs.Sfnt.Checksum.{checksum}
 use Rattle.subsetter.specs.Sfnt.View.{views}
-use Rattle.subsetter.proofs.sfnt.construct.write_directory.Given as goal
+use Rattle.subsetter.proofs.sfnt.construct.write_tables.Given as goal
 
 abbrev pub invariant-loop-table : goal.invariant-loop-table
 invariant-loop-table l = record {
-  written : l.out.items ++ directory_bytes l.at (views (drop l.table-index l.tables)) ≡ l.fn.out.items ++ directory_bytes l.start (views l.tables);
+  laid : l.out.items ++ body (views (drop l.table-index l.tables)) ≡ l.fn.out.items ++ body (views l.tables);
+  multiple : length l.out.items % 4 ≡ 0;
+  room : length l.out.items + length (body (views (drop l.table-index l.tables))) ≤ vec_capacity l.out;
+  written : l.front.items ++ directory_bytes l.at (views (drop l.table-index l.tables)) ≡ l.fn.front.items ++ directory_bytes l.start (views l.tables);
   fit : fits l.at (views (drop l.table-index l.tables)) ≡ true;
-  room : length l.out.items + 16 * length (drop l.table-index l.tables) ≤ vec_capacity l.out;
-  capacity : vec_capacity l.fn.out ≤ vec_capacity l.out;
-  laid : l.rest ≡ body (views (drop l.table-index l.tables));
+  front_room : length l.front.items + 16 * length (drop l.table-index l.tables) ≤ vec_capacity l.front;
   small : l.sum < 2 ^ 32;
   summed : (l.sum + checksum (body (views (drop l.table-index l.tables)))) % 2 ^ 32 ≡ checksum (body (views l.tables));
 }
