@@ -1,11 +1,11 @@
 -- What is refused, but for want of memory, has no answer.
-use Rattle.std.proofs.Common.{◌≡◌, ℕ, List, [], Option, Some, Err, refl, sym, subst, ◌⊎◌, inl, inr}
+use Rattle.std.proofs.Common.{◌≡◌, ℕ, List, [], Some, refl, sym, subst, ◌⊎◌, inl, inr}
 use Rattle.std.specs.Prelude.{codes, IsSome}
 use Rattle.subsetter_base.specs.declared.error.Error.{Error}
 use Rattle.subsetter_base.specs.declared.error.Error.TheVariants.{MalformedFont, OutOfMemory}
 use Rattle.subsetter_base.proofs.Results.{named_ok}
 use Rattle.subsetter.specs.declared.sfnt.flavor.FontFlavor.TheVariants.{Cff}
-use Rattle.subsetter.specs.Answer.{IsAnswer, HasNoAnswer}
+use Rattle.subsetter.specs.Answer.{HasNoAnswer}
 use Rattle.subsetter.specs.Fault as faults
 use Rattle.subsetter.specs.Fault.{HasFault}
 use Rattle.subsetter.specs.Glyf.Closure.{Finds}
