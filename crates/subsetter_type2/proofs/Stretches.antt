@@ -1,11 +1,12 @@
 -- Stretches of a charstring, one token longer.
 use Rattle.std.proofs.Common.{◌≡◌, ℕ, zero, suc, ◌+◌, ◌-◌, ◌*◌, ◌/◌, ◌%◌, ◌<◌, ◌≤◌, Bool, true, false, List, [], ◌∷◌, ◌++◌, length, take, drop, get_or, Some, None, Ok, refl, sym, ap, ◌∙◌, subst, arith, append_assoc, append-nil, pos, ◌-ℤ◌, w16, to_z, of_z, nat_lt, drop-cons, add-one, length-drop, length-append}
-use Rattle.std.specs.Prelude.{MatchBool, Option, reverse, IfSome, ℤ, if◌then◌else◌, nat_le}
+use Rattle.std.specs.Prelude.{MatchBool, Option, reverse, IfSome, ℤ, if◌then◌else◌, nat_le, ◌==◌}
 use Rattle.std.specs.Borrow.{Bor}
 use Rattle.std.proofs.lemmas.Int.{ints, to_z-of_z}
 use Rattle.std.proofs.lemmas.Bool.Decides.{nat_tests}
-use Rattle.std.proofs.lemmas.Bool.{lt-leb, lt-ltb}
-use Rattle.std.proofs.lemmas.List.{length-take-le, length-map, length-reverse, take_all}
+use Rattle.std.proofs.lemmas.Bool.{le-leb, lt-leb, lt-ltb}
+use Rattle.std.proofs.lemmas.List.{length-take-le, length-map, length-reverse, take_all, drop-drop}
+use Rattle.std.proofs.Math.Seq.{take-add}
 use Rattle.std.proofs.lemmas.Grind.{take_at_read}
 use Rattle.subsetter_cffdata.specs.declared.charstring_number.CharStringNumber.{CharStringNumber}
 use Rattle.subsetter_cffdata.specs.declared.charstring_number.CharStringNumber.TheVariants.{Integer}
@@ -131,6 +132,38 @@ module _ (text : List ℕ) (mask_len : ℕ) (bytes : List ℕ) (settled : ℕ) (
             rw (is, ← r) after;
       }
 
+done_mask : (library : Library) (first : ℕ) (rest : List ℕ) (r : Registers) (settled : List ℕ) → one_byte_effect first ≡ Some Masks → (r.mask_len == 0) ≡ false → nat_le r.mask_len (length rest) ≡ true
+    → done (act_at library (first ∷ rest) r) settled ≡ Ok (record { registers = record r { operands = [] }; settled = settled ++ (flat_operands r.operands ++ (first ∷ take r.mask_len rest)); lead = On (drop r.mask_len rest) })
+unfolding effect_of
+done_mask library first rest r settled e z t =
+    ap (λ (a : Act). done a settled) (act_operator library (one_byte first) Masks rest r e) ∙ rw (z, t) refl
+
+some_len : (n : ℕ) → (n ≡ 0 → ⊥) → (n == 0) ≡ false
+some_len n h = grind (arith, nat_tests)
+
+module _ (text : List ℕ) (mask_len : ℕ) (bytes : List ℕ) (settled : ℕ) (w : Written) (s : Stretch) (h : Comes text mask_len bytes settled w s) (inside : s.len + 1 + mask_len ≤ length text) where
+  pub comes_by_mask : (first : ℕ) (rest : List ℕ) → drop s.len text ≡ first ∷ rest → drop mask_len rest ≡ drop (s.len + 1 + mask_len) text → take (s.len + 1 + mask_len) text ≡ take s.len text ++ (first ∷ take mask_len rest) → one_byte_effect first ≡ Some Masks
+      → (mask_len ≡ 0 → ⊥) → mask_len ≤ length rest
+      → Comes text mask_len bytes settled w (record { len = s.len + 1 + mask_len; tokens = s.tokens + 1; settled = s.len + 1 + mask_len; count = 0 })
+  comes_by_mask first rest d r t e some room_for =
+      let len = s.len + 1 + mask_len in
+      let mask = take mask_len rest in
+      let all = bytes ++ take len text in
+      let is : all ≡ h.now.settled ++ (flat_operands h.now.operands ++ (first ∷ mask)) =
+      ap (λ (b : List ℕ). bytes ++ b) t ∙ sym (append_assoc bytes _ _) ∙ settles _ (first ∷ mask) _ _ h.now h.stands in
+      let len_is : s.len + mask_len + 1 ≡ len = omega arith in
+      let place : place_after len settled (length bytes) ≡ length bytes + len = subst (λ (n : ℕ). place_after n settled (length bytes) ≡ length bytes + n) len_is (place_behind (s.len + mask_len) settled (length bytes)) in
+      record {
+        now = record { settled = all; operands = [] };
+        stands = stands_settled all (place_after len settled (length bytes)) (place ∙ omega (arith, length-append bytes (take len text), length-take-le len text (omega arith)));
+        leads = λ front o library depth all_tokens left stems callers room sum reached.
+            let before = subst (λ (b : List ℕ). ReachedBehind front o library depth (suc left) (record { rests = b ∷ callers; registers = registers_with h.now stems mask_len }) h.now.settled) d
+            (h.leads front o library depth all_tokens (suc left) stems callers room (omega arith) reached) in
+            let after = behind_more front o library depth (suc left) _ h.now.settled before (first ∷ rest) callers left refl refl _ (drop mask_len rest ∷ callers)
+            (done_mask library first rest (registers_with h.now stems mask_len) h.now.settled e (some_len mask_len some) (le-leb mask_len (length rest) room_for)) refl (omega arith) in
+            rw (is, ← r) after;
+      }
+
 -- ---- the steps of the scan
 extends_small : (text : List ℕ) (mask_len : ℕ) (s : Stretch) → s.len < length text → 32 ≤ get_or text s.len 0 → get_or text s.len 0 < 247 → s.count < 48
     → Extends text mask_len s (record { len = s.len + 1; tokens = s.tokens + 1; settled = s.settled; count = s.count + 1 })
@@ -215,6 +248,17 @@ extends_short text mask_len s inside first small above below few =
     t3 ∙ append_assoc (take s.len text ++ 28 ∷ []) (high ∷ []) (low ∷ []) ∙ append_assoc (take s.len text) (28 ∷ []) (high ∷ low ∷ []) ∙ ap (λ (b : List ℕ). take s.len text ++ b) (sym (short_written high low small above below)) in
     record { step = λ bytes settled w h. comes_by_number text mask_len bytes settled w s h within n 3 (ap number_at here ∙ short_at high low (drop (s.len + 3) text)) t few }
 
+extends_mask : (text : List ℕ) (mask_len : ℕ) (s : Stretch) → s.len + 1 + mask_len ≤ length text → one_byte_effect (get_or text s.len 0) ≡ Some Masks → (mask_len ≡ 0 → ⊥)
+    → Extends text mask_len s (record { len = s.len + 1 + mask_len; tokens = s.tokens + 1; settled = s.len + 1 + mask_len; count = 0 })
+extends_mask text mask_len s inside e some =
+    let first = get_or text s.len 0 in
+    let within : s.len < length text = omega arith in
+    let here : drop s.len text ≡ first ∷ drop (s.len + 1) text = drop-cons text s.len 0 within ∙ ap (λ (k : ℕ). first ∷ drop k text) (sym (add-one s.len)) in
+    let r : drop mask_len (drop (s.len + 1) text) ≡ drop (s.len + 1 + mask_len) text = drop-drop mask_len (s.len + 1) text in
+    let t : take (s.len + 1 + mask_len) text ≡ take s.len text ++ (first ∷ take mask_len (drop (s.len + 1) text)) =
+    take-add (s.len + 1) mask_len text ∙ ap (λ (b : List ℕ). b ++ take mask_len (drop (s.len + 1) text)) (take_at_read text s.len 0 within).1 ∙ append_assoc (take s.len text) (first ∷ []) _ in
+    record { step = λ bytes settled w h. comes_by_mask text mask_len bytes settled w s h inside first (drop (s.len + 1) text) here r t e some (omega (arith, length-drop (s.len + 1) text)) }
+
 -- the same, for what the code's calls answer
 pub by_short : (text : List ℕ) (mask_len : ℕ) (s longer : Stretch) (shortest : Bool) → longer ≡ record { len = s.len + 3; tokens = s.tokens + 1; settled = s.settled; count = s.count + 1 } → s.len + 2 < length text → get_or text s.len 0 ≡ 28 → get_or text (s.len + 2) 0 < 256
     → MatchBool shortest ((1132 ≤ get_or text (s.len + 1) 0 * 256 + get_or text (s.len + 2) 0) × (get_or text (s.len + 1) 0 * 256 + get_or text (s.len + 2) 0 ≤ 64404)) (Unit {0}) → shortest ≡ true → s.count < 48
@@ -233,6 +277,11 @@ by_middle text mask_len s longer e inside low high small few = rw e (extends_mid
 pub by_operator : (text : List ℕ) (mask_len : ℕ) (s longer : Stretch) → longer ≡ record { len = s.len + 1; tokens = s.tokens + 1; settled = s.len + 1; count = 0 } → s.len < length text → get_or text s.len 0 < 32 → is_plain (get_or text s.len 0) ≡ true
     → Extends text mask_len s longer
 by_operator text mask_len s longer e inside low plain = rw e (extends_drawn text mask_len s inside (plain_operator (get_or text s.len 0) plain (lt-ltb (get_or text s.len 0) 32 low)))
+
+pub by_mask : (text : List ℕ) (mask_len : ℕ) (s longer : Stretch) (masks : Bool) → longer ≡ record { len = s.len + 1 + mask_len; tokens = s.tokens + 1; settled = s.len + 1 + mask_len; count = 0 } → s.len + 1 + mask_len ≤ length text
+    → MatchBool masks (one_byte_effect (get_or text s.len 0) ≡ Some Masks) (Unit {0}) → masks ≡ true → (mask_len ≡ 0 → ⊥) → Extends text mask_len s longer
+by_mask text mask_len s longer true l inside e t some = rw l (extends_mask text mask_len s inside e some)
+by_mask text mask_len s longer false l inside e t some = absurd (cc)
 
 -- what is written behind a stretch, as the code joins it
 pub stretch_stands : (text : List ℕ) (mask_len : ℕ) (bytes all : List ℕ) (settled before after : ℕ) (w : Written) (s : Stretch) (h : Comes text mask_len bytes settled w s)
