@@ -129,6 +129,7 @@ pub fn find_stretch(text: &[u8], tokens: u32, mask_len: u16, count: usize) -> St
         tokens: 0,
         settled: 0,
         count,
+        last: 0,
     };
     while let Some(next) = longer(stretch, text, most, mask_len) {
         stretch = next;
