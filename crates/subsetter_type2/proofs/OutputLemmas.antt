@@ -10,7 +10,7 @@ use Rattle.subsetter_cffdata.proofs.CharStringNumbers.{read_back}
 use Rattle.subsetter_type2.specs.Flat.{flat_operands}
 use Rattle.subsetter_type2.specs.Machine.{last_operand, but_last}
 use Rattle.subsetter_type2.specs.Output.{Written}
-use Rattle.subsetter_type2.specs.OutputView.{AllFit, numbers_of, written_at, Stands}
+use Rattle.subsetter_type2.specs.OutputView.{AllFit, numbers_of, written_at, last_place, Stands, Holds}
 
 pub fit_front : (ns : List CharStringNumber) (k : ℕ) → AllFit ns → AllFit (take k ns)
 fit_front [] zero f = tt
@@ -97,6 +97,61 @@ read_nth [] k rest d f l e = absurd (omega arith)
 read_nth (n ∷ ns) zero rest d f l e = ap number_at e ∙ read_back n (flat_operands ns) f.0
 read_nth (n ∷ ns) (suc k) rest d f l e = read_nth ns k rest d f.1 (omega arith) e
 
+pub stop_before : (numbers : List CharStringNumber) (k : ℕ) (rest : List ℕ) → AllFit numbers → k < length numbers → rest ≡ flat_operands (drop k numbers) → number_at rest ≡ None → ⊥
+stop_before numbers k rest f l e n =
+    let p : ◌≡◌ {A = Option (CharStringNumber × List ℕ)} None (Some (get_or numbers k (Integer (pos 0)), flat_operands (drop (suc k) numbers))) = sym n ∙ read_nth numbers k rest (Integer (pos 0)) f l e in
+    absurd (cc)
+
+-- the last number of those that stand is where the new one began
+pub last_of_more : (bytes : List ℕ) (settled count : ℕ) (w : Written) (n : CharStringNumber) → Stands bytes settled count w → (place : ℕ) → place ≡ length bytes → place ≡ last_place (record { settled = w.settled; operands = w.operands ++ n ∷ [] })
+last_of_more bytes settled count w n h place e =
+    let k : length w.operands ≡ length (w.operands ++ n ∷ []) - 1 = omega (arith, length-append w.operands (n ∷ [])) in
+    let b : take (length (w.operands ++ n ∷ []) - 1) (w.operands ++ n ∷ []) ≡ w.operands = take_at w.operands (n ∷ []) (length (w.operands ++ n ∷ []) - 1) k in
+    e ∙ ap length h.bytes_are ∙ length-append w.settled (flat_operands w.operands) ∙ ap (λ (l : List CharStringNumber). length w.settled + length (flat_operands l)) (sym b)
+
+-- nothing is known of the last one
+pub holds_at : (bytes : List ℕ) (settled count last : ℕ) (w : Written) → Stands bytes settled count w → last ≡ 0 → Holds bytes settled count last (written_at bytes settled count)
+holds_at bytes settled count last w h z = record { stands = stands_at bytes settled count w h; known = λ _ some. absurd (some z) }
+
+-- there are none
+pub holds_none : (bytes : List ℕ) (settled last : ℕ) (w : Written) → Stands bytes settled 0 w → Holds bytes settled 0 last (written_at bytes settled 0)
+holds_none bytes settled last w h = record { stands = stands_at bytes settled 0 w h; known = λ some _. absurd (omega arith) }
+
+module _ (bytes : List ℕ) (settled count : ℕ) (w : Written) (h : Stands bytes settled count w) (some : 1 ≤ count) (place : ℕ) (e : place ≡ last_place w) where
+  last_rest : drop place bytes ≡ flat_operands (drop (length w.operands - 1) w.operands)
+  last_rest =
+      let k = length w.operands - 1 in
+      let numbers : flat_operands w.operands ≡ flat_operands (take k w.operands) ++ flat_operands (drop k w.operands) =
+      ap flat_operands (sym (take-append-drop k w.operands)) ∙ flat-operands-append (take k w.operands) (drop k w.operands) in
+      let whole : bytes ≡ (w.settled ++ flat_operands (take k w.operands)) ++ flat_operands (drop k w.operands) =
+      h.bytes_are ∙ ap (λ (b : List ℕ). w.settled ++ b) numbers ∙ sym (append_assoc w.settled _ _) in
+      ap (drop place) whole ∙ drop_at _ _ place (length-append w.settled _ ∙ sym e)
+
+  pub last_inside : place ≤ length bytes
+  last_inside =
+      let k = length w.operands - 1 in
+      let numbers : flat_operands w.operands ≡ flat_operands (take k w.operands) ++ flat_operands (drop k w.operands) =
+      ap flat_operands (sym (take-append-drop k w.operands)) ∙ flat-operands-append (take k w.operands) (drop k w.operands) in
+      omega (arith, e, ap length h.bytes_are, length-append w.settled (flat_operands w.operands), ap length numbers, length-append (flat_operands (take k w.operands)) (flat_operands (drop k w.operands)))
+
+  -- what is read there
+  pub last_value : (text after : List ℕ) (number : CharStringNumber) → text ≡ drop place bytes → number_at text ≡ Some (number, after) → Some number ≡ last_operand w.operands
+  last_value text after number t r =
+      let k = length w.operands - 1 in
+      let within : k < length w.operands = omega (arith, h.many) in
+      let read : ◌≡◌ {A = Option (CharStringNumber × List ℕ)} (Some (get_or w.operands k number, flat_operands (drop (suc k) w.operands))) (Some (number, after)) = sym (read_nth w.operands k text number h.fit within (t ∙ last_rest)) ∙ r in
+      let same : get_or w.operands k number ≡ number = (some_pair_parts _ _ _ _ read).0 in
+      sym (slice_get-get_or w.operands k number within ∙ ap Some same)
+
+  pub last_there : (text : List ℕ) → text ≡ drop place bytes → number_at text ≡ None → ⊥
+  last_there text t n = stop_before w.operands (length w.operands - 1) text h.fit (omega (arith, h.many)) (t ∙ last_rest) n
+
+  pub stands_before : Stands (take place bytes) settled (count - 1) (record { settled = w.settled; operands = but_last w.operands })
+  stands_before =
+      let before = length (flat_operands (but_last w.operands)) in
+      let at : place ≡ settled + before = e ∙ ap (λ (n : ℕ). n + before) (sym h.place) in
+      subst (λ (p : ℕ). Stands (take p bytes) settled (count - 1) (record { settled = w.settled; operands = but_last w.operands })) (sym at) (stands_less bytes settled count before w h refl some)
+
 -- the last of some numbers
 pub last_is : (numbers : List CharStringNumber) (count : ℕ) (bytes last after : List ℕ) (number : CharStringNumber) → AllFit numbers → bytes ≡ flat_operands numbers → count ≡ length numbers → (count ≡ 0 → ⊥)
     → last ≡ flat_operands (drop (count - 1) numbers) → number_at last ≡ Some (number, after)
@@ -114,10 +169,13 @@ last_is numbers count bytes last after number f e n some l r =
       omega (arith, ap length split, ap length at, length-append (flat_operands (take k numbers)) (flat_operands (drop k numbers))),
     )
 
-pub stop_before : (numbers : List CharStringNumber) (k : ℕ) (rest : List ℕ) → AllFit numbers → k < length numbers → rest ≡ flat_operands (drop k numbers) → number_at rest ≡ None → ⊥
-stop_before numbers k rest f l e n =
-    let p : ◌≡◌ {A = Option (CharStringNumber × List ℕ)} None (Some (get_or numbers k (Integer (pos 0)), flat_operands (drop (suc k) numbers))) = sym n ∙ read_nth numbers k rest (Integer (pos 0)) f l e in
-    absurd (cc)
-
 pub behind_is : (n m : CharStringNumber) (a b : List ℕ) → ◌≡◌ {A = Option (CharStringNumber × List ℕ)} (Some (n, a)) (Some (m, b)) → a ≡ b
 behind_is n m a b e = (some_pair_parts n m a b e).1
+
+-- the code's slice from a place on
+pub rest_from : (place : ℕ) (bytes all : List ℕ) → all ≡ bytes → take (length all - place) (drop place all) ≡ drop place bytes
+rest_from place bytes all e = take_all (length all - place) (drop place all) (omega (arith, length-drop place all)) ∙ ap (drop place) e
+
+-- the last operand of what is viewed
+pub at_view : (w v : Written) (place : ℕ) → w ≡ v → (place ≡ last_place v) × (1 ≤ length v.operands) → (place ≡ last_place w) × (1 ≤ length w.operands)
+at_view w v place e h = subst (λ (x : Written). (place ≡ last_place x) × (1 ≤ length x.operands)) (sym e) h

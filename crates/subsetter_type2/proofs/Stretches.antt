@@ -1,11 +1,12 @@
 -- Stretches of a charstring, one token longer.
 use Rattle.std.proofs.Common.{◌≡◌, ℕ, zero, suc, ◌+◌, ◌-◌, ◌*◌, ◌/◌, ◌%◌, ◌<◌, ◌≤◌, Bool, true, false, List, [], ◌∷◌, ◌++◌, length, take, drop, get_or, Some, None, Ok, refl, sym, ap, ◌∙◌, subst, arith, append_assoc, append-nil, pos, ◌-ℤ◌, w16, to_z, of_z, nat_lt, drop-cons, add-one, length-drop, length-append}
-use Rattle.std.specs.Prelude.{MatchBool, Option, reverse, IfSome, ℤ, if◌then◌else◌, nat_le}
+use Rattle.std.specs.Prelude.{MatchBool, Option, reverse, IfSome, ℤ, if◌then◌else◌, nat_le, ◌==◌}
 use Rattle.std.specs.Borrow.{Bor}
 use Rattle.std.proofs.lemmas.Int.{ints, to_z-of_z}
 use Rattle.std.proofs.lemmas.Bool.Decides.{nat_tests}
-use Rattle.std.proofs.lemmas.Bool.{lt-leb, lt-ltb}
-use Rattle.std.proofs.lemmas.List.{length-take-le, length-map, length-reverse, take_all}
+use Rattle.std.proofs.lemmas.Bool.{le-leb, lt-leb, lt-ltb}
+use Rattle.std.proofs.lemmas.List.{length-take-le, length-map, length-reverse, take_all, drop-drop}
+use Rattle.std.proofs.Math.Seq.{take-add}
 use Rattle.std.proofs.lemmas.Grind.{take_at_read}
 use Rattle.subsetter_cffdata.specs.declared.charstring_number.CharStringNumber.{CharStringNumber}
 use Rattle.subsetter_cffdata.specs.declared.charstring_number.CharStringNumber.TheVariants.{Integer}
@@ -16,7 +17,7 @@ use Rattle.subsetter_type2.specs.Machine.{Library, Registers, Event, Act, Does, 
 use Rattle.subsetter_type2.specs.Behind.{ReachedBehind}
 use Rattle.subsetter_type2.specs.Flat.{flat_event, flat_operands}
 use Rattle.subsetter_type2.specs.Output.{Written}
-use Rattle.subsetter_type2.specs.OutputView.{Stands, place_after, written_at}
+use Rattle.subsetter_type2.specs.OutputView.{Stands, Holds, place_after, last_place, written_at}
 use Rattle.subsetter_type2.specs.Stretch.{LeadsOn, Comes, Extends, registers_with}
 use Rattle.subsetter_type2.specs.Token.{one_byte, one_byte_effect, effect_of}
 use Rattle.subsetter_type2.specs.View.{Done, done, rests_of}
@@ -26,7 +27,7 @@ use Rattle.subsetter_type2.specs.declared.token.Effect.TheVariants.{CountsStems,
 use Rattle.subsetter_type2.specs.Plain.{draws, is_plain}
 use Rattle.subsetter_type2.proofs.Acts.{act_operator}
 use Rattle.subsetter_type2.proofs.BehindRuns.{behind_more, behind_same}
-use Rattle.subsetter_type2.proofs.OutputLemmas.{stands_more, stands_settled, settles, written_is}
+use Rattle.subsetter_type2.proofs.OutputLemmas.{stands_more, stands_settled, settles, written_is, last_of_more}
 use Rattle.subsetter_type2.proofs.RecursionLemmas.{unended_front}
 use Rattle.subsetter_type2.proofs.Replay.{act_push, token_number}
 
@@ -69,11 +70,12 @@ leads_nowhere text len tokens mask_len w l t = rw (l, t)
     subst (λ n. ReachedBehind front o library depth n (record { rests = text ∷ callers; registers = registers_with w stems mask_len }) w.settled) same h)
 
 pub comes_at_start : (text : List ℕ) (mask_len count : ℕ) (bytes : List ℕ) (settled : ℕ) (w : Written) → Stands bytes settled count w
-    → Comes text mask_len bytes settled w (record { len = 0; tokens = 0; settled = 0; count = count })
+    → Comes text mask_len bytes settled w (record { len = 0; tokens = 0; settled = 0; count = count; last = 0 })
 comes_at_start text mask_len count bytes settled w h = record {
   now = w;
   stands = subst (λ (b : List ℕ). Stands b settled count w) (sym (append-nil bytes)) h;
   leads = leads_nowhere text 0 0 mask_len w refl refl;
+  last = λ some _. absurd (omega arith);
 }
 
 done_push : (library : Library) (bytes rest : List ℕ) (n : CharStringNumber) (r : Registers) (settled : List ℕ) → number_at bytes ≡ Some (n, rest) → length r.operands < 48
@@ -90,7 +92,7 @@ module _ (text : List ℕ) (mask_len : ℕ) (bytes : List ℕ) (settled : ℕ) (
   some = omega (arith, length-drop s.len text)
 
   pub comes_by_number : (n : CharStringNumber) (size : ℕ) → number_at here ≡ Some (n, drop (s.len + size) text) → take (s.len + size) text ≡ take s.len text ++ written n → s.count < 48
-      → Comes text mask_len bytes settled w (record { len = s.len + size; tokens = s.tokens + 1; settled = s.settled; count = s.count + 1 })
+      → Comes text mask_len bytes settled w (record { len = s.len + size; tokens = s.tokens + 1; settled = s.settled; count = s.count + 1; last = s.len })
   comes_by_number n size e t few =
       let fits : NumberFits n = subst FitsIn e (number_fits here) in
       let rest = drop (s.len + size) text in
@@ -102,6 +104,7 @@ module _ (text : List ℕ) (mask_len : ℕ) (bytes : List ℕ) (settled : ℕ) (
             let l : length h.now.operands < 48 = omega (arith, h.stands.many) in
             behind_more front o library depth (suc left) _ h.now.settled before here callers left refl (unended_front here callers some) _ (rest ∷ callers)
             (done_push library here rest n (registers_with h.now stems mask_len) h.now.settled e l) refl (omega arith);
+        last = λ _ _. last_of_more (bytes ++ take s.len text) _ s.count h.now n h.stands (length bytes + s.len) (omega (arith, length-append bytes (take s.len text), length-take-le s.len text (omega arith)));
       }
 
 place_behind : (n settled before : ℕ) → place_after (n + 1) settled before ≡ before + (n + 1)
@@ -115,7 +118,7 @@ done_draw library first rest r settled e =
 
 module _ (text : List ℕ) (mask_len : ℕ) (bytes : List ℕ) (settled : ℕ) (w : Written) (s : Stretch) (h : Comes text mask_len bytes settled w s) (inside : s.len < length text) where
   pub comes_by_operator : (first : ℕ) (rest : List ℕ) → drop s.len text ≡ first ∷ rest → rest ≡ drop (s.len + 1) text → take (s.len + 1) text ≡ take s.len text ++ first ∷ [] → one_byte_effect first ≡ Some Draws
-      → Comes text mask_len bytes settled w (record { len = s.len + 1; tokens = s.tokens + 1; settled = s.len + 1; count = 0 })
+      → Comes text mask_len bytes settled w (record { len = s.len + 1; tokens = s.tokens + 1; settled = s.len + 1; count = 0; last = s.last })
   comes_by_operator first rest d r t e =
       let all = bytes ++ take (s.len + 1) text in
       let is : all ≡ h.now.settled ++ (flat_operands h.now.operands ++ (first ∷ [])) =
@@ -129,11 +132,45 @@ module _ (text : List ℕ) (mask_len : ℕ) (bytes : List ℕ) (settled : ℕ) (
             let after = behind_more front o library depth (suc left) _ h.now.settled before (first ∷ rest) callers left refl refl _ (rest ∷ callers)
             (done_draw library first rest (registers_with h.now stems mask_len) h.now.settled e) refl (omega arith) in
             rw (is, ← r) after;
+        last = λ _ none. absurd (omega arith);
+      }
+
+done_mask : (library : Library) (first : ℕ) (rest : List ℕ) (r : Registers) (settled : List ℕ) → one_byte_effect first ≡ Some Masks → (r.mask_len == 0) ≡ false → nat_le r.mask_len (length rest) ≡ true
+    → done (act_at library (first ∷ rest) r) settled ≡ Ok (record { registers = record r { operands = [] }; settled = settled ++ (flat_operands r.operands ++ (first ∷ take r.mask_len rest)); lead = On (drop r.mask_len rest) })
+unfolding effect_of
+done_mask library first rest r settled e z t =
+    ap (λ (a : Act). done a settled) (act_operator library (one_byte first) Masks rest r e) ∙ rw (z, t) refl
+
+some_len : (n : ℕ) → (n ≡ 0 → ⊥) → (n == 0) ≡ false
+some_len n h = grind (arith, nat_tests)
+
+module _ (text : List ℕ) (mask_len : ℕ) (bytes : List ℕ) (settled : ℕ) (w : Written) (s : Stretch) (h : Comes text mask_len bytes settled w s) (inside : s.len + 1 + mask_len ≤ length text) where
+  pub comes_by_mask : (first : ℕ) (rest : List ℕ) → drop s.len text ≡ first ∷ rest → drop mask_len rest ≡ drop (s.len + 1 + mask_len) text → take (s.len + 1 + mask_len) text ≡ take s.len text ++ (first ∷ take mask_len rest) → one_byte_effect first ≡ Some Masks
+      → (mask_len ≡ 0 → ⊥) → mask_len ≤ length rest
+      → Comes text mask_len bytes settled w (record { len = s.len + 1 + mask_len; tokens = s.tokens + 1; settled = s.len + 1 + mask_len; count = 0; last = s.last })
+  comes_by_mask first rest d r t e some room_for =
+      let len = s.len + 1 + mask_len in
+      let mask = take mask_len rest in
+      let all = bytes ++ take len text in
+      let is : all ≡ h.now.settled ++ (flat_operands h.now.operands ++ (first ∷ mask)) =
+      ap (λ (b : List ℕ). bytes ++ b) t ∙ sym (append_assoc bytes _ _) ∙ settles _ (first ∷ mask) _ _ h.now h.stands in
+      let len_is : s.len + mask_len + 1 ≡ len = omega arith in
+      let place : place_after len settled (length bytes) ≡ length bytes + len = subst (λ (n : ℕ). place_after n settled (length bytes) ≡ length bytes + n) len_is (place_behind (s.len + mask_len) settled (length bytes)) in
+      record {
+        now = record { settled = all; operands = [] };
+        stands = stands_settled all (place_after len settled (length bytes)) (place ∙ omega (arith, length-append bytes (take len text), length-take-le len text (omega arith)));
+        leads = λ front o library depth all_tokens left stems callers room sum reached.
+            let before = subst (λ (b : List ℕ). ReachedBehind front o library depth (suc left) (record { rests = b ∷ callers; registers = registers_with h.now stems mask_len }) h.now.settled) d
+            (h.leads front o library depth all_tokens (suc left) stems callers room (omega arith) reached) in
+            let after = behind_more front o library depth (suc left) _ h.now.settled before (first ∷ rest) callers left refl refl _ (drop mask_len rest ∷ callers)
+            (done_mask library first rest (registers_with h.now stems mask_len) h.now.settled e (some_len mask_len some) (le-leb mask_len (length rest) room_for)) refl (omega arith) in
+            rw (is, ← r) after;
+        last = λ _ none. absurd (omega arith);
       }
 
 -- ---- the steps of the scan
 extends_small : (text : List ℕ) (mask_len : ℕ) (s : Stretch) → s.len < length text → 32 ≤ get_or text s.len 0 → get_or text s.len 0 < 247 → s.count < 48
-    → Extends text mask_len s (record { len = s.len + 1; tokens = s.tokens + 1; settled = s.settled; count = s.count + 1 })
+    → Extends text mask_len s (record { len = s.len + 1; tokens = s.tokens + 1; settled = s.settled; count = s.count + 1; last = s.len })
 extends_small text mask_len s inside low high few =
     let first = get_or text s.len 0 in
     let here : drop s.len text ≡ first ∷ drop (s.len + 1) text = drop-cons text s.len 0 inside ∙ ap (λ (k : ℕ). first ∷ drop k text) (sym (add-one s.len)) in
@@ -141,7 +178,7 @@ extends_small text mask_len s inside low high few =
     record { step = λ bytes settled w h. comes_by_number text mask_len bytes settled w s h inside (Integer (pos first -ℤ pos 139)) 1 (ap number_at here ∙ small_number first (drop (s.len + 1) text) low high) t few }
 
 extends_middle : (text : List ℕ) (mask_len : ℕ) (s : Stretch) → s.len + 1 < length text → 247 ≤ get_or text s.len 0 → get_or text s.len 0 < 255 → get_or text (s.len + 1) 0 < 256 → s.count < 48
-    → Extends text mask_len s (record { len = s.len + 2; tokens = s.tokens + 1; settled = s.settled; count = s.count + 1 })
+    → Extends text mask_len s (record { len = s.len + 2; tokens = s.tokens + 1; settled = s.settled; count = s.count + 1; last = s.len })
 extends_middle text mask_len s inside low high small few =
     let first = get_or text s.len 0 in
     let second = get_or text (s.len + 1) 0 in
@@ -156,7 +193,7 @@ extends_middle text mask_len s inside low high small few =
     record { step = λ bytes settled w h. comes_by_number text mask_len bytes settled w s h within (Integer (middle_value first second)) 2 (ap number_at here ∙ middle_read first second (drop (s.len + 2) text) low high small) t few }
 
 extends_drawn : (text : List ℕ) (mask_len : ℕ) (s : Stretch) → s.len < length text → one_byte_effect (get_or text s.len 0) ≡ Some Draws
-    → Extends text mask_len s (record { len = s.len + 1; tokens = s.tokens + 1; settled = s.len + 1; count = 0 })
+    → Extends text mask_len s (record { len = s.len + 1; tokens = s.tokens + 1; settled = s.len + 1; count = 0; last = s.last })
 extends_drawn text mask_len s inside e =
     let first = get_or text s.len 0 in
     let here : drop s.len text ≡ first ∷ drop (s.len + 1) text = drop-cons text s.len 0 inside ∙ ap (λ (k : ℕ). first ∷ drop k text) (sym (add-one s.len)) in
@@ -192,7 +229,7 @@ short_written high low small above below =
 
 extends_short : (text : List ℕ) (mask_len : ℕ) (s : Stretch) → s.len + 2 < length text → get_or text s.len 0 ≡ 28 → get_or text (s.len + 2) 0 < 256
     → 1132 ≤ get_or text (s.len + 1) 0 * 256 + get_or text (s.len + 2) 0 → get_or text (s.len + 1) 0 * 256 + get_or text (s.len + 2) 0 ≤ 64404 → s.count < 48
-    → Extends text mask_len s (record { len = s.len + 3; tokens = s.tokens + 1; settled = s.settled; count = s.count + 1 })
+    → Extends text mask_len s (record { len = s.len + 3; tokens = s.tokens + 1; settled = s.settled; count = s.count + 1; last = s.len })
 extends_short text mask_len s inside first small above below few =
     let high = get_or text (s.len + 1) 0 in
     let low = get_or text (s.len + 2) 0 in
@@ -215,24 +252,40 @@ extends_short text mask_len s inside first small above below few =
     t3 ∙ append_assoc (take s.len text ++ 28 ∷ []) (high ∷ []) (low ∷ []) ∙ append_assoc (take s.len text) (28 ∷ []) (high ∷ low ∷ []) ∙ ap (λ (b : List ℕ). take s.len text ++ b) (sym (short_written high low small above below)) in
     record { step = λ bytes settled w h. comes_by_number text mask_len bytes settled w s h within n 3 (ap number_at here ∙ short_at high low (drop (s.len + 3) text)) t few }
 
+extends_mask : (text : List ℕ) (mask_len : ℕ) (s : Stretch) → s.len + 1 + mask_len ≤ length text → one_byte_effect (get_or text s.len 0) ≡ Some Masks → (mask_len ≡ 0 → ⊥)
+    → Extends text mask_len s (record { len = s.len + 1 + mask_len; tokens = s.tokens + 1; settled = s.len + 1 + mask_len; count = 0; last = s.last })
+extends_mask text mask_len s inside e some =
+    let first = get_or text s.len 0 in
+    let within : s.len < length text = omega arith in
+    let here : drop s.len text ≡ first ∷ drop (s.len + 1) text = drop-cons text s.len 0 within ∙ ap (λ (k : ℕ). first ∷ drop k text) (sym (add-one s.len)) in
+    let r : drop mask_len (drop (s.len + 1) text) ≡ drop (s.len + 1 + mask_len) text = drop-drop mask_len (s.len + 1) text in
+    let t : take (s.len + 1 + mask_len) text ≡ take s.len text ++ (first ∷ take mask_len (drop (s.len + 1) text)) =
+    take-add (s.len + 1) mask_len text ∙ ap (λ (b : List ℕ). b ++ take mask_len (drop (s.len + 1) text)) (take_at_read text s.len 0 within).1 ∙ append_assoc (take s.len text) (first ∷ []) _ in
+    record { step = λ bytes settled w h. comes_by_mask text mask_len bytes settled w s h inside first (drop (s.len + 1) text) here r t e some (omega (arith, length-drop (s.len + 1) text)) }
+
 -- the same, for what the code's calls answer
-pub by_short : (text : List ℕ) (mask_len : ℕ) (s longer : Stretch) (shortest : Bool) → longer ≡ record { len = s.len + 3; tokens = s.tokens + 1; settled = s.settled; count = s.count + 1 } → s.len + 2 < length text → get_or text s.len 0 ≡ 28 → get_or text (s.len + 2) 0 < 256
+pub by_short : (text : List ℕ) (mask_len : ℕ) (s longer : Stretch) (shortest : Bool) → longer ≡ record { len = s.len + 3; tokens = s.tokens + 1; settled = s.settled; count = s.count + 1; last = s.len } → s.len + 2 < length text → get_or text s.len 0 ≡ 28 → get_or text (s.len + 2) 0 < 256
     → MatchBool shortest ((1132 ≤ get_or text (s.len + 1) 0 * 256 + get_or text (s.len + 2) 0) × (get_or text (s.len + 1) 0 * 256 + get_or text (s.len + 2) 0 ≤ 64404)) (Unit {0}) → shortest ≡ true → s.count < 48
     → Extends text mask_len s longer
 by_short text mask_len s longer true e inside first small bounds t few = rw e (extends_short text mask_len s inside first small bounds.0 bounds.1 few)
 by_short text mask_len s longer false e inside first small bounds t few = absurd (cc)
 
-pub by_small : (text : List ℕ) (mask_len : ℕ) (s longer : Stretch) → longer ≡ record { len = s.len + 1; tokens = s.tokens + 1; settled = s.settled; count = s.count + 1 } → s.len < length text → 32 ≤ get_or text s.len 0 → get_or text s.len 0 < 247 → s.count < 48
+pub by_small : (text : List ℕ) (mask_len : ℕ) (s longer : Stretch) → longer ≡ record { len = s.len + 1; tokens = s.tokens + 1; settled = s.settled; count = s.count + 1; last = s.len } → s.len < length text → 32 ≤ get_or text s.len 0 → get_or text s.len 0 < 247 → s.count < 48
     → Extends text mask_len s longer
 by_small text mask_len s longer e inside low high few = rw e (extends_small text mask_len s inside low high few)
 
-pub by_middle : (text : List ℕ) (mask_len : ℕ) (s longer : Stretch) → longer ≡ record { len = s.len + 2; tokens = s.tokens + 1; settled = s.settled; count = s.count + 1 } → s.len + 1 < length text → 247 ≤ get_or text s.len 0 → get_or text s.len 0 < 255 → get_or text (s.len + 1) 0 < 256 → s.count < 48
+pub by_middle : (text : List ℕ) (mask_len : ℕ) (s longer : Stretch) → longer ≡ record { len = s.len + 2; tokens = s.tokens + 1; settled = s.settled; count = s.count + 1; last = s.len } → s.len + 1 < length text → 247 ≤ get_or text s.len 0 → get_or text s.len 0 < 255 → get_or text (s.len + 1) 0 < 256 → s.count < 48
     → Extends text mask_len s longer
 by_middle text mask_len s longer e inside low high small few = rw e (extends_middle text mask_len s inside low high small few)
 
-pub by_operator : (text : List ℕ) (mask_len : ℕ) (s longer : Stretch) → longer ≡ record { len = s.len + 1; tokens = s.tokens + 1; settled = s.len + 1; count = 0 } → s.len < length text → get_or text s.len 0 < 32 → is_plain (get_or text s.len 0) ≡ true
+pub by_operator : (text : List ℕ) (mask_len : ℕ) (s longer : Stretch) → longer ≡ record { len = s.len + 1; tokens = s.tokens + 1; settled = s.len + 1; count = 0; last = s.last } → s.len < length text → get_or text s.len 0 < 32 → is_plain (get_or text s.len 0) ≡ true
     → Extends text mask_len s longer
 by_operator text mask_len s longer e inside low plain = rw e (extends_drawn text mask_len s inside (plain_operator (get_or text s.len 0) plain (lt-ltb (get_or text s.len 0) 32 low)))
+
+pub by_mask : (text : List ℕ) (mask_len : ℕ) (s longer : Stretch) (masks : Bool) → longer ≡ record { len = s.len + 1 + mask_len; tokens = s.tokens + 1; settled = s.len + 1 + mask_len; count = 0; last = s.last } → s.len + 1 + mask_len ≤ length text
+    → MatchBool masks (one_byte_effect (get_or text s.len 0) ≡ Some Masks) (Unit {0}) → masks ≡ true → (mask_len ≡ 0 → ⊥) → Extends text mask_len s longer
+by_mask text mask_len s longer true l inside e t some = rw l (extends_mask text mask_len s inside e some)
+by_mask text mask_len s longer false l inside e t some = absurd (cc)
 
 -- what is written behind a stretch, as the code joins it
 pub stretch_stands : (text : List ℕ) (mask_len : ℕ) (bytes all : List ℕ) (settled before after : ℕ) (w : Written) (s : Stretch) (h : Comes text mask_len bytes settled w s)
@@ -243,6 +296,17 @@ pub stretch_leads : (text : List ℕ) (mask_len : ℕ) (bytes all : List ℕ) (s
     → all ≡ bytes ++ take s.len text → before ≡ length bytes → after ≡ place_after s.settled settled before → LeadsOn text s.len s.tokens mask_len w (written_at all after s.count)
 stretch_leads text mask_len bytes all settled before after w s h a b p =
     subst (λ (x : Written). LeadsOn text s.len s.tokens mask_len w x) (sym (written_is all after s.count h.now (stretch_stands text mask_len bytes all settled before after w s h a b p))) h.leads
+
+pub stretch_holds : (text : List ℕ) (mask_len : ℕ) (bytes all : List ℕ) (settled before after last : ℕ) (w : Written) (s : Stretch) (h : Comes text mask_len bytes settled w s)
+    → all ≡ bytes ++ take s.len text → before ≡ length bytes → after ≡ place_after s.settled settled before → last ≡ before + s.last → 1 ≤ s.tokens → Holds all after s.count last (written_at all after s.count)
+stretch_holds text mask_len bytes all settled before after last w s h a b p l some =
+    let stands = stretch_stands text mask_len bytes all settled before after w s h a b p in
+    let known : 1 ≤ s.count → (last ≡ 0 → ⊥) → last ≡ last_place h.now = λ many _. l ∙ ap (λ (n : ℕ). n + s.last) b ∙ h.last some many in
+    subst (λ (x : Written). Holds all after s.count last x) (sym (written_is all after s.count h.now stands)) (record { stands = stands; known = known })
+
+pub some_tokens : (tokens len : ℕ) → (tokens ≡ 0 → len ≡ 0) → (len ≡ 0 → ⊥) → 1 ≤ tokens
+some_tokens zero len moves some = absurd (some (moves refl))
+some_tokens (suc tokens) len moves some = omega arith
 
 -- ---- a stretch of a run
 -- the innermost charstring that is not at its end stays that

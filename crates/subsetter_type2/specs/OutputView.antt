@@ -1,5 +1,5 @@
 -- How the output holds what is written.
-use Rattle.std.specs.Prelude.{◌≡◌, ℕ, zero, suc, ◌+◌, List, [], ◌∷◌, ◌++◌, length, take, drop, Option, Some, None, MatchOption}
+use Rattle.std.specs.Prelude.{◌≡◌, ℕ, zero, suc, ◌+◌, ◌≤◌, List, [], ◌∷◌, ◌++◌, length, take, drop, Option, Some, None, MatchOption}
 use Rattle.subsetter_cffdata.specs.declared.charstring_number.CharStringNumber.{CharStringNumber}
 use Rattle.subsetter_cffdata.specs.CharStringNumber.{NumberFits, number_at}
 use Rattle.subsetter_type2.specs.Flat.{flat_operands}
@@ -29,6 +29,15 @@ pub record Stands (bytes : List ℕ) (settled count : ℕ) (w : Written) : Type 
   pub place : settled ≡ length w.settled
   pub many : count ≡ length w.operands
   pub fit : AllFit w.operands
+
+-- where the last operand begins
+abbrev pub last_place : Written → ℕ
+last_place w = length w.settled + length (flat_operands (but_last w.operands))
+
+-- the same, where the place of the last operand may be known; 0 where it isn't
+pub record Holds (bytes : List ℕ) (settled count last : ℕ) (w : Written) : Type 0 where
+  pub stands : Stands bytes settled count w
+  pub known : 1 ≤ count → (last ≡ 0 → ⊥) → last ≡ last_place w
 
 -- where the operands begin: behind the last operator of a stretch that stands behind so many bytes; 0 where it has none
 abbrev pub place_after : ℕ → ℕ → ℕ → ℕ

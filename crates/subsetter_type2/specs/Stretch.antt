@@ -3,7 +3,7 @@ use Rattle.std.specs.Prelude.{◌≡◌, ℕ, ◌+◌, ◌<◌, ◌≤◌, List,
 use Rattle.subsetter_type2.specs.Machine.{Library, Registers, Outcome}
 use Rattle.subsetter_type2.specs.Behind.{ReachedBehind}
 use Rattle.subsetter_type2.specs.Output.{Written}
-use Rattle.subsetter_type2.specs.OutputView.{Stands, place_after}
+use Rattle.subsetter_type2.specs.OutputView.{Stands, place_after, last_place}
 use Rattle.subsetter_type2.specs.declared.stretch.Stretch.{Stretch}
 
 abbrev pub registers_with : Written → ℕ → ℕ → Registers
@@ -22,12 +22,14 @@ pub record IsSound (s : Stretch) : Type 0 where
   pub few : s.tokens ≤ s.len
   pub moves : s.tokens ≡ 0 → s.len ≡ 0
   pub ends : s.settled ≤ s.len
+  pub last : s.last ≤ s.len
 
 -- what is written behind a stretch whose bytes stand behind these, of which the operands begin at this place
 pub record Comes (text : List ℕ) (mask_len : ℕ) (bytes : List ℕ) (settled : ℕ) (w : Written) (s : Stretch) : Type 0 where
   pub now : Written
   pub stands : Stands (bytes ++ take s.len text) (place_after s.settled settled (length bytes)) s.count now
   pub leads : LeadsOn text s.len s.tokens mask_len w now
+  pub last : 1 ≤ s.tokens → 1 ≤ s.count → length bytes + s.last ≡ last_place now
 
 -- a stretch that goes further
 pub record Extends (text : List ℕ) (mask_len : ℕ) (s longer : Stretch) : Type 0 where

@@ -1,9 +1,10 @@
 //! The bytes of the flat form, with the operands that no operator has taken yet at their end.
 
-ghost use Rattle.std.specs.Prelude.{◌≡◌, ◌≤◌, ◌++◌, [], length, OnOk, OnErr, IfOk, IfErr};
+ghost use Rattle.std.specs.Prelude.{◌≡◌, ◌≤◌, ◌++◌, [], length, OnOk, OnErr, IfOk, IfErr, MatchOption};
 ghost use Rattle.subsetter_base.specs.declared.error.Error.TheVariants.{OutOfMemory};
 ghost use Rattle.subsetter_cffdata.specs.Views.{operator_of};
 ghost use Rattle.subsetter_type2.specs.Flat.{flat_operands};
+ghost use Rattle.subsetter_type2.specs.OutputView.{last_place};
 ghost use Rattle.subsetter_type2.specs.Stretch.{LeadsOn};
 
 use crate::last_number::find_last_number;
@@ -12,7 +13,7 @@ use crate::sink::Sink;
 use crate::stretch::Stretch;
 use std::marker::Model;
 use subsetter_base::error::Error;
-use subsetter_cffdata::charstring_number::CharStringNumber;
+use subsetter_cffdata::charstring_number::{CharStringNumber, read_number};
 use subsetter_cffdata::operator::{Operator, OperatorType};
 
 /// The output, whose end is the operands on the stack: they are read there where they are wanted.
@@ -23,6 +24,8 @@ pub struct Output {
     settled: usize,
     /// How many operands there are.
     count: usize,
+    /// Where the last operand begins, if that is known; else 0.
+    last: usize,
 }
 
 impl Model for Output {
@@ -30,11 +33,11 @@ impl Model for Output {
 
     ghost Value = { Written };
 
-    ghost use Rattle.subsetter_type2.specs.OutputView.{written_at, Stands};
+    ghost use Rattle.subsetter_type2.specs.OutputView.{written_at, Holds};
 
     ghost view = { λ o. written_at o.bytes.items o.settled o.count };
 
-    ghost invariant = { λ o. Stands o.bytes.items o.settled o.count (written_at o.bytes.items o.settled o.count) };
+    ghost invariant = { λ o. Holds o.bytes.items o.settled o.count o.last (written_at o.bytes.items o.settled o.count) };
 }
 
 impl<'a> Sink<'a> for Output {
@@ -48,13 +51,16 @@ impl<'a> Sink<'a> for Output {
     fn push(&mut self, value: CharStringNumber) -> Result<(), Error> {
         value.append(&mut self.bytes)?;
         self.count += 1;
+        self.last = 0;
         Ok(())
     }
 
     fn pop(&mut self) -> Option<CharStringNumber> {
-        let (value, before) = find_last_number(&self.bytes[self.settled..], self.count)?;
-        self.bytes.truncate(self.settled + before);
+        let place = self.find_last()?;
+        let (value, _) = read_number(&self.bytes[place..])?;
+        self.bytes.truncate(place);
         self.count -= 1;
+        self.last = 0;
         Some(value)
     }
 
@@ -79,7 +85,23 @@ impl Output {
             bytes,
             settled,
             count: 0,
+            last: 0,
         }
+    }
+
+    /// Where the last operand begins.
+    #[inline(always)]
+    fn find_last(&self) -> Option<usize>
+        ensures { MatchOption result (self.now.operands ≡ []) (λ place. (place ≡ last_place self.now) × (1 ≤ length self.now.operands)) }
+    {
+        if self.count == 0 {
+            return None;
+        }
+        if self.last != 0 {
+            return Some(self.last);
+        }
+        let (_, before) = find_last_number(&self.bytes[self.settled..], self.count)?;
+        Some(self.settled + before)
     }
 
     /// Writes the stretch of so many tokens at most at the front of a charstring.
@@ -104,6 +126,7 @@ impl Output {
         self.bytes.extend_from_slice(&text[..stretch.len])?;
         self.settled = stretch.settled_after(self.settled, before);
         self.count = stretch.count;
+        self.last = before + stretch.last;
         Ok(stretch)
     }
 

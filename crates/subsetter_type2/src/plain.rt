@@ -1,7 +1,9 @@
 //! Tokens that stand in the flat form as they are, by their first byte.
 
-ghost use Rattle.std.specs.Prelude.{◌≡◌, ◌≤◌, ◌+◌, ◌*◌, MatchBool};
+ghost use Rattle.std.specs.Prelude.{◌≡◌, ◌≤◌, ◌+◌, ◌*◌, MatchBool, Some};
 ghost use Rattle.subsetter_type2.specs.Plain.{is_plain};
+ghost use Rattle.subsetter_type2.specs.Token.{one_byte_effect};
+ghost use Rattle.subsetter_type2.specs.declared.token.Effect.TheVariants.{Masks};
 
 /// Whether such a token begins with this byte: a number of one or two bytes, or an operator that takes all operands.
 static PLAIN: [bool; 256] = [
@@ -39,4 +41,12 @@ pub fn is_shortest(high: u8, low: u8) -> bool
 {
     let bits = high as u16 * 256 + low as u16;
     bits >= 1132 && bits <= 64404
+}
+
+/// The operator of this byte has a mask.
+#[inline(always)]
+pub fn is_mask(first: u8) -> bool
+    ensures { MatchBool result (one_byte_effect first ≡ Some Masks) (Unit {0}) }
+{
+    first == 19 || first == 20
 }

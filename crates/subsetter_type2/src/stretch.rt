@@ -14,6 +14,8 @@ pub struct Stretch {
     pub settled: usize,
     /// How many operands are on the stack behind it.
     pub count: usize,
+    /// Where the last of its tokens begins, if that is a number.
+    pub last: usize,
 }
 
 impl Stretch {
@@ -35,13 +37,14 @@ impl Stretch {
     pub fn with_number(self, len: usize) -> Stretch
         requires tokens { self.tokens < 18446744073709551615 }
         requires few { self.count < 48 }
-        ensures { result ≡ record { len = len; tokens = self.tokens + 1; settled = self.settled; count = self.count + 1 } }
+        ensures { result ≡ record { len = len; tokens = self.tokens + 1; settled = self.settled; count = self.count + 1; last = self.len } }
     {
         Stretch {
             len,
             tokens: self.tokens + 1,
             settled: self.settled,
             count: self.count + 1,
+            last: self.len,
         }
     }
 
@@ -49,13 +52,14 @@ impl Stretch {
     #[inline(always)]
     pub fn with_operator(self, len: usize) -> Stretch
         requires { self.tokens < 18446744073709551615 }
-        ensures { result ≡ record { len = len; tokens = self.tokens + 1; settled = len; count = 0 } }
+        ensures { result ≡ record { len = len; tokens = self.tokens + 1; settled = len; count = 0; last = self.last } }
     {
         Stretch {
             len,
             tokens: self.tokens + 1,
             settled: len,
             count: 0,
+            last: self.last,
         }
     }
 }

@@ -1,11 +1,11 @@
 use Rattle.std.proofs.Common.{refl}
-use Rattle.subsetter_type2.proofs.OutputLemmas.{stands_at, stands_more, written_is}
+use Rattle.subsetter_type2.proofs.OutputLemmas.{holds_at, stands_more, written_is}
 use Rattle.subsetter_type2.proofs.output.OutputSink.push.Goals as goal
 
 pub invariant_of-self-2 : goal.invariant_of-self-2
 invariant_of-self-2 c =
-    stands_at _ _ _ _ (stands_more _ _ _ _ _ _ c.args.value c.self.invariant c.requires.fits c.in_ok-append.ensures.ok refl)
+    holds_at _ _ _ _ _ (stands_more _ _ _ _ _ _ c.args.value c.self.invariant.stands c.requires.fits c.in_ok-append.ensures.ok refl) refl
 
 pub returns-clause-ok : goal.returns-clause-ok
 returns-clause-ok c =
-    rw (← c.self.view_is) (written_is _ _ _ _ (stands_more _ _ _ _ _ _ c.args.value c.self.invariant c.requires.fits c.in_ok-append.ensures.ok refl))
+    rw (← c.self.view_is) (written_is _ _ _ _ (stands_more _ _ _ _ _ _ c.args.value c.self.invariant.stands c.requires.fits c.in_ok-append.ensures.ok refl))
