@@ -36,4 +36,4 @@ pub returns-clause-met : goal.returns-clause-met
 returns-clause-met c = sym (meet_end (demands_of c.args.demands) (left c.loop-operator.parser) c.in_default.ensures.value) ∙ c.loop-operator.invariant.meet
 
 pub returns-clause-value : goal.returns-clause-value
-returns-clause-value c = all_said (entries c.args.dict.now) _ (sym (take_end (said_of c.loop-operator.said) (left c.loop-operator.parser) c.in_default.ensures.value) ∙ c.loop-operator.invariant.said)
+returns-clause-value c = λ _. all_said (entries c.args.dict.now) _ (sym (take_end (said_of c.loop-operator.said) (left c.loop-operator.parser) c.in_default.ensures.value) ∙ c.loop-operator.invariant.said)
