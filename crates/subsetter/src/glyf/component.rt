@@ -1,6 +1,6 @@
 //! The components of a composite glyph (OpenType, "glyf": composite glyph description).
 
-ghost use Rattle.std.specs.Prelude.{◌≡◌, ◌+◌, ◌-◌, ◌≤◌, [], ◌++◌, length, take, drop, if◌then◌else◌, nat_le};
+ghost use Rattle.std.specs.Prelude.{◌≡◌, ◌+◌, ◌-◌, ◌≤◌, [], ◌++◌, length, take, drop, if◌then◌else◌, nat_le, Some};
 ghost use Rattle.std.specs.Int.{w16, to_be_bytes};
 ghost use Rattle.std.specs.Option.{option_map};
 ghost use Rattle.subsetter_base.specs.Gives.{Gives};
@@ -170,6 +170,14 @@ fn behind(bytes: &[u8], flags: u16) -> &[u8]
     }
 }
 
+/// What stands behind a component at the front.
+fn behind_component<'a>(bytes: &'a [u8], component: Component<'_>) -> &'a [u8]
+    requires { component_at bytes.now ≡ Some (component_seen component) }
+    ensures { result.now ≡ drop (4 + rest_size component.entry.flags) bytes.now }
+{
+    &bytes[4 + component.rest.len()..]
+}
+
 /// Puts a number in the place of two bytes.
 fn put_number(out: &mut Vec<u8>, at: usize, number: u16)
     requires { at + 2 ≤ length out.old.items }
@@ -219,7 +227,7 @@ pub fn rewrite_composite(
         };
         let at = out.len() - rest.len();
         renumber(&mut out, at, order, component);
-        rest = after(rest, component.flags);
+        rest = behind_component(rest, component);
         if !has_more(component.flags) {
             cut_tail(&mut out, component.flags, rest.len());
             return Ok(out);

@@ -33,7 +33,7 @@ returns-then-not-has_more c =
     let left = length c.loop-component.rest.now in
     let at = c.len.result - left in
     let place : at ≡ length c.loop-component.out.items - left = omega (arith, c.len.ensures) in
-    let is = underway_ends order c.loop-component.out.items c.loop-component.rest.now at (component_seen c.in-Some.component) c.renumber.new.out.items c.after-rest.result.now c.cut_tail.new.out.items total c.loop-component.invariant place (sym c.in-Some.ensures) c.renumber.ensures c.after-rest.ensures (sym c.if-not-has_more.ensures) c.cut_tail.ensures in
+    let is = underway_ends order c.loop-component.out.items c.loop-component.rest.now at (component_seen c.in-Some.component) c.renumber.new.out.items c.behind_component-rest.result.now c.cut_tail.new.out.items total c.loop-component.invariant place (sym c.in-Some.ensures) c.renumber.ensures c.behind_component-rest.ensures (sym c.if-not-has_more.ensures) c.cut_tail.ensures in
     composite_behind before order outline (omega arith) ∙ ap (λ (o : Option (List ℕ)). ok_or o MalformedFont) is
 
 pub loop-component-preserved : goal.loop-component-preserved
@@ -44,4 +44,4 @@ loop-component-preserved c =
     let left = length c.loop-component.rest.now in
     let at = c.len.result - left in
     let place : at ≡ length c.loop-component.out.items - left = omega (arith, c.len.ensures) in
-    underway_next order c.loop-component.out.items c.loop-component.rest.now at (component_seen c.in-Some.component) c.renumber.new.out.items c.after-rest.result.now total c.loop-component.invariant place (sym c.in-Some.ensures) c.renumber.ensures c.after-rest.ensures (sym c.if-not-has_more.ensures)
+    underway_next order c.loop-component.out.items c.loop-component.rest.now at (component_seen c.in-Some.component) c.renumber.new.out.items c.behind_component-rest.result.now total c.loop-component.invariant place (sym c.in-Some.ensures) c.renumber.ensures c.behind_component-rest.ensures (sym c.if-not-has_more.ensures)
