@@ -18,7 +18,7 @@ use std::alloc::Global;
 use subsetter_base::{Error, Tag};
 
 /// How many bytes the file has, unless a place or a length is 2^32 or more.
-fn measured(tables: &[NewTable<'_>]) -> Option<usize>
+fn measured(tables: &[NewTable<'_, '_>]) -> Option<usize>
     requires { length tables.now < 16 }
     ensures some { IfSome result (λ n. (fits (start_of (views tables.now)) (views tables.now) ≡ true) × (n ≡ start_of (views tables.now) + length (body (views tables.now)))) }
     ensures none { IfNone result (fits (start_of (views tables.now)) (views tables.now) ≡ false) }
@@ -80,7 +80,7 @@ fn write_header(out: &mut Vec<u8>, kind: u32, count: u16)
 }
 
 /// Writes the record of a table that stands at a place.
-fn write_record(out: &mut Vec<u8>, at: usize, len: usize, sum: u32, table: &NewTable<'_>)
+fn write_record(out: &mut Vec<u8>, at: usize, len: usize, sum: u32, table: &NewTable<'_, '_>)
     requires at { at < 2 ^ 32 }
     requires len { (len ≡ length (view table.now).bytes) × (len < 2 ^ 32) }
     requires sum { sum ≡ checksum (view table.now).bytes }
@@ -96,7 +96,7 @@ fn write_record(out: &mut Vec<u8>, at: usize, len: usize, sum: u32, table: &NewT
 
 /// Writes the records of tables that stand from a place on, and answers the checksum of all the tables.
 /// The checksums are taken of the tables as they were laid out.
-fn write_directory(out: &mut Vec<u8>, start: usize, tables: &[NewTable<'_>], laid: &[u8]) -> u32
+fn write_directory(out: &mut Vec<u8>, start: usize, tables: &[NewTable<'_, '_>], laid: &[u8]) -> u32
     requires tables { AllByRecursion IsTable (views tables.now) }
     requires fit { fits start (views tables.now) ≡ true }
     requires laid { laid.now ≡ body (views tables.now) }
@@ -122,7 +122,7 @@ fn write_directory(out: &mut Vec<u8>, start: usize, tables: &[NewTable<'_>], lai
 }
 
 /// Writes the tables, each with zeros up to a multiple of four.
-fn write_body(out: &mut Vec<u8>, tables: &[NewTable<'_>])
+fn write_body(out: &mut Vec<u8>, tables: &[NewTable<'_, '_>])
     requires multiple { length out.old.items % 4 ≡ 0 }
     requires room { length out.old.items + length (body (views tables.now)) ≤ vec_capacity out.old }
     ensures { out.new.items ≡ out.old.items ++ body (views tables.now) }
@@ -134,7 +134,7 @@ fn write_body(out: &mut Vec<u8>, tables: &[NewTable<'_>])
 }
 
 /// Puts the adjustment into a table that stands at a place, if it is `head`.
-fn adjust_table(out: &mut Vec<u8>, at: usize, word: u32, table: &NewTable<'_>)
+fn adjust_table(out: &mut Vec<u8>, at: usize, word: u32, table: &NewTable<'_, '_>)
     requires is_table { IsTable (view table.now) }
     requires within { at + length (view table.now).bytes ≤ length out.old.items }
     requires there { take (length (view table.now).bytes) (drop at out.old.items) ≡ (view table.now).bytes }
@@ -146,7 +146,7 @@ fn adjust_table(out: &mut Vec<u8>, at: usize, word: u32, table: &NewTable<'_>)
 }
 
 /// Puts the adjustment into `head` among the tables that stand from a place on.
-fn adjust(out: &mut Vec<u8>, start: usize, word: u32, tables: &[NewTable<'_>])
+fn adjust(out: &mut Vec<u8>, start: usize, word: u32, tables: &[NewTable<'_, '_>])
     requires tables { AllByRecursion IsTable (views tables.now) }
     requires fit { fits start (views tables.now) ≡ true }
     requires start { start ≤ length out.old.items }
@@ -184,7 +184,7 @@ pub fn construct(
     out: Vec<u8>,
     front: Vec<u8>,
     flavor: FontFlavor,
-    tables: &[NewTable<'_>],
+    tables: &[NewTable<'_, '_>],
 ) -> Vec<u8>
     requires few { length tables.now < 16 }
     requires tables { AllByRecursion IsTable (views tables.now) }
@@ -210,7 +210,11 @@ pub fn construct(
 
 /// Lays out a file. Its size is taken first: `OverflowError` where a place or a length is 2^32 or more. Room is reserved once.
 #[tactic(auto, unfolding(crate::specs::Sfnt::Plain::file_of))]
-pub fn finish(alloc: Global, flavor: FontFlavor, tables: &[NewTable<'_>]) -> Result<Vec<u8>, Error>
+pub fn finish(
+    alloc: Global,
+    flavor: FontFlavor,
+    tables: &[NewTable<'_, '_>],
+) -> Result<Vec<u8>, Error>
     requires few { length tables.now < 16 }
     requires tables { AllByRecursion IsTable (views tables.now) }
     ensures { Gives (λ v. v.items) result (file_of (kind_word flavor) (views tables.now)) }
