@@ -72,11 +72,24 @@ fn write_header(out: &mut Vec<u8>, kind: u32, count: u16)
     ensures capacity { vec_capacity out.old ≤ vec_capacity out.new }
 {
     let range = search_range(count);
-    put(out, &kind.to_be_bytes());
-    put(out, &count.to_be_bytes());
-    put(out, &range.to_be_bytes());
-    put(out, &entry_selector(count).to_be_bytes());
-    put(out, &(16 * count).saturating_sub(range).to_be_bytes());
+    let [a, b, c, d] = kind.to_be_bytes();
+    let [e, f] = count.to_be_bytes();
+    let [g, h] = range.to_be_bytes();
+    let [i, j] = entry_selector(count).to_be_bytes();
+    let [k, l] = (16 * count).saturating_sub(range).to_be_bytes();
+    put(out, &[a, b, c, d, e, f, g, h, i, j, k, l]);
+}
+
+/// Writes three words.
+fn write_words(out: &mut Vec<u8>, sum: u32, at: u32, len: u32)
+    requires room { length out.old.items + 12 ≤ vec_capacity out.old }
+    ensures items { out.new.items ≡ out.old.items ++ (to_be_bytes w32 sum ++ to_be_bytes w32 at ++ to_be_bytes w32 len) }
+    ensures capacity { vec_capacity out.old ≤ vec_capacity out.new }
+{
+    let [a, b, c, d] = sum.to_be_bytes();
+    let [e, f, g, h] = at.to_be_bytes();
+    let [i, j, k, l] = len.to_be_bytes();
+    put(out, &[a, b, c, d, e, f, g, h, i, j, k, l]);
 }
 
 /// Writes the record of a table that stands at a place.
@@ -89,9 +102,7 @@ fn write_record(out: &mut Vec<u8>, at: usize, len: usize, sum: u32, table: &NewT
     ensures capacity { vec_capacity out.old ≤ vec_capacity out.new }
 {
     put(out, table.tag.get());
-    put(out, &sum.to_be_bytes());
-    put(out, &(at as u32).to_be_bytes());
-    put(out, &(len as u32).to_be_bytes());
+    write_words(out, sum, at as u32, len as u32);
 }
 
 /// Writes the records of tables that stand from a place on, and answers the checksum of all the tables.
