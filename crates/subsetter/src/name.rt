@@ -11,7 +11,7 @@ ghost use Rattle.std.specs.Option.{option_copied, option_map, ok_or};
 ghost use Rattle.subsetter_base.specs.Gives.{Gives};
 ghost use Rattle.subsetter_base.specs.declared.error.Error.TheVariants.{OutOfMemory};
 ghost use Rattle.subsetter.specs.Name.Read.{name_parts, is_unicode, is_kept_record, string_of, among, with_string, string_place, joined};
-ghost use Rattle.subsetter.specs.Name.Plain.{placed, placed_string, name_of_table, new_name, header_bytes, written_behind, kept_bytes};
+ghost use Rattle.subsetter.specs.Name.Plain.{placed, placed_string, name_of_table, new_name, header_bytes, laid_behind, few_laid, laid_bytes, kept_bytes};
 ghost use Rattle.subsetter.specs.Name.View.{nows, seen_parts, seen_table, name_seen};
 
 mod text;
@@ -271,46 +271,48 @@ impl<'a> NameTable<'a> {
     }
 }
 
-/// How many records of a table a subset keeps, if these are at most 5460.
-fn kept_count(table: &NameTable<'_>) -> Option<usize>
-    ensures some { IfSome result (λ n. (n ≡ length (filter is_kept_record (seen_table table.now).records)) × (n ≤ 5460)) }
-    ensures none { IfNone result (5460 < length (filter is_kept_record (seen_table table.now).records)) }
-{
-    let mut count: usize = 0;
-    for record in table.records.iter() {
-        if record.is_kept() {
-            if count == 5460 {
-                return None;
-            }
-            count += 1;
-        }
-    }
-    Some(count)
+/// Records as they are written, and the strings that are to stand behind them.
+#[derive(Drop)]
+struct Collected<'a> {
+    records: Vec<u8>,
+    strings: Strings<'a>,
 }
 
-/// The names that a subset keeps: the header and the records, and the strings that stand behind them.
+impl<'a> Model for Collected<'a> {
+    ghost use Rattle.subsetter.specs.Name.Plain.{Laid};
+
+    ghost Value = { Laid };
+
+    ghost view = { λ c. record { bytes = c.records.items; strings = c.strings } };
+}
+
+/// The names that a subset keeps: at most 5460 records as they are written, and the strings that stand behind them.
 #[derive(Drop)]
 pub struct NewNames<'a> {
-    front: Vec<u8>,
+    records: Vec<u8>,
     strings: Strings<'a>,
 }
 
 impl<'a> Model for NewNames<'a> {
-    ghost use Rattle.std.specs.Prelude.{ℕ, List, ◌++◌};
+    ghost use Rattle.std.specs.Prelude.{◌≤◌, ◌/◌, ◌++◌, ℕ, List, length};
     ghost use Rattle.subsetter.specs.Name.Read.{joined};
+    ghost use Rattle.subsetter.specs.Name.Plain.{header_bytes};
 
     ghost Value = { List ℕ };
 
-    ghost view = { λ n. n.front.items ++ joined n.strings };
+    ghost view = { λ n. header_bytes (length n.records.items / 12) ++ n.records.items ++ joined n.strings };
+
+    ghost invariant = { λ n. length n.records.items ≤ 65520 };
 }
 
 impl<'a> NewNames<'a> {
     /// How many bytes the table has; where these are 2^32 or more, some number from 2^32 on.
+    #[tactic(auto, unfolding(crate::specs::Name::Plain::header_bytes))]
     pub fn len(&self) -> usize
         ensures exact { length self.now < 2 ^ 32 → result ≡ length self.now }
         ensures past { 2 ^ 32 ≤ length self.now → 2 ^ 32 ≤ result }
     {
-        self.front.len().saturating_add(self.strings.len())
+        (6 + self.records.len()).saturating_add(self.strings.len())
     }
 
     /// Writes the table.
@@ -319,35 +321,36 @@ impl<'a> NewNames<'a> {
         ensures items { out.new.items ≡ out.old.items ++ self.now }
         ensures capacity { vec_capacity out.old ≤ vec_capacity out.new }
     {
-        put(out, &self.front);
+        write_header(out, self.records.len() / 12);
+        put(out, &self.records);
         self.strings.write(out);
     }
 }
 
-/// The header of a table of so many records, with room for these.
+/// Writes the header of a table of so many records.
 #[tactic(auto, unfolding(crate::specs::Name::Plain::header_bytes))]
-fn header(alloc: Global, count: usize) -> Result<Writer, Error>
-    requires { count ≤ 5460 }
-    ensures ok { IfOk result (λ w. w ≡ header_bytes count) }
-    ensures err { IfErr result (λ e. e ≡ OutOfMemory) }
+fn write_header(out: &mut Vec<u8>, count: usize)
+    requires count { count ≤ 5460 }
+    requires room { length out.old.items + 6 ≤ vec_capacity out.old }
+    ensures items { out.new.items ≡ out.old.items ++ header_bytes count }
+    ensures capacity { vec_capacity out.old ≤ vec_capacity out.new }
 {
-    let mut w = Writer::with_capacity(alloc, 6 + 12 * count)?;
-    w.write(&0u16)?;
-    w.write(&(count as u16))?;
-    w.write(&((6 + 12 * count) as u16))?;
-    Ok(w)
+    let [a, b] = (count as u16).to_be_bytes();
+    let [c, d] = ((6 + 12 * count) as u16).to_be_bytes();
+    put(out, &[0, 0, a, b, c, d]);
 }
 
-/// Writes the records that a subset keeps behind their header, and takes their strings, each once in the order of first use.
+/// Writes the records that a subset keeps behind others, and takes their strings, each once in the order of first use.
 fn collect_names<'a>(
     table: &NameTable<'a>,
-    front: Writer,
+    records: Writer,
     strings: Strings<'a>,
-) -> Result<NewNames<'a>, Error>
-    requires { strings ≡ [] }
-    ensures { Gives (λ names. names) result (written_behind front (placed table.now.storage.now [] (filter is_kept_record (seen_table table.now).records))) }
+) -> Result<Collected<'a>, Error>
+    requires records { records ≡ [] }
+    requires strings { strings ≡ [] }
+    ensures { Gives (λ laid. laid) result (laid_behind [] (placed table.now.storage.now [] (filter is_kept_record (seen_table table.now).records))) }
 {
-    let mut front = front;
+    let mut front = records;
     let mut strings = strings;
     for record in table.records.iter() {
         if record.is_kept() {
@@ -359,22 +362,47 @@ fn collect_names<'a>(
             })?;
         }
     }
-    Ok(NewNames {
-        front: front.finish(),
+    Ok(Collected {
+        records: front.finish(),
         strings,
     })
+}
+
+/// No bytes, and room for so many.
+fn no_bytes(alloc: Global, count: usize) -> Result<Writer, Error>
+    ensures ok { IfOk result (λ w. w ≡ []) }
+    ensures err { IfErr result (λ e. e ≡ OutOfMemory) }
+{
+    Writer::with_capacity(alloc, count)
+}
+
+/// The records that a subset keeps, unless they are more than 5460, of twelve bytes each.
+fn few_names<'a>(collected: Collected<'a>) -> Result<NewNames<'a>, Error>
+    ensures { Gives (λ names. names) result (few_laid collected.entry) }
+{
+    let Collected { records, strings } = collected;
+    if records.len() > 65520 {
+        return Err(Error::SubsetError);
+    }
+    Ok(NewNames { records, strings })
+}
+
+/// The records that a subset keeps, with room for as many as are usual taken at once.
+fn laid_names<'a>(alloc: Global, table: &NameTable<'a>) -> Result<NewNames<'a>, Error>
+    ensures { Gives (λ names. names) result (laid_bytes (seen_table table.now)) }
+{
+    let count = usize::from(table.records.len()).min(NEAR);
+    let records = no_bytes(alloc, 12 * count)?;
+    let strings = Strings::with_capacity(alloc, count)?;
+    let collected = collect_names(table, records, strings)?;
+    few_names(collected)
 }
 
 /// The records that a subset keeps, and their strings, each once in the order of first use. `SubsetError` where a string is not inside the storage or begins past 65535 in the new one, and for more than 5460 records.
 pub fn kept_names<'a>(alloc: Global, table: &NameTable<'a>) -> Result<NewNames<'a>, Error>
     ensures { Gives (λ names. names) result (kept_bytes (seen_table table.now)) }
 {
-    let Some(count) = kept_count(table) else {
-        return Err(Error::SubsetError);
-    };
-    let front = header(alloc, count)?;
-    let strings = Strings::with_capacity(alloc, count.min(NEAR))?;
-    collect_names(table, front, strings)
+    laid_names(alloc, table)
 }
 
 /// `name` of a subset.

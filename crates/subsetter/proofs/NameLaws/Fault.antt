@@ -87,9 +87,6 @@ misplaced storage seen (r ∷ rs) e h = by (string_of storage r) refl h (λ s k.
     by None o k later = (failed_is {A = Placed} SubsetError e k, outside r (0, omega arith, refl) o)
     by (Some s) o k later = second s o (later s) (bind_err (placed_string seen s) (λ at. placed storage (with_string seen s) rs >>= λ p. Ok (with_name r at p)) e k)
 
-pub placed_refused : (storage : List ℕ) (seen : List (List ℕ)) (rs : List NameRecord) (e : Error) → placed storage seen rs ≡ Err e → e ≡ SubsetError
-placed_refused storage seen rs e h = sym (misplaced storage seen rs e h).0
-
 pub placed_length : (storage : List ℕ) (seen : List (List ℕ)) (rs : List NameRecord) (p : Placed) → placed storage seen rs ≡ Ok p → length p.names ≡ length rs
 placed_length storage seen [] p h = ap (λ (q : Placed). length q.names) (sym (done_is (record { names = []; strings = seen }) p h))
 placed_length storage seen (r ∷ rs) p h =

@@ -2,8 +2,8 @@ use Rattle.std.proofs.Common.{◌≡◌, [], Some}
 use Rattle.std.specs.Prelude.{filter}
 use Rattle.subsetter_base.specs.Items.{values}
 use Rattle.subsetter.specs.Name.Read.{name_record_of, is_kept_record}
-use Rattle.subsetter.specs.Name.Plain.{placed, written_behind}
+use Rattle.subsetter.specs.Name.Plain.{placed, laid_behind}
 use Rattle.subsetter.proofs.name.collect_names.Given as goal
 
 abbrev pub invariant-loop-record : goal.invariant-loop-record
-invariant-loop-record l = written_behind l.front (placed l.table.storage.now l.strings (filter is_kept_record (values 12 (λ bytes. Some (name_record_of bytes)) l.record-iterator))) ≡ written_behind l.initial.front (placed l.table.storage.now [] (filter is_kept_record (values 12 (λ bytes. Some (name_record_of bytes)) l.initial.record-iterator)))
+invariant-loop-record l = laid_behind l.front (placed l.table.storage.now l.strings (filter is_kept_record (values 12 (λ bytes. Some (name_record_of bytes)) l.record-iterator))) ≡ laid_behind [] (placed l.table.storage.now [] (filter is_kept_record (values 12 (λ bytes. Some (name_record_of bytes)) l.initial.record-iterator)))

@@ -1,4 +1,4 @@
-use Rattle.std.proofs.Common.{◌≡◌, ◌+◌, ◌∷◌, [], List, ℕ, get_or, drop, ap, sym, ◌∙◌}
+use Rattle.std.proofs.Common.{[], List, ℕ, get_or, ap, sym, ◌∙◌}
 use Rattle.std.specs.Borrow.{Bor}
 use Rattle.std.proofs.lemmas.List.{drop_more}
 use Rattle.subsetter.specs.Name.View.{nows}

@@ -1,6 +1,5 @@
 use Rattle.std.proofs.Common.{ℕ, List, ◌++◌, ◌≤◌, length, sym, ap, ◌∙◌, arith}
 use Rattle.std.proofs.lemmas.List.{length-take-le, take_rest}
-use Rattle.std.specs.Int.{w16, to_be_bytes}
 use Rattle.subsetter.specs.Hmtx.Written.{MetricBytes}
 use Rattle.subsetter.proofs.HmtxLaws.Written.{header_written}
 use Rattle.subsetter.proofs.hmtx.NewMetrics.write_hhea.Goals as goal
