@@ -38,7 +38,7 @@ fn truetype(alloc: Global, face: &Face<'_>, mapper: &GlyphRemapper) -> Result<Ve
     let made = make(alloc, face, &table, outlines, &order)?;
     // Its memory is free before room for the output is taken.
     drop(order);
-    let list = in_order(alloc, font_tables(face, made))?;
+    let list = in_order(alloc, font_tables(face, &made))?;
     finish(alloc, FontFlavor::TrueType, &list)
 }
 
@@ -54,7 +54,7 @@ fn charstrings(
 {
     let source = face.table(Tag::CFF).ok_or(Error::MalformedFont)?;
     let made = cff::make(alloc, face, source, limits, mapper)?;
-    let list = in_order(alloc, cff::font_tables(made))?;
+    let list = in_order(alloc, cff::font_tables(&made))?;
     finish(alloc, FontFlavor::Cff, &list)
 }
 

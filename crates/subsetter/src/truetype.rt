@@ -15,7 +15,7 @@ use crate::glyf::{self, OutlineTables};
 use crate::loca;
 use crate::sfnt::face::Face;
 use crate::sfnt::flavor::FontFlavor;
-use crate::sfnt::tables::{FontTables, TableData, borrowed, owned};
+use crate::sfnt::tables::{FontTables, TableData, borrowed};
 use crate::shared::{self, SharedTables};
 use std::alloc::Global;
 use subsetter_base::{Error, GlyphRemapper, Tag};
@@ -68,18 +68,18 @@ pub fn make<'a>(
 }
 
 /// The tables of the new font.
-pub fn font_tables<'a>(face: &Face<'a>, made: Made<'a>) -> FontTables<'a>
-    requires { made.long ≡ is_long made.outlines }
-    ensures { font_seen result ≡ font_of (table_in face.now.«data».now face.now.records.now) (made_seen made.entry) }
+pub fn font_tables<'b, 'a>(face: &Face<'a>, made: &'b Made<'a>) -> FontTables<'b, 'a>
+    requires { made.now.long ≡ is_long made.now.outlines }
+    ensures { font_seen result ≡ font_of (table_in face.now.«data».now face.now.records.now) (made_seen made.now) }
 {
-    let mut tables = shared::font_tables(made.shared);
+    let mut tables = shared::font_tables(&made.shared);
     tables.cvt = borrowed(face.table(Tag::CVT));
     tables.fpgm = borrowed(face.table(Tag::FPGM));
     tables.glyf = Some(TableData::Outlines {
-        outlines: made.outlines,
+        outlines: &made.outlines,
         long: made.long,
     });
-    tables.loca = owned(Some(made.loca));
+    tables.loca = Some(TableData::Whole(&made.loca));
     tables.prep = borrowed(face.table(Tag::PREP));
     tables
 }

@@ -5,7 +5,7 @@ use Rattle.std.proofs.lemmas.Bool.{ltb-false}
 use Rattle.subsetter_base.specs.Bytes.{◌>>=◌, IsBytes}
 use Rattle.subsetter_base.specs.declared.error.Error.{Error}
 use Rattle.subsetter_base.specs.declared.error.Error.TheVariants.{MalformedFont, OverflowError, OutOfMemory}
-use Rattle.subsetter_base.proofs.Options.{just, just_is}
+use Rattle.subsetter_base.proofs.Options.{just_is}
 use Rattle.subsetter_base.proofs.Results.{named_ok, done_is, failed_is, bind_err}
 use Rattle.subsetter.specs.declared.sfnt.flavor.FontFlavor.TheVariants.{TrueType, Cff}
 use Rattle.subsetter.specs.Truetype.Answered.{IsAnswered, IsRefused, no_memory, unread, unclosed, unmade, unlaid}

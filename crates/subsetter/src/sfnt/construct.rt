@@ -18,7 +18,7 @@ use std::alloc::Global;
 use subsetter_base::{Error, Tag};
 
 /// How many bytes the file has, unless a place or a length is 2^32 or more.
-fn measured(tables: &[NewTable<'_>]) -> Option<usize>
+fn measured(tables: &[NewTable<'_, '_>]) -> Option<usize>
     requires { length tables.now < 16 }
     ensures some { IfSome result (λ n. (fits (start_of (views tables.now)) (views tables.now) ≡ true) × (n ≡ start_of (views tables.now) + length (body (views tables.now)))) }
     ensures none { IfNone result (fits (start_of (views tables.now)) (views tables.now) ≡ false) }
@@ -72,15 +72,28 @@ fn write_header(out: &mut Vec<u8>, kind: u32, count: u16)
     ensures capacity { vec_capacity out.old ≤ vec_capacity out.new }
 {
     let range = search_range(count);
-    put(out, &kind.to_be_bytes());
-    put(out, &count.to_be_bytes());
-    put(out, &range.to_be_bytes());
-    put(out, &entry_selector(count).to_be_bytes());
-    put(out, &(16 * count).saturating_sub(range).to_be_bytes());
+    let [a, b, c, d] = kind.to_be_bytes();
+    let [e, f] = count.to_be_bytes();
+    let [g, h] = range.to_be_bytes();
+    let [i, j] = entry_selector(count).to_be_bytes();
+    let [k, l] = (16 * count).saturating_sub(range).to_be_bytes();
+    put(out, &[a, b, c, d, e, f, g, h, i, j, k, l]);
+}
+
+/// Writes three words.
+fn write_words(out: &mut Vec<u8>, sum: u32, at: u32, len: u32)
+    requires room { length out.old.items + 12 ≤ vec_capacity out.old }
+    ensures items { out.new.items ≡ out.old.items ++ (to_be_bytes w32 sum ++ to_be_bytes w32 at ++ to_be_bytes w32 len) }
+    ensures capacity { vec_capacity out.old ≤ vec_capacity out.new }
+{
+    let [a, b, c, d] = sum.to_be_bytes();
+    let [e, f, g, h] = at.to_be_bytes();
+    let [i, j, k, l] = len.to_be_bytes();
+    put(out, &[a, b, c, d, e, f, g, h, i, j, k, l]);
 }
 
 /// Writes the record of a table that stands at a place.
-fn write_record(out: &mut Vec<u8>, at: usize, len: usize, sum: u32, table: &NewTable<'_>)
+fn write_record(out: &mut Vec<u8>, at: usize, len: usize, sum: u32, table: &NewTable<'_, '_>)
     requires at { at < 2 ^ 32 }
     requires len { (len ≡ length (view table.now).bytes) × (len < 2 ^ 32) }
     requires sum { sum ≡ checksum (view table.now).bytes }
@@ -89,13 +102,11 @@ fn write_record(out: &mut Vec<u8>, at: usize, len: usize, sum: u32, table: &NewT
     ensures capacity { vec_capacity out.old ≤ vec_capacity out.new }
 {
     put(out, table.tag.get());
-    put(out, &sum.to_be_bytes());
-    put(out, &(at as u32).to_be_bytes());
-    put(out, &(len as u32).to_be_bytes());
+    write_words(out, sum, at as u32, len as u32);
 }
 
 /// Writes a table, with zeros up to a multiple of four, and its record, and answers its checksum.
-fn write_table(out: &mut Vec<u8>, front: &mut Vec<u8>, at: usize, table: &NewTable<'_>) -> u32
+fn write_table(out: &mut Vec<u8>, front: &mut Vec<u8>, at: usize, table: &NewTable<'_, '_>) -> u32
     requires at { (at < 2 ^ 32) × (length (view table.now).bytes < 2 ^ 32) }
     requires multiple { length out.old.items % 4 ≡ 0 }
     requires room { length out.old.items + length (aligned 4 (view table.now).bytes) ≤ vec_capacity out.old }
@@ -118,7 +129,7 @@ fn write_tables(
     out: &mut Vec<u8>,
     front: &mut Vec<u8>,
     start: usize,
-    tables: &[NewTable<'_>],
+    tables: &[NewTable<'_, '_>],
 ) -> u32
     requires tables { AllByRecursion IsTable (views tables.now) }
     requires fit { fits start (views tables.now) ≡ true }
@@ -139,7 +150,7 @@ fn write_tables(
 }
 
 /// Puts the adjustment into a table that stands at a place, if it is `head`.
-fn adjust_table(out: &mut Vec<u8>, at: usize, word: u32, table: &NewTable<'_>)
+fn adjust_table(out: &mut Vec<u8>, at: usize, word: u32, table: &NewTable<'_, '_>)
     requires is_table { IsTable (view table.now) }
     requires within { at + length (view table.now).bytes ≤ length out.old.items }
     requires there { take (length (view table.now).bytes) (drop at out.old.items) ≡ (view table.now).bytes }
@@ -151,7 +162,7 @@ fn adjust_table(out: &mut Vec<u8>, at: usize, word: u32, table: &NewTable<'_>)
 }
 
 /// Puts the adjustment into `head` among the tables that stand from a place on.
-fn adjust(out: &mut Vec<u8>, start: usize, word: u32, tables: &[NewTable<'_>])
+fn adjust(out: &mut Vec<u8>, start: usize, word: u32, tables: &[NewTable<'_, '_>])
     requires tables { AllByRecursion IsTable (views tables.now) }
     requires fit { fits start (views tables.now) ≡ true }
     requires start { start ≤ length out.old.items }
@@ -189,7 +200,7 @@ pub fn construct(
     out: Vec<u8>,
     front: Vec<u8>,
     flavor: FontFlavor,
-    tables: &[NewTable<'_>],
+    tables: &[NewTable<'_, '_>],
 ) -> Vec<u8>
     requires few { length tables.now < 16 }
     requires tables { AllByRecursion IsTable (views tables.now) }
@@ -214,7 +225,11 @@ pub fn construct(
 
 /// Lays out a file. Its size is taken first: `OverflowError` where a place or a length is 2^32 or more. Room is reserved once.
 #[tactic(auto, unfolding(crate::specs::Sfnt::Plain::file_of))]
-pub fn finish(alloc: Global, flavor: FontFlavor, tables: &[NewTable<'_>]) -> Result<Vec<u8>, Error>
+pub fn finish(
+    alloc: Global,
+    flavor: FontFlavor,
+    tables: &[NewTable<'_, '_>],
+) -> Result<Vec<u8>, Error>
     requires few { length tables.now < 16 }
     requires tables { AllByRecursion IsTable (views tables.now) }
     ensures { Gives (λ v. v.items) result (file_of (kind_word flavor) (views tables.now)) }
