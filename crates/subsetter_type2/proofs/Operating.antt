@@ -1,8 +1,8 @@
 -- An operator of one byte, by its first byte.
-use Rattle.std.proofs.Common.{◌≡◌, ℕ, ◌<◌, ◌≤◌, Bool, true, false, List, [], ◌∷◌, ◌-◌, length, take, drop, get_or, refl, ap, sym, ◌∙◌, arith, inl, inr, eqb}
+use Rattle.std.proofs.Common.{◌≡◌, ℕ, ◌<◌, ◌≤◌, false, List, [], ◌∷◌, ◌-◌, length, take, drop, get_or, refl, ap, sym, ◌∙◌, arith, inl, inr, eqb}
 use Rattle.std.proofs.lemmas.Bool.{cases_Bool, eqb-true, lt-leb}
 use Rattle.std.proofs.lemmas.List.{take_all}
-use Rattle.subsetter_type2.specs.Machine.{Library, Registers, Act, Does, Back, call, operate, act_at}
+use Rattle.subsetter_type2.specs.Machine.{Library, Registers, Does, Back, call, operate, act_at}
 use Rattle.std.specs.Prelude.{Option, Some, None}
 use Rattle.subsetter_type2.specs.declared.token.Effect.{Effect}
 use Rattle.subsetter_type2.specs.declared.token.Effect.TheVariants.{CallsLocal, CallsGlobal, Returns}

@@ -1,6 +1,6 @@
 -- Stretches of a charstring, one token longer.
-use Rattle.std.proofs.Common.{◌≡◌, ℕ, zero, suc, ◌+◌, ◌-◌, ◌*◌, ◌/◌, ◌%◌, ◌<◌, ◌≤◌, Bool, true, false, List, [], ◌∷◌, ◌++◌, length, take, drop, get_or, Some, None, Ok, refl, sym, ap, ◌∙◌, subst, arith, append_assoc, append-nil, pos, ◌-ℤ◌, w16, to_z, of_z, nat_lt, drop-cons, add-one, length-drop, length-append}
-use Rattle.std.specs.Prelude.{MatchBool, Option, reverse, IfSome, ℤ, if◌then◌else◌, nat_le, ◌==◌}
+use Rattle.std.proofs.Common.{◌≡◌, ℕ, zero, suc, ◌+◌, ◌-◌, ◌*◌, ◌/◌, ◌%◌, ◌<◌, ◌≤◌, Bool, true, false, List, [], ◌∷◌, ◌++◌, length, take, drop, get_or, Some, None, Ok, refl, sym, ap, ◌∙◌, subst, arith, append_assoc, append-nil, pos, ◌-ℤ◌, w16, to_z, nat_lt, drop-cons, add-one, length-drop, length-append}
+use Rattle.std.specs.Prelude.{MatchBool, Option, reverse, ℤ, if◌then◌else◌, nat_le, ◌==◌}
 use Rattle.std.specs.Borrow.{Bor}
 use Rattle.std.proofs.lemmas.Int.{ints, to_z-of_z}
 use Rattle.std.proofs.lemmas.Bool.Decides.{nat_tests}
@@ -13,14 +13,14 @@ use Rattle.subsetter_cffdata.specs.declared.charstring_number.CharStringNumber.T
 use Rattle.subsetter_cffdata.specs.CharStringNumber.{FitsIn, NumberFits, number_at, middle_number, written, middle_value}
 use Rattle.subsetter_cffdata.proofs.CharStringNumbers.{number_fits}
 use Rattle.subsetter_cffdata.proofs.MiddleNumbers.{stored_written}
-use Rattle.subsetter_type2.specs.Machine.{Library, Registers, Event, Act, Does, On, Outcome, unended, act_at}
+use Rattle.subsetter_type2.specs.Machine.{Library, Registers, Act, On, Outcome, unended, act_at}
 use Rattle.subsetter_type2.specs.Behind.{ReachedBehind}
-use Rattle.subsetter_type2.specs.Flat.{flat_event, flat_operands}
+use Rattle.subsetter_type2.specs.Flat.{flat_operands}
 use Rattle.subsetter_type2.specs.Output.{Written}
 use Rattle.subsetter_type2.specs.OutputView.{Stands, Holds, place_after, last_place, written_at}
 use Rattle.subsetter_type2.specs.Stretch.{LeadsOn, Comes, Extends, registers_with}
 use Rattle.subsetter_type2.specs.Token.{one_byte, one_byte_effect, effect_of}
-use Rattle.subsetter_type2.specs.View.{Done, done, rests_of}
+use Rattle.subsetter_type2.specs.View.{done, rests_of}
 use Rattle.subsetter_type2.specs.declared.stretch.Stretch.{Stretch}
 use Rattle.subsetter_type2.specs.declared.token.Effect.{Effect}
 use Rattle.subsetter_type2.specs.declared.token.Effect.TheVariants.{CountsStems, Draws, CallsLocal, CallsGlobal, Returns, Ends, Masks}

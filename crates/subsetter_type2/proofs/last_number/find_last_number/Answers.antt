@@ -1,4 +1,4 @@
-use Rattle.std.proofs.Common.{◌≡◌, ◌<◌, ◌≤◌, ◌-◌, arith, length}
+use Rattle.std.proofs.Common.{◌-◌, arith}
 use Rattle.subsetter_type2.proofs.OutputLemmas.{stop_before, last_is}
 use Rattle.subsetter_type2.proofs.last_number.find_last_number.Goals as goal
 

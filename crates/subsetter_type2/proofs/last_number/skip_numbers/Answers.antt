@@ -1,7 +1,6 @@
-use Rattle.std.proofs.Common.{◌≡◌, ◌<◌, ◌≤◌, ◌∙◌, List, arith, sym, None, Some, pos, suc, add-one, drop, length}
+use Rattle.std.proofs.Common.{◌∙◌, arith, sym, pos, add-one}
 use Rattle.subsetter_cffdata.specs.declared.charstring_number.CharStringNumber.TheVariants.{Integer}
 use Rattle.subsetter_cffdata.proofs.CharStringNumbers.{no_longer}
-use Rattle.subsetter_type2.specs.Flat.{flat_operands}
 use Rattle.subsetter_type2.proofs.OutputLemmas.{read_nth, stop_before, behind_is}
 use Rattle.subsetter_type2.proofs.last_number.skip_numbers.Goals as goal
 

@@ -1,4 +1,4 @@
-use Rattle.std.proofs.Common.{◌≡◌, ◌≤◌, ◌<◌, ◌+◌, arith, length, get_or, sym}
+use Rattle.std.proofs.Common.{◌<◌, ◌+◌, arith, get_or, sym}
 use Rattle.subsetter_type2.proofs.Stretches.{by_small, by_middle, by_operator}
 use Rattle.subsetter_type2.proofs.scanning.longer.Goals as goal
 

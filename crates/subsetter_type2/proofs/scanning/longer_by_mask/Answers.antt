@@ -1,4 +1,4 @@
-use Rattle.std.proofs.Common.{◌≡◌, ◌≤◌, ◌<◌, ◌+◌, arith, length, get_or}
+use Rattle.std.proofs.Common.{arith}
 use Rattle.subsetter_type2.proofs.Stretches.{by_mask}
 use Rattle.subsetter_type2.proofs.scanning.longer_by_mask.Goals as goal
 

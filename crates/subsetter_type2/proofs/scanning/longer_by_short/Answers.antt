@@ -1,4 +1,4 @@
-use Rattle.std.proofs.Common.{◌≡◌, ◌≤◌, ◌<◌, ◌+◌, arith, length, get_or}
+use Rattle.std.proofs.Common.{◌<◌, ◌+◌, arith, get_or}
 use Rattle.subsetter_type2.proofs.Stretches.{by_short}
 use Rattle.subsetter_type2.proofs.scanning.longer_by_short.Goals as goal
 

@@ -1,1 +1,0 @@
-use Rattle.subsetter_type2.proofs.output.Output.find_last.Goals as goal

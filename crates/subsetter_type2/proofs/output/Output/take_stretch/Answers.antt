@@ -1,4 +1,4 @@
-use Rattle.std.proofs.Common.{◌≡◌, ◌≤◌, ◌∙◌, refl, arith}
+use Rattle.std.proofs.Common.{◌≤◌, ◌∙◌, refl}
 use Rattle.subsetter_type2.proofs.Stretches.{stretch_holds, stretch_leads, some_tokens}
 use Rattle.subsetter_type2.proofs.output.Output.take_stretch.Goals as goal
 

@@ -1,5 +1,4 @@
-use Rattle.std.proofs.Common.{◌≡◌, ◌≤◌, ◌-◌, arith, length, take, drop, refl, sym, ap, ◌∙◌}
-use Rattle.subsetter_type2.specs.OutputView.{written_at, last_place}
+use Rattle.std.proofs.Common.{◌≤◌, arith, length, refl, ap}
 use Rattle.subsetter_type2.proofs.OutputLemmas.{holds_at, last_inside, last_there, last_value, stands_before, written_is, rest_from, at_view}
 use Rattle.subsetter_type2.proofs.output.OutputSink.pop.Goals as goal
 
