@@ -1,5 +1,5 @@
 -- What the operators of a top dict or a font dict say, one by one, and which operands are demanded of them.
-use Rattle.std.specs.Prelude.{ℕ, if◌then◌else◌, ◌||◌, Bool, true, false, not, List}
+use Rattle.std.specs.Prelude.{ℕ, if◌then◌else◌, Bool, true, false, List}
 use Rattle.std.specs.Str.{bytes_eq}
 use Rattle.subsetter_cffdata.specs.Numbers.{Number}
 use Rattle.subsetter_cffdata.specs.Operands.{string_operand, offset_operand, range_operands, just}

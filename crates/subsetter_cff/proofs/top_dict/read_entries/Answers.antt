@@ -1,11 +1,9 @@
-use Rattle.std.proofs.Common.{◌≡◌, Some, length, map, sym, ◌∙◌, ap, ℕ, List, Bool, ◌&&◌}
+use Rattle.std.proofs.Common.{◌≡◌, Some, length, map, sym, ◌∙◌, ap}
 use Rattle.subsetter_cffdata.specs.Dict.{entries}
-use Rattle.subsetter_cffdata.specs.Numbers.{Number}
 use Rattle.subsetter_cffdata.specs.Operands.{operands_at}
 use Rattle.subsetter_cffdata.specs.ParserView.{left}
 use Rattle.subsetter_cffdata.specs.Views.{number_of, operator_of}
 use Rattle.subsetter_cff.specs.Fields.{demands_of}
-use Rattle.subsetter_cff.specs.Opened.{all_meet}
 use Rattle.subsetter_cff.specs.Said.{Said, said_of, said_after}
 use Rattle.subsetter_cff.proofs.LastEntries.{meet_next, meet_end, fails_all, passes}
 use Rattle.subsetter_cff.proofs.SaidByEntries.{take_next, take_end, all_said}
