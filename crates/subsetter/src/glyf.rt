@@ -12,7 +12,7 @@ ghost use Rattle.subsetter.specs.Glyf.Closure.{first_byte_in, AreFound, composit
 ghost use Rattle.subsetter.specs.Sfnt.Read.{table_in};
 ghost use Rattle.subsetter.specs.Glyf.Read.{offset, outline_in};
 ghost use Rattle.subsetter.specs.Glyf.View.{seen};
-ghost use Rattle.subsetter.specs.Glyf.Plain.{outlines_read, kept_outline, kept_outlines, with_last, with_outlines};
+ghost use Rattle.subsetter.specs.Glyf.Plain.{outlines_read, kept_outlines, with_outlines};
 ghost use Rattle.subsetter.specs.Glyf.Reach.{IsGlyphOrderBy};
 ghost use Rattle.subsetter_base.specs.declared.error.Error.TheVariants.{OutOfMemory, MalformedFont, OverflowError};
 
@@ -115,23 +115,8 @@ fn find_outlines<'a>(
     Ok(outlines)
 }
 
-/// Puts an outline last, which begins with this byte, with its components under their new numbers.
-/// `MalformedFont` where it isn't there, has one byte or is a composite that is cut.
-#[tactic(auto, unfolding(crate::specs::Glyf::Plain::kept_outline))]
-fn keep<'a>(
-    list: OutlineList<'a>,
-    outline: Option<&'a [u8]>,
-    first: u8,
-    order: &GlyphRemapper,
-) -> Result<OutlineList<'a>, Error>
-    requires { first ≡ first_byte_in (option_copied outline) }
-    ensures { Gives (λ list. list) result (with_last list.entry (kept_outline order.now (option_copied outline.entry))) }
-{
-    let outline = outline.ok_or(Error::MalformedFont)?;
-    list.push(outline, first, order)
-}
-
-/// Puts outlines last, as `keep` puts each. `heads` is room for their first bytes.
+/// Puts outlines last, each with its components under their new numbers. `heads` is room for their first bytes.
+/// `MalformedFont` where one isn't there, has one byte or is a composite that is cut.
 fn keep_block<'a>(
     list: OutlineList<'a>,
     heads: &mut Vec<u8>,
@@ -144,7 +129,12 @@ fn keep_block<'a>(
     let mut list = list;
     let mut place: usize = 0;
     for outline in block {
-        list = keep(list, *outline, heads[place], order)?;
+        let outline = outline.ok_or(Error::MalformedFont)?;
+        if is_composite(heads[place]) {
+            list = list.push_composite(outline, order)?;
+        } else {
+            list.push_kept(outline)?;
+        }
         place += 1;
     }
     Ok(list)

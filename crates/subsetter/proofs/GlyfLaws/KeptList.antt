@@ -1,17 +1,19 @@
 -- Outlines of a list of glyphs, read in turn.
-use Rattle.std.proofs.Common.{◌≡◌, ℕ, ◌+◌, ◌-◌, ◌<◌, List, [], ◌∷◌, ◌++◌, length, get_or, take, drop, Option, Result, Ok, Err, refl, sym, ap, ◌∙◌, append_assoc}
+use Rattle.std.proofs.Common.{◌≡◌, ℕ, ◌+◌, ◌-◌, ◌<◌, ◌≤◌, List, [], ◌∷◌, ◌++◌, length, get_or, take, drop, Option, Some, None, Result, Ok, Err, refl, sym, ap, subst, ◌∙◌, append_assoc}
 use Rattle.std.specs.Prelude.{map}
 use Rattle.std.specs.Borrow.{Bor}
-use Rattle.std.specs.Option.{option_copied}
-use Rattle.std.proofs.lemmas.List.{append-nil, drop_more, map-append, take-append-drop, drop-drop}
+use Rattle.std.specs.Option.{option_copied, ok_or}
+use Rattle.std.proofs.lemmas.List.{append-nil, drop_more, map-append, take-append-drop, drop-drop, get_or-map}
 use Rattle.subsetter_base.specs.Bytes.{◌>>=◌}
 use Rattle.subsetter_base.specs.Gives.{Fails}
 use Rattle.subsetter_base.specs.declared.error.Error.{Error}
 use Rattle.subsetter_base.specs.declared.error.Error.TheVariants as errors
 use Rattle.subsetter_base.proofs.Lists.{rest_of}
-use Rattle.subsetter_base.proofs.Results.{with_front, bind_ok, done_is}
+use Rattle.subsetter_base.proofs.Results.{with_front, bind_ok, done_is, named_err}
 use Rattle.subsetter.specs.Glyf.Read.{Outlines, outline_in}
-use Rattle.subsetter.specs.Glyf.Plain.{kept, kept_outline, kept_outlines, kept_all, with_last, with_outlines, written_behind}
+use Rattle.subsetter.specs.Glyf.Plain.{kept, kept_outline, kept_outlines, kept_all, with_last, with_outlines, written_behind, rewritten_composite}
+use Rattle.subsetter.specs.Glyf.Closure.{first_byte_in}
+use Rattle.subsetter.proofs.GlyfLaws.Chains.{rewritten_begun, rewritten_simple}
 
 regroup : {A : Type 0} (front : List A) (x : A) (read : Result (List A) Error) → with_front front (read >>= λ xs. Ok (x ∷ xs)) ≡ with_front (front ++ x ∷ []) read
 regroup front x (Ok xs) = ap Ok (sym (append_assoc front (x ∷ []) xs))
@@ -117,3 +119,31 @@ written_is front b all slice start same parts at =
     drop_front : (l : List ℕ) → drop (length l) (l ++ b) ≡ b
     drop_front [] = refl
     drop_front (x ∷ l) = drop_front l
+
+-- ---- one outline of a block
+
+-- its first byte
+pub head_at : (block : List (Option (Bor (List ℕ)))) (heads : List ℕ) (i : ℕ) (d : Option (Bor (List ℕ))) (e : ℕ) → heads ≡ map (λ o. first_byte_in (option_copied o)) block → i < length block → get_or heads i e ≡ first_byte_in (option_copied (get_or block i d))
+head_at block heads i d e is lt = ap (λ (l : List ℕ). get_or l i e) is ∙ get_or-map (λ o. first_byte_in (option_copied o)) block i d e lt
+
+-- a composite is written anew
+pub kept_composite : (order : List ℕ) (o : Option (Bor (List ℕ))) (b : Bor (List ℕ)) (first : ℕ) → o ≡ Some b → first ≡ first_byte_in (option_copied o) → 128 ≤ first → kept_outline order (option_copied o) ≡ rewritten_composite order b.now
+unfolding kept_outline
+kept_composite order o b first is head high =
+    let here : first ≡ first_byte_in (Some b.now) = head ∙ ap (λ (p : Option (Bor (List ℕ))). first_byte_in (option_copied p)) is in
+    ap (λ (p : Option (Bor (List ℕ))). kept_outline order (option_copied p)) is ∙ rewritten_begun order b.now first here high
+
+-- another stays as it is
+pub kept_simple : (order : List ℕ) (o : Option (Bor (List ℕ))) (b : Bor (List ℕ)) (first : ℕ) → o ≡ Some b → first ≡ first_byte_in (option_copied o) → first < 128 → kept_outline order (option_copied o) ≡ Ok b.now
+unfolding kept_outline
+kept_simple order o b first is head low =
+    let here : first ≡ first_byte_in (Some b.now) = head ∙ ap (λ (p : Option (Bor (List ℕ))). first_byte_in (option_copied p)) is in
+    ap (λ (p : Option (Bor (List ℕ))). kept_outline order (option_copied p)) is ∙ rewritten_simple order b.now first here low
+
+-- one that isn't there is missed
+pub kept_none : (order : List ℕ) (front : List (List ℕ)) (o : Option (Bor (List ℕ))) (e : Error) → ok_or o errors.MalformedFont ≡ Err e → Fails e (with_last front (kept_outline order (option_copied o)))
+unfolding kept_outline
+kept_none order front None e is =
+    let named = named_err None errors.MalformedFont e is in
+    subst (λ d. Fails d (with_last front (kept_outline order None))) named.1 refl
+kept_none order front (Some b) e is = absurd cc

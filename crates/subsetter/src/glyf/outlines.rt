@@ -1,16 +1,15 @@
 //! The outlines of a new `glyf`.
 
-ghost use Rattle.std.specs.Prelude.{◌≡◌, ◌+◌, ◌<◌, ◌≤◌, ◌^◌, ◌++◌, ◌∷◌, [], length, vec_capacity, OnOk, IfOk, IfErr, Some};
+ghost use Rattle.std.specs.Prelude.{◌≡◌, ◌+◌, ◌<◌, ◌≤◌, ◌^◌, ◌++◌, ◌∷◌, [], length, vec_capacity, OnOk, IfOk, IfErr};
 ghost use Rattle.std.specs.Iterator.{YieldsFirstRef, item_count};
 ghost use Rattle.subsetter_base.specs.Gives.{Gives};
 ghost use Rattle.subsetter_base.specs.declared.error.Error.TheVariants.{OutOfMemory};
-ghost use Rattle.subsetter.specs.Glyf.Closure.{first_byte_in};
-ghost use Rattle.subsetter.specs.Glyf.Plain.{rewritten, rewritten_composite, with_last};
+ghost use Rattle.subsetter.specs.Glyf.Plain.{rewritten_composite, with_last};
 ghost use Rattle.subsetter.specs.Glyf.Unfold.{padded};
 ghost use Rattle.subsetter.specs.Glyf.Written.{glyf_bytes};
 ghost use Rattle.subsetter.specs.Sfnt.Checksum.{checksum};
 
-use crate::glyf::component::{is_composite, rewrite_composite};
+use crate::glyf::component::rewrite_composite;
 use crate::sfnt::checksum::Sum;
 use crate::sfnt::room::put;
 use std::alloc::Global;
@@ -66,22 +65,8 @@ impl<'a> OutlineList<'a> {
         })
     }
 
-    /// Puts an outline of the source last, which begins with this byte, with its components under their new numbers.
-    /// `MalformedFont` for one byte and for a composite that is cut.
-    pub fn push(self, outline: &'a [u8], first: u8, order: &GlyphRemapper) -> Result<Self, Error>
-        requires { first ≡ first_byte_in (Some outline.now) }
-        ensures { Gives (λ list. list) result (with_last self.entry (rewritten order.now outline.now)) }
-    {
-        if is_composite(first) {
-            return self.push_composite(outline, order);
-        }
-        let mut list = self;
-        list.push_kept(outline)?;
-        Ok(list)
-    }
-
     /// Puts a composite last, with its components under their new numbers. `MalformedFont` where it is cut.
-    fn push_composite(self, outline: &[u8], order: &GlyphRemapper) -> Result<Self, Error>
+    pub fn push_composite(self, outline: &[u8], order: &GlyphRemapper) -> Result<Self, Error>
         ensures { Gives (λ list. list) result (with_last self.entry (rewritten_composite order.now outline.now)) }
     {
         let Self {
@@ -109,7 +94,7 @@ impl<'a> OutlineList<'a> {
     }
 
     /// Puts an outline of the source last.
-    fn push_kept(&mut self, outline: &'a [u8]) -> Result<(), Error>
+    pub fn push_kept(&mut self, outline: &'a [u8]) -> Result<(), Error>
         ensures ok { OnOk result (self.new ≡ self.old ++ outline.now ∷ []) }
         ensures err { IfErr result (λ e. e ≡ OutOfMemory) }
     {
