@@ -6,11 +6,11 @@
 
 ghost use Rattle.std.specs.HashMap.{get, IsUnchanged};
 ghost use Rattle.std.specs.Str.{bytes_eq};
-ghost use Rattle.std.specs.Prelude.{ℕ, List, nat_le, ◌&&◌, ◌≡◌, ◌+◌, ◌*◌, ◌<◌, ◌≤◌, ◌^◌, ◌++◌, [], length, filter, false, vec_capacity, if◌then◌else◌, None, Some, OnOk, OnErr, IfOk, IfErr, IfNone, IfSome};
+ghost use Rattle.std.specs.Prelude.{ℕ, List, nat_le, ◌&&◌, ◌≡◌, ◌+◌, ◌*◌, ◌%◌, ◌<◌, ◌≤◌, ◌^◌, ◌++◌, [], length, filter, flat_map, false, vec_capacity, if◌then◌else◌, None, Some, OnOk, OnErr, IfOk, IfErr, IfNone, IfSome};
 ghost use Rattle.std.specs.Option.{option_copied, option_map, ok_or};
 ghost use Rattle.subsetter_base.specs.Gives.{Gives};
 ghost use Rattle.subsetter_base.specs.declared.error.Error.TheVariants.{OutOfMemory};
-ghost use Rattle.subsetter.specs.Name.Read.{name_parts, is_unicode, is_kept_record, string_of, among, with_string, string_place, joined};
+ghost use Rattle.subsetter.specs.Name.Read.{name_record_bytes, name_parts, is_unicode, is_kept_record, string_of, among, with_string, string_place, joined};
 ghost use Rattle.subsetter.specs.Name.Plain.{placed, placed_string, name_of_table, new_name, header_bytes, laid_behind, few_laid, laid_bytes, kept_bytes};
 ghost use Rattle.subsetter.specs.Name.View.{nows, seen_parts, seen_table, name_seen};
 
@@ -268,6 +268,46 @@ impl<'a> NameTable<'a> {
         ensures { option_map seen_table result ≡ name_parts «data».now }
     {
         parse_parts(data)
+    }
+}
+
+/// The low 16 bits of how many records a table has.
+fn count_records(table: &NameTable<'_>) -> u16
+    ensures { result ≡ length (seen_table table.now).records % 65536 }
+{
+    let mut count: u16 = 0;
+    for _record in table.records.iter() {
+        count = count.wrapping_add(1);
+    }
+    count
+}
+
+/// Writes the records of a table.
+fn write_records(w: &mut Writer, table: &NameTable<'_>) -> Result<(), Error>
+    ensures ok { OnOk result (w.new ≡ w.old ++ flat_map name_record_bytes (seen_table table.now).records) }
+    ensures err { IfErr result (λ e. e ≡ OutOfMemory) }
+{
+    for record in table.records.iter() {
+        w.write(&record)?;
+    }
+    Ok(())
+}
+
+/// A table as it stands, its storage right behind its records.
+impl Writeable for NameTable<'_> {
+    ghost use Rattle.subsetter.specs.Name.Read.{name_bytes};
+    ghost use Rattle.subsetter.specs.Name.View.{seen_table};
+
+    ghost bytes_of = { λ t. name_bytes (seen_table t).records (seen_table t).storage };
+
+    fn write(&self, w: &mut Writer) -> Result<(), Error> {
+        let count = count_records(self);
+        w.write(&0u16)?;
+        w.write(&count)?;
+        w.write(&(((6 + 12 * count as usize) % 65536) as u16))?;
+        write_records(w, self)?;
+        w.extend(self.storage)?;
+        Ok(())
     }
 }
 

@@ -1,6 +1,7 @@
 -- Records and strings of `name`.
-use Rattle.std.proofs.Common.{◌≡◌, ℕ, zero, suc, ◌+◌, ◌*◌, ◌<◌, ◌≤◌, Bool, true, false, cond, leb, ◌||◌, ◌&&◌, List, [], ◌∷◌, ◌++◌, length, take, drop, Option, Some, None, Ok, Err, refl, sym, ap, ◌∙◌, arith}
-use Rattle.std.specs.Prelude.{IfSome}
+use Rattle.std.proofs.Common.{◌≡◌, ℕ, zero, suc, ◌+◌, ◌*◌, ◌/◌, ◌%◌, ◌<◌, ◌≤◌, Bool, true, false, cond, leb, ◌||◌, ◌&&◌, List, [], ◌∷◌, ◌++◌, length, take, drop, Option, Some, None, Ok, Err, refl, sym, ap, ◌∙◌, arith}
+use Rattle.std.specs.Prelude.{IfSome, flat_map}
+use Rattle.std.specs.Int.{w16, to_be_bytes}
 use Rattle.std.specs.Option.{option_and_then, option_map, unwrap_or}
 use Rattle.std.specs.Str.{bytes_eq}
 use Rattle.std.specs.Borrow.{Bor}
@@ -9,9 +10,9 @@ use Rattle.std.proofs.lemmas.List.{append-nil, length-append, length-drop, map-a
 use Rattle.std.proofs.lemmas.Grind.{flat_map-append}
 use Rattle.subsetter_base.specs.Items.{values_of}
 use Rattle.subsetter_base.specs.declared.error.Error.TheVariants.{SubsetError}
-use Rattle.subsetter_base.proofs.Lists.{bytes_eq_is, bytes_eq_self}
+use Rattle.subsetter_base.proofs.Lists.{five_written, bytes_eq_is, bytes_eq_self}
 use Rattle.subsetter.specs.declared.name.NameRecord.{NameRecord}
-use Rattle.subsetter.specs.Name.Read.{name_parts, name_record_of, name_records_in, among, string_place, joined}
+use Rattle.subsetter.specs.Name.Read.{name_parts, name_record_of, name_records_in, name_record_bytes, name_bytes, among, string_place, joined}
 use Rattle.subsetter.specs.Name.Plain.{placed_string}
 use Rattle.subsetter.specs.declared.name.NameTable.{NameTable as ReadTable}
 use Rattle.subsetter.specs.Name.View.{nows, seen_parts, seen_table}
@@ -192,3 +193,19 @@ record_values (suc n) bytes h =
 pub walked : (bytes : List ℕ) (o : Option ReadTable) → option_map seen_parts o ≡ name_parts bytes → IfSome o (λ t. length t.records.bytes ≡ t.records.count * 12) → option_map seen_table o ≡ name_parts bytes
 walked bytes None h whole = h
 walked bytes (Some t) h whole = ap (λ (rs : List NameRecord). Some (record { records = rs; storage = t.storage.now })) (record_values t.records.count t.records.bytes (omega arith)) ∙ h
+
+-- version, count, the storage's offset, the records and the storage, in turn
+pub table_written : (w : List ℕ) (records : List NameRecord) (storage w1 w2 w3 w4 w5 : List ℕ) → w1 ≡ w ++ to_be_bytes w16 0 → w2 ≡ w1 ++ to_be_bytes w16 (length records % 65536) → w3 ≡ w2 ++ to_be_bytes w16 ((6 + 12 * (length records % 65536)) % 65536)
+    → w4 ≡ w3 ++ flat_map name_record_bytes records → w5 ≡ w4 ++ storage → w5 ≡ w ++ name_bytes records storage
+unfolding name_bytes
+table_written w records storage w1 w2 w3 w4 w5 h1 h2 h3 h4 h5 =
+    let n = length records in
+    let count : to_be_bytes w16 (n % 65536) ≡ to_be_bytes w16 n = low_16 (n % 65536) n (omega arith) in
+    let place : to_be_bytes w16 ((6 + 12 * (n % 65536)) % 65536) ≡ to_be_bytes w16 (6 + 12 * n) = low_16 ((6 + 12 * (n % 65536)) % 65536) (6 + 12 * n) (omega arith) in
+    five_written w (to_be_bytes w16 0) (to_be_bytes w16 n) (to_be_bytes w16 (6 + 12 * n)) (flat_map name_record_bytes records) storage w1 w2 w3 w4 w5 h1 (h2 ∙ ap (λ (l : List ℕ). w1 ++ l) count) (h3 ∙ ap (λ (l : List ℕ). w2 ++ l) place) h4 h5
+  where
+    low_16 : (a b : ℕ) → a % 65536 ≡ b % 65536 → to_be_bytes w16 a ≡ to_be_bytes w16 b
+    low_16 a b e =
+        let high : a / 256 % 256 ≡ b / 256 % 256 = omega arith in
+        let low : a % 256 ≡ b % 256 = omega arith in
+        ap (λ (x : ℕ). x ∷ a % 256 ∷ []) high ∙ ap (λ (x : ℕ). b / 256 % 256 ∷ x ∷ []) low

@@ -8,11 +8,11 @@ ghost use Rattle.subsetter.specs.Sfnt.View.{table_bytes, views, font_seen};
 ghost use Rattle.subsetter_base.specs.declared.error.Error.TheVariants.{OutOfMemory};
 
 use crate::glyf::outlines::{OutlineList, outlines_len, write_outlines};
-use crate::sfnt::checksum::checksum;
 use crate::head::NewHead;
 use crate::hmtx::NewMetrics;
 use crate::maxp::NewMaxp;
 use crate::name::NewNames;
+use crate::sfnt::checksum::checksum;
 use crate::sfnt::room::put;
 use std::alloc::Global;
 use subsetter_base::{Error, Tag};
