@@ -1,10 +1,10 @@
 -- Stretches of a charstring, one token longer.
-use Rattle.std.proofs.Common.{◌≡◌, ℕ, zero, suc, ◌+◌, ◌-◌, ◌*◌, ◌/◌, ◌%◌, ◌<◌, ◌≤◌, Bool, true, false, List, [], ◌∷◌, ◌++◌, length, take, drop, get_or, Some, None, Ok, refl, sym, ap, ◌∙◌, subst, arith, append_assoc, append-nil, pos, ◌-ℤ◌, w16, to_z, nat_lt, drop-cons, add-one, length-drop, length-append}
+use Rattle.std.proofs.Common.{◌≡◌, ltb, ℕ, zero, suc, ◌+◌, ◌-◌, ◌*◌, ◌/◌, ◌%◌, ◌<◌, ◌≤◌, Bool, true, false, List, [], ◌∷◌, ◌++◌, length, take, drop, get_or, Some, None, Ok, refl, sym, ap, ◌∙◌, subst, arith, append_assoc, append-nil, pos, ◌-ℤ◌, w16, to_z, nat_lt, drop-cons, add-one, length-drop, length-append}
 use Rattle.std.specs.Prelude.{MatchBool, Option, reverse, ℤ, if◌then◌else◌, nat_le, ◌==◌}
 use Rattle.std.specs.Borrow.{Bor}
 use Rattle.std.proofs.lemmas.Int.{ints, to_z-of_z}
 use Rattle.std.proofs.lemmas.Bool.Decides.{nat_tests}
-use Rattle.std.proofs.lemmas.Bool.{le-leb, lt-leb, lt-ltb}
+use Rattle.std.proofs.lemmas.Bool.{le-leb, lt-leb, lt-ltb, ltb-true, ltb-false}
 use Rattle.std.proofs.lemmas.List.{length-take-le, length-map, length-reverse, take_all, drop-drop}
 use Rattle.std.proofs.Math.Seq.{take-add}
 use Rattle.std.proofs.lemmas.Grind.{take_at_read}
@@ -277,6 +277,19 @@ by_small text mask_len s longer e inside low high few = rw e (extends_small text
 pub by_middle : (text : List ℕ) (mask_len : ℕ) (s longer : Stretch) → longer ≡ record { len = s.len + 2; tokens = s.tokens + 1; settled = s.settled; count = s.count + 1; last = s.len } → s.len + 1 < length text → 247 ≤ get_or text s.len 0 → get_or text s.len 0 < 255 → get_or text (s.len + 1) 0 < 256 → s.count < 48
     → Extends text mask_len s longer
 by_middle text mask_len s longer e inside low high small few = rw e (extends_middle text mask_len s inside low high small few)
+
+-- a number of one or of two bytes
+pub by_one_or_two : (text : List ℕ) (mask_len : ℕ) (s longer : Stretch) (size : ℕ) → longer ≡ record { len = s.len + size; tokens = s.tokens + 1; settled = s.settled; count = s.count + 1; last = s.len } → (get_or text s.len 0 < 247 → size ≡ 1) → (247 ≤ get_or text s.len 0 → size ≡ 2)
+    → s.len + size ≤ length text → s.len < length text → 32 ≤ get_or text s.len 0 → get_or text s.len 0 < 255 → get_or text (s.len + 1) 0 < 256 → s.count < 48 → Extends text mask_len s longer
+by_one_or_two text mask_len s longer size e one two fits inside low high small few = by (ltb (get_or text s.len 0) 247) refl
+  where
+    by : (b : Bool) → ltb (get_or text s.len 0) 247 ≡ b → Extends text mask_len s longer
+    by true t =
+        let is = one (ltb-true (get_or text s.len 0) 247 t) in
+        by_small text mask_len s longer (subst (λ (n : ℕ). longer ≡ record { len = s.len + n; tokens = s.tokens + 1; settled = s.settled; count = s.count + 1; last = s.len }) is e) inside low (ltb-true (get_or text s.len 0) 247 t) few
+    by false t =
+        let is = two (ltb-false (get_or text s.len 0) 247 t) in
+        by_middle text mask_len s longer (subst (λ (n : ℕ). longer ≡ record { len = s.len + n; tokens = s.tokens + 1; settled = s.settled; count = s.count + 1; last = s.len }) is e) (omega (arith, is, fits)) (ltb-false (get_or text s.len 0) 247 t) high small few
 
 pub by_operator : (text : List ℕ) (mask_len : ℕ) (s longer : Stretch) → longer ≡ record { len = s.len + 1; tokens = s.tokens + 1; settled = s.len + 1; count = 0; last = s.last } → s.len < length text → get_or text s.len 0 < 32 → is_plain (get_or text s.len 0) ≡ true
     → Extends text mask_len s longer

@@ -1,6 +1,6 @@
 //! Tokens that stand in the flat form as they are, by their first byte.
 
-ghost use Rattle.std.specs.Prelude.{◌≡◌, ◌≤◌, ◌+◌, ◌*◌, MatchBool, Some};
+ghost use Rattle.std.specs.Prelude.{◌≡◌, ◌<◌, ◌≤◌, ◌+◌, ◌*◌, MatchBool, Some};
 ghost use Rattle.subsetter_type2.specs.Plain.{is_plain};
 ghost use Rattle.subsetter_type2.specs.Token.{one_byte_effect};
 ghost use Rattle.subsetter_type2.specs.declared.token.Effect.TheVariants.{Masks};
@@ -32,6 +32,16 @@ pub fn begins_plain(first: u8) -> bool
     ensures { result ≡ is_plain first }
 {
     PLAIN[first as usize]
+}
+
+/// How many bytes a number of one or two bytes has that begins with this byte.
+#[inline(always)]
+pub fn number_size(first: u8) -> usize
+    ensures one { first < 247 → result ≡ 1 }
+    ensures two { 247 ≤ first → result ≡ 2 }
+    ensures few { result ≤ 2 }
+{
+    1 + (first >= 247) as usize
 }
 
 /// The whole number of these two bytes has no form of one or two bytes.

@@ -6,7 +6,7 @@ ghost use Rattle.subsetter_type2.specs.OutputView.{Stands};
 ghost use Rattle.subsetter_type2.specs.Stretch.{Comes, Extends, IsSound};
 
 use crate::argstack::MAX_OPERANDS;
-use crate::plain::{begins_plain, is_mask, is_shortest};
+use crate::plain::{begins_plain, is_mask, is_shortest, number_size};
 use crate::stretch::Stretch;
 
 /// One token longer, where a whole number of three bytes follows in its shortest form.
@@ -103,16 +103,15 @@ fn longer(stretch: Stretch, text: &[u8], most: usize, mask_len: u16) -> Option<S
     if stretch.count >= MAX_OPERANDS {
         return None;
     }
-    if first <= 246 {
-        return Some(stretch.with_number(stretch.len + 1));
-    }
     if first == 255 {
         return None;
     }
-    if stretch.len + 1 >= text.len() {
+    // No branch is made of a number's size, which is hard to guess.
+    let len = stretch.len + number_size(first);
+    if len > text.len() {
         return None;
     }
-    Some(stretch.with_number(stretch.len + 2))
+    Some(stretch.with_number(len))
 }
 
 /// The longest stretch of so many tokens at most at the front of a charstring, with so many operands on the stack.
