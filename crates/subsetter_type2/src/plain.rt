@@ -1,6 +1,6 @@
 //! Tokens that stand in the flat form as they are, by their first byte.
 
-ghost use Rattle.std.specs.Prelude.{◌≡◌, ◌<◌, ◌≤◌, ◌+◌, ◌*◌, MatchBool, Some};
+ghost use Rattle.std.specs.Prelude.{◌≡◌, ◌≤◌, ◌+◌, ◌*◌, MatchBool, Some, nat_lt, if◌then◌else◌};
 ghost use Rattle.subsetter_type2.specs.Plain.{is_plain};
 ghost use Rattle.subsetter_type2.specs.Token.{one_byte_effect};
 ghost use Rattle.subsetter_type2.specs.declared.token.Effect.TheVariants.{Masks};
@@ -34,12 +34,12 @@ pub fn begins_plain(first: u8) -> bool
     PLAIN[first as usize]
 }
 
-/// How many bytes a number of one or two bytes has that begins with this byte.
+/// How many bytes such a token has.
 #[inline(always)]
-pub fn number_size(first: u8) -> usize
-    ensures one { first < 247 → result ≡ 1 }
-    ensures two { 247 ≤ first → result ≡ 2 }
+pub fn plain_size(first: u8) -> usize
+    ensures size { result ≡ (if nat_lt first 247 then 1 else 2) }
     ensures few { result ≤ 2 }
+    ensures some { 1 ≤ result }
 {
     1 + (first >= 247) as usize
 }
