@@ -118,7 +118,7 @@ done_draw library first rest r settled e =
 
 module _ (text : List ℕ) (mask_len : ℕ) (bytes : List ℕ) (settled : ℕ) (w : Written) (s : Stretch) (h : Comes text mask_len bytes settled w s) (inside : s.len < length text) where
   pub comes_by_operator : (first : ℕ) (rest : List ℕ) → drop s.len text ≡ first ∷ rest → rest ≡ drop (s.len + 1) text → take (s.len + 1) text ≡ take s.len text ++ first ∷ [] → one_byte_effect first ≡ Some Draws
-      → Comes text mask_len bytes settled w (record { len = s.len + 1; tokens = s.tokens + 1; settled = s.len + 1; count = 0; last = s.last })
+      → Comes text mask_len bytes settled w (record { len = s.len + 1; tokens = s.tokens + 1; settled = s.len + 1; count = 0; last = s.len })
   comes_by_operator first rest d r t e =
       let all = bytes ++ take (s.len + 1) text in
       let is : all ≡ h.now.settled ++ (flat_operands h.now.operands ++ (first ∷ [])) =
@@ -193,7 +193,7 @@ extends_middle text mask_len s inside low high small few =
     record { step = λ bytes settled w h. comes_by_number text mask_len bytes settled w s h within (Integer (middle_value first second)) 2 (ap number_at here ∙ middle_read first second (drop (s.len + 2) text) low high small) t few }
 
 extends_drawn : (text : List ℕ) (mask_len : ℕ) (s : Stretch) → s.len < length text → one_byte_effect (get_or text s.len 0) ≡ Some Draws
-    → Extends text mask_len s (record { len = s.len + 1; tokens = s.tokens + 1; settled = s.len + 1; count = 0; last = s.last })
+    → Extends text mask_len s (record { len = s.len + 1; tokens = s.tokens + 1; settled = s.len + 1; count = 0; last = s.len })
 extends_drawn text mask_len s inside e =
     let first = get_or text s.len 0 in
     let here : drop s.len text ≡ first ∷ drop (s.len + 1) text = drop-cons text s.len 0 inside ∙ ap (λ (k : ℕ). first ∷ drop k text) (sym (add-one s.len)) in
@@ -270,17 +270,35 @@ pub by_short : (text : List ℕ) (mask_len : ℕ) (s longer : Stretch) (shortest
 by_short text mask_len s longer true e inside first small bounds t few = rw e (extends_short text mask_len s inside first small bounds.0 bounds.1 few)
 by_short text mask_len s longer false e inside first small bounds t few = absurd (cc)
 
-pub by_small : (text : List ℕ) (mask_len : ℕ) (s longer : Stretch) → longer ≡ record { len = s.len + 1; tokens = s.tokens + 1; settled = s.settled; count = s.count + 1; last = s.len } → s.len < length text → 32 ≤ get_or text s.len 0 → get_or text s.len 0 < 247 → s.count < 48
-    → Extends text mask_len s longer
-by_small text mask_len s longer e inside low high few = rw e (extends_small text mask_len s inside low high few)
+plain_number : (first : ℕ) → is_plain first ≡ true → nat_lt first 32 ≡ false → nat_lt first 255 ≡ true
+unfolding is_plain
+plain_number first e low = let p : (if nat_lt first 32 then draws (one_byte_effect first) else nat_lt first 255) ≡ true = e in rw low at p
 
-pub by_middle : (text : List ℕ) (mask_len : ℕ) (s longer : Stretch) → longer ≡ record { len = s.len + 2; tokens = s.tokens + 1; settled = s.settled; count = s.count + 1; last = s.len } → s.len + 1 < length text → 247 ≤ get_or text s.len 0 → get_or text s.len 0 < 255 → get_or text (s.len + 1) 0 < 256 → s.count < 48
-    → Extends text mask_len s longer
-by_middle text mask_len s longer e inside low high small few = rw e (extends_middle text mask_len s inside low high small few)
+longer_as : (text : List ℕ) (mask_len : ℕ) (s : Stretch) (len size : ℕ) (drawn two : Bool)
+    → nat_lt (get_or text s.len 0) 32 ≡ drawn → nat_lt (get_or text s.len 0) 247 ≡ two → s.len < length text → s.count < 48 → is_plain (get_or text s.len 0) ≡ true → len ≡ s.len + (if two then 1 else 2) → len ≤ length text → get_or text (s.len + 1) 0 < 256
+    → Extends text mask_len s (record { len = len; tokens = s.tokens + 1; settled = (if drawn then len else s.settled); count = (if drawn then 0 else s.count + 1); last = s.len })
+longer_as text mask_len s len size true true d t inside few plain e within small = rw e (extends_drawn text mask_len s inside (plain_operator (get_or text s.len 0) plain d))
+longer_as text mask_len s len size true false d t inside few plain e within small =
+    let low : get_or text s.len 0 < 32 = grind (arith, nat_tests) in
+    let high : 247 ≤ get_or text s.len 0 = grind (arith, nat_tests) in
+    absurd (omega arith)
+longer_as text mask_len s len size false true d t inside few plain e within small =
+    let low : 32 ≤ get_or text s.len 0 = grind (arith, nat_tests) in
+    let high : get_or text s.len 0 < 247 = grind (arith, nat_tests) in
+    rw e (extends_small text mask_len s inside low high few)
+longer_as text mask_len s len size false false d t inside few plain e within small =
+    let low : 247 ≤ get_or text s.len 0 = grind (arith, nat_tests) in
+    let below = plain_number (get_or text s.len 0) plain d in
+    let high : get_or text s.len 0 < 255 = grind (arith, nat_tests) in
+    rw e (extends_middle text mask_len s (omega arith) low high small few)
 
-pub by_operator : (text : List ℕ) (mask_len : ℕ) (s longer : Stretch) → longer ≡ record { len = s.len + 1; tokens = s.tokens + 1; settled = s.len + 1; count = 0; last = s.last } → s.len < length text → get_or text s.len 0 < 32 → is_plain (get_or text s.len 0) ≡ true
+-- the same, for what the code's calls answer
+pub by_plain : (text : List ℕ) (mask_len : ℕ) (s longer : Stretch) (len size : ℕ) (drawn : Bool)
+    → longer ≡ record { len = len; tokens = s.tokens + 1; settled = (if drawn then len else s.settled); count = (if drawn then 0 else s.count + 1); last = s.len } → drawn ≡ nat_lt (get_or text s.len 0) 32
+    → size ≡ (if nat_lt (get_or text s.len 0) 247 then 1 else 2) → len ≡ s.len + size → s.len < length text → s.count < 48 → is_plain (get_or text s.len 0) ≡ true → len ≤ length text → get_or text (s.len + 1) 0 < 256
     → Extends text mask_len s longer
-by_operator text mask_len s longer e inside low plain = rw e (extends_drawn text mask_len s inside (plain_operator (get_or text s.len 0) plain (lt-ltb (get_or text s.len 0) 32 low)))
+by_plain text mask_len s longer len size drawn l d z e inside few plain within small =
+    rw (l, d) (longer_as text mask_len s len size (nat_lt (get_or text s.len 0) 32) (nat_lt (get_or text s.len 0) 247) refl refl inside few plain (e ∙ ap (λ (k : ℕ). s.len + k) z) within small)
 
 pub by_mask : (text : List ℕ) (mask_len : ℕ) (s longer : Stretch) (masks : Bool) → longer ≡ record { len = s.len + 1 + mask_len; tokens = s.tokens + 1; settled = s.len + 1 + mask_len; count = 0; last = s.last } → s.len + 1 + mask_len ≤ length text
     → MatchBool masks (one_byte_effect (get_or text s.len 0) ≡ Some Masks) (Unit {0}) → masks ≡ true → (mask_len ≡ 0 → ⊥) → Extends text mask_len s longer

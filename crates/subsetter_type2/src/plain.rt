@@ -1,6 +1,6 @@
 //! Tokens that stand in the flat form as they are, by their first byte.
 
-ghost use Rattle.std.specs.Prelude.{◌≡◌, ◌≤◌, ◌+◌, ◌*◌, MatchBool, Some};
+ghost use Rattle.std.specs.Prelude.{◌≡◌, ◌≤◌, ◌+◌, ◌*◌, MatchBool, Some, nat_lt, if◌then◌else◌};
 ghost use Rattle.subsetter_type2.specs.Plain.{is_plain};
 ghost use Rattle.subsetter_type2.specs.Token.{one_byte_effect};
 ghost use Rattle.subsetter_type2.specs.declared.token.Effect.TheVariants.{Masks};
@@ -32,6 +32,16 @@ pub fn begins_plain(first: u8) -> bool
     ensures { result ≡ is_plain first }
 {
     PLAIN[first as usize]
+}
+
+/// How many bytes such a token has.
+#[inline(always)]
+pub fn plain_size(first: u8) -> usize
+    ensures size { result ≡ (if nat_lt first 247 then 1 else 2) }
+    ensures few { result ≤ 2 }
+    ensures some { 1 ≤ result }
+{
+    1 + (first >= 247) as usize
 }
 
 /// The whole number of these two bytes has no form of one or two bytes.

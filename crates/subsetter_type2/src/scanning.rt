@@ -6,7 +6,7 @@ ghost use Rattle.subsetter_type2.specs.OutputView.{Stands};
 ghost use Rattle.subsetter_type2.specs.Stretch.{Comes, Extends, IsSound};
 
 use crate::argstack::MAX_OPERANDS;
-use crate::plain::{begins_plain, is_mask, is_shortest};
+use crate::plain::{begins_plain, is_mask, is_shortest, plain_size};
 use crate::stretch::Stretch;
 
 /// One token longer, where a whole number of three bytes follows in its shortest form.
@@ -94,25 +94,18 @@ fn longer(stretch: Stretch, text: &[u8], most: usize, mask_len: u16) -> Option<S
         return None;
     }
     let first = text[stretch.len];
-    if first < 32 {
-        if !begins_plain(first) {
-            return longer_by_rare(stretch, text, most, mask_len);
-        }
-        return Some(stretch.with_operator(stretch.len + 1));
+    if !begins_plain(first) {
+        return longer_by_rare(stretch, text, most, mask_len);
     }
     if stretch.count >= MAX_OPERANDS {
         return None;
     }
-    if first <= 246 {
-        return Some(stretch.with_number(stretch.len + 1));
-    }
-    if first == 255 {
+    // No branch is made of a token's kind and size, which are hard to guess.
+    let len = stretch.len + plain_size(first);
+    if len > text.len() {
         return None;
     }
-    if stretch.len + 1 >= text.len() {
-        return None;
-    }
-    Some(stretch.with_number(stretch.len + 2))
+    Some(stretch.with_token(len, first < 32))
 }
 
 /// The longest stretch of so many tokens at most at the front of a charstring, with so many operands on the stack.

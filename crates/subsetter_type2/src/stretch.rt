@@ -1,6 +1,6 @@
 //! How far a stretch of a charstring goes.
 
-ghost use Rattle.std.specs.Prelude.{◌≡◌, ◌≤◌, ◌<◌, ◌+◌};
+ghost use Rattle.std.specs.Prelude.{◌≡◌, ◌≤◌, ◌<◌, ◌+◌, if◌then◌else◌};
 ghost use Rattle.subsetter_type2.specs.OutputView.{place_after};
 
 /// How far a stretch goes.
@@ -16,6 +16,14 @@ pub struct Stretch {
     pub count: usize,
     /// Where the last of its tokens begins, if that is a number.
     pub last: usize,
+}
+
+/// One of two numbers, without a branch.
+#[inline(always)]
+fn choose(first: bool, one: usize, other: usize) -> usize
+    ensures { result ≡ (if first then one else other) }
+{
+    if first { one } else { other }
 }
 
 impl Stretch {
@@ -44,6 +52,22 @@ impl Stretch {
             tokens: self.tokens + 1,
             settled: self.settled,
             count: self.count + 1,
+            last: self.len,
+        }
+    }
+
+    /// With a token more, which ends here: an operator that takes all operands, or a number.
+    #[inline(always)]
+    pub fn with_token(self, len: usize, draws: bool) -> Stretch
+        requires tokens { self.tokens < 18446744073709551615 }
+        requires few { self.count < 48 }
+        ensures { result ≡ record { len = len; tokens = self.tokens + 1; settled = (if draws then len else self.settled); count = (if draws then 0 else self.count + 1); last = self.len } }
+    {
+        Stretch {
+            len,
+            tokens: self.tokens + 1,
+            settled: choose(draws, len, self.settled),
+            count: choose(draws, 0, self.count + 1),
             last: self.len,
         }
     }
