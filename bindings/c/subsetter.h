@@ -54,7 +54,7 @@ enum {
  * `out` is room for `out_size` bytes; the subset is mostly smaller than the font, but not always.
  *   0: `out` begins with the subset, the bytes behind it are as they were, and `*length` is its size in bytes.
  *   8: `out` is too small and as it was; `*length` is the exact size in bytes. Call again with that room: the
- *      same call answers the same bytes.
+ *      same call answers the same bytes, or 7.
  *   1 to 7: `out` is as it was, and `*length` is 0.
  */
 uint32_t subsetter_subset(const uint8_t *font, size_t font_size, uint32_t index,

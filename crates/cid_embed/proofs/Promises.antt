@@ -11,8 +11,9 @@ use Rattle.subsetter_base.proofs.GlyphLemmas.{known, known-all, Contains-place}
 use Rattle.subsetter.specs.Sfnt.Read.{Font}
 use Rattle.subsetter.specs.Fault.{HasFault}
 use Rattle.subsetter.specs.Subset.{IsSubset}
+use Rattle.subsetter.specs.Answer.{HasNoAnswer, IsAnswer}
 use Rattle.cid_embed.specs.Afresh.{table_of, widths_of}
-use Rattle.cid_embed.specs.Embed.{numbering, IsEmbedded, HasEmbedFault, in_numbering, in_subset, in_widths}
+use Rattle.cid_embed.specs.Embed.{numbering, IsEmbedded, HasEmbedFault, HasNoEmbedding, in_numbering, in_subset, in_widths}
 use Rattle.cid_embed.specs.Width.{HasWidthFault}
 use Rattle.cid_embed.specs.declared.embedding.Embedded.{Embedded}
 use Rattle.cid_embed.proofs.Reading.{IsReading, is_reading}
@@ -32,6 +33,10 @@ IsFaultless tokens depth font glyphs out = (s : IsSubset tokens depth font glyph
 abbrev pub IsRefusal : ℕ → ℕ → Font → List ℕ → Error → Type 0
 IsRefusal tokens depth font glyphs why = (why ≡ OutOfMemory) ⊎ ((order : List ℕ) × HasEmbedFault tokens depth font glyphs order why)
 
+-- or it has no answer
+abbrev pub IsFinal : ℕ → ℕ → Font → List ℕ → Error → Type 0
+IsFinal tokens depth font glyphs why = (why ≡ OutOfMemory) ⊎ HasNoEmbedding tokens depth font glyphs
+
 module _ (tokens depth : ℕ) (font : Font) (glyphs : List ℕ) where
   pub mapper_refused : (why : Error) → (why ≡ OutOfMemory) ⊎ ((why ≡ OverflowError) × HasAllAboveZero glyphs) → IsRefusal tokens depth font glyphs why
   mapper_refused why (inl memory) = inl memory
@@ -41,15 +46,23 @@ module _ (tokens depth : ℕ) (font : Font) (glyphs : List ℕ) where
   subset_refused mapper why m (inl memory) = inl memory
   subset_refused mapper why m (inr fault) = inr (fault.0, in_subset (subst (λ (l : List ℕ). HasFault tokens depth font l fault.0 why) m fault.1))
 
+  pub mapper_final : (why : Error) → (why ≡ OutOfMemory) ⊎ ((why ≡ OverflowError) × HasAllAboveZero glyphs) → IsFinal tokens depth font glyphs why
+  mapper_final why (inl memory) = inl memory
+  mapper_final why (inr full) = inr (λ e a. a.clean OverflowError (in_numbering full.1))
+
+  pub subset_final : (mapper : List ℕ) (why : Error) → mapper ≡ numbering glyphs → (why ≡ OutOfMemory) ⊎ HasNoAnswer tokens depth font mapper → IsFinal tokens depth font glyphs why
+  subset_final mapper why m (inl memory) = inl memory
+  subset_final mapper why m (inr none) = inr (λ e a. none e.font.items (subst (λ (l : List ℕ). IsAnswer tokens depth font l e.font.items) (sym m) a.font_is))
+
   -- a reading that refuses has a fault of widths, unless memory ran out
-  unread : {X : Type 0} (view : X → List ℕ) (r : Result (List ℕ) Error) (why : Error) (order : List ℕ) → Gives view (Err why) r → IsReading font (numbering glyphs) r → IsRefusal tokens depth font glyphs why
-  unread view r OutOfMemory order g i = inl refl
-  unread view r UnknownKind order g i = inr (order, in_widths (subst (IsReading font (numbering glyphs)) g i))
-  unread view r MalformedFont order g i = inr (order, in_widths (subst (IsReading font (numbering glyphs)) g i))
-  unread view r Unimplemented order g i = inr (order, in_widths (subst (IsReading font (numbering glyphs)) g i))
-  unread view r SubsetError order g i = inr (order, in_widths (subst (IsReading font (numbering glyphs)) g i))
-  unread view r OverflowError order g i = inr (order, in_widths (subst (IsReading font (numbering glyphs)) g i))
-  unread view r CFFError order g i = inr (order, in_widths (subst (IsReading font (numbering glyphs)) g i))
+  unread : {X : Type 0} (view : X → List ℕ) (r : Result (List ℕ) Error) (why : Error) → Gives view (Err why) r → IsReading font (numbering glyphs) r → (why ≡ OutOfMemory) ⊎ HasWidthFault font why
+  unread view r OutOfMemory g i = inl refl
+  unread view r UnknownKind g i = inr (subst (IsReading font (numbering glyphs)) g i)
+  unread view r MalformedFont g i = inr (subst (IsReading font (numbering glyphs)) g i)
+  unread view r Unimplemented g i = inr (subst (IsReading font (numbering glyphs)) g i)
+  unread view r SubsetError g i = inr (subst (IsReading font (numbering glyphs)) g i)
+  unread view r OverflowError g i = inr (subst (IsReading font (numbering glyphs)) g i)
+  unread view r CFFError g i = inr (subst (IsReading font (numbering glyphs)) g i)
 
   module _ (mapper out bytes : List ℕ) (count : ℕ) (m : mapper ≡ numbering glyphs) (b : bytes ≡ out) (n : count ≡ length mapper) (clean : IsFaultless tokens depth font mapper out) where
     renamed : IsFaultless tokens depth font (numbering glyphs) out
@@ -62,7 +75,18 @@ module _ (tokens depth : ℕ) (font : Font) (glyphs : List ℕ) where
         (is_reading tokens depth font (numbering glyphs) out renamed.0 renamed.1))
 
     pub widths_refused : {X : Type 0} (view : X → List ℕ) (why : Error) → Gives view (Err why) (widths_of (table_of bytes) count) → IsRefusal tokens depth font glyphs why
-    widths_refused view why g = unread view (widths_of (table_of bytes) count) why renamed.0.keeps.order g reading
+    widths_refused view why g =
+        elim (unread view (widths_of (table_of bytes) count) why g reading) [
+          | inl memory ↦ inl memory
+          | inr fault ↦ inr (renamed.0.keeps.order, in_widths fault)
+        ]
+
+    pub widths_final : {X : Type 0} (view : X → List ℕ) (why : Error) → Gives view (Err why) (widths_of (table_of bytes) count) → IsFinal tokens depth font glyphs why
+    widths_final view why g =
+        elim (unread view (widths_of (table_of bytes) count) why g reading) [
+          | inl memory ↦ inl memory
+          | inr fault ↦ inr (λ e a. a.clean why (in_widths fault))
+        ]
 
     -- all that is answered
     pub answered : (e : Embedded) → out ≡ e.font.items → widths_of (table_of bytes) count ≡ Ok e.widths.items → map Some e.cids.items ≡ map (place mapper) glyphs → (HasAllAboveZero glyphs → ⊥) → (s : IsEmbedded tokens depth font glyphs e) × ((why : Error) → ¬ (HasEmbedFault tokens depth font glyphs s.subset.keeps.order why))

@@ -5,6 +5,7 @@ use Rattle.subsetter_base.specs.declared.error.Error.{Error}
 use Rattle.subsetter_base.specs.declared.error.Error.TheVariants.{OverflowError}
 use Rattle.subsetter.specs.Sfnt.Read.{Font}
 use Rattle.subsetter.specs.Subset.{IsSubset}
+use Rattle.subsetter.specs.Answer.{IsAnswer}
 use Rattle.subsetter.specs.Fault.{HasFault}
 use Rattle.cid_embed.specs.Width.{width, HasWidthFault}
 use Rattle.cid_embed.specs.declared.embedding.Embedded.{Embedded}
@@ -29,3 +30,13 @@ pub data HasEmbedFault (tokens depth : ℕ) (font : Font) (glyphs order : List �
   in_subset : {e : Error} → HasFault tokens depth font (numbering glyphs) order e → HasEmbedFault tokens depth font glyphs order e
   -- there are no widths
   in_widths : {e : Error} → HasWidthFault font e → HasEmbedFault tokens depth font glyphs order e
+
+-- what is answered: it has no fault, and its font is the answer for glyph 0 and the asked glyphs
+pub record IsEmbeddingAnswer (tokens depth : ℕ) (font : Font) (glyphs : List ℕ) (e : Embedded) : Type 0 where
+  pub embedded : IsEmbedded tokens depth font glyphs e
+  pub clean : (why : Error) → ¬ (HasEmbedFault tokens depth font glyphs embedded.subset.keeps.order why)
+  pub font_is : IsAnswer tokens depth font (numbering glyphs) e.font.items
+
+-- nothing is answered for the asked glyphs of a font
+abbrev pub HasNoEmbedding : ℕ → ℕ → Font → List ℕ → Type 0
+HasNoEmbedding tokens depth font glyphs = (e : Embedded) → ¬ (IsEmbeddingAnswer tokens depth font glyphs e)

@@ -6,7 +6,7 @@ ghost use Rattle.subsetter_base.specs.declared.error.Error.{Error as SpecError};
 ghost use Rattle.subsetter_base.specs.declared.error.Error.TheVariants.{OutOfMemory};
 ghost use Rattle.subsetter.specs.Limits.{token_limit, depth_limit};
 ghost use Rattle.subsetter.specs.Answer.{IsAnswer, IsTheAnswer};
-ghost use Rattle.cid_embed.specs.Embed.{numbering, IsEmbedded, HasEmbedFault};
+ghost use Rattle.cid_embed.specs.Embed.{numbering, IsEmbedded, HasEmbedFault, HasNoEmbedding};
 
 use crate::widths::read_widths;
 use std::alloc::Global;
@@ -60,6 +60,8 @@ pub fn embed(alloc: Global, data: &[u8], index: u32, glyphs: &[u16]) -> Result<E
     ensures same { IfOk result (λ e. IsTheAnswer (record { bytes = «data».now; index = index }) (numbering glyphs.now) e.font.items) }
     // What is refused has a fault of that name.
     ensures err { IfErr result (λ why. (why ≡ OutOfMemory) ⊎ ((order : List ℕ) × HasEmbedFault token_limit depth_limit (record { bytes = «data».now; index = index }) glyphs.now order why)) }
+    // And, but for want of memory, it has no answer: no call answers it within these limits.
+    ensures no_answer { IfErr result (λ why. (why ≡ OutOfMemory) ⊎ HasNoEmbedding token_limit depth_limit (record { bytes = «data».now; index = index }) glyphs.now) }
 {
     embed_with_limits(alloc, data, index, glyphs, &Limits::default())
 }
@@ -85,6 +87,8 @@ pub fn embed_with_limits(
     ensures same { IfOk result (λ e. IsTheAnswer (record { bytes = «data».now; index = index }) (numbering glyphs.now) e.font.items) }
     // What is refused has a fault of that name.
     ensures err { IfErr result (λ why. (why ≡ OutOfMemory) ⊎ ((order : List ℕ) × HasEmbedFault limits.now.tokens limits.now.depth (record { bytes = «data».now; index = index }) glyphs.now order why)) }
+    // And, but for want of memory, it has no answer: no call answers it within these limits.
+    ensures no_answer { IfErr result (λ why. (why ≡ OutOfMemory) ⊎ HasNoEmbedding limits.now.tokens limits.now.depth (record { bytes = «data».now; index = index }) glyphs.now) }
 {
     let mapper = GlyphRemapper::new_from_glyphs(alloc, glyphs)?;
     let font = subset_with_limits(alloc, data, index, &mapper, limits)?;

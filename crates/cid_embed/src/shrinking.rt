@@ -10,7 +10,7 @@ ghost use Rattle.subsetter.specs.Sfnt.Read.{as_font};
 ghost use Rattle.subsetter_again.specs.Again.{IsTrueTypeOrCidKeyed};
 ghost use Rattle.subsetter_again.specs.Shrink.{OfEachSource, IsShrunk, IsGivenBack, HasNoFaultForAll};
 ghost use Rattle.subsetter_cff.specs.Again.{AreAll};
-ghost use Rattle.cid_embed.specs.Embed.{numbering, IsEmbedded, HasEmbedFault};
+ghost use Rattle.cid_embed.specs.Embed.{numbering, IsEmbedded, HasEmbedFault, HasNoEmbedding};
 ghost use Rattle.cid_embed.specs.Width.{HasWidthFault};
 
 use crate::embedding::{Embedded, embed};
@@ -57,6 +57,8 @@ pub fn shrink(alloc: Global, e: &Embedded, cids: &[u16]) -> Result<Embedded, Err
     ensures given_back { IfOk result (λ s. IsGivenBack e.now.font.items (numbering cids.now) s.font.items) }
     // What is refused has a fault of that name.
     ensures err { IfErr result (λ why. (why ≡ OutOfMemory) ⊎ ((order : List ℕ) × HasEmbedFault token_limit depth_limit (as_font e.now.font.items) cids.now order why)) }
+    // And, but for want of memory, it has no answer: no call answers it.
+    ensures no_answer { IfErr result (λ why. (why ≡ OutOfMemory) ⊎ HasNoEmbedding token_limit depth_limit (as_font e.now.font.items) cids.now) }
     // No fault of the subset stands for all CIDs in order, so that they are refused for want of memory or of widths alone.
     ensures sound { HasNoFaultForAll e.now.font.items (numbering cids.now) }
     ensures only_widths { IfErr result (λ why. OfEachSource e.now.font.items (λ source first. AreAll (length first) (numbering cids.now) → IsTrueTypeOrCidKeyed source → (why ≡ OutOfMemory) ⊎ HasWidthFault (as_font e.now.font.items) why)) }

@@ -9,5 +9,6 @@ pub mod Woven
 pub mod Kept
 pub mod Fault
 pub mod Parts
+pub mod Renumbering
 pub mod Unfold
 pub mod Found

@@ -1,4 +1,4 @@
--- The promises of `subset`: what is answered is a subset, what is refused has a fault, and a fault that is found before memory is taken is never answered by want of memory.
+-- The promises of `subset`: what is answered is a subset, what is refused has a fault and no answer, and a fault that is found before memory is taken is never answered by want of memory.
 use Rattle.std.proofs.Common.{◌≡◌, ℕ, ◌<◌, ◌≤◌, cond, List, [], ◌∷◌, length, Option, Some, None, Ok, Err, refl, sym, ap, subst, ◌∙◌, ◌⊎◌, inr, arith}
 use Rattle.std.specs.Prelude.{codes, is_some, IsSome, slice_get}
 use Rattle.std.specs.Option.{option_and_then}
@@ -11,7 +11,8 @@ use Rattle.subsetter.specs.declared.sfnt.flavor.FontFlavor.TheVariants.{TrueType
 use Rattle.subsetter.specs.Truetype.Answered.{IsAnswered, IsRefused}
 use Rattle.subsetter.specs.Cff.Plain.{cff_file}
 use Rattle.subsetter.specs.Fault as faults
-use Rattle.subsetter.specs.Answer.{IsAnswer}
+use Rattle.subsetter.specs.Fault.{HasFault}
+use Rattle.subsetter.specs.Answer.{IsAnswer, HasNoAnswer}
 use Rattle.subsetter.specs.Sfnt.Read.{Font, table, table_in, flavor}
 use Rattle.subsetter.specs.Sfnt.Plain.{opened, flavored}
 use Rattle.subsetter.specs.Sfnt.Fault.{HasOpeningFault, no_kind, no_entry, entry_outside, no_face, nested, cut_directory, no_outlines, lone_cff2}
@@ -19,6 +20,7 @@ use Rattle.subsetter.proofs.TruetypeLaws.Fault.{Stands, has_fault, no_fault}
 use Rattle.subsetter.proofs.SfntLaws.Fault.{opened_refused, opened_records, flavored_refused, opened_clean}
 use Rattle.subsetter.proofs.TruetypeLaws.Subset.{is_subset}
 use Rattle.subsetter.proofs.CffLaws.Fault.{cff_has_fault, is_cff_subset}
+use Rattle.subsetter.proofs.NoAnswer.{not_opened, no_truetype, no_charstrings}
 
 -- the tables of a font that was opened
 find_is : (font : Font) (d : List ℕ) → opened font ≡ Ok d → table_in font.bytes d ≡ table font
@@ -71,6 +73,12 @@ module _ (tokens depth : ℕ) (font : Font) (glyphs : List ℕ) where
   pub unflavored : (d : List ℕ) (e : Error) → opened font ≡ Ok d → flavored (table_in font.bytes d) ≡ Err e → (e ≡ OutOfMemory) ⊎ Stands tokens depth font glyphs e
   unflavored d e o h = inr ([], faults.in_opening (flavored_refused font d e o h))
 
+  pub unopened_no_answer : (e : Error) → opened font ≡ Err e → (e ≡ OutOfMemory) ⊎ HasNoAnswer tokens depth font glyphs
+  unopened_no_answer e h = inr (not_opened tokens depth font glyphs e (opened_refused font e h))
+
+  pub unflavored_no_answer : (d : List ℕ) (e : Error) → opened font ≡ Ok d → flavored (table_in font.bytes d) ≡ Err e → (e ≡ OutOfMemory) ⊎ HasNoAnswer tokens depth font glyphs
+  unflavored_no_answer d e o h = inr (not_opened tokens depth font glyphs e (flavored_refused font d e o h))
+
   module _ (d : List ℕ) (o : opened font ≡ Ok d) (h : flavored (table_in font.bytes d) ≡ Ok TrueType) where
     glyf_there : IsSome (table font (codes "glyf"))
     glyf_there = has_glyf (table font (codes "glyf")) (table font (codes "CFF ")) (has_flavor font d TrueType o h)
@@ -80,8 +88,14 @@ module _ (tokens depth : ℕ) (font : Font) (glyphs : List ℕ) where
         let b : IsAnswered (table font) glyphs out = subst (λ (find : List ℕ → Option (List ℕ)). IsAnswered find glyphs out) (find_is font d o) a in
         is_subset tokens depth font glyphs out bytes (some_given glyphs first) (has_flavor font d TrueType o h) b (no_fault tokens depth font glyphs out bytes glyf_there (λ e. opened_clean font d TrueType e o h) b)
 
+    refused : (e : Error) → IsRefused (table_in font.bytes d) glyphs e → IsRefused (table font) glyphs e
+    refused e r = subst (λ (find : List ℕ → Option (List ℕ)). IsRefused find glyphs e) (find_is font d o) r
+
     pub truetype_refused : (e : Error) → IsRefused (table_in font.bytes d) glyphs e → (e ≡ OutOfMemory) ⊎ Stands tokens depth font glyphs e
-    truetype_refused e r = has_fault tokens depth font glyphs e glyf_there (subst (λ (find : List ℕ → Option (List ℕ)). IsRefused find glyphs e) (find_is font d o) r)
+    truetype_refused e r = has_fault tokens depth font glyphs e glyf_there (refused e r)
+
+    pub truetype_no_answer : (e : Error) → IsRefused (table_in font.bytes d) glyphs e → (e ≡ OutOfMemory) ⊎ HasNoAnswer tokens depth font glyphs
+    truetype_no_answer e r = no_truetype tokens depth font glyphs e glyf_there (refused e r)
 
     pub opening_clean : (e : Error) → HasOpeningFault font e → ⊥
     opening_clean e f = opened_clean font d TrueType e o h f
@@ -95,9 +109,15 @@ module _ (tokens depth : ℕ) (font : Font) (glyphs : List ℕ) where
         let b : cff_file (table font) tokens depth glyphs ≡ Ok out = subst (λ (find : List ℕ → Option (List ℕ)). cff_file find tokens depth glyphs ≡ Ok out) (find_is font d o) a in
         is_cff_subset tokens depth font glyphs out bytes deep (some_given glyphs first) few once kind (λ e. opened_clean font d Cff e o h) b
 
+    cff_stands : (e : Error) → IsWithoutRepeats glyphs → cff_file (table_in font.bytes d) tokens depth glyphs ≡ Err e → HasFault tokens depth font glyphs glyphs e
+    cff_stands e once r =
+        cff_has_fault tokens depth font glyphs kind (has_cff (table font (codes "glyf")) (table font (codes "CFF ")) kind) once e (subst (λ (find : List ℕ → Option (List ℕ)). cff_file find tokens depth glyphs ≡ Err e) (find_is font d o) r)
+
     pub cff_refused : (e : Error) → IsWithoutRepeats glyphs → cff_file (table_in font.bytes d) tokens depth glyphs ≡ Err e → (e ≡ OutOfMemory) ⊎ Stands tokens depth font glyphs e
-    cff_refused e once r =
-        inr (glyphs, cff_has_fault tokens depth font glyphs kind (has_cff (table font (codes "glyf")) (table font (codes "CFF ")) kind) once e (subst (λ (find : List ℕ → Option (List ℕ)). cff_file find tokens depth glyphs ≡ Err e) (find_is font d o) r))
+    cff_refused e once r = inr (glyphs, cff_stands e once r)
+
+    pub cff_no_answer : (e : Error) → IsWithoutRepeats glyphs → cff_file (table_in font.bytes d) tokens depth glyphs ≡ Err e → (e ≡ OutOfMemory) ⊎ HasNoAnswer tokens depth font glyphs
+    cff_no_answer e once r = inr (no_charstrings tokens depth font glyphs e kind (cff_stands e once r))
 
     pub cff_opening_clean : (e : Error) → HasOpeningFault font e → ⊥
     cff_opening_clean e f = opened_clean font d Cff e o h f

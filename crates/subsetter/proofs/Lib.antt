@@ -10,3 +10,4 @@ pub mod TruetypeLaws
 pub mod CffLaws
 pub mod Headline
 pub mod TwoLimits
+pub mod NoAnswer

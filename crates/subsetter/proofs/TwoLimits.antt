@@ -34,7 +34,7 @@ no_more glyphs (o ∷ os) order is once members =
 
 module _ (font : Font) (glyphs : List ℕ) where
   -- without outlines in glyf there are the given glyphs alone
-  only_given : outlines font ≡ None → (order : List ℕ) → IsGlyphOrder font glyphs order → order ≡ glyphs
+  pub only_given : outlines font ≡ None → (order : List ℕ) → IsGlyphOrder font glyphs order → order ≡ glyphs
   only_given none order o = no_more glyphs o.others order o.begins o.once (λ g c. reached g ((o.members g).0 c))
     where
       reached : (g : ℕ) → IsReachable font glyphs g → Contains glyphs g

@@ -13,6 +13,10 @@ pub record IsAnswer (tokens depth : ℕ) (font : Font) (glyphs out : List ℕ) :
   pub clean : (e : Error) → ¬ (HasFault tokens depth font glyphs subset.keeps.order e)
   pub found : (source : Outlines) → outlines font ≡ Some source → Finds source subset.keeps.order glyphs [] glyphs
 
+-- nothing is answered for these glyphs of a font
+abbrev pub HasNoAnswer : ℕ → ℕ → Font → List ℕ → Type 0
+HasNoAnswer tokens depth font glyphs = (out : List ℕ) → ¬ (IsAnswer tokens depth font glyphs out)
+
 -- whatever is answered for the same glyphs of a font, within these limits or others, is these bytes
 abbrev pub IsTheAnswer : Font → List ℕ → List ℕ → Type 0
 IsTheAnswer font glyphs out = (tokens depth : ℕ) (other : List ℕ) → IsAnswer tokens depth font glyphs other → out ≡ other

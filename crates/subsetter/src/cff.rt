@@ -45,10 +45,10 @@ pub fn make<'a>(
 }
 
 /// All tables of the new font.
-pub fn font_tables<'a>(made: Made<'a>) -> FontTables<'a>
-    ensures { font_seen result ≡ font_of (made_seen made.entry) }
+pub fn font_tables<'b, 'a>(made: &'b Made<'a>) -> FontTables<'b, 'a>
+    ensures { font_seen result ≡ font_of (made_seen made.now) }
 {
-    let mut tables = shared::font_tables(made.shared);
-    tables.cff = Some(TableData::Pieces(made.table));
+    let mut tables = shared::font_tables(&made.shared);
+    tables.cff = Some(TableData::Pieces(&made.table));
     tables
 }

@@ -8,11 +8,11 @@ ghost use Rattle.std.specs.Prelude.{◌≡◌, ◌+◌, ◌<◌, ◌≤◌, ◌^
 ghost use Rattle.std.specs.Option.{option_copied};
 ghost use Rattle.subsetter_base.specs.Gives.{Gives};
 ghost use Rattle.subsetter_base.specs.Places.{IsWithoutRepeats};
-ghost use Rattle.subsetter.specs.Glyf.Closure.{first_byte_in, composites_in, components_in, others_in, lacks_head, IsFaulty, IsFull, IsVisited, StopsClosure, Finds};
+ghost use Rattle.subsetter.specs.Glyf.Closure.{first_byte_in, AreFound, composites_in, components_in, others_in, lacks_head, IsFaulty, IsFull, IsVisited, StopsClosure, Finds};
 ghost use Rattle.subsetter.specs.Sfnt.Read.{table_in};
 ghost use Rattle.subsetter.specs.Glyf.Read.{offset, outline_in};
 ghost use Rattle.subsetter.specs.Glyf.View.{seen};
-ghost use Rattle.subsetter.specs.Glyf.Plain.{outlines_read, kept, kept_all, with_last};
+ghost use Rattle.subsetter.specs.Glyf.Plain.{outlines_read, kept_outlines, with_outlines};
 ghost use Rattle.subsetter.specs.Glyf.Reach.{IsGlyphOrderBy};
 ghost use Rattle.subsetter_base.specs.declared.error.Error.TheVariants.{OutOfMemory, MalformedFont, OverflowError};
 
@@ -87,37 +87,79 @@ impl<'a> OutlineTables<'a> {
         }
         Reader::new_at(self.glyf, from).read_bytes(to - from)
     }
-
-    /// Puts the outline of a kept glyph last, with its components under their new numbers.
-    /// `MalformedFont` where it can't be read, has one byte or is a composite that is cut.
-    #[tactic(auto, unfolding(crate::specs::Glyf::Plain::kept))]
-    fn keep(
-        &self,
-        outlines: OutlineList<'a>,
-        id: u16,
-        order: &GlyphRemapper,
-    ) -> Result<OutlineList<'a>, Error>
-        ensures { Gives (λ list. list) result (with_last outlines.entry (kept (seen self.now) order.now id)) }
-    {
-        let outline = self.glyph_data(id).ok_or(Error::MalformedFont)?;
-        outlines.push(outline, order)
-    }
 }
 
-/// The outlines of the glyphs of an order, each as it stands in the new `glyf` but for its padding.
-pub fn subset<'a>(
+/// The order of the glyphs of a subset, and the outline of each as it is looked up, if it is there.
+#[derive(Drop)]
+pub struct Reached<'a> {
+    pub order: GlyphRemapper,
+    pub outlines: Vec<Option<&'a [u8]>>,
+}
+
+/// How many outlines are begun at a time.
+const BLOCK: usize = 64;
+
+/// The outlines of a remapper's glyphs, each if it is there.
+fn find_outlines<'a>(
     alloc: Global,
     table: &OutlineTables<'a>,
+    mapper: &GlyphRemapper,
+) -> Result<Vec<Option<&'a [u8]>>, Error>
+    ensures ok { IfOk result (λ v. AreFound (seen table.now) mapper.now v.items) }
+    ensures err { IfErr result (λ e. e ≡ OutOfMemory) }
+{
+    let mut outlines = Vec::with_capacity(alloc, mapper.num_gids() as usize)?;
+    for glyph in mapper.remapped_gids() {
+        outlines.push(table.glyph_data(glyph))?;
+    }
+    Ok(outlines)
+}
+
+/// Puts outlines last, each with its components under their new numbers. `heads` is room for their first bytes.
+/// `MalformedFont` where one isn't there, has one byte or is a composite that is cut.
+fn keep_block<'a>(
+    list: OutlineList<'a>,
+    heads: &mut Vec<u8>,
+    block: &[Option<&'a [u8]>],
     order: &GlyphRemapper,
 ) -> Result<OutlineList<'a>, Error>
-    ensures { Gives (λ list. list) result (kept_all (seen table.now) order.now order.now) }
+    ensures { Gives (λ list. list) result (with_outlines list.entry (kept_outlines order.now (map option_copied block.now))) }
 {
-    let mut outlines = OutlineList::with_capacity(alloc, order.num_gids() as usize)?;
-    for old in order.remapped_gids() {
-        outlines = table.keep(outlines, old, order)?;
+    read_first_bytes(heads, block)?;
+    let mut list = list;
+    let mut place: usize = 0;
+    for outline in block {
+        let outline = outline.ok_or(Error::MalformedFont)?;
+        if is_composite(heads[place]) {
+            list = list.push_composite(outline, order)?;
+        } else {
+            list.push_kept(outline)?;
+        }
+        place += 1;
     }
-    outlines.shrink_to_fit();
-    Ok(outlines)
+    Ok(list)
+}
+
+/// Outlines that were looked up, each as it stands in the new `glyf` but for its padding.
+///
+/// Each block of them is begun before one of it is looked at, so that many are fetched from memory at a time.
+pub fn subset<'a>(
+    alloc: Global,
+    found: Vec<Option<&'a [u8]>>,
+    order: &GlyphRemapper,
+) -> Result<OutlineList<'a>, Error>
+    ensures { Gives (λ list. list) result (kept_outlines order.now (map option_copied found.entry.items)) }
+{
+    let mut list = OutlineList::with_capacity(alloc, found.len())?;
+    let mut heads = Vec::with_capacity(alloc, found.len().min(BLOCK))?;
+    let mut at: usize = 0;
+    while at < found.len() {
+        let count = (found.len() - at).min(BLOCK);
+        list = keep_block(list, &mut heads, &found[at..at + count], order)?;
+        at += count;
+    }
+    list.shrink_to_fit();
+    Ok(list)
 }
 
 /// Whether an outline has one byte, or is a composite that is shorter than its head.
@@ -158,15 +200,18 @@ fn push_components(
     Ok(())
 }
 
-/// Takes a glyph that waited: a new one goes last in the order, and its components wait.
+/// Takes a glyph that waited: a new one goes last in the order, its outline last, and its components wait.
 /// `OverflowError` where there is no room for it; otherwise the errors of its components.
-fn visit(
-    table: &OutlineTables<'_>,
+fn visit<'a>(
+    table: &OutlineTables<'a>,
     order: &mut GlyphRemapper,
+    outlines: &mut Vec<Option<&'a [u8]>>,
     waiting: &mut Vec<u16>,
     glyph: u16,
 ) -> Result<(), Error>
+    requires { AreFound (seen table.now) order.old outlines.old.items }
     ensures ok { OnOk result (IsVisited (seen table.now) order.old waiting.old.items glyph order.new waiting.new.items) }
+    ensures found { OnOk result (AreFound (seen table.now) order.new outlines.new.items) }
     ensures err { IfErr result (λ e. (e ≡ OutOfMemory) ⊎ (((e ≡ MalformedFont) × IsFaulty (seen table.now) glyph) ⊎ ((e ≡ OverflowError) × IsFull order.old glyph))) }
 {
     let count = order.num_gids();
@@ -177,6 +222,7 @@ fn visit(
         return Err(Error::OverflowError);
     }
     order.remap(glyph)?;
+    outlines.push(table.glyph_data(glyph))?;
     push_components(table, order, waiting, glyph)
 }
 
@@ -192,22 +238,18 @@ fn first_byte(outline: Option<&[u8]>) -> u8
     }
 }
 
-/// The first bytes of the outlines of a remapper's glyphs.
+/// Reads the first bytes of outlines.
 ///
 /// No step waits for one of them, so that many are fetched from memory at a time.
-fn first_bytes(
-    alloc: Global,
-    table: &OutlineTables<'_>,
-    mapper: &GlyphRemapper,
-) -> Result<Vec<u8>, Error>
-    ensures ok { IfOk result (λ v. v.items ≡ map (λ g. first_byte_in (outline_in (seen table.now) g)) mapper.now) }
+fn read_first_bytes(heads: &mut Vec<u8>, outlines: &[Option<&[u8]>]) -> Result<(), Error>
+    ensures ok { OnOk result (heads.new.items ≡ map (λ o. first_byte_in (option_copied o)) outlines.now) }
     ensures err { IfErr result (λ e. e ≡ OutOfMemory) }
 {
-    let mut heads = Vec::with_capacity(alloc, mapper.num_gids() as usize)?;
-    for glyph in mapper.remapped_gids() {
-        heads.push(first_byte(table.glyph_data(glyph)))?;
+    heads.clear();
+    for outline in outlines {
+        heads.push(first_byte(*outline))?;
     }
-    Ok(heads)
+    Ok(())
 }
 
 /// The composites among the glyphs of a remapper, as a stack whose last member is taken first.
@@ -215,7 +257,9 @@ fn stacked(
     alloc: Global,
     table: &OutlineTables<'_>,
     mapper: &GlyphRemapper,
+    outlines: &[Option<&[u8]>],
 ) -> Result<Vec<u16>, Error>
+    requires { AreFound (seen table.now) mapper.now outlines.now }
     ensures ok { IfOk result (λ v. v.items ≡ composites_in (seen table.now) mapper.now) }
     ensures err { IfErr result (λ e. e ≡ OutOfMemory) }
     ensures once { IsWithoutRepeats mapper.now }
@@ -223,7 +267,8 @@ fn stacked(
 {
     // What `num_gids` says of the mapper is promised here too.
     let _count = mapper.num_gids();
-    let heads = first_bytes(alloc, table, mapper)?;
+    let mut heads = Vec::with_capacity(alloc, outlines.len())?;
+    read_first_bytes(&mut heads, outlines)?;
     let mut glyphs = Vec::new(alloc);
     let mut place: usize = 0;
     for glyph in mapper.remapped_gids() {
@@ -235,28 +280,30 @@ fn stacked(
     Ok(glyphs)
 }
 
-/// The mapper's glyphs, and then each further one that they reach through components.
+/// The mapper's glyphs, and then each further one that they reach through components, with the outlines of all.
 ///
 /// The last of the waiting glyphs is taken first, and the mapper's glyphs lie below all others.
 /// `OverflowError` where all 65536 numbers are reached; `MalformedFont` where a reached glyph has
 /// one byte or is a composite that is shorter than its head.
-pub fn closure(
+pub fn closure<'a>(
     alloc: Global,
-    table: &OutlineTables<'_>,
+    table: &OutlineTables<'a>,
     mapper: &GlyphRemapper,
-) -> Result<GlyphRemapper, Error>
-    ensures ok { IfOk result (λ order. IsGlyphOrderBy (outline_in (seen table.now)) mapper.now order) }
-    ensures found { IfOk result (λ order. Finds (seen table.now) order mapper.now [] mapper.now) }
+) -> Result<Reached<'a>, Error>
+    ensures ok { IfOk result (λ r. IsGlyphOrderBy (outline_in (seen table.now)) mapper.now r.order) }
+    ensures found { IfOk result (λ r. Finds (seen table.now) r.order mapper.now [] mapper.now) }
+    ensures outlines { IfOk result (λ r. AreFound (seen table.now) r.order r.outlines.items) }
     ensures err { IfErr result (λ e. StopsClosure (seen table.now) mapper.now e) }
 {
     let mut order = mapper.clone()?;
-    let mut given = stacked(alloc, table, mapper)?;
+    let mut outlines = find_outlines(alloc, table, mapper)?;
+    let mut given = stacked(alloc, table, mapper, &outlines)?;
     let mut waiting = Vec::new(alloc);
     while let Some(glyph) = given.pop() {
         push_components(table, &order, &mut waiting, glyph)?;
         while let Some(component) = waiting.pop() {
-            visit(table, &mut order, &mut waiting, component)?;
+            visit(table, &mut order, &mut outlines, &mut waiting, component)?;
         }
     }
-    Ok(order)
+    Ok(Reached { order, outlines })
 }

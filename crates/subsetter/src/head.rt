@@ -3,17 +3,16 @@
 //! It says, among much else, in checksumAdjustment what the sum of the whole file lacks to a fixed number, and in
 //! indexToLocFormat which format `loca` has. The new one is a copy in which these two are written anew.
 
-ghost use Rattle.std.specs.Prelude.{◌≡◌, ◌≤◌, [], ◌∷◌, ◌++◌, length, OnOk, IfOk, IfErr, IfSome};
-ghost use Rattle.std.specs.Option.{option_copied, option_map};
+ghost use Rattle.std.specs.Prelude.{◌≡◌, ◌≤◌, ◌+◌, ◌++◌, length, vec_capacity, IfSome};
+ghost use Rattle.std.specs.Option.{option_copied};
 ghost use Rattle.subsetter_base.specs.Bytes.{number};
 ghost use Rattle.subsetter_base.specs.Gives.{Gives};
-ghost use Rattle.subsetter_base.specs.declared.error.Error.TheVariants.{OutOfMemory};
-ghost use Rattle.subsetter.specs.Head.Written.{format_bytes, head_bytes, head_in};
+ghost use Rattle.subsetter.specs.Head.Written.{format_bytes, head_in};
 
-use std::alloc::Global;
+use crate::sfnt::room::put;
+use std::marker::Model;
 use subsetter_base::Error;
 use subsetter_base::read::Reader;
-use subsetter_base::write::Writer;
 
 /// Where indexToLocFormat begins, two bytes.
 const FORMAT_START: usize = 50;
@@ -29,36 +28,60 @@ pub fn loca_format(head: &[u8]) -> Option<u16>
 }
 
 /// Writes indexToLocFormat: 0 for halves of offsets, 1 for offsets.
-fn write_format(w: &mut Writer, long: bool) -> Result<(), Error>
-    ensures ok { OnOk result (w.new ≡ w.old ++ format_bytes long) }
-    ensures err { IfErr result (λ e. e ≡ OutOfMemory) }
+fn write_format(out: &mut Vec<u8>, long: bool)
+    requires { length out.old.items + 2 ≤ vec_capacity out.old }
+    ensures items { out.new.items ≡ out.old.items ++ format_bytes long }
+    ensures capacity { vec_capacity out.old ≤ vec_capacity out.new }
 {
-    if long {
-        w.extend(&[0, 1])
-    } else {
-        w.extend(&[0, 0])
-    }
+    put(out, &[0, u8::from(long)]);
 }
 
-/// The new table, with zeros in checksumAdjustment until the sum of the file is known.
-fn rewrite(alloc: Global, head: &[u8], long: bool) -> Result<Vec<u8>, Error>
-    requires { 52 ≤ length head.now }
-    ensures ok { IfOk result (λ v. v.items ≡ head_bytes long head.now) }
-    ensures err { IfErr result (λ e. e ≡ OutOfMemory) }
-{
-    let mut w = Writer::with_capacity(alloc, head.len())?;
-    w.extend(&head[..8])?;
-    w.extend(&[0, 0, 0, 0])?;
-    w.extend(&head[12..FORMAT_START])?;
-    write_format(&mut w, long)?;
-    w.extend(&head[FORMAT_END..])?;
-    Ok(w.finish())
+/// The new table: a copy of the source's with zeros in checksumAdjustment, until the sum of the file is known, and with
+/// the format of the new `loca`.
+#[derive(Drop)]
+pub struct NewHead<'a> {
+    source: &'a [u8],
+    long: bool,
+}
+
+impl<'a> Model for NewHead<'a> {
+    ghost use Rattle.std.specs.Prelude.{◌≤◌, ℕ, List, length};
+    ghost use Rattle.subsetter.specs.Head.Written.{head_bytes};
+
+    ghost Value = { List ℕ };
+
+    ghost view = { λ h. head_bytes h.long h.source.now };
+
+    ghost invariant = { λ h. 52 ≤ length h.source.now };
+}
+
+impl<'a> NewHead<'a> {
+    /// How many bytes it has.
+    pub fn len(&self) -> usize
+        ensures { result ≡ length self.now }
+    {
+        self.source.len()
+    }
+
+    /// Writes it.
+    pub fn write(&self, out: &mut Vec<u8>)
+        requires { length out.old.items + length self.now ≤ vec_capacity out.old }
+        ensures items { out.new.items ≡ out.old.items ++ self.now }
+        ensures capacity { vec_capacity out.old ≤ vec_capacity out.new }
+    {
+        let source = self.source;
+        put(out, &source[..8]);
+        put(out, &[0, 0, 0, 0]);
+        put(out, &source[12..FORMAT_START]);
+        write_format(out, self.long);
+        put(out, &source[FORMAT_END..]);
+    }
 }
 
 /// `head` of a subset, where the source has it: with zeros in checksumAdjustment, and with the format of `loca`, which is
 /// the short one in a font without `loca`. Under 52 bytes, where that format would stand, it is `MalformedFont`.
-pub fn subset(alloc: Global, head: Option<&[u8]>, long: bool) -> Result<Option<Vec<u8>>, Error>
-    ensures { Gives (option_map (λ v. v.items)) result (head_in (option_copied head.entry) long) }
+pub fn subset<'a>(head: Option<&'a [u8]>, long: bool) -> Result<Option<NewHead<'a>>, Error>
+    ensures { Gives (λ new. new) result (head_in (option_copied head.entry) long) }
 {
     let Some(head) = head else {
         return Ok(None);
@@ -66,5 +89,5 @@ pub fn subset(alloc: Global, head: Option<&[u8]>, long: bool) -> Result<Option<V
     if head.len() < FORMAT_END {
         return Err(Error::MalformedFont);
     }
-    Ok(Some(rewrite(alloc, head, long)?))
+    Ok(Some(NewHead { source: head, long }))
 }

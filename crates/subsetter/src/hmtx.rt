@@ -4,17 +4,17 @@
 //! alone for the glyphs after these, which share the last advance. The new `hmtx` has the metrics of the new glyphs by the
 //! least number of pairs, and `hhea` is the source's but for that number.
 
-ghost use Rattle.std.specs.Prelude.{◌≡◌, ◌++◌, ◌≤◌, ◌<◌, ◌^◌, drop, take, length, IfOk, IfErr, OnOk};
-ghost use Rattle.std.specs.Option.{option_copied, option_map};
+ghost use Rattle.std.specs.Prelude.{◌≡◌, ◌+◌, ◌++◌, ◌≤◌, ◌<◌, ◌^◌, length, vec_capacity, IfOk, OnOk};
+ghost use Rattle.std.specs.Option.{option_copied};
 ghost use Rattle.std.specs.List.{flat_map};
 ghost use Rattle.subsetter_base.specs.Gives.{Gives};
-ghost use Rattle.subsetter_base.specs.declared.error.Error.TheVariants.{OutOfMemory};
 ghost use Rattle.subsetter.specs.Hmtx.Read.{metric_at, metric_in};
-ghost use Rattle.subsetter.specs.Hmtx.Written.{least_count, pair_bytes, bearing_bytes, hmtx_bytes, hhea_bytes, metrics_all, source_count, tables_of, metrics_in, seen};
+ghost use Rattle.subsetter.specs.Hmtx.Written.{least_count, pair_bytes, bearing_bytes, metrics_all, source_count, tables_of, metrics_in};
 
+use crate::sfnt::room::put;
 use std::alloc::Global;
+use std::marker::Model;
 use subsetter_base::read::Reader;
-use subsetter_base::write::Writer;
 use subsetter_base::{Error, GlyphRemapper};
 
 /// The horizontal metric of a glyph, in font design units.
@@ -24,13 +24,6 @@ pub struct Metric {
     pub advance: u16,
     /// The left side bearing: the two bytes of an i16, which is kept and never computed with.
     pub bearing: u16,
-}
-
-/// The tables that hold the metrics of a subset.
-#[derive(Drop)]
-pub struct MetricTables {
-    pub hhea: Vec<u8>,
-    pub hmtx: Vec<u8>,
 }
 
 /// An advance and a bearing at two places of `hmtx`.
@@ -115,87 +108,126 @@ fn least_count(metrics: &[Metric]) -> usize
 }
 
 /// Writes pairs of advance and bearing.
-fn write_pairs(w: &mut Writer, metrics: &[Metric]) -> Result<(), Error>
-    ensures ok { OnOk result (w.new ≡ w.old ++ flat_map pair_bytes metrics.now) }
-    ensures err { IfErr result (λ e. e ≡ OutOfMemory) }
+fn write_pairs(out: &mut Vec<u8>, metrics: &[Metric])
+    requires { length out.old.items + length (flat_map pair_bytes metrics.now) ≤ vec_capacity out.old }
+    ensures items { out.new.items ≡ out.old.items ++ flat_map pair_bytes metrics.now }
+    ensures capacity { vec_capacity out.old ≤ vec_capacity out.new }
 {
     for metric in metrics {
-        w.write(&metric.advance)?;
-        w.write(&metric.bearing)?;
+        let [a, b] = metric.advance.to_be_bytes();
+        let [c, d] = metric.bearing.to_be_bytes();
+        put(out, &[a, b, c, d]);
     }
-    Ok(())
 }
 
 /// Writes bearings alone.
-fn write_bearings(w: &mut Writer, metrics: &[Metric]) -> Result<(), Error>
-    ensures ok { OnOk result (w.new ≡ w.old ++ flat_map bearing_bytes metrics.now) }
-    ensures err { IfErr result (λ e. e ≡ OutOfMemory) }
+fn write_bearings(out: &mut Vec<u8>, metrics: &[Metric])
+    requires { length out.old.items + length (flat_map bearing_bytes metrics.now) ≤ vec_capacity out.old }
+    ensures items { out.new.items ≡ out.old.items ++ flat_map bearing_bytes metrics.now }
+    ensures capacity { vec_capacity out.old ≤ vec_capacity out.new }
 {
     for metric in metrics {
-        w.write(&metric.bearing)?;
+        put(out, &metric.bearing.to_be_bytes());
     }
-    Ok(())
 }
 
-/// Writes `hmtx` with a number of pairs, and bearings alone after them.
-#[tactic(auto, unfolding(crate::specs::Hmtx::Written::hmtx_bytes))]
-fn write_hmtx(alloc: Global, metrics: &[Metric], count: usize) -> Result<Vec<u8>, Error>
-    requires { count ≤ length metrics.now }
-    ensures ok { IfOk result (λ v. v.items ≡ hmtx_bytes count metrics.now) }
-    ensures err { IfErr result (λ e. e ≡ OutOfMemory) }
-{
-    let mut w = Writer::with_capacity(alloc, 4 * count + 2 * (metrics.len() - count))?;
-    write_pairs(&mut w, &metrics[..count])?;
-    write_bearings(&mut w, &metrics[count..])?;
-    Ok(w.finish())
+/// The tables that hold the metrics of a subset: `hmtx` with a number of pairs, and bearings alone after them, and `hhea`
+/// with that number.
+#[derive(Drop)]
+pub struct NewMetrics<'a> {
+    /// The source's `hhea`.
+    header: &'a [u8],
+    metrics: Vec<Metric>,
+    pairs: u16,
 }
 
-/// Writes `hhea` with its numberOfHMetrics.
-#[tactic(auto, unfolding(crate::specs::Hmtx::Written::hhea_bytes))]
-fn write_hhea(alloc: Global, hhea: &[u8], count: u16) -> Result<Vec<u8>, Error>
-    requires { 36 ≤ length hhea.now }
-    ensures ok { IfOk result (λ v. v.items ≡ hhea_bytes count hhea.now) }
-    ensures err { IfErr result (λ e. e ≡ OutOfMemory) }
-{
-    let before = &hhea[..34];
-    let after = &hhea[36..];
-    let mut w = Writer::with_capacity(alloc, hhea.len())?;
-    w.extend(before)?;
-    w.write(&count)?;
-    w.extend(after)?;
-    Ok(w.finish())
+impl<'a> Model for NewMetrics<'a> {
+    ghost use Rattle.std.specs.Prelude.{◌≤◌, ◌<◌, ◌^◌, length};
+    ghost use Rattle.subsetter.specs.Hmtx.Written.{MetricBytes, hhea_bytes, hmtx_bytes};
+
+    ghost Value = { MetricBytes };
+
+    ghost view = { λ m. record { hhea = hhea_bytes m.pairs m.header.now; hmtx = hmtx_bytes m.pairs m.metrics.items } };
+
+    ghost invariant = { λ m. record {
+      whole : 36 ≤ length m.header.now;
+      within : m.pairs ≤ length m.metrics.items;
+      few : length m.metrics.items < 2 ^ 16;
+    } };
+}
+
+impl<'a> NewMetrics<'a> {
+    /// How many bytes `hhea` has.
+    pub fn hhea_len(&self) -> usize
+        ensures { result ≡ length self.now.hhea }
+    {
+        self.header.len()
+    }
+
+    /// How many bytes `hmtx` has.
+    pub fn hmtx_len(&self) -> usize
+        ensures { result ≡ length self.now.hmtx }
+    {
+        2 * self.metrics.len() + 2 * usize::from(self.pairs)
+    }
+
+    /// Writes `hhea`.
+    #[tactic(auto, unfolding(crate::specs::Hmtx::Written::hhea_bytes))]
+    pub fn write_hhea(&self, out: &mut Vec<u8>)
+        requires { length out.old.items + length self.now.hhea ≤ vec_capacity out.old }
+        ensures items { out.new.items ≡ out.old.items ++ self.now.hhea }
+        ensures capacity { vec_capacity out.old ≤ vec_capacity out.new }
+    {
+        let header = self.header;
+        put(out, &header[..34]);
+        put(out, &self.pairs.to_be_bytes());
+        put(out, &header[36..]);
+    }
+
+    /// Writes `hmtx`.
+    #[tactic(auto, unfolding(crate::specs::Hmtx::Written::hmtx_bytes))]
+    pub fn write_hmtx(&self, out: &mut Vec<u8>)
+        requires { length out.old.items + length self.now.hmtx ≤ vec_capacity out.old }
+        ensures items { out.new.items ≡ out.old.items ++ self.now.hmtx }
+        ensures capacity { vec_capacity out.old ≤ vec_capacity out.new }
+    {
+        let (pairs, bearings) = self.metrics.split_at(usize::from(self.pairs));
+        write_pairs(out, pairs);
+        write_bearings(out, bearings);
+    }
 }
 
 /// The tables from the source's `hmtx`. A missing or cut `hhea`, and a metric that isn't there, are `MalformedFont`; no pairs are `OverflowError`.
 #[tactic(auto, unfolding(crate::specs::Hmtx::Written::tables_of))]
-fn tables(
+fn tables<'a>(
     alloc: Global,
-    hhea: Option<&[u8]>,
+    hhea: Option<&'a [u8]>,
     hmtx: &[u8],
     mapper: &GlyphRemapper,
-) -> Result<MetricTables, Error>
-    ensures { Gives seen result (tables_of (option_copied hhea.entry) hmtx.now mapper.now) }
+) -> Result<NewMetrics<'a>, Error>
+    ensures { Gives (λ new. new) result (tables_of (option_copied hhea.entry) hmtx.now mapper.now) }
 {
-    let hhea = hhea.ok_or(Error::MalformedFont)?;
-    let count = source_count(hhea, hmtx)?;
+    let header = hhea.ok_or(Error::MalformedFont)?;
+    let count = source_count(header, hmtx)?;
     let metrics = metrics(alloc, hmtx, count, mapper)?;
-    let pairs = least_count(&metrics);
-    Ok(MetricTables {
-        hhea: write_hhea(alloc, hhea, pairs as u16)?,
-        hmtx: write_hmtx(alloc, &metrics, pairs)?,
+    let pairs = least_count(&metrics) as u16;
+    Ok(NewMetrics {
+        header,
+        metrics,
+        pairs,
     })
 }
 
 /// `hhea` and `hmtx` of a subset, where the source has `hmtx`: each glyph of the list has the metric of its source, by the least number of pairs.
 /// A missing or cut `hhea`, and a last advance or a metric outside of `hmtx`, are `MalformedFont`; no pairs are `OverflowError`.
 #[tactic(auto, unfolding(crate::specs::Hmtx::Written::metrics_in))]
-pub fn subset(
+pub fn subset<'a>(
     alloc: Global,
-    hhea: Option<&[u8]>,
+    hhea: Option<&'a [u8]>,
     hmtx: Option<&[u8]>,
     mapper: &GlyphRemapper,
-) -> Result<Option<MetricTables>, Error>
-    ensures { Gives (option_map seen) result (metrics_in (option_copied hhea.entry) (option_copied hmtx.entry) mapper.now) }
+) -> Result<Option<NewMetrics<'a>>, Error>
+    ensures { Gives (λ new. new) result (metrics_in (option_copied hhea.entry) (option_copied hmtx.entry) mapper.now) }
 {
     let Some(hmtx) = hmtx else {
         return Ok(None);

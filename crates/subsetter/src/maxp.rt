@@ -4,16 +4,16 @@
 //! version 0.5, which goes with CFF outlines, has none. The new table has the new number, and the source's further fields
 //! where its version has any.
 
-ghost use Rattle.std.specs.Prelude.{◌≡◌, ◌≤◌, length};
-ghost use Rattle.std.specs.Option.{option_copied, option_map};
+ghost use Rattle.std.specs.Prelude.{◌≡◌, ◌≤◌, ◌+◌, ◌++◌, length, vec_capacity};
+ghost use Rattle.std.specs.Option.{option_copied};
 ghost use Rattle.subsetter_base.specs.Gives.{Gives};
 ghost use Rattle.subsetter.specs.Maxp.Read.{version_of, further_fields};
 ghost use Rattle.subsetter.specs.Maxp.Written.{maxp_in};
 
 use crate::sfnt::flavor::FontFlavor;
-use std::alloc::Global;
+use crate::sfnt::room::put;
+use std::marker::Model;
 use subsetter_base::Error;
-use subsetter_base::write::Writer;
 
 /// Version 1.0 for TrueType outlines, 0.5 for CFF ones.
 fn version(flavor: FontFlavor) -> u32
@@ -36,15 +36,54 @@ fn further_fields(maxp: &[u8], flavor: FontFlavor) -> &[u8]
     }
 }
 
-/// `maxp` of a subset of `count` glyphs, where the source has it. One under six bytes is `MalformedFont`.
-#[tactic(auto, unfolding(crate::specs::Maxp::Written::maxp_bytes))]
-pub fn subset(
-    alloc: Global,
-    maxp: Option<&[u8]>,
+/// The new table: the version of the outlines, the new number of glyphs, and the source's further fields.
+#[derive(Drop)]
+pub struct NewMaxp<'a> {
+    source: &'a [u8],
     flavor: FontFlavor,
     count: u16,
-) -> Result<Option<Vec<u8>>, Error>
-    ensures { Gives (option_map (λ v. v.items)) result (maxp_in (option_copied maxp.entry) flavor count) }
+}
+
+impl<'a> Model for NewMaxp<'a> {
+    ghost use Rattle.std.specs.Prelude.{◌≤◌, ℕ, List, length};
+    ghost use Rattle.subsetter.specs.Maxp.Written.{maxp_bytes};
+
+    ghost Value = { List ℕ };
+
+    ghost view = { λ m. maxp_bytes m.flavor m.count m.source.now };
+
+    ghost invariant = { λ m. 6 ≤ length m.source.now };
+}
+
+impl<'a> NewMaxp<'a> {
+    /// How many bytes it has.
+    #[tactic(auto, unfolding(crate::specs::Maxp::Written::maxp_bytes))]
+    pub fn len(&self) -> usize
+        ensures { result ≡ length self.now }
+    {
+        6 + further_fields(self.source, self.flavor).len()
+    }
+
+    /// Writes it.
+    #[tactic(auto, unfolding(crate::specs::Maxp::Written::maxp_bytes))]
+    pub fn write(&self, out: &mut Vec<u8>)
+        requires { length out.old.items + length self.now ≤ vec_capacity out.old }
+        ensures items { out.new.items ≡ out.old.items ++ self.now }
+        ensures capacity { vec_capacity out.old ≤ vec_capacity out.new }
+    {
+        put(out, &version(self.flavor).to_be_bytes());
+        put(out, &self.count.to_be_bytes());
+        put(out, further_fields(self.source, self.flavor));
+    }
+}
+
+/// `maxp` of a subset of `count` glyphs, where the source has it. One under six bytes is `MalformedFont`.
+pub fn subset<'a>(
+    maxp: Option<&'a [u8]>,
+    flavor: FontFlavor,
+    count: u16,
+) -> Result<Option<NewMaxp<'a>>, Error>
+    ensures { Gives (λ new. new) result (maxp_in (option_copied maxp.entry) flavor count) }
 {
     let Some(maxp) = maxp else {
         return Ok(None);
@@ -52,10 +91,9 @@ pub fn subset(
     if maxp.len() < 6 {
         return Err(Error::MalformedFont);
     }
-    let further = further_fields(maxp, flavor);
-    let mut w = Writer::with_capacity(alloc, 6 + further.len())?;
-    w.write(&version(flavor))?;
-    w.write(&count)?;
-    w.extend(further)?;
-    Ok(Some(w.finish()))
+    Ok(Some(NewMaxp {
+        source: maxp,
+        flavor,
+        count,
+    }))
 }

@@ -4,20 +4,21 @@
 //! the records its string stands. The new table keeps the Unicode records of the names 0 to 14 but the description, and
 //! stores each string once. A table of another version is copied.
 
-ghost use Rattle.std.specs.Prelude.{◌≡◌, ◌*◌, ◌++◌, [], length, flat_map, OnOk, IfOk, IfErr, IfSome};
+ghost use Rattle.std.specs.HashMap.{get, IsUnchanged};
+ghost use Rattle.std.specs.Str.{bytes_eq};
+ghost use Rattle.std.specs.Prelude.{ℕ, List, nat_le, ◌&&◌, ◌≡◌, ◌+◌, ◌*◌, ◌%◌, ◌<◌, ◌≤◌, ◌^◌, ◌++◌, [], length, filter, flat_map, false, vec_capacity, if◌then◌else◌, None, Some, OnOk, OnErr, IfOk, IfErr, IfNone, IfSome};
 ghost use Rattle.std.specs.Option.{option_copied, option_map, ok_or};
-ghost use Rattle.std.specs.Cow.{cow_slice_items};
 ghost use Rattle.subsetter_base.specs.Gives.{Gives};
-ghost use Rattle.subsetter_base.specs.declared.error.Error.TheVariants.{OutOfMemory, MalformedFont};
-ghost use Rattle.subsetter.specs.Name.Read.{name_record_bytes, name_parts, is_unicode, is_kept_record, string_of, with_string, string_place, joined, name_bytes};
-ghost use Rattle.subsetter.specs.Name.Plain.{Placed, placed_string, subset_names, name_of_table, new_name};
-ghost use Rattle.subsetter.specs.Name.View.{seen_parts, seen_table};
+ghost use Rattle.subsetter_base.specs.declared.error.Error.TheVariants.{OutOfMemory};
+ghost use Rattle.subsetter.specs.Name.Read.{name_record_bytes, name_parts, is_unicode, is_kept_record, string_of, among, with_string, string_place, joined};
+ghost use Rattle.subsetter.specs.Name.Plain.{placed, placed_string, name_of_table, new_name, header_bytes, laid_behind, few_laid, laid_bytes, kept_bytes};
+ghost use Rattle.subsetter.specs.Name.View.{nows, seen_parts, seen_table, name_seen};
 
 mod text;
 
 use crate::name::text::Text;
+use crate::sfnt::room::put;
 use std::alloc::Global;
-use std::borrow::CowSlice;
 use std::collections::HashMap;
 use std::marker::Model;
 use subsetter_base::Error;
@@ -89,26 +90,30 @@ impl Writeable for NameRecord {
     ghost bytes_of = { λ r. name_record_bytes r };
 
     fn write(&self, w: &mut Writer) -> Result<(), Error> {
-        w.write(&self.platform_id)?;
-        w.write(&self.encoding_id)?;
-        w.write(&self.language_id)?;
-        w.write(&self.name_id)?;
-        w.write(&self.length)?;
-        w.write(&self.string_offset)?;
-        Ok(())
+        let [a, b] = self.platform_id.to_be_bytes();
+        let [c, d] = self.encoding_id.to_be_bytes();
+        let [e, f] = self.language_id.to_be_bytes();
+        let [g, h] = self.name_id.to_be_bytes();
+        let [i, j] = self.length.to_be_bytes();
+        let [k, l] = self.string_offset.to_be_bytes();
+        w.extend(&[a, b, c, d, e, f, g, h, i, j, k, l])
     }
 }
+
+/// How many strings are looked through one by one.
+const NEAR: usize = 32;
 
 /// Distinct strings, which are to stand one after another.
 #[derive(Drop)]
 struct Strings<'a> {
-    places: HashMap<Text<'a>, u16>,
     strings: Vec<&'a [u8]>,
+    /// Where the strings begin that stand behind the first 32, and of these none.
+    far: HashMap<Text<'a>, u16>,
     size: usize,
 }
 
 impl<'a> Model for Strings<'a> {
-    ghost use Rattle.std.specs.Prelude.{◌≡◌, ℕ, List, length, Some, None, if◌then◌else◌};
+    ghost use Rattle.std.specs.Prelude.{◌≡◌, ◌<◌, ◌^◌, ℕ, List, length, take, false, Some, None, if◌then◌else◌};
     ghost use Rattle.std.specs.HashMap.{get};
     ghost use Rattle.std.specs.Str.{bytes_eq};
     ghost use Rattle.subsetter.specs.Name.Read.{among, string_place, joined};
@@ -119,9 +124,43 @@ impl<'a> Model for Strings<'a> {
     ghost view = { λ s. nows s.strings.items };
 
     ghost invariant = { λ s. record {
-      places_are : (q : List ℕ) → get bytes_eq s.places q ≡ (if among (nows s.strings.items) q then Some (string_place (nows s.strings.items) q) else None);
+      far_are : (q : List ℕ) → among (take 32 (nows s.strings.items)) q ≡ false → get bytes_eq s.far q ≡ (if among (nows s.strings.items) q then Some (string_place (nows s.strings.items) q) else None);
       size_is : s.size ≡ length (joined (nows s.strings.items));
+      fits : s.size < 2 ^ 64;
     } };
+}
+
+/// Where a string begins among some that stand one after another.
+fn near_place(strings: &[&[u8]], string: &[u8]) -> Option<usize>
+    requires { length (joined (nows strings.now)) < 2 ^ 64 }
+    ensures { result ≡ (if among (nows strings.now) string.now then Some (string_place (nows strings.now) string.now) else None) }
+{
+    let mut place: usize = 0;
+    for known in strings {
+        if *known == string {
+            return Some(place);
+        }
+        place += known.len();
+    }
+    None
+}
+
+/// Keeps where a string begins that stands behind so many, if these are 32 or more.
+fn keep_far<'a>(
+    far: &mut HashMap<Text<'a>, u16>,
+    count: usize,
+    string: &'a [u8],
+    place: u16,
+) -> Result<(), Error>
+    ensures ok { OnOk result ((q : List ℕ) → get bytes_eq far.new q ≡ (if nat_le 32 count && bytes_eq string.now q then Some place else get bytes_eq far.old q)) }
+    ensures err { IfErr result (λ e. e ≡ OutOfMemory) }
+    ensures unchanged { OnErr result (IsUnchanged far.old far.new) }
+{
+    if count < NEAR {
+        return Ok(());
+    }
+    far.insert(Text::new(string), place)?;
+    Ok(())
 }
 
 impl<'a> Strings<'a> {
@@ -131,10 +170,41 @@ impl<'a> Strings<'a> {
         ensures err { IfErr result (λ e. e ≡ OutOfMemory) }
     {
         Ok(Self {
-            places: HashMap::with_capacity(alloc, count)?,
             strings: Vec::with_capacity(alloc, count)?,
+            far: HashMap::new(alloc),
             size: 0,
         })
+    }
+
+    /// Where a string begins, in bytes, if it is there.
+    fn find(&self, string: &[u8]) -> Option<usize>
+        ensures { result ≡ (if among self.now string.now then Some (string_place self.now string.now) else None) }
+    {
+        let strings = self.strings.as_slice();
+        if strings.len() <= NEAR {
+            return near_place(strings, string);
+        }
+        match near_place(&strings[..NEAR], string) {
+            Some(place) => Some(place),
+            None => match self.far.get(&Text::new(string)) {
+                Some(place) => Some(usize::from(*place)),
+                None => None,
+            },
+        }
+    }
+
+    /// Puts a new string last.
+    fn add(&mut self, string: &'a [u8], place: u16) -> Result<(), Error>
+        requires new { among self.old string.now ≡ false }
+        requires place { place ≡ length (joined self.old) }
+        ensures ok { OnOk result (self.new ≡ with_string self.old string.now) }
+        ensures err { IfErr result (λ e. e ≡ OutOfMemory) }
+    {
+        self.strings.reserve(1)?;
+        keep_far(&mut self.far, self.strings.len(), string, place)?;
+        self.strings.push(string).unwrap();
+        self.size += string.len();
+        Ok(())
     }
 
     /// Where a string begins, in bytes; a new one goes last. A place past 65535 is `SubsetError`.
@@ -142,167 +212,252 @@ impl<'a> Strings<'a> {
         ensures place { Gives (λ at. at) result (placed_string self.old string.now) }
         ensures list { OnOk result (self.new ≡ with_string self.old string.now) }
     {
-        if let Some(place) = self.places.get(&Text::new(string)) {
-            return Ok(*place);
-        }
-        if self.size > 65535 {
+        let found = self.find(string);
+        let place = found.unwrap_or(self.size);
+        if place > 65535 {
             return Err(Error::SubsetError);
         }
-        let place = self.size as u16;
-        self.strings.reserve(1)?;
-        self.places.insert(Text::new(string), place)?;
-        self.strings.push(string).unwrap();
-        self.size += string.len();
-        Ok(place)
-    }
-
-    /// The strings, one after another.
-    fn join(&self, alloc: Global) -> Result<Vec<u8>, Error>
-        ensures ok { IfOk result (λ v. v.items ≡ joined self.now) }
-        ensures err { IfErr result (λ e. e ≡ OutOfMemory) }
-    {
-        let mut storage = Vec::with_capacity(alloc, self.size)?;
-        for string in &self.strings {
-            storage.extend_from_slice(string)?;
+        if found.is_none() {
+            self.add(string, place as u16)?;
         }
-        Ok(storage)
+        Ok(place as u16)
     }
-}
 
-/// The records of a table of version 0, and the bytes that hold their strings.
-#[derive(Drop)]
-pub struct NameTable<'a> {
-    pub names: Vec<NameRecord>,
-    pub storage: CowSlice<'a, u8>,
+    /// How many bytes there are; where these are 2^32 or more, some number from 2^32 on.
+    fn len(&self) -> usize
+        ensures { result ≡ length (joined self.now) }
+    {
+        self.size
+    }
+
+    /// Writes the strings, one after another.
+    fn write(&self, out: &mut Vec<u8>)
+        requires { length out.old.items + length (joined self.now) ≤ vec_capacity out.old }
+        ensures items { out.new.items ≡ out.old.items ++ joined self.now }
+        ensures capacity { vec_capacity out.old ≤ vec_capacity out.new }
+    {
+        for string in &self.strings {
+            put(out, string);
+        }
+    }
 }
 
 /// The records of a table of version 0 as they stand in its bytes, and the bytes that hold their strings.
 #[derive(Drop)]
-struct Parts<'a> {
-    records: LazyArray16<'a, NameRecord>,
-    storage: &'a [u8],
+pub struct NameTable<'a> {
+    pub records: LazyArray16<'a, NameRecord>,
+    pub storage: &'a [u8],
 }
 
 /// The parts of a table of version 0, if its header, its records and the start of its storage are there.
-fn parse_parts(data: &[u8]) -> Option<Parts<'_>>
+fn parse_parts(data: &[u8]) -> Option<NameTable<'_>>
     ensures parts { option_map seen_parts result ≡ name_parts «data».now }
-    ensures whole { IfSome result (λ p. length p.records.bytes ≡ p.records.count * 12) }
+    ensures whole { IfSome result (λ t. length t.records.bytes ≡ t.records.count * 12) }
 {
     let mut r = Reader::new_at(data, 2);
     let count = r.read::<u16>()?;
     let offset = r.read::<u16>()?;
     let records = r.read_array16::<NameRecord>(count)?;
     let storage = Reader::new_at(data, offset as usize).tail()?;
-    Some(Parts { records, storage })
+    Some(NameTable { records, storage })
 }
 
 impl<'a> NameTable<'a> {
-    /// Parses a table of version 0, whose version the caller has read; `MalformedFont` where its header or a record is cut or its storage begins past the end.
-    pub fn parse(alloc: Global, data: &'a [u8]) -> Result<Self, Error>
-        ensures { Gives seen_table result (ok_or (name_parts «data».now) MalformedFont) }
+    /// Parses a table of version 0, whose version the caller has read, if its header, its records and the start of its storage are there.
+    pub fn parse(data: &'a [u8]) -> Option<Self>
+        ensures { option_map seen_table result ≡ name_parts «data».now }
     {
-        let parts = parse_parts(data).ok_or(Error::MalformedFont)?;
-        let mut names = Vec::with_capacity(alloc, parts.records.len() as usize)?;
-        for record in parts.records {
-            names.push(record)?;
-        }
-        Ok(Self {
-            names,
-            storage: CowSlice::Borrowed(parts.storage),
-        })
+        parse_parts(data)
     }
 }
 
-/// Writes records.
-fn write_records(w: &mut Writer, names: &[NameRecord]) -> Result<(), Error>
-    ensures ok { OnOk result (w.new ≡ w.old ++ flat_map name_record_bytes names.now) }
+/// The low 16 bits of how many records a table has.
+fn count_records(table: &NameTable<'_>) -> u16
+    ensures { result ≡ length (seen_table table.now).records % 65536 }
+{
+    let mut count: u16 = 0;
+    for _record in table.records.iter() {
+        count = count.wrapping_add(1);
+    }
+    count
+}
+
+/// Writes the records of a table.
+fn write_records(w: &mut Writer, table: &NameTable<'_>) -> Result<(), Error>
+    ensures ok { OnOk result (w.new ≡ w.old ++ flat_map name_record_bytes (seen_table table.now).records) }
     ensures err { IfErr result (λ e. e ≡ OutOfMemory) }
 {
-    for name in names {
-        w.write(name)?;
+    for record in table.records.iter() {
+        w.write(&record)?;
     }
     Ok(())
 }
 
+/// A table as it stands, its storage right behind its records.
 impl Writeable for NameTable<'_> {
-    ghost use Rattle.std.specs.Cow.{cow_slice_items};
     ghost use Rattle.subsetter.specs.Name.Read.{name_bytes};
+    ghost use Rattle.subsetter.specs.Name.View.{seen_table};
 
-    ghost bytes_of = { λ t. name_bytes t.names.items (cow_slice_items t.storage) };
+    ghost bytes_of = { λ t. name_bytes (seen_table t).records (seen_table t).storage };
 
     fn write(&self, w: &mut Writer) -> Result<(), Error> {
-        // At most 5460 records are written; of more, the low 16 bits of their count.
-        let names = self.names.as_slice();
-        let count = names.len() % 65536;
+        let count = count_records(self);
         w.write(&0u16)?;
-        w.write(&(count as u16))?;
-        w.write(&(((6 + 12 * count) % 65536) as u16))?;
-        write_records(w, names)?;
-        w.extend(&self.storage)?;
+        w.write(&count)?;
+        w.write(&(((6 + 12 * count as usize) % 65536) as u16))?;
+        write_records(w, self)?;
+        w.extend(self.storage)?;
         Ok(())
     }
 }
 
-/// For how many records room is taken at once: for those of a table, but for no more than are usual.
-fn usual_count(table: &NameTable<'_>) -> usize {
-    table.names.len().min(32)
+/// Records as they are written, and the strings that are to stand behind them.
+#[derive(Drop)]
+struct Collected<'a> {
+    records: Vec<u8>,
+    strings: Strings<'a>,
 }
 
-/// No records, and room for so many.
-fn no_records(alloc: Global, count: usize) -> Result<Vec<NameRecord>, Error>
-    ensures ok { IfOk result (λ v. v.items ≡ []) }
-    ensures err { IfErr result (λ e. e ≡ OutOfMemory) }
+impl<'a> Model for Collected<'a> {
+    ghost use Rattle.subsetter.specs.Name.Plain.{Laid};
+
+    ghost Value = { Laid };
+
+    ghost view = { λ c. record { bytes = c.records.items; strings = c.strings } };
+}
+
+/// The names that a subset keeps: at most 5460 records as they are written, and the strings that stand behind them.
+#[derive(Drop)]
+pub struct NewNames<'a> {
+    records: Vec<u8>,
+    strings: Strings<'a>,
+}
+
+impl<'a> Model for NewNames<'a> {
+    ghost use Rattle.std.specs.Prelude.{◌≤◌, ◌/◌, ◌++◌, ℕ, List, length};
+    ghost use Rattle.subsetter.specs.Name.Read.{joined};
+    ghost use Rattle.subsetter.specs.Name.Plain.{header_bytes};
+
+    ghost Value = { List ℕ };
+
+    ghost view = { λ n. header_bytes (length n.records.items / 12) ++ n.records.items ++ joined n.strings };
+
+    ghost invariant = { λ n. length n.records.items ≤ 65520 };
+}
+
+impl<'a> NewNames<'a> {
+    /// How many bytes the table has; where these are 2^32 or more, some number from 2^32 on.
+    #[tactic(auto, unfolding(crate::specs::Name::Plain::header_bytes))]
+    pub fn len(&self) -> usize
+        ensures exact { length self.now < 2 ^ 32 → result ≡ length self.now }
+        ensures past { 2 ^ 32 ≤ length self.now → 2 ^ 32 ≤ result }
+    {
+        (6 + self.records.len()).saturating_add(self.strings.len())
+    }
+
+    /// Writes the table.
+    pub fn write(&self, out: &mut Vec<u8>)
+        requires { length out.old.items + length self.now ≤ vec_capacity out.old }
+        ensures items { out.new.items ≡ out.old.items ++ self.now }
+        ensures capacity { vec_capacity out.old ≤ vec_capacity out.new }
+    {
+        write_header(out, self.records.len() / 12);
+        put(out, &self.records);
+        self.strings.write(out);
+    }
+}
+
+/// Writes the header of a table of so many records.
+#[tactic(auto, unfolding(crate::specs::Name::Plain::header_bytes))]
+fn write_header(out: &mut Vec<u8>, count: usize)
+    requires count { count ≤ 5460 }
+    requires room { length out.old.items + 6 ≤ vec_capacity out.old }
+    ensures items { out.new.items ≡ out.old.items ++ header_bytes count }
+    ensures capacity { vec_capacity out.old ≤ vec_capacity out.new }
 {
-    Ok(Vec::with_capacity(alloc, count)?)
+    let [a, b] = (count as u16).to_be_bytes();
+    let [c, d] = ((6 + 12 * count) as u16).to_be_bytes();
+    put(out, &[0, 0, a, b, c, d]);
 }
 
-/// The records that a subset keeps, and their strings, each once in the order of first use, where the lists of both are empty as yet.
-#[tactic(auto, unfolding(crate::specs::Name::Plain::subset_names))]
-fn collect_names<'a, 'b>(
-    alloc: Global,
-    table: &'b NameTable<'a>,
-    records: Vec<NameRecord>,
-    strings: Strings<'b>,
-) -> Result<NameTable<'a>, Error>
-    requires records { records.items ≡ [] }
+/// Writes the records that a subset keeps behind others, and takes their strings, each once in the order of first use.
+fn collect_names<'a>(
+    table: &NameTable<'a>,
+    records: Writer,
+    strings: Strings<'a>,
+) -> Result<Collected<'a>, Error>
+    requires records { records ≡ [] }
     requires strings { strings ≡ [] }
-    ensures { Gives seen_table result (subset_names (seen_table table.now)) }
+    ensures { Gives (λ laid. laid) result (laid_behind [] (placed table.now.storage.now [] (filter is_kept_record (seen_table table.now).records))) }
 {
-    let mut names = records;
+    let mut front = records;
     let mut strings = strings;
-    for record in &table.names {
+    for record in table.records.iter() {
         if record.is_kept() {
-            let string = record.string(&table.storage).ok_or(Error::SubsetError)?;
+            let string = record.string(table.storage).ok_or(Error::SubsetError)?;
             let string_offset = strings.place(string)?;
-            names.push(NameRecord {
+            front.write(&NameRecord {
                 string_offset,
-                ..*record
+                ..record
             })?;
         }
     }
-    if names.len() > 5460 {
-        return Err(Error::SubsetError);
-    }
-    Ok(NameTable {
-        names,
-        storage: CowSlice::Owned(strings.join(alloc)?),
+    Ok(Collected {
+        records: front.finish(),
+        strings,
     })
 }
 
-/// The records that a subset keeps, and their strings, each once in the order of first use. `SubsetError` where a string is not inside the storage or begins past 65535 in the new one, and for more than 5460 records.
-pub fn kept_names<'a>(alloc: Global, table: &NameTable<'a>) -> Result<NameTable<'a>, Error>
-    ensures { Gives seen_table result (subset_names (seen_table table.now)) }
+/// No bytes, and room for so many.
+fn no_bytes(alloc: Global, count: usize) -> Result<Writer, Error>
+    ensures ok { IfOk result (λ w. w ≡ []) }
+    ensures err { IfErr result (λ e. e ≡ OutOfMemory) }
 {
-    let count = usual_count(table);
-    let records = no_records(alloc, count)?;
+    Writer::with_capacity(alloc, count)
+}
+
+/// The records that a subset keeps, unless they are more than 5460, of twelve bytes each.
+fn few_names<'a>(collected: Collected<'a>) -> Result<NewNames<'a>, Error>
+    ensures { Gives (λ names. names) result (few_laid collected.entry) }
+{
+    let Collected { records, strings } = collected;
+    if records.len() > 65520 {
+        return Err(Error::SubsetError);
+    }
+    Ok(NewNames { records, strings })
+}
+
+/// The records that a subset keeps, with room for as many as are usual taken at once.
+fn laid_names<'a>(alloc: Global, table: &NameTable<'a>) -> Result<NewNames<'a>, Error>
+    ensures { Gives (λ names. names) result (laid_bytes (seen_table table.now)) }
+{
+    let count = usize::from(table.records.len()).min(NEAR);
+    let records = no_bytes(alloc, 12 * count)?;
     let strings = Strings::with_capacity(alloc, count)?;
-    collect_names(alloc, table, records, strings)
+    let collected = collect_names(table, records, strings)?;
+    few_names(collected)
+}
+
+/// The records that a subset keeps, and their strings, each once in the order of first use. `SubsetError` where a string is not inside the storage or begins past 65535 in the new one, and for more than 5460 records.
+pub fn kept_names<'a>(alloc: Global, table: &NameTable<'a>) -> Result<NewNames<'a>, Error>
+    ensures { Gives (λ names. names) result (kept_bytes (seen_table table.now)) }
+{
+    laid_names(alloc, table)
+}
+
+/// `name` of a subset.
+#[derive(Drop)]
+pub enum NewName<'a> {
+    /// A table of another version than 0, as it is in the source.
+    Copied(&'a [u8]),
+    /// The names that are kept of a table of version 0.
+    Kept(NewNames<'a>),
 }
 
 /// The names of a subset. A table of another version than 0 is copied whole; `MalformedFont` where the version, the header, a record or the start of the storage is cut, and the errors of `kept_names`.
 #[tactic(auto, unfolding(crate::specs::Name::Plain::new_name, crate::specs::Name::Plain::name_of_table))]
-pub fn subset<'a>(alloc: Global, name: Option<&'a [u8]>) -> Result<Option<CowSlice<'a, u8>>, Error>
-    ensures { Gives (option_map cow_slice_items) result (new_name (option_copied name.entry)) }
+pub fn subset<'a>(alloc: Global, name: Option<&'a [u8]>) -> Result<Option<NewName<'a>>, Error>
+    ensures { Gives (option_map name_seen) result (new_name (option_copied name.entry)) }
 {
     let Some(bytes) = name else {
         return Ok(None);
@@ -311,10 +466,8 @@ pub fn subset<'a>(alloc: Global, name: Option<&'a [u8]>) -> Result<Option<CowSli
         .read::<u16>()
         .ok_or(Error::MalformedFont)?;
     if version != 0 {
-        return Ok(Some(CowSlice::Borrowed(bytes)));
+        return Ok(Some(NewName::Copied(bytes)));
     }
-    let table = kept_names(alloc, &NameTable::parse(alloc, bytes)?)?;
-    let mut w = Writer::with_capacity(alloc, 6 + 12 * table.names.len() + table.storage.len())?;
-    w.write(&table)?;
-    Ok(Some(CowSlice::Owned(w.finish())))
+    let table = NameTable::parse(bytes).ok_or(Error::MalformedFont)?;
+    Ok(Some(NewName::Kept(kept_names(alloc, &table)?)))
 }

@@ -1,18 +1,23 @@
 //! The tables that both kinds of outlines share: `head`, metrics, the number of glyphs, and names.
 
 ghost use Rattle.std.specs.Prelude.{◌≡◌};
+ghost use Rattle.std.specs.Cow.{cow_slice_items};
 ghost use Rattle.std.specs.Option.{option_map};
 ghost use Rattle.subsetter_base.specs.Gives.{Gives};
 ghost use Rattle.subsetter.specs.Sfnt.Read.{table_in};
-ghost use Rattle.subsetter.specs.Sfnt.View.{font_seen};
+ghost use Rattle.subsetter.specs.Sfnt.View.{table_bytes, font_seen};
+ghost use Rattle.subsetter.specs.Name.View.{name_seen};
 ghost use Rattle.subsetter.specs.Shared.Plain.{shared_of, with_shared};
 ghost use Rattle.subsetter.specs.Shared.View.{shared_seen};
 
-use crate::hmtx::{self, MetricTables};
+use crate::head::NewHead;
+use crate::hmtx::NewMetrics;
+use crate::maxp::NewMaxp;
+use crate::name::NewName;
 use crate::sfnt::face::Face;
 use crate::sfnt::flavor::FontFlavor;
-use crate::sfnt::tables::{FontTables, owned, whole};
-use crate::{head, maxp, name, post};
+use crate::sfnt::tables::{FontTables, TableData};
+use crate::{head, hmtx, maxp, name, post};
 use std::alloc::Global;
 use std::borrow::CowSlice;
 use subsetter_base::{Error, GlyphRemapper, Tag};
@@ -20,10 +25,10 @@ use subsetter_base::{Error, GlyphRemapper, Tag};
 /// The shared tables of a new font, each where the source has it.
 #[derive(Drop)]
 pub struct SharedTables<'a> {
-    pub head: Option<Vec<u8>>,
-    pub metrics: Option<MetricTables>,
-    pub maxp: Option<Vec<u8>>,
-    pub name: Option<CowSlice<'a, u8>>,
+    pub head: Option<NewHead<'a>>,
+    pub metrics: Option<NewMetrics<'a>>,
+    pub maxp: Option<NewMaxp<'a>>,
+    pub name: Option<NewName<'a>>,
     pub post: Option<CowSlice<'a, u8>>,
 }
 
@@ -38,10 +43,10 @@ pub fn make<'a>(
 ) -> Result<SharedTables<'a>, Error>
     ensures { Gives shared_seen result (shared_of (table_in face.now.«data».now face.now.records.now) flavor long order.now) }
 {
-    let head = head::subset(alloc, face.table(Tag::HEAD), long)?;
+    let head = head::subset(face.table(Tag::HEAD), long)?;
     let metrics = hmtx::subset(alloc, face.table(Tag::HHEA), face.table(Tag::HMTX), order)?;
     let count = order.num_gids();
-    let maxp = maxp::subset(alloc, face.table(Tag::MAXP), flavor, count)?;
+    let maxp = maxp::subset(face.table(Tag::MAXP), flavor, count)?;
     let name = name::subset(alloc, face.table(Tag::NAME))?;
     let post = post::subset(alloc, face.table(Tag::POST), order)?;
     Ok(SharedTables {
@@ -53,34 +58,80 @@ pub fn make<'a>(
     })
 }
 
-/// The two tables of metrics, each if it is there.
-fn apart(metrics: Option<MetricTables>) -> (Option<Vec<u8>>, Option<Vec<u8>>)
-    ensures hhea { option_map (λ v. v.items) result.0 ≡ option_map (λ t. t.hhea.items) metrics }
-    ensures hmtx { option_map (λ v. v.items) result.1 ≡ option_map (λ t. t.hmtx.items) metrics }
+/// `head` as a table of the new font.
+fn head_data<'b, 'a>(head: &'b Option<NewHead<'a>>) -> Option<TableData<'b, 'a>>
+    ensures { option_map table_bytes result ≡ head.now }
+{
+    match head {
+        Some(head) => Some(TableData::Head(head)),
+        None => None,
+    }
+}
+
+/// `hhea` and `hmtx` as tables of the new font.
+fn metrics_data<'b, 'a>(
+    metrics: &'b Option<NewMetrics<'a>>,
+) -> (Option<TableData<'b, 'a>>, Option<TableData<'b, 'a>>)
+    ensures hhea { option_map table_bytes result.0 ≡ option_map (λ m. m.hhea) metrics.now }
+    ensures hmtx { option_map table_bytes result.1 ≡ option_map (λ m. m.hmtx) metrics.now }
 {
     match metrics {
-        Some(tables) => (Some(tables.hhea), Some(tables.hmtx)),
+        Some(metrics) => (
+            Some(TableData::Hhea(metrics)),
+            Some(TableData::Hmtx(metrics)),
+        ),
         None => (None, None),
     }
 }
 
-/// A font with these tables and none of outlines.
-pub fn font_tables<'a>(shared: SharedTables<'a>) -> FontTables<'a>
-    ensures { font_seen result ≡ with_shared (shared_seen shared.entry) }
+/// `maxp` as a table of the new font.
+fn maxp_data<'b, 'a>(maxp: &'b Option<NewMaxp<'a>>) -> Option<TableData<'b, 'a>>
+    ensures { option_map table_bytes result ≡ maxp.now }
 {
-    let (hhea, hmtx) = apart(shared.metrics);
+    match maxp {
+        Some(maxp) => Some(TableData::Maxp(maxp)),
+        None => None,
+    }
+}
+
+/// `name` as a table of the new font.
+fn name_data<'b, 'a>(name: &'b Option<NewName<'a>>) -> Option<TableData<'b, 'a>>
+    ensures { option_map table_bytes result ≡ option_map name_seen name.now }
+{
+    match name {
+        Some(NewName::Copied(bytes)) => Some(TableData::Whole(bytes)),
+        Some(NewName::Kept(names)) => Some(TableData::Names(names)),
+        None => None,
+    }
+}
+
+/// `post` as a table of the new font.
+fn post_data<'b, 'a>(post: &'b Option<CowSlice<'a, u8>>) -> Option<TableData<'b, 'a>>
+    ensures { option_map table_bytes result ≡ option_map cow_slice_items post.now }
+{
+    match post {
+        Some(post) => Some(TableData::Whole(post)),
+        None => None,
+    }
+}
+
+/// A font with these tables and none of outlines.
+pub fn font_tables<'b, 'a>(shared: &'b SharedTables<'a>) -> FontTables<'b, 'a>
+    ensures { font_seen result ≡ with_shared (shared_seen shared.now) }
+{
+    let (hhea, hmtx) = metrics_data(&shared.metrics);
     FontTables {
         cff: None,
         cvt: None,
         fpgm: None,
         glyf: None,
-        head: owned(shared.head),
-        hhea: owned(hhea),
-        hmtx: owned(hmtx),
+        head: head_data(&shared.head),
+        hhea,
+        hmtx,
         loca: None,
-        maxp: owned(shared.maxp),
-        name: whole(shared.name),
-        post: whole(shared.post),
+        maxp: maxp_data(&shared.maxp),
+        name: name_data(&shared.name),
+        post: post_data(&shared.post),
         prep: None,
     }
 }

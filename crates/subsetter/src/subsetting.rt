@@ -11,10 +11,10 @@ ghost use Rattle.subsetter.specs.Fault.{HasFault};
 ghost use Rattle.subsetter.specs.Sfnt.Fault.{HasOpeningFault};
 ghost use Rattle.subsetter.specs.Limits.{token_limit, depth_limit};
 ghost use Rattle.subsetter.specs.Subset.{IsSubset};
-ghost use Rattle.subsetter.specs.Answer.{IsAnswer, IsTheAnswer};
+ghost use Rattle.subsetter.specs.Answer.{IsAnswer, HasNoAnswer, IsTheAnswer};
 
 use crate::cff;
-use crate::glyf::{self, OutlineTables};
+use crate::glyf::{self, OutlineTables, Reached};
 use crate::sfnt::construct::finish;
 use crate::sfnt::face::Face;
 use crate::sfnt::flavor::{FontFlavor, flavor};
@@ -31,13 +31,14 @@ fn truetype(alloc: Global, face: &Face<'_>, mapper: &GlyphRemapper) -> Result<Ve
     ensures err { IfErr result (λ e. IsRefused (table_in face.now.«data».now face.now.records.now) mapper.now e) }
 {
     let table = OutlineTables::new(face)?;
-    let order = glyf::closure(alloc, &table, mapper)?;
+    let reached = glyf::closure(alloc, &table, mapper)?;
+    let Reached { order, outlines } = reached;
     // What `num_gids` says of the order, that it has fewer than 65536 glyphs, is a premise of the proof.
     let _count = order.num_gids();
-    let made = make(alloc, face, &table, &order)?;
+    let made = make(alloc, face, &table, outlines, &order)?;
     // Its memory is free before room for the output is taken.
     drop(order);
-    let list = in_order(alloc, font_tables(face, made))?;
+    let list = in_order(alloc, font_tables(face, &made))?;
     finish(alloc, FontFlavor::TrueType, &list)
 }
 
@@ -53,7 +54,7 @@ fn charstrings(
 {
     let source = face.table(Tag::CFF).ok_or(Error::MalformedFont)?;
     let made = cff::make(alloc, face, source, limits, mapper)?;
-    let list = in_order(alloc, cff::font_tables(made))?;
+    let list = in_order(alloc, cff::font_tables(&made))?;
     finish(alloc, FontFlavor::Cff, &list)
 }
 
@@ -130,6 +131,8 @@ pub fn subset(
     ensures same { IfOk result (λ out. IsTheAnswer (record { bytes = «data».now; index = index }) mapper.now out.items) }
     // What is refused has a fault of that name.
     ensures err { IfErr result (λ e. (e ≡ OutOfMemory) ⊎ ((order : List ℕ) × HasFault token_limit depth_limit (record { bytes = «data».now; index = index }) mapper.now order e)) }
+    // And, but for want of memory, it has no answer: no call answers it within these limits.
+    ensures no_answer { IfErr result (λ e. (e ≡ OutOfMemory) ⊎ HasNoAnswer token_limit depth_limit (record { bytes = «data».now; index = index }) mapper.now) }
     // Where a fault stands that is found before memory is taken, the answer isn't want of memory.
     ensures before_memory { (e : SpecError) → HasOpeningFault (record { bytes = «data».now; index = index }) e → result ≢ Err OutOfMemory }
 {
@@ -161,6 +164,8 @@ pub fn subset_with_limits(
     ensures same { IfOk result (λ out. IsTheAnswer (record { bytes = «data».now; index = index }) mapper.now out.items) }
     // What is refused has a fault of that name.
     ensures err { IfErr result (λ e. (e ≡ OutOfMemory) ⊎ ((order : List ℕ) × HasFault limits.now.tokens limits.now.depth (record { bytes = «data».now; index = index }) mapper.now order e)) }
+    // And, but for want of memory, it has no answer: no call answers it within these limits.
+    ensures no_answer { IfErr result (λ e. (e ≡ OutOfMemory) ⊎ HasNoAnswer limits.now.tokens limits.now.depth (record { bytes = «data».now; index = index }) mapper.now) }
     // Where a fault stands that is found before memory is taken, the answer isn't want of memory.
     ensures before_memory { (e : SpecError) → HasOpeningFault (record { bytes = «data».now; index = index }) e → result ≢ Err OutOfMemory }
 {

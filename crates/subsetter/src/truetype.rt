@@ -4,6 +4,7 @@ ghost use Rattle.std.specs.Prelude.{◌≡◌, IfOk};
 ghost use Rattle.subsetter_base.specs.Gives.{Gives};
 ghost use Rattle.subsetter.specs.Sfnt.Read.{table_in};
 ghost use Rattle.subsetter.specs.Sfnt.View.{font_seen};
+ghost use Rattle.subsetter.specs.Glyf.Closure.{AreFound};
 ghost use Rattle.subsetter.specs.Glyf.View.{seen};
 ghost use Rattle.subsetter.specs.Glyf.Written.{is_long};
 ghost use Rattle.subsetter.specs.Truetype.Plain.{located, made_of, font_of};
@@ -14,7 +15,7 @@ use crate::glyf::{self, OutlineTables};
 use crate::loca;
 use crate::sfnt::face::Face;
 use crate::sfnt::flavor::FontFlavor;
-use crate::sfnt::tables::{FontTables, TableData, borrowed, owned};
+use crate::sfnt::tables::{FontTables, TableData, borrowed};
 use crate::shared::{self, SharedTables};
 use std::alloc::Global;
 use subsetter_base::{Error, GlyphRemapper, Tag};
@@ -42,17 +43,19 @@ fn locate(alloc: Global, outlines: &OutlineList<'_>, long: bool) -> Result<Vec<u
 }
 
 /// Makes the tables that depend on the glyphs of the new font.
-#[tactic(auto, unfolding(crate::specs::Truetype::Plain::made_of))]
+#[tactic(auto, using(crate::proofs::GlyfLaws::KeptList::all_by_outlines), unfolding(crate::specs::Truetype::Plain::made_of))]
 pub fn make<'a>(
     alloc: Global,
     face: &Face<'a>,
     table: &OutlineTables<'a>,
+    found: Vec<Option<&'a [u8]>>,
     order: &GlyphRemapper,
 ) -> Result<Made<'a>, Error>
+    requires { AreFound (seen table.now) order.now found.items }
     ensures exact { Gives made_seen result (made_of (table_in face.now.«data».now face.now.records.now) (seen table.now) order.now) }
     ensures long { IfOk result (λ m. m.long ≡ is_long m.outlines) }
 {
-    let outlines = glyf::subset(alloc, table, order)?;
+    let outlines = glyf::subset(alloc, found, order)?;
     let long = loca::is_long(&outlines);
     let loca = locate(alloc, &outlines, long)?;
     let shared = shared::make(alloc, face, FontFlavor::TrueType, long, order)?;
@@ -65,18 +68,18 @@ pub fn make<'a>(
 }
 
 /// The tables of the new font.
-pub fn font_tables<'a>(face: &Face<'a>, made: Made<'a>) -> FontTables<'a>
-    requires { made.long ≡ is_long made.outlines }
-    ensures { font_seen result ≡ font_of (table_in face.now.«data».now face.now.records.now) (made_seen made.entry) }
+pub fn font_tables<'b, 'a>(face: &Face<'a>, made: &'b Made<'a>) -> FontTables<'b, 'a>
+    requires { made.now.long ≡ is_long made.now.outlines }
+    ensures { font_seen result ≡ font_of (table_in face.now.«data».now face.now.records.now) (made_seen made.now) }
 {
-    let mut tables = shared::font_tables(made.shared);
+    let mut tables = shared::font_tables(&made.shared);
     tables.cvt = borrowed(face.table(Tag::CVT));
     tables.fpgm = borrowed(face.table(Tag::FPGM));
     tables.glyf = Some(TableData::Outlines {
-        outlines: made.outlines,
+        outlines: &made.outlines,
         long: made.long,
     });
-    tables.loca = owned(Some(made.loca));
+    tables.loca = Some(TableData::Whole(&made.loca));
     tables.prep = borrowed(face.table(Tag::PREP));
     tables
 }

@@ -3,7 +3,7 @@
 ghost use Rattle.std.specs.Prelude.{◌≡◌, ◌≢◌, ◌⊎◌, ℕ, List, IfOk, IfErr, Err};
 ghost use Rattle.subsetter_base.specs.declared.error.Error.{Error as SpecError};
 ghost use Rattle.subsetter_base.specs.declared.error.Error.TheVariants.{OutOfMemory};
-ghost use Rattle.subsetter.specs.Answer.{IsAnswer, IsTheAnswer};
+ghost use Rattle.subsetter.specs.Answer.{IsAnswer, HasNoAnswer, IsTheAnswer};
 ghost use Rattle.subsetter.specs.Fault.{HasFault};
 ghost use Rattle.subsetter.specs.Limits.{token_limit, depth_limit};
 ghost use Rattle.subsetter.specs.Sfnt.Fault.{HasOpeningFault};
@@ -36,6 +36,8 @@ pub fn shrink_font(alloc: Global, font: &[u8], mapper: &GlyphRemapper) -> Result
     ensures same { IfOk result (λ out. IsTheAnswer (as_font font.now) mapper.now out.items) }
     // What is refused has a fault of that name.
     ensures err { IfErr result (λ e. (e ≡ OutOfMemory) ⊎ ((order : List ℕ) × HasFault token_limit depth_limit (as_font font.now) mapper.now order e)) }
+    // And, but for want of memory, it has no answer: no call answers it.
+    ensures no_answer { IfErr result (λ e. (e ≡ OutOfMemory) ⊎ HasNoAnswer token_limit depth_limit (as_font font.now) mapper.now) }
     // No fault stands in a subset for all its glyphs in order, so that it is refused for want of memory alone.
     ensures sound { HasNoFaultForAll font.now mapper.now }
     ensures only_memory { IfErr result (λ e. OfEachSource font.now (λ source first. AreAll (length first) mapper.now → IsTrueTypeOrCidKeyed source → e ≡ OutOfMemory)) }

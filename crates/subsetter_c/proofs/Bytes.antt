@@ -1,12 +1,14 @@
 -- What is said of bytes that are handed over, in other words.
-use Rattle.std.proofs.Common.{◌≡◌, ℕ, ◌<◌, ◌≤◌, true, false, List, length, refl, sym, subst, ◌⊎◌, inl, inr, Vec, Global, Result, Ok, Err}
+use Rattle.std.proofs.Common.{◌≡◌, ℕ, ◌<◌, ◌≤◌, true, false, List, length, refl, sym, ap, subst, ◌⊎◌, inl, inr, arith, Vec, Global, Result, Ok, Err}
 use Rattle.std.specs.Prelude.{IfOk, IfErr, leb}
 use Rattle.std.proofs.lemmas.Bool.Decides.{leb_tells}
+use Rattle.std.proofs.lemmas.List.{length-append}
 use Rattle.subsetter_base.specs.Places.{HasAllAboveZero}
+use Rattle.subsetter_base.proofs.GlyphLemmas.{room_left_for_zero}
 use Rattle.subsetter_base.specs.declared.error.Error.{Error}
 use Rattle.subsetter_base.specs.declared.error.Error.TheVariants.{OutOfMemory, OverflowError}
 use Rattle.subsetter.specs.Sfnt.Read.{Font}
-use Rattle.subsetter.specs.Subset.{IsSubset}
+use Rattle.subsetter.specs.Answer.{IsAnswer, HasNoAnswer, IsTheAnswer}
 use Rattle.subsetter.specs.Fault.{HasFault}
 use Rattle.cid_embed.specs.Embed.{numbering}
 use Rattle.subsetter_c.specs.Handed.{begun_with, IsHandedOver, whole, short, refused, IsAnswered, IsSoundSubset, IsRefusal, HasCallFault, in_numbering, in_subset}
@@ -33,17 +35,30 @@ answer_handed Said Named answer before after told status ok err = said_as (IsAns
     (λ e is. subst (λ (r : Result (Vec ℕ Global) Error). IfErr r Named) is err)
 
 module _ (tokens depth : ℕ) (font : Font) (glyphs : List ℕ) where
+  -- a subset has fewer than 65536 glyphs
+  no_room : HasAllAboveZero glyphs → HasNoAnswer tokens depth font (numbering glyphs)
+  no_room all out a =
+      let order = a.subset.keeps.order in
+      let o = a.subset.keeps.is_order in
+      room_left_for_zero glyphs (omega (arith, a.subset.keeps.few, ap length o.begins, length-append (numbering glyphs) o.others)) all
+
   pub mapper_refused : (e : Error) → (e ≡ OutOfMemory) ⊎ ((e ≡ OverflowError) × HasAllAboveZero glyphs) → IsRefusal tokens depth font glyphs e
   mapper_refused e (inl memory) = inl memory
-  mapper_refused e (inr full) = inr (subst (HasCallFault tokens depth font glyphs) (sym full.0) (in_numbering full.1))
+  mapper_refused e (inr full) = inr (subst (HasCallFault tokens depth font glyphs) (sym full.0) (in_numbering full.1), no_room full.1)
 
-  pub subset_refused : (mapper : List ℕ) (r : Result (Vec ℕ Global) Error) → mapper ≡ numbering glyphs → IfErr r (λ e. (e ≡ OutOfMemory) ⊎ ((order : List ℕ) × HasFault tokens depth font mapper order e)) → IfErr r (IsRefusal tokens depth font glyphs)
-  subset_refused mapper (Ok v) m h = h
-  subset_refused mapper (Err e) m (inl memory) = inl memory
-  subset_refused mapper (Err e) m (inr fault) = inr (in_subset fault.0 (subst (λ (l : List ℕ). HasFault tokens depth font l fault.0 e) m fault.1))
+  pub subset_refused : (mapper : List ℕ) (r : Result (Vec ℕ Global) Error) → mapper ≡ numbering glyphs → IfErr r (λ e. (e ≡ OutOfMemory) ⊎ ((order : List ℕ) × HasFault tokens depth font mapper order e)) → IfErr r (λ e. (e ≡ OutOfMemory) ⊎ HasNoAnswer tokens depth font mapper) → IfErr r (IsRefusal tokens depth font glyphs)
+  subset_refused mapper (Ok v) m h none = h
+  subset_refused mapper (Err e) m (inl memory) none = inl memory
+  subset_refused mapper (Err e) m (inr fault) (inl memory) = inl memory
+  subset_refused mapper (Err e) m (inr fault) (inr none) =
+      inr (in_subset fault.0 (subst (λ (l : List ℕ). HasFault tokens depth font l fault.0 e) m fault.1), subst (HasNoAnswer tokens depth font) m none)
 
-  pub subset_sound : (mapper : List ℕ) (r : Result (Vec ℕ Global) Error) → mapper ≡ numbering glyphs → IfOk r (λ v. (s : IsSubset tokens depth font mapper v.items) × ((e : Error) → ¬ (HasFault tokens depth font mapper s.keeps.order e))) → IfOk r (λ v. IsSoundSubset tokens depth font glyphs v.items)
-  subset_sound mapper r m h = subst (λ (l : List ℕ). IfOk r (λ v. (s : IsSubset tokens depth font l v.items) × ((e : Error) → ¬ (HasFault tokens depth font l s.keeps.order e)))) m h
+  pub subset_sound : (mapper : List ℕ) (r : Result (Vec ℕ Global) Error) → mapper ≡ numbering glyphs → IfOk r (λ v. IsAnswer tokens depth font mapper v.items) → IfOk r (λ v. IsTheAnswer font mapper v.items) → IfOk r (λ v. IsSoundSubset tokens depth font glyphs v.items)
+  subset_sound mapper (Ok v) m exact same = record {
+    answer = subst (λ (l : List ℕ). IsAnswer tokens depth font l v.items) m exact;
+    same = subst (λ (l : List ℕ). IsTheAnswer font l v.items) m same;
+  }
+  subset_sound mapper (Err e) m exact same = exact
 
 -- what holds at two limits holds at others that equal them
 pub at_limits : (P : ℕ → ℕ → Type 0) (tokens t depth d : ℕ) → tokens ≡ t → depth ≡ d → P tokens depth → P t d

@@ -1,9 +1,13 @@
 -- What is said of lists that are handed over, in other words.
-use Rattle.std.proofs.Common.{◌≡◌, ℕ, List, ap, ◌∙◌, subst, Result, Ok, Err}
+use Rattle.std.proofs.Common.{◌≡◌, ℕ, List, [], ◌∷◌, map, Some, refl, sym, ap, ◌∙◌, subst, ◌⊎◌, inl, inr, Result, Ok, Err}
 use Rattle.std.specs.Prelude.{IfOk, IfErr}
 use Rattle.subsetter_base.specs.declared.error.Error.{Error}
+use Rattle.subsetter_base.specs.declared.error.Error.TheVariants.{OutOfMemory}
 use Rattle.cid_embed.specs.declared.embedding.Embedded.{Embedded}
-use Rattle.subsetter_c.specs.Embedding.{AreHandedOver, whole, short, refused, Buffers, all_begun}
+use Rattle.subsetter.specs.Sfnt.Read.{Font}
+use Rattle.subsetter.specs.Answer.{IsAnswer, IsTheAnswer}
+use Rattle.cid_embed.specs.Embed.{numbering, IsEmbedded, HasEmbedFault, IsEmbeddingAnswer, HasNoEmbedding}
+use Rattle.subsetter_c.specs.Embedding.{AreHandedOver, whole, short, refused, Buffers, all_begun, lists_of, IsSoundEmbedding, IsEmbeddingRefusal}
 use Rattle.subsetter_c.specs.Handed.{begun_with}
 use Rattle.subsetter_c.specs.declared.handing.Sizes.{Sizes}
 
@@ -23,3 +27,36 @@ all_placed font cids widths e f c w font_after cids_after widths_after pf pc pw 
     let cids_are : cids_after ≡ begun_with e.cids.items cids = bc ∙ ap (λ l. begun_with l cids) pc in
     let widths_are : widths_after ≡ begun_with e.widths.items widths = bw ∙ ap (λ l. begun_with l widths) pw in
     ap (λ x. make_buffers x cids_after widths_after) font_is ∙ ap (λ x. make_buffers (begun_with e.font.items font) x widths_after) cids_are ∙ ap (make_buffers (begun_with e.font.items font) (begun_with e.cids.items cids)) widths_are
+
+-- ---- one answer
+
+-- lists are equal where each member is
+same_members : (xs ys : List ℕ) → map Some xs ≡ map Some ys → xs ≡ ys
+same_members [] [] e = refl
+same_members [] (y ∷ ys) e = absurd cc
+same_members (x ∷ xs) [] e = absurd cc
+same_members (x ∷ xs) (y ∷ ys) e =
+    let head : x ≡ y = cc in
+    let tail : map Some xs ≡ map Some ys = cc in
+    ap (λ l. x ∷ l) (same_members xs ys tail) ∙ ap (λ z. z ∷ ys) head
+
+module _ (tokens depth : ℕ) (font : Font) (glyphs : List ℕ) where
+  -- where the font is the one answer, the CIDs and the widths are too
+  same_lists : (more deeper : ℕ) (e other : Embedded) → IsEmbedded tokens depth font glyphs e → IsTheAnswer font (numbering glyphs) e.font.items → IsEmbeddingAnswer more deeper font glyphs other → lists_of e ≡ lists_of other
+  same_lists more deeper e other a same b =
+      let cids : e.cids.items ≡ other.cids.items = same_members e.cids.items other.cids.items (a.cids ∙ sym b.embedded.cids) in
+      let widths : e.widths.items ≡ other.widths.items = same_members e.widths.items other.widths.items (a.widths ∙ sym b.embedded.widths) in
+      ap (λ x. make_buffers x e.cids.items e.widths.items) (same more deeper other.font.items b.font_is) ∙ ap (λ x. make_buffers other.font.items x e.widths.items) cids ∙ ap (make_buffers other.font.items other.cids.items) widths
+
+  pub embedding_sound : (r : Result Embedded Error) → IfOk r (λ e. (s : IsEmbedded tokens depth font glyphs e) × ((why : Error) → ¬ (HasEmbedFault tokens depth font glyphs s.subset.keeps.order why))) → IfOk r (λ e. IsAnswer tokens depth font (numbering glyphs) e.font.items) → IfOk r (λ e. IsTheAnswer font (numbering glyphs) e.font.items) → IfOk r (IsSoundEmbedding tokens depth font glyphs)
+  embedding_sound (Ok e) clean exact same = record {
+    answer = record { embedded = clean.0; clean = clean.1; font_is = exact };
+    same = λ more deeper other b. same_lists more deeper e other clean.0 same b;
+  }
+  embedding_sound (Err why) clean exact same = clean
+
+  pub embedding_refused : (r : Result Embedded Error) → IfErr r (λ why. (why ≡ OutOfMemory) ⊎ ((order : List ℕ) × HasEmbedFault tokens depth font glyphs order why)) → IfErr r (λ why. (why ≡ OutOfMemory) ⊎ HasNoEmbedding tokens depth font glyphs) → IfErr r (IsEmbeddingRefusal tokens depth font glyphs)
+  embedding_refused (Ok e) fault none = fault
+  embedding_refused (Err why) (inl memory) none = inl memory
+  embedding_refused (Err why) (inr fault) (inl memory) = inl memory
+  embedding_refused (Err why) (inr fault) (inr none) = inr (fault, none)

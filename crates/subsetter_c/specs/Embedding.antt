@@ -3,7 +3,7 @@ use Rattle.std.specs.Prelude.{◌≡◌, ◌⊎◌, ◌≤◌, ℕ, List, length
 use Rattle.subsetter_base.specs.declared.error.Error.{Error}
 use Rattle.subsetter_base.specs.declared.error.Error.TheVariants.{OutOfMemory}
 use Rattle.subsetter.specs.Sfnt.Read.{Font}
-use Rattle.cid_embed.specs.Embed.{IsEmbedded, HasEmbedFault}
+use Rattle.cid_embed.specs.Embed.{HasEmbedFault, IsEmbeddingAnswer, HasNoEmbedding}
 use Rattle.cid_embed.specs.declared.embedding.Embedded.{Embedded}
 use Rattle.subsetter_c.specs.Handed.{begun_with}
 use Rattle.subsetter_c.specs.Status.{status_of, too_small}
@@ -39,13 +39,18 @@ pub data AreHandedOver (Is : Embedded → Type 0) (Why : Error → Type 0) (befo
   -- the buffers are unchanged
   refused : (e : Error) → Why e → after ≡ before → told ≡ no_sizes → status ≡ status_of e → AreHandedOver Is Why before after told status
 
--- what is answered, with no fault in the source
-abbrev pub IsSoundEmbedding : ℕ → ℕ → Font → List ℕ → Embedded → Type 0
-IsSoundEmbedding tokens depth font glyphs e = (s : IsEmbedded tokens depth font glyphs e) × ((why : Error) → ¬ (HasEmbedFault tokens depth font glyphs s.subset.keeps.order why))
+abbrev pub lists_of : Embedded → Buffers
+lists_of e = record { font = e.font.items; cids = e.cids.items; widths = e.widths.items }
 
--- why nothing is answered
+-- what is answered
+pub record IsSoundEmbedding (tokens depth : ℕ) (font : Font) (glyphs : List ℕ) (e : Embedded) : Type 0 where
+  pub answer : IsEmbeddingAnswer tokens depth font glyphs e
+  -- whatever is answered for the same glyphs of the font, within these limits or others, is these three lists: so is what a second call answers
+  pub same : (more deeper : ℕ) (other : Embedded) → IsEmbeddingAnswer more deeper font glyphs other → lists_of e ≡ lists_of other
+
+-- why nothing is answered: memory ran out, or a fault stands, and then no call answers anything
 abbrev pub IsEmbeddingRefusal : ℕ → ℕ → Font → List ℕ → Error → Type 0
-IsEmbeddingRefusal tokens depth font glyphs why = (why ≡ OutOfMemory) ⊎ ((order : List ℕ) × HasEmbedFault tokens depth font glyphs order why)
+IsEmbeddingRefusal tokens depth font glyphs why = (why ≡ OutOfMemory) ⊎ (((order : List ℕ) × HasEmbedFault tokens depth font glyphs order why) × HasNoEmbedding tokens depth font glyphs)
 
 -- a subset with its CIDs and widths is handed over
 abbrev pub IsEmbeddingHanded : ℕ → ℕ → Font → List ℕ → Buffers → Buffers → Sizes → ℕ → Type 0

@@ -5,7 +5,7 @@ use Rattle.subsetter_base.specs.Places.{HasAllAboveZero}
 use Rattle.subsetter_base.specs.declared.error.Error.{Error}
 use Rattle.subsetter_base.specs.declared.error.Error.TheVariants.{OutOfMemory, OverflowError}
 use Rattle.subsetter.specs.Sfnt.Read.{Font}
-use Rattle.subsetter.specs.Subset.{IsSubset}
+use Rattle.subsetter.specs.Answer.{IsAnswer, HasNoAnswer, IsTheAnswer}
 use Rattle.subsetter.specs.Fault.{HasFault}
 use Rattle.cid_embed.specs.Embed.{numbering}
 use Rattle.subsetter_c.specs.Status.{status_of, too_small, no_depth}
@@ -37,9 +37,12 @@ pub record IsNothingHanded (before after : List ℕ) (told status : ℕ) : Type 
 
 -- ---- a subset
 
--- what is answered: a subset for glyph 0 and the given glyphs, in whose source no fault stands, the size limits being judged for its order of glyphs
-abbrev pub IsSoundSubset : ℕ → ℕ → Font → List ℕ → List ℕ → Type 0
-IsSoundSubset tokens depth font glyphs out = (s : IsSubset tokens depth font (numbering glyphs) out) × ((e : Error) → ¬ (HasFault tokens depth font (numbering glyphs) s.keeps.order e))
+-- what is answered for glyph 0 and the given glyphs
+pub record IsSoundSubset (tokens depth : ℕ) (font : Font) (glyphs out : List ℕ) : Type 0 where
+  -- a subset, where no fault stands in the source, the size limits being judged for its order of glyphs; they stand in the order in which they are found
+  pub answer : IsAnswer tokens depth font (numbering glyphs) out
+  -- whatever is answered for the same glyphs of the font, within these limits or others, is these bytes: so is what a second call answers
+  pub same : IsTheAnswer font (numbering glyphs) out
 
 -- what can stand against it, but for want of memory
 pub data HasCallFault (tokens depth : ℕ) (font : Font) (glyphs : List ℕ) : Error → Type 0 where
@@ -47,9 +50,9 @@ pub data HasCallFault (tokens depth : ℕ) (font : Font) (glyphs : List ℕ) : E
   in_numbering : HasAllAboveZero glyphs → HasCallFault tokens depth font glyphs OverflowError
   in_subset : {e : Error} → (order : List ℕ) → HasFault tokens depth font (numbering glyphs) order e → HasCallFault tokens depth font glyphs e
 
--- why no subset is answered
+-- why no subset is answered: memory ran out, or a fault stands, and then no call answers one
 abbrev pub IsRefusal : ℕ → ℕ → Font → List ℕ → Error → Type 0
-IsRefusal tokens depth font glyphs e = (e ≡ OutOfMemory) ⊎ HasCallFault tokens depth font glyphs e
+IsRefusal tokens depth font glyphs e = (e ≡ OutOfMemory) ⊎ (HasCallFault tokens depth font glyphs e × HasNoAnswer tokens depth font (numbering glyphs))
 
 -- a subset is handed over
 abbrev pub IsSubsetHanded : ℕ → ℕ → Font → List ℕ → List ℕ → List ℕ → ℕ → ℕ → Type 0

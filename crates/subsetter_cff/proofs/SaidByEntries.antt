@@ -1,5 +1,5 @@
 -- What is taken entry by entry is what the last entry of each operator says.
-use Rattle.std.proofs.Common.{◌≡◌, ℕ, Bool, true, false, List, [], ◌∷◌, Option, Some, None, refl, ap, ◌∙◌, sym}
+use Rattle.std.proofs.Common.{◌≡◌, ℕ, Bool, true, false, List, [], ◌∷◌, take, Option, Some, None, refl, ap, ◌∙◌, sym}
 use Rattle.std.specs.Prelude.{if◌then◌else◌, is_some}
 use Rattle.std.specs.Str.{bytes_eq}
 use Rattle.subsetter_cffdata.specs.Bytes.{◌>>=◌}
@@ -11,21 +11,28 @@ use Rattle.subsetter_cffdata.proofs.Entries.{entries_step}
 use Rattle.subsetter_cff.specs.declared.top_dict.TopDictData.{TopDictData}
 use Rattle.subsetter_cff.specs.Lookup.{last_after}
 use Rattle.subsetter_cff.specs.Operators.{notice_operator, font_box_operator, charset_operator, char_strings_operator, private_operator, copyright_operator, font_matrix_operator, registry_operator, font_dicts_operator, font_dict_select_operator, font_name_operator}
-use Rattle.subsetter_cff.specs.Said.{Said, said_of, taken, taken_if_there, said_after, nothing_said}
+use Rattle.subsetter_cff.specs.Said.{Said, said_of, taken, said_after, nothing_said}
+use Rattle.subsetter_cff.specs.Fields.{field_by}
 use Rattle.subsetter_cff.specs.TopDicts.{IsTopDict}
+use Rattle.subsetter_cff.proofs.FieldsTaken.{taken_is, few_taken}
+use Rattle.subsetter_cff.proofs.LastEntries.{few_shown}
 use Rattle.subsetter_cff.proofs.Rewriting.{found, entries_are, none_left}
 
 -- ---- entry by entry
-take_is : (s : Said) (bytes rest : List ℕ) (e : Entry) → entry_at bytes ≡ Some (e, rest)
-    → said_after (taken_if_there s e.operator (operands_at operand_limit bytes)) (entries rest) ≡ said_after s (entries bytes)
-unfolding operands_at
-take_is s bytes rest e is = rw (entries_are bytes rest e is, is) refl
+taken_few : (s : Said) (o : List ℕ) (xs : List Number) → taken s o (take 7 xs) ≡ taken s o (take operand_limit xs)
+taken_few s o xs = taken_is s o (take 7 xs) ∙ few_taken s (field_by o) xs ∙ sym (taken_is s o (take operand_limit xs))
 
-pub take_next : (s : Said) (bytes here operator rest : List ℕ) (limit : ℕ) → operator_part (entry_at bytes) ≡ Some (operator, rest) → limit ≡ operand_limit → here ≡ bytes
-    → said_after (taken_if_there s operator (operands_at limit here)) (entries rest) ≡ said_after s (entries bytes)
-take_next s bytes here operator rest limit h room same =
+take_is : (s : Said) (bytes rest : List ℕ) (e : Entry) (xs : List Number) → entry_at bytes ≡ Some (e, rest) → xs ≡ take 7 e.operands
+    → said_after (taken s e.operator xs) (entries rest) ≡ said_after s (entries bytes)
+take_is s bytes rest e xs is few = rw (entries_are bytes rest e is, few) (ap (λ (t : Said). said_after t (entries rest)) (taken_few s e.operator e.operands))
+
+-- by its first operands
+pub take_next : (s : Said) (bytes operator rest : List ℕ) (limit : ℕ) (xs : List Number) → operator_part (entry_at bytes) ≡ Some (operator, rest) → limit ≡ 7 → Some xs ≡ operands_at limit bytes
+    → said_after (taken s operator xs) (entries rest) ≡ said_after s (entries bytes)
+take_next s bytes operator rest limit xs h room shown =
     let f = found bytes operator rest h in
-    rw (room, same) (ap (λ (o : List ℕ). said_after (taken_if_there s o (operands_at operand_limit bytes)) (entries rest)) (sym f.same) ∙ take_is s bytes rest f.entry f.is)
+    ap (λ (o : List ℕ). said_after (taken s o xs) (entries rest)) (sym f.same)
+    ∙ take_is s bytes rest f.entry xs f.is (few_shown bytes rest f.entry limit xs f.is room shown)
 
 pub take_end : (s : Said) (bytes : List ℕ) → operator_part (entry_at bytes) ≡ None → said_after s (entries bytes) ≡ s
 take_end s bytes h = rw (entries_step bytes, none_left (entry_at bytes) h) refl

@@ -1,5 +1,5 @@
 -- What the entries of a top dict or a font dict say, each later one in the place of an earlier one.
-use Rattle.std.specs.Prelude.{ℕ, if◌then◌else◌, Bool, true, false, List, [], ◌∷◌, map, Option, Some, None}
+use Rattle.std.specs.Prelude.{ℕ, if◌then◌else◌, Bool, true, false, List, [], ◌∷◌, map, Option, None}
 use Rattle.std.specs.Option.{option_map}
 use Rattle.std.specs.Str.{bytes_eq}
 use Rattle.subsetter_cffdata.specs.Dict.{Entry}
@@ -52,11 +52,6 @@ taken s operator xs = record {
   fd_select = if bytes_eq operator font_dict_select_operator then offset_operand xs else s.fd_select;
   private = if bytes_eq operator private_operator then range_operands xs else s.private;
 }
-
--- of the entry in front, if there is one
-abbrev pub taken_if_there : Said → List ℕ → Option (List Number) → Said
-taken_if_there s operator None = s
-taken_if_there s operator (Some xs) = taken s operator xs
 
 -- all entries
 abbrev pub said_after : Said → List Entry → Said

@@ -80,7 +80,7 @@ fn new_font_dicts<'a>(
     requires { IsSource source.now }
     ensures { Gives (λ v. map font_dict_view v.items) result (new_font_dicts (cff_of source.now) numbers.now) }
 {
-    let mut made = Vec::new(alloc);
+    let mut made = Vec::with_capacity(alloc, numbers.len())?;
     for number in numbers {
         let font_dict = new_font_dict(source, *number)?;
         made.push(font_dict)?;
@@ -109,11 +109,11 @@ fn new_select(
 }
 
 /// FontBBox: the font's, or four zeros.
-fn new_box(own: Option<[Number; 4]>) -> [Number; 4]
-    ensures { map number_of result ≡ new_box (shown own) }
+fn new_box(own: &Option<[Number; 4]>) -> [Number; 4]
+    ensures { map number_of result ≡ new_box (shown own.now) }
 {
     match own {
-        Some(numbers) => numbers,
+        Some(numbers) => *numbers,
         None => [Number::zero(); 4],
     }
 }
@@ -142,8 +142,8 @@ pub fn new_table_of<'a>(
         copyright,
         notice,
         font_name,
-        matrix: new_top_matrix(source.top.font_matrix),
-        font_box: new_box(source.top.font_bbox),
+        matrix: new_top_matrix(&source.top.font_matrix),
+        font_box: new_box(&source.top.font_bbox),
         font_dicts,
         numbers,
         char_strings: kept.char_strings,

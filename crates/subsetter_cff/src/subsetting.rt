@@ -27,10 +27,16 @@ fn subset_exactly(
 ) -> Result<NewCffTable, Error>
     ensures { Gives table_bytes result (cff_subset table.now limits.tokens limits.depth mapper.now) }
 {
-    let source = Table::parse(alloc, table)?;
-    let kept = keep_glyphs(alloc, &source, limits, mapper)?;
-    let new = new_table_of(alloc, &source, kept)?;
-    write_table(alloc, new, mapper.num_gids())
+    let opened = Table::parse(alloc, table);
+    let source = match &opened {
+        Ok(source) => source,
+        Err(error) => return Err(*error),
+    };
+    let kept = keep_glyphs(alloc, source, limits, mapper)?;
+    match new_table_of(alloc, source, kept) {
+        Ok(new) => write_table(alloc, new, mapper.num_gids()),
+        Err(error) => Err(error),
+    }
 }
 
 /// The table of the glyphs that a mapper keeps, by their new numbers. A first byte that isn't 1, and a charstring that

@@ -1,8 +1,9 @@
 -- A number of k bytes that was written is read again.
-use Rattle.std.proofs.Common.{◌≡◌, ℕ, ◌+◌, ◌*◌, ◌^◌, ◌<◌, List, [], ◌∷◌, ◌++◌, length, Option, Some, None, refl, ap, sym, arith, length-append, ltb, false, get_or}
+use Rattle.std.proofs.Common.{◌≡◌, ℕ, ◌+◌, ◌-◌, ◌*◌, ◌^◌, ◌<◌, List, [], ◌∷◌, ◌++◌, length, Option, Some, None, refl, ap, sym, arith, length-append, take, drop, ◌∙◌, ltb, false, get_or}
 use Rattle.std.proofs.lemmas.Bool.{le-ltb}
 use Rattle.std.proofs.lemmas.Option.{some_pair_parts, none-some}
-use Rattle.std.proofs.lemmas.List.{take_at, drop_at}
+use Rattle.std.proofs.lemmas.List.{take_at, drop_at, drop-take, drop-drop}
+use Rattle.std.specs.List.{slice_range}
 use Rattle.std.specs.Int.{bytes_high_first, from_be_bytes, w16, w32}
 use Rattle.subsetter_cffdata.specs.Bytes.{byte, card, part, ReadAgain}
 use Rattle.subsetter_base.specs.Bytes.{be}
@@ -94,6 +95,17 @@ be_none [] e = refl
 be_none (a ∷ bytes) e = absurd (omega arith)
 
 pub ruleset be_cases = (be_none, be_one, be_two, be_three, be_four)
+
+-- ---- the second of two numbers that stand side by side
+pub second_half : (bytes : List ℕ) (i n size : ℕ) → n ≡ size → drop n (slice_range bytes (i * n) (i * n + 2 * n)) ≡ take size (drop ((i + 1) * size) bytes)
+second_half bytes i n size same =
+    let both : i * n + 2 * n - i * n ≡ n + n = omega arith in
+    let next : i * n + n ≡ (i + 1) * n = omega arith in
+    ap (λ k. drop n (take k (drop (i * n) bytes))) both
+    ∙ drop-take n n (drop (i * n) bytes)
+    ∙ ap (take n) (drop-drop n (i * n) bytes)
+    ∙ ap (λ k. take n (drop k bytes)) next
+    ∙ ap (λ k. take k (drop ((i + 1) * k) bytes)) same
 
 -- ---- one byte
 pub byte_one : (bytes p rest : List ℕ) → part 1 bytes ≡ Some (p, rest) → byte bytes ≡ Some (get_or p 0 0, rest)

@@ -1,9 +1,7 @@
 -- A number of two bytes is written as these again.
-use Rattle.std.proofs.Common.{◌≡◌, ℕ, ◌+◌, ◌-◌, ◌*◌, ◌/◌, ◌%◌, ◌<◌, ◌≤◌, Bool, true, false, List, [], ◌∷◌, refl, ap, ◌∙◌, arith, pos, negsuc, ◌-ℤ◌, ℤ, FitsSigned, to_z, of_z, w16, nat_lt, nat_le, if◌then◌else◌}
+use Rattle.std.proofs.Common.{◌≡◌, ℕ, ◌+◌, ◌-◌, ◌*◌, ◌<◌, ◌≤◌, Bool, true, false, [], ◌∷◌, refl, ap, ◌∙◌, arith, pos, negsuc, ◌-ℤ◌, ℤ, FitsSigned, to_z, of_z, w16, nat_lt, if◌then◌else◌}
 use Rattle.std.proofs.lemmas.Int.{ints, to_z-of_z}
-use Rattle.std.proofs.lemmas.Bool.{cases_lt, lt-ltb, le-ltb}
 use Rattle.std.proofs.lemmas.Bool.Decides.{nat_tests}
-use Rattle.subsetter_cffdata.specs.declared.charstring_number.CharStringNumber.{CharStringNumber}
 use Rattle.subsetter_cffdata.specs.declared.charstring_number.CharStringNumber.TheVariants.{Integer}
 use Rattle.subsetter_cffdata.specs.CharStringNumber.{middle_value, written}
 use Rattle.subsetter_cffdata.proofs.CharStringNumbers.{above_fits, below_fits}

@@ -43,3 +43,11 @@ cut read bytes limit whole none h = none_with read (entry_at bytes) limit none �
 -- no token follows
 pub not_here : (read : List Number) (bytes : List ℕ) (limit : ℕ) (whole : Option (Entry × List ℕ)) → token_at bytes ≡ None → with_operands read (entry_at bytes) ≡ whole → None ≡ kept_of limit whole
 not_here read bytes limit whole token h = cut read bytes limit whole (ap operator_part (at_no_token bytes token)) h
+
+-- ---- the operator of the whole is that of what is left
+part_with : (read : List Number) (o : Option (Entry × List ℕ)) → operator_part (with_operands read o) ≡ operator_part o
+part_with read None = refl
+part_with read (Some e) = refl
+
+pub part_of_whole : (read : List Number) (o whole : Option (Entry × List ℕ)) → with_operands read o ≡ whole → operator_part whole ≡ operator_part o
+part_of_whole read o whole h = ap operator_part (sym h) ∙ part_with read o

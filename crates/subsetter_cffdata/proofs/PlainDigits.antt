@@ -178,3 +178,7 @@ nothing_plain negative ds power none =
 
 pub same_decimal : (negative : Bool) (xs ys : List ℕ) (p q : ℤ) → xs ≡ ys → p ≡ q → decimal negative xs p ≡ decimal negative ys q
 same_decimal negative xs ys p q e h = rw (e, h) refl
+
+-- ---- the digit 1
+pub one_is_plain : (power : ℤ) → IsPlain false (1 ∷ []) power
+one_is_plain power = record { digits_only = refl; front = refl; back = refl; no_sign = λ e. absurd (omega (arith, e)); no_power = λ e. absurd (omega (arith, e)) }

@@ -1,6 +1,6 @@
 //! Unsigned numbers of a few bytes.
 
-ghost use Rattle.std.specs.Prelude.{◌≡◌, ◌≤◌, length};
+ghost use Rattle.std.specs.Prelude.{◌≡◌, ◌≤◌, ◌*◌, length, take, drop};
 ghost use Rattle.subsetter_base.specs.Bytes.{be};
 
 // The number that at most four bytes are, the high byte first.
@@ -15,5 +15,32 @@ pub fn number_of(bytes: &[u8]) -> u32
         [a, b] => u32::from_be_bytes([0, 0, *a, *b]),
         [a, b, c] => u32::from_be_bytes([0, *a, *b, *c]),
         [a, b, c, d, ..] => u32::from_be_bytes([*a, *b, *c, *d]),
+    }
+}
+
+// The numbers that the two halves of these bytes are, each of at most four bytes.
+#[inline]
+#[tactic(auto, using(crate::proofs::Cards::be_cases))]
+pub fn two_numbers(bytes: &[u8], size: usize) -> (u32, u32)
+    requires halves { length bytes.now ≡ 2 * size }
+    requires few { size ≤ 4 }
+    ensures first { result.0 ≡ be (take size bytes.now) }
+    ensures second { result.1 ≡ be (drop size bytes.now) }
+{
+    match bytes {
+        [a, b, c, d, e, f, g, h, ..] => (
+            u32::from_be_bytes([*a, *b, *c, *d]),
+            u32::from_be_bytes([*e, *f, *g, *h]),
+        ),
+        [a, b, c, d, e, f, ..] => (
+            u32::from_be_bytes([0, *a, *b, *c]),
+            u32::from_be_bytes([0, *d, *e, *f]),
+        ),
+        [a, b, c, d, ..] => (
+            u32::from_be_bytes([0, 0, *a, *b]),
+            u32::from_be_bytes([0, 0, *c, *d]),
+        ),
+        [a, b, ..] => (u32::from(*a), u32::from(*b)),
+        _ => (0, 0),
     }
 }

@@ -5,7 +5,7 @@ ghost use Rattle.std.specs.Prelude.{◌<◌, ◌≤◌, length};
 use crate::number::{Number, StringId};
 use crate::operands::{four_of, offset_of, range_of, six_of, string_of};
 use crate::operator::Operator;
-use crate::tokens::{next_operator, read_operands};
+use crate::tokens::{EntryRead, next_operator, read_entry};
 use std::ops::Range;
 
 /// Reads the entries of a DICT. The operands of an entry go into a buffer, as many as it holds.
@@ -63,6 +63,38 @@ impl<'a> DictionaryParser<'a> {
         Some(operator)
     }
 
+    // Reads the operands of the entry at an offset, as many as the buffer holds; None where no entry can be read, and then none are shown.
+    fn show_at(&mut self, offset: usize) -> Option<EntryRead>
+        ensures shows { option_map (λ _. shown self.new) result ≡ operands_at (length self.old.operands.now) (drop offset self.old.data.now) }
+        ensures none { IfNone result (shown self.new ≡ []) }
+        ensures operator { operator_part (entry_at (drop offset self.old.data.now)) ≡ option_map (λ e. (operator_of e.operator, drop e.end self.old.data.now)) result }
+        ensures entry { entry_of self.new ≡ entry_of self.old }
+        ensures left { left self.new ≡ left self.old }
+        ensures same { self.new.data.now ≡ self.old.data.now }
+        ensures room { length self.new.operands.now ≡ length self.old.operands.now }
+    {
+        self.operands_len = 0;
+        let entry = read_entry(self.data, offset, self.operands)?;
+        self.operands_len = entry.len as u16;
+        Some(entry)
+    }
+
+    /// Goes to the next entry and reads its operands, as many as the buffer holds, and answers its operator; None where no
+    /// entry can be read, and then none are shown.
+    pub fn parse_entry(&mut self) -> Option<Operator>
+        ensures value { operator_part (entry_at (left self.old)) ≡ option_map (λ x. (operator_of x, left self.new)) result }
+        ensures none { IfNone result (left self.new ≡ left self.old) }
+        ensures operands { option_map (λ _. shown self.new) result ≡ operands_at (length self.old.operands.now) (left self.old) }
+        ensures entry { entry_of self.new ≡ left self.old }
+        ensures same { self.new.data.now ≡ self.old.data.now }
+        ensures room { length self.new.operands.now ≡ length self.old.operands.now }
+    {
+        self.operands_offset = self.offset;
+        let entry = self.show_at(self.offset)?;
+        self.offset = entry.end;
+        Some(entry.operator)
+    }
+
     /// Reads the operands of the entry, as many as the buffer holds; None where no entry can be read, and then none are shown.
     pub fn parse_operands(&mut self) -> Option<()>
         ensures shows { shown self.new ≡ operands_in self.old }
@@ -72,9 +104,7 @@ impl<'a> DictionaryParser<'a> {
         ensures same { self.new.data.now ≡ self.old.data.now }
         ensures room { length self.new.operands.now ≡ length self.old.operands.now }
     {
-        self.operands_len = 0;
-        let len = read_operands(self.data, self.operands_offset, self.operands)?;
-        self.operands_len = len as u16;
+        self.show_at(self.operands_offset)?;
         Some(())
     }
 

@@ -3,7 +3,7 @@
 ghost use Rattle.std.specs.Prelude.{◌≤◌, ◌*◌, length};
 ghost use Rattle.subsetter_cffdata.specs.OffsetSizes.{size_of};
 
-use crate::card::number_of;
+use crate::card::{number_of, two_numbers};
 use crate::index_iter::IndexIter;
 use crate::offset_size::OffsetSize;
 
@@ -17,7 +17,7 @@ pub struct VarOffsets<'a> {
 }
 
 impl<'a> VarOffsets<'a> {
-    ghost use Rattle.std.specs.Prelude.{◌≡◌, ◌<◌, ◌/◌, ◌-◌, ℕ, Bool, ◌==◌, nat_lt, if◌then◌else◌, Some, None};
+    ghost use Rattle.std.specs.Prelude.{◌≡◌, ◌+◌, ◌<◌, ◌/◌, ◌-◌, ℕ, Bool, ◌==◌, nat_lt, if◌then◌else◌, Some, None};
     ghost use Rattle.subsetter_cffdata.specs.Index.{offset_at};
     ghost use Rattle.subsetter_cffdata.specs.IndexView.{shifted, shifted_last};
 
@@ -58,6 +58,18 @@ impl<'a> VarOffsets<'a> {
         let size = self.offset_size.to_usize();
         let start = i as usize * size;
         number_of(&self.data[start..start + size])
+    }
+
+    // Offset i and the next one, as they stand there.
+    #[inline]
+    fn neighbours(&self, i: u32) -> (u32, u32)
+        requires { i + 1 < self.now.len }
+        ensures from { result.0 ≡ offset_at (size_of self.now.offset_size) self.now.data.now i }
+        ensures to { result.1 ≡ offset_at (size_of self.now.offset_size) self.now.data.now (i + 1) }
+    {
+        let size = self.offset_size.to_usize();
+        let start = i as usize * size;
+        two_numbers(&self.data[start..start + 2 * size], size)
     }
 
     /// Offset i, counted from the first byte of the data; None where it isn't there or stands before that byte.
@@ -121,13 +133,12 @@ impl<'a> Index<'a> {
     }
 
     // Entry i, from its offset to the next.
-    fn entry(&self, i: u32, next: u32) -> Option<&'a [u8]>
-        requires next { next ≡ i + 1 }
-        requires there { next < self.now.offsets.len }
+    #[inline]
+    fn entry(&self, i: u32) -> Option<&'a [u8]>
+        requires { i + 1 < self.now.offsets.len }
         ensures { option_map (λ x. x.now) result ≡ entry_at (size_of self.now.offsets.offset_size) self.now.offsets.data.now self.now.data.now i }
     {
-        let from = self.offsets.stored(i);
-        let to = self.offsets.stored(next);
+        let (from, to) = self.offsets.neighbours(i);
         self.range(from, to)
     }
 
@@ -139,7 +150,7 @@ impl<'a> Index<'a> {
         if index >= self.len() {
             return None;
         }
-        self.entry(index, index + 1)
+        self.entry(index)
     }
 }
 

@@ -6,7 +6,7 @@ ghost use Rattle.std.specs.Int.{w32, cast_unsigned, to_be_bytes};
 ghost use Rattle.subsetter_base.specs.declared.error.Error.TheVariants.{OutOfMemory, OverflowError};
 ghost use Rattle.subsetter_cffdata.specs.Numbers.{Integer as StoredInteger, number as written, is_too_long, integer, fixed, integer_at, integer_from, short_integer, fixed_number_at, dict_number_from, dict_number_at, fixed_as_i32, in_i32, as_i32, as_u32};
 ghost use Rattle.subsetter_cffdata.specs.CharStringNumber.{as_number, charstring_number_at};
-ghost use Rattle.subsetter_cffdata.specs.Reading.{Takes};
+ghost use Rattle.subsetter_cffdata.specs.Reading.{rest, Takes};
 ghost use Rattle.subsetter_cffdata.specs.Values.{value, thousand, by_1000};
 ghost use Rattle.subsetter_cffdata.specs.Views.{decimal_of, number_of};
 
@@ -215,6 +215,20 @@ impl Number {
             30 => Some(Number::Real(RealNumber::parse_text(r)?)),
             _ => Some(Number::Integer(IntegerNumber::parse_from(b0, r)?)),
         }
+    }
+
+    /// Becomes the number of a DICT whose first byte was read; None where no number stands there or it can't be read.
+    #[inline(always)]
+    #[tactic(auto, unfolding(crate::specs::Numbers::dict_number_from))]
+    pub fn read_dict_number(&mut self, b0: u8, r: &mut Reader<'_>) -> Option<()>
+        ensures value { dict_number_from b0 (rest r.old) ≡ option_map (λ _. (number_of self.new, rest r.new)) result }
+        ensures same { r.new.bytes ≡ r.old.bytes }
+    {
+        match b0 {
+            30 => *self = Number::Real(RealNumber::parse_text(r)?),
+            _ => *self = Number::Integer(IntegerNumber::parse_from(b0, r)?),
+        }
+        Some(())
     }
 
     /// An integer.

@@ -5,7 +5,7 @@ ghost use Rattle.subsetter_cffdata.specs.Decimals.{IsPlain};
 
 use crate::reading;
 use crate::reading_text::text_of;
-use crate::real_text::real_of_text;
+use crate::real_text::{plain_decimal, real_of_text};
 use crate::real_writing::{pack, text_of_digits};
 use crate::text::Text;
 use crate::whole::whole_of;
@@ -25,7 +25,7 @@ pub struct RealNumber {
 }
 
 impl RealNumber {
-    ghost use Rattle.std.specs.Prelude.{◌≡◌, ◌<◌, length};
+    ghost use Rattle.std.specs.Prelude.{◌≡◌, ◌<◌, length, pos};
     ghost use Rattle.std.specs.List.{AllByRecursion};
     ghost use Rattle.std.specs.Option.{option_map};
     ghost use Rattle.subsetter_cffdata.specs.TextSteps.{shown, fitting};
@@ -46,7 +46,16 @@ impl RealNumber {
         }
     }
 
+    /// Ten to a power.
+    #[tactic(auto, using(crate::proofs::PlainDigits::one_is_plain))]
+    pub fn ten_to(power: i32) -> RealNumber
+        ensures { decimal_of result ≡ record { mantissa = pos 1; power = power } }
+    {
+        plain_decimal(false, &[1], power)
+    }
+
     /// Reads the text behind a byte 30.
+    #[inline(never)]
     #[tactic(auto, using(crate::proofs::Texts::real_by_text))]
     pub fn parse_text(r: &mut Reader<'_>) -> Option<RealNumber>
         ensures value { Takes decimal_of result r.old r.new real_at }

@@ -141,8 +141,8 @@ fn without_outer_zeros(ds: &[u8]) -> (&[u8], usize)
     (&ds[start..end], ds.len() - end)
 }
 
-// The decimal that plain digits are.
-fn plain_decimal(negative: bool, ds: &[u8], power: i32) -> RealNumber
+/// The decimal that plain digits are.
+pub fn plain_decimal(negative: bool, ds: &[u8], power: i32) -> RealNumber
     requires room { length ds.now ≤ 64 }
     requires plain { IsPlain negative ds.now power }
     ensures { decimal_of result ≡ record { mantissa = signed negative (number ds.now); power = power } }

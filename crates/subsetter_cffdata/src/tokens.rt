@@ -40,28 +40,33 @@ fn operator_after(b: u8, r: &mut Reader<'_>) -> Option<Operator>
 
 #[derive(Clone, Copy, Debug)]
 enum Token {
-    Operand(Number),
+    Operand,
     Operator(Operator),
 }
 
+// The next token. An operand is put into a place of its own, so that it is moved just once.
+#[inline(always)]
 #[tactic(auto, unfolding(crate::specs::Dict::token_at))]
-fn next_token(r: &mut Reader<'_>) -> Option<Token>
-    ensures value { Takes token_of result r.old r.new token_at }
+fn next_token(r: &mut Reader<'_>, operand: &mut Number) -> Option<Token>
+    ensures value { token_at (rest r.old) ≡ option_map (λ t. (token_of operand.new t, rest r.new)) result }
     ensures same { r.new.bytes ≡ r.old.bytes }
 {
     let b = reading::next_byte(r)?;
     if begins_operator(b) {
         return Some(Token::Operator(operator_after(b, r)?));
     }
-    Some(Token::Operand(Number::parse_dict_number(b, r)?))
+    operand.read_dict_number(b, r)?;
+    Some(Token::Operand)
 }
 
 // The operator of the entry at the offset, and where the next one begins.
+#[inline(never)]
 pub fn next_operator(bytes: &[u8], offset: usize) -> Option<(Operator, usize)>
     ensures { operator_part (entry_at (drop offset bytes.now)) ≡ option_map (λ x. (operator_of x.0, drop x.1 bytes.now)) result }
 {
     let mut r = Reader::new_at(bytes, offset);
-    while let Some(found) = next_token(&mut r) {
+    let mut operand = Number::zero();
+    while let Some(found) = next_token(&mut r, &mut operand) {
         if let Token::Operator(operator) = found {
             return Some((operator, r.offset()));
         }
@@ -69,24 +74,41 @@ pub fn next_operator(bytes: &[u8], offset: usize) -> Option<(Operator, usize)>
     None
 }
 
-// The operands of the entry at the offset, as many as the buffer holds; None where no entry can be read.
+/// An entry whose operands were read.
+#[derive(Clone, Copy, Debug)]
+pub struct EntryRead {
+    /// Its operator.
+    pub operator: Operator,
+    /// How many of its operands the buffer holds.
+    pub len: usize,
+    /// Where the next entry begins.
+    pub end: usize,
+}
+
+// The entry at the offset, with its operands, as many as the buffer holds; None where no entry can be read.
 #[tactic(auto, unfolding(crate::specs::Operands::operands_at))]
-pub fn read_operands(bytes: &[u8], offset: usize, buffer: &mut [Number]) -> Option<usize>
+pub fn read_entry(bytes: &[u8], offset: usize, buffer: &mut [Number]) -> Option<EntryRead>
     requires { 0 < length buffer.old }
-    ensures within { IfSome result (λ n. n ≤ length buffer.old) }
-    ensures operands { option_map (λ n. map number_of (take n buffer.new)) result ≡ operands_at (length buffer.old) (drop offset bytes.now) }
+    ensures within { IfSome result (λ e. e.len ≤ length buffer.old) }
+    ensures operands { option_map (λ e. map number_of (take e.len buffer.new)) result ≡ operands_at (length buffer.old) (drop offset bytes.now) }
+    ensures operator { operator_part (entry_at (drop offset bytes.now)) ≡ option_map (λ e. (operator_of e.operator, drop e.end bytes.now)) result }
 {
     let mut r = Reader::new_at(bytes, offset);
     let mut len = 0;
-    while let Some(found) = next_token(&mut r) {
+    while let Some(found) = next_token(&mut r, &mut buffer[len]) {
         match found {
-            Token::Operator(_) => return Some(len),
-            Token::Operand(operand) => {
-                buffer[len] = operand;
+            Token::Operator(operator) => {
+                return Some(EntryRead {
+                    operator,
+                    len,
+                    end: r.offset(),
+                });
+            }
+            Token::Operand => {
                 len += 1;
                 if len == buffer.len() {
-                    next_operator(bytes, r.offset())?;
-                    return Some(len);
+                    let (operator, end) = next_operator(bytes, r.offset())?;
+                    return Some(EntryRead { operator, len, end });
                 }
             }
         }

@@ -1,5 +1,5 @@
 -- What an act leaves, and that the bytes of its event make it again, whatever the subroutines.
-use Rattle.std.proofs.Common.{◌≡◌, ℕ, zero, suc, ◌+◌, ◌-◌, ◌/◌, ◌<◌, ◌≤◌, List, [], ◌∷◌, ◌++◌, length, take, Option, Some, None, Bool, true, false, refl, ap, ◌∙◌, arith, length-append}
+use Rattle.std.proofs.Common.{◌≡◌, ℕ, ◌+◌, ◌-◌, ◌/◌, ◌<◌, ◌≤◌, List, [], ◌∷◌, ◌++◌, length, take, Option, Some, None, Bool, true, false, refl, ap, ◌∙◌, arith, length-append}
 use Rattle.std.proofs.lemmas.List.{take_at, drop_at, length-take, length-take-le}
 use Rattle.std.proofs.lemmas.Bool.{le-leb}
 use Rattle.std.proofs.lemmas.Bool.Decides.{nat_tests}
@@ -16,12 +16,13 @@ use Rattle.subsetter_type2.specs.Token.{token_of, number_token, two_byte_token, 
 use Rattle.subsetter_type2.specs.Machine.{Library, Registers, Event, Act, Does, Fails, Lead, On, Into, Back, Over, draw, stems_after, take_mask, mask, enter, operate, act, act_on, act_at}
 use Rattle.subsetter_cffdata.proofs.CharStringNumbers.{number_fits}
 use Rattle.subsetter_cffdata.specs.Views.{operator_of, type_bytes}
-use Rattle.subsetter_type2.proofs.Replay.{FitAll}
+use Rattle.subsetter_type2.specs.OutputView.{AllFit}
+use Rattle.subsetter_type2.proofs.OutputLemmas.{fit_front, fit_more}
 
 -- at most 48 operands, each of which can be written
 pub record Sound (r : Registers) : Type 0 where
   pub few : length r.operands ≤ 48
-  pub fit : FitAll r.operands
+  pub fit : AllFit r.operands
 
 pub record Silent (r r' : Registers) : Type 0 where
   pub stems : r'.stems ≡ r.stems
@@ -81,7 +82,7 @@ pub token_operator : (op : Operator) (eff : Effect) (rest : List ℕ) → effect
 unfolding effect_of
 token_operator op eff rest e = token_of_type op.0 eff rest e
 
-act_operator : (library : Library) (op : Operator) (eff : Effect) (rest : List ℕ) (r : Registers) → effect_of op ≡ Some eff → act_at library (operator_of op ++ rest) r ≡ operate library op (Some eff) rest r
+pub act_operator : (library : Library) (op : Operator) (eff : Effect) (rest : List ℕ) (r : Registers) → effect_of op ≡ Some eff → act_at library (operator_of op ++ rest) r ≡ operate library op (Some eff) rest r
 unfolding act_at
 act_operator library op eff rest r e = ap (λ t. act_on library t r) (token_operator op eff rest e) ∙ ap (λ f. operate library op f rest r) e
 
@@ -91,16 +92,6 @@ take_again op rest x r h =
     let n : length (take r.mask_len rest) ≡ r.mask_len = length-take-le r.mask_len rest within in
     let enough : r.mask_len ≤ length (take r.mask_len rest ++ x) = omega (arith, length-append (take r.mask_len rest) x) in
     rw (le-leb r.mask_len (length (take r.mask_len rest ++ x)) enough, take_at (take r.mask_len rest) x r.mask_len n, drop_at (take r.mask_len rest) x r.mask_len n) refl
-
-fit_front : (ns : List CharStringNumber) (k : ℕ) → FitAll ns → FitAll (take k ns)
-fit_front [] zero f = tt
-fit_front [] (suc k) f = tt
-fit_front (n ∷ ns) zero f = tt
-fit_front (n ∷ ns) (suc k) f = (f.0, fit_front ns k f.1)
-
-fit_more : (ns : List CharStringNumber) (n : CharStringNumber) → FitAll ns → NumberFits n → FitAll (ns ++ n ∷ [])
-fit_more [] n f g = (g, tt)
-fit_more (m ∷ ns) n f g = (f.0, fit_more ns n f.1 g)
 
 mask_loud : (library : Library) (op : Operator) (rest : List ℕ) (r : Registers) → effect_of op ≡ Some Masks → Class r (mask op rest r)
 mask_loud library op rest r e =

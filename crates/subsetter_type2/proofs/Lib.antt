@@ -3,6 +3,8 @@ pub mod OutputLemmas
 pub mod ProgramLemmas
 pub mod Runs
 pub mod BehindRuns
+pub mod Stretches
+pub mod PlainTables
 pub mod RecursionLemmas
 pub mod Replay
 pub mod Acts

@@ -1,91 +1,181 @@
 -- The operands at the end of the output.
-use Rattle.std.proofs.lemmas.Option.{slice_get-get_or}
-use Rattle.std.proofs.lemmas.List.{get_or_at}
-use Rattle.subsetter_type2.specs.Machine.{last_operand, but_last}
-use Rattle.std.proofs.Common.{◌≡◌, ℕ, ◌+◌, ◌-◌, ◌<◌, Some, List, [], ◌∷◌, ◌++◌, length, take, get_or, refl, sym, ap, ◌∙◌, subst, arith, append_assoc, append-nil, length-append}
-use Rattle.std.proofs.lemmas.List.{take_at, map-append}
+use Rattle.std.proofs.Common.{◌≡◌, ℕ, zero, suc, ◌+◌, ◌-◌, ◌<◌, ◌≤◌, List, [], ◌∷◌, ◌++◌, length, take, drop, get_or, Option, Some, None, pos, refl, sym, ap, ◌∙◌, subst, arith, append_assoc, append-nil, length-append, length-drop}
+use Rattle.std.proofs.lemmas.List.{take_at, drop_at, take-append-drop, length-take-le, take_all}
+use Rattle.std.proofs.lemmas.Option.{slice_get-get_or, some_pair_parts}
 use Rattle.std.proofs.lemmas.Grind.{flat_map-append}
-use Rattle.subsetter_type2.specs.declared.output.Operand.{Operand}
-use Rattle.subsetter_cffdata.specs.CharStringNumber.{written}
+use Rattle.subsetter_cffdata.specs.declared.charstring_number.CharStringNumber.{CharStringNumber}
+use Rattle.subsetter_cffdata.specs.CharStringNumber.{NumberFits, number_at, written}
+use Rattle.subsetter_cffdata.specs.declared.charstring_number.CharStringNumber.TheVariants.{Integer}
+use Rattle.subsetter_cffdata.proofs.CharStringNumbers.{read_back}
 use Rattle.subsetter_type2.specs.Flat.{flat_operands}
-use Rattle.subsetter_type2.specs.OutputView.{values, settled_of, written_of, StandFrom, EndsWith}
+use Rattle.subsetter_type2.specs.Machine.{last_operand, but_last}
+use Rattle.subsetter_type2.specs.Output.{Written}
+use Rattle.subsetter_type2.specs.OutputView.{AllFit, numbers_of, written_at, last_place, Stands, Holds}
 
-pub values-append : (xs ys : List Operand) → values (xs ++ ys) ≡ values xs ++ values ys
-values-append xs ys = map-append _ xs ys
+pub fit_front : (ns : List CharStringNumber) (k : ℕ) → AllFit ns → AllFit (take k ns)
+fit_front [] zero f = tt
+fit_front [] (suc k) f = tt
+fit_front (n ∷ ns) zero f = tt
+fit_front (n ∷ ns) (suc k) f = (f.0, fit_front ns k f.1)
 
-flat-values-append : (xs ys : List Operand) → flat_operands (values (xs ++ ys)) ≡ flat_operands (values xs) ++ flat_operands (values ys)
-flat-values-append xs ys = ap flat_operands (values-append xs ys) ∙ flat_map-append written (values xs) (values ys)
+pub fit_more : (ns : List CharStringNumber) (n : CharStringNumber) → AllFit ns → NumberFits n → AllFit (ns ++ n ∷ [])
+fit_more [] n f g = (g, tt)
+fit_more (m ∷ ns) n f g = (f.0, fit_more ns n f.1 g)
 
--- the settled bytes are those that the invariant names
-pub settled_is : (bytes settled : List ℕ) (operands : List Operand) → EndsWith bytes settled operands → settled_of bytes operands ≡ settled
-settled_is bytes settled [] h = h.bytes_are ∙ append-nil settled
-settled_is bytes settled (o ∷ os) h =
-    ap (λ n. take n bytes) h.places.0 ∙ ap (take (length settled)) h.bytes_are ∙ take_at settled _ (length settled) refl
+-- the bytes of some numbers spell them
+numbers_are : (numbers : List CharStringNumber) → AllFit numbers → numbers_of (length numbers) (flat_operands numbers) ≡ numbers
+unfolding numbers_of
+numbers_are [] f = refl
+numbers_are (n ∷ ns) f = rw (read_back n (flat_operands ns) f.0) (ap (λ l. n ∷ l) (numbers_are ns f.1))
 
-pub written_is : (bytes settled : List ℕ) (operands : List Operand) → EndsWith bytes settled operands → written_of bytes operands ≡ record { settled = settled; operands = values operands }
-written_is bytes settled operands h = ap (λ s. record { settled = s; operands = values operands }) (settled_is bytes settled operands h)
+module _ (bytes : List ℕ) (settled count : ℕ) (w : Written) (h : Stands bytes settled count w) where
+  front_is : take settled bytes ≡ w.settled
+  front_is = ap (take settled) h.bytes_are ∙ take_at w.settled _ settled (sym h.place)
 
--- in the form of the output's invariant
-pub ends_at_settled : (bytes settled : List ℕ) (operands : List Operand) → EndsWith bytes settled operands → EndsWith bytes (settled_of bytes operands) operands
-ends_at_settled bytes settled operands h = subst (λ s. EndsWith bytes s operands) (sym (settled_is bytes settled operands h)) h
+  rest_is : drop settled bytes ≡ flat_operands w.operands
+  rest_is = ap (drop settled) h.bytes_are ∙ drop_at w.settled _ settled (sym h.place)
 
-stand_more : (at : ℕ) (operands : List Operand) (o : Operand) → StandFrom at operands → o.place ≡ at + length (flat_operands (values operands)) → StandFrom at (operands ++ o ∷ [])
-stand_more at [] o h e = (omega arith, tt)
-stand_more at (p ∷ ps) o h e =
-    (h.0, stand_more (at + length (written p.value)) ps o h.1 (omega (arith, length-append (written p.value) (flat_operands (values ps)))))
+  -- the same, as the code slices the bytes
+  pub slice_is : (n : ℕ) → n ≡ length bytes → take (n - settled) (drop settled bytes) ≡ flat_operands w.operands
+  slice_is n e = take_all (n - settled) (drop settled bytes) (omega (arith, length-drop settled bytes, e)) ∙ rest_is
 
-stand_front : (at : ℕ) (operands : List Operand) (o : Operand) → StandFrom at (operands ++ o ∷ []) → StandFrom at operands
-stand_front at [] o h = tt
-stand_front at (p ∷ ps) o h = (h.0, stand_front (at + length (written p.value)) ps o h.1)
+  pub written_is : written_at bytes settled count ≡ w
+  written_is =
+      let spelled : numbers_of count (drop settled bytes) ≡ w.operands =
+      ap (numbers_of count) rest_is ∙ ap (λ n. numbers_of n (flat_operands w.operands)) h.many ∙ numbers_are w.operands h.fit in
+      ap (λ (s : List ℕ). record { settled = s; operands = numbers_of count (drop settled bytes) }) front_is
+      ∙ ap (λ (l : List CharStringNumber). record { settled = w.settled; operands = l }) spelled
 
-stand_last : (at : ℕ) (operands : List Operand) (o : Operand) → StandFrom at (operands ++ o ∷ []) → o.place ≡ at + length (flat_operands (values operands))
-stand_last at [] o h = omega arith
-stand_last at (p ∷ ps) o h =
-    omega (arith, stand_last (at + length (written p.value)) ps o h.1, length-append (written p.value) (flat_operands (values ps)))
+  -- in the form of the output's invariant
+  pub stands_at : Stands bytes settled count (written_at bytes settled count)
+  stands_at = subst (λ (x : Written). Stands bytes settled count x) (sym written_is) h
+
+flat-operands-append : (xs ys : List CharStringNumber) → flat_operands (xs ++ ys) ≡ flat_operands xs ++ flat_operands ys
+flat-operands-append xs ys = flat_map-append written xs ys
 
 -- a number more
-pub ends_push : (bytes settled : List ℕ) (operands : List Operand) (o : Operand) → o.place ≡ length bytes → EndsWith bytes settled operands → EndsWith (bytes ++ written o.value) settled (operands ++ o ∷ [])
-ends_push bytes settled operands o e h = record {
-  bytes_are = ap (λ b. b ++ written o.value) h.bytes_are ∙ append_assoc settled _ _
-      ∙ ap (λ b. settled ++ b) (ap (λ w. flat_operands (values operands) ++ w) (sym (append-nil (written o.value))) ∙ sym (flat-values-append operands (o ∷ [])));
-  places = stand_more (length settled) operands o h.places (e ∙ ap length h.bytes_are ∙ length-append settled _);
+pub stands_more : (bytes all : List ℕ) (settled count more : ℕ) (w : Written) (n : CharStringNumber) → Stands bytes settled count w → NumberFits n → all ≡ bytes ++ written n → more ≡ count + 1
+    → Stands all settled more (record { settled = w.settled; operands = w.operands ++ n ∷ [] })
+stands_more bytes all settled count more w n h f e m = record {
+  bytes_are = e ∙ ap (λ (b : List ℕ). b ++ written n) h.bytes_are ∙ append_assoc w.settled _ _
+      ∙ ap (λ (b : List ℕ). w.settled ++ b) (ap (λ (b : List ℕ). flat_operands w.operands ++ b) (sym (append-nil (written n))) ∙ sym (flat-operands-append w.operands (n ∷ [])));
+  place = h.place;
+  many = omega (arith, m, h.many, length-append w.operands (n ∷ []));
+  fit = fit_more w.operands n h.fit f;
 }
+
+-- all is settled
+pub stands_settled : (bytes : List ℕ) (place : ℕ) → place ≡ length bytes → Stands bytes place 0 (record { settled = bytes; operands = [] })
+stands_settled bytes place e = record { bytes_are = sym (append-nil bytes); place = e; many = refl; fit = tt }
+
+-- what is settled by an operator and its mask
+pub settles : (bytes text : List ℕ) (settled count : ℕ) (w : Written) → Stands bytes settled count w → bytes ++ text ≡ w.settled ++ (flat_operands w.operands ++ text)
+settles bytes text settled count w h = ap (λ (b : List ℕ). b ++ text) h.bytes_are ∙ append_assoc w.settled _ _
 
 -- a number less
-pub ends_pop : (bytes settled : List ℕ) (operands : List Operand) (o : Operand) → EndsWith bytes settled (operands ++ o ∷ []) → EndsWith (take o.place bytes) settled operands
-ends_pop bytes settled operands o h = record {
-  bytes_are =
-      let before = settled ++ flat_operands (values operands) in
-      let whole : bytes ≡ before ++ flat_operands (values (o ∷ [])) =
-      h.bytes_are ∙ ap (λ b. settled ++ b) (flat-values-append operands (o ∷ [])) ∙ sym (append_assoc settled _ _) in
-      let at : length before ≡ o.place = length-append settled _ ∙ sym (stand_last (length settled) operands o h.places) in
-      ap (take o.place) whole ∙ take_at before _ o.place at;
-  places = stand_front (length settled) operands o h.places;
-}
+pub stands_less : (bytes : List ℕ) (settled count before : ℕ) (w : Written) → Stands bytes settled count w → before ≡ length (flat_operands (but_last w.operands)) → 1 ≤ count
+    → Stands (take (settled + before) bytes) settled (count - 1) (record { settled = w.settled; operands = but_last w.operands })
+stands_less bytes settled count before w h e some =
+    let k = length w.operands - 1 in
+    let numbers : flat_operands w.operands ≡ flat_operands (take k w.operands) ++ flat_operands (drop k w.operands) =
+    ap flat_operands (sym (take-append-drop k w.operands)) ∙ flat-operands-append (take k w.operands) (drop k w.operands) in
+    let whole : bytes ≡ (w.settled ++ flat_operands (take k w.operands)) ++ flat_operands (drop k w.operands) =
+    h.bytes_are ∙ ap (λ (b : List ℕ). w.settled ++ b) numbers ∙ sym (append_assoc w.settled _ _) in
+    let at : length (w.settled ++ flat_operands (take k w.operands)) ≡ settled + before =
+    omega (arith, length-append w.settled (flat_operands (take k w.operands)), h.place, e) in
+    record {
+      bytes_are = ap (take (settled + before)) whole ∙ take_at _ _ (settled + before) at;
+      place = h.place;
+      many = let n : length (take k w.operands) ≡ k = length-take-le k w.operands (omega arith) in omega (arith, n, h.many);
+      fit = fit_front w.operands k h.fit;
+    }
 
--- the same, in the form of the functions that push and pop
-pub ends_after_push : (bytes bytes' settled : List ℕ) (operands operands' : List Operand) (o : Operand) → operands' ≡ operands ++ o ∷ [] → bytes' ≡ bytes ++ written o.value → o.place ≡ length bytes → EndsWith bytes settled operands → EndsWith bytes' (settled_of bytes' operands') operands'
-ends_after_push bytes bytes' settled operands operands' o e d at h =
-    rw (e, d) (ends_at_settled _ settled _ (ends_push bytes settled operands o at h))
+-- each of some numbers is read at its place
+pub read_nth : (numbers : List CharStringNumber) (k : ℕ) (rest : List ℕ) (d : CharStringNumber) → AllFit numbers → k < length numbers → rest ≡ flat_operands (drop k numbers)
+    → number_at rest ≡ Some (get_or numbers k d, flat_operands (drop (suc k) numbers))
+read_nth [] k rest d f l e = absurd (omega arith)
+read_nth (n ∷ ns) zero rest d f l e = ap number_at e ∙ read_back n (flat_operands ns) f.0
+read_nth (n ∷ ns) (suc k) rest d f l e = read_nth ns k rest d f.1 (omega arith) e
 
-pub ends_after_pop : (bytes bytes' settled : List ℕ) (operands operands' : List Operand) (o : Operand) → operands ≡ operands' ++ o ∷ [] → bytes' ≡ take o.place bytes → EndsWith bytes settled operands → EndsWith bytes' settled operands'
-ends_after_pop bytes bytes' settled operands operands' o e d h = rw d (ends_pop bytes settled operands' o (rw e at h))
+pub stop_before : (numbers : List CharStringNumber) (k : ℕ) (rest : List ℕ) → AllFit numbers → k < length numbers → rest ≡ flat_operands (drop k numbers) → number_at rest ≡ None → ⊥
+stop_before numbers k rest f l e n =
+    let p : ◌≡◌ {A = Option (CharStringNumber × List ℕ)} None (Some (get_or numbers k (Integer (pos 0)), flat_operands (drop (suc k) numbers))) = sym n ∙ read_nth numbers k rest (Integer (pos 0)) f l e in
+    absurd (cc)
 
-pub last_after_pop : (operands operands' : List Operand) (o : Operand) → operands ≡ operands' ++ o ∷ [] → Some o.value ≡ last_operand (values operands)
-last_after_pop operands operands' o e =
-    let all : values operands ≡ values operands' ++ o.value ∷ [] = ap values e ∙ values-append operands' (o ∷ []) in
-    let n : length (values operands') ≡ length (values operands) - 1 = omega (arith, ap length all, length-append (values operands') (o.value ∷ [])) in
-    let within : length (values operands) - 1 < length (values operands) = omega (arith, ap length all, length-append (values operands') (o.value ∷ [])) in
-    sym (slice_get-get_or (values operands) (length (values operands) - 1) o.value within
-    ∙ ap Some (ap (λ xs. get_or xs (length (values operands) - 1) o.value) all ∙ get_or_at (values operands') o.value [] o.value _ n))
+-- the last number of those that stand is where the new one began
+pub last_of_more : (bytes : List ℕ) (settled count : ℕ) (w : Written) (n : CharStringNumber) → Stands bytes settled count w → (place : ℕ) → place ≡ length bytes → place ≡ last_place (record { settled = w.settled; operands = w.operands ++ n ∷ [] })
+last_of_more bytes settled count w n h place e =
+    let k : length w.operands ≡ length (w.operands ++ n ∷ []) - 1 = omega (arith, length-append w.operands (n ∷ [])) in
+    let b : take (length (w.operands ++ n ∷ []) - 1) (w.operands ++ n ∷ []) ≡ w.operands = take_at w.operands (n ∷ []) (length (w.operands ++ n ∷ []) - 1) k in
+    e ∙ ap length h.bytes_are ∙ length-append w.settled (flat_operands w.operands) ∙ ap (λ (l : List CharStringNumber). length w.settled + length (flat_operands l)) (sym b)
 
-pub front_after_pop : (operands operands' : List Operand) (o : Operand) → operands ≡ operands' ++ o ∷ [] → values operands' ≡ but_last (values operands)
-front_after_pop operands operands' o e =
-    let all : values operands ≡ values operands' ++ o.value ∷ [] = ap values e ∙ values-append operands' (o ∷ []) in
-    let n : length (values operands') ≡ length (values operands) - 1 = omega (arith, ap length all, length-append (values operands') (o.value ∷ [])) in
-    sym (ap (take (length (values operands) - 1)) all ∙ take_at (values operands') (o.value ∷ []) (length (values operands) - 1) n)
+-- nothing is known of the last one
+pub holds_at : (bytes : List ℕ) (settled count last : ℕ) (w : Written) → Stands bytes settled count w → last ≡ 0 → Holds bytes settled count last (written_at bytes settled count)
+holds_at bytes settled count last w h z = record { stands = stands_at bytes settled count w h; known = λ _ some. absurd (some z) }
 
-pub written_after_pop : (bytes bytes' settled : List ℕ) (operands operands' : List Operand) (o : Operand) → operands ≡ operands' ++ o ∷ [] → bytes' ≡ take o.place bytes → EndsWith bytes settled operands → written_of bytes' operands' ≡ record { settled = settled; operands = but_last (values operands) }
-written_after_pop bytes bytes' settled operands operands' o e d h =
-    written_is bytes' settled operands' (ends_after_pop bytes bytes' settled operands operands' o e d h)
-    ∙ ap (λ numbers. record { settled = settled; operands = numbers }) (front_after_pop operands operands' o e)
+-- there are none
+pub holds_none : (bytes : List ℕ) (settled last : ℕ) (w : Written) → Stands bytes settled 0 w → Holds bytes settled 0 last (written_at bytes settled 0)
+holds_none bytes settled last w h = record { stands = stands_at bytes settled 0 w h; known = λ some _. absurd (omega arith) }
+
+module _ (bytes : List ℕ) (settled count : ℕ) (w : Written) (h : Stands bytes settled count w) (some : 1 ≤ count) (place : ℕ) (e : place ≡ last_place w) where
+  last_rest : drop place bytes ≡ flat_operands (drop (length w.operands - 1) w.operands)
+  last_rest =
+      let k = length w.operands - 1 in
+      let numbers : flat_operands w.operands ≡ flat_operands (take k w.operands) ++ flat_operands (drop k w.operands) =
+      ap flat_operands (sym (take-append-drop k w.operands)) ∙ flat-operands-append (take k w.operands) (drop k w.operands) in
+      let whole : bytes ≡ (w.settled ++ flat_operands (take k w.operands)) ++ flat_operands (drop k w.operands) =
+      h.bytes_are ∙ ap (λ (b : List ℕ). w.settled ++ b) numbers ∙ sym (append_assoc w.settled _ _) in
+      ap (drop place) whole ∙ drop_at _ _ place (length-append w.settled _ ∙ sym e)
+
+  pub last_inside : place ≤ length bytes
+  last_inside =
+      let k = length w.operands - 1 in
+      let numbers : flat_operands w.operands ≡ flat_operands (take k w.operands) ++ flat_operands (drop k w.operands) =
+      ap flat_operands (sym (take-append-drop k w.operands)) ∙ flat-operands-append (take k w.operands) (drop k w.operands) in
+      omega (arith, e, ap length h.bytes_are, length-append w.settled (flat_operands w.operands), ap length numbers, length-append (flat_operands (take k w.operands)) (flat_operands (drop k w.operands)))
+
+  -- what is read there
+  pub last_value : (text after : List ℕ) (number : CharStringNumber) → text ≡ drop place bytes → number_at text ≡ Some (number, after) → Some number ≡ last_operand w.operands
+  last_value text after number t r =
+      let k = length w.operands - 1 in
+      let within : k < length w.operands = omega (arith, h.many) in
+      let read : ◌≡◌ {A = Option (CharStringNumber × List ℕ)} (Some (get_or w.operands k number, flat_operands (drop (suc k) w.operands))) (Some (number, after)) = sym (read_nth w.operands k text number h.fit within (t ∙ last_rest)) ∙ r in
+      let same : get_or w.operands k number ≡ number = (some_pair_parts _ _ _ _ read).0 in
+      sym (slice_get-get_or w.operands k number within ∙ ap Some same)
+
+  pub last_there : (text : List ℕ) → text ≡ drop place bytes → number_at text ≡ None → ⊥
+  last_there text t n = stop_before w.operands (length w.operands - 1) text h.fit (omega (arith, h.many)) (t ∙ last_rest) n
+
+  pub stands_before : Stands (take place bytes) settled (count - 1) (record { settled = w.settled; operands = but_last w.operands })
+  stands_before =
+      let before = length (flat_operands (but_last w.operands)) in
+      let at : place ≡ settled + before = e ∙ ap (λ (n : ℕ). n + before) (sym h.place) in
+      subst (λ (p : ℕ). Stands (take p bytes) settled (count - 1) (record { settled = w.settled; operands = but_last w.operands })) (sym at) (stands_less bytes settled count before w h refl some)
+
+-- the last of some numbers
+pub last_is : (numbers : List CharStringNumber) (count : ℕ) (bytes last after : List ℕ) (number : CharStringNumber) → AllFit numbers → bytes ≡ flat_operands numbers → count ≡ length numbers → (count ≡ 0 → ⊥)
+    → last ≡ flat_operands (drop (count - 1) numbers) → number_at last ≡ Some (number, after)
+    → (last_operand numbers ≡ Some number) × (length bytes - length last ≡ length (flat_operands (but_last numbers)))
+last_is numbers count bytes last after number f e n some l r =
+    let k = length numbers - 1 in
+    let within : k < length numbers = omega arith in
+    let m : count - 1 ≡ k = omega arith in
+    let at : last ≡ flat_operands (drop k numbers) = l ∙ ap (λ (i : ℕ). flat_operands (drop i numbers)) m in
+    let read : ◌≡◌ {A = Option (CharStringNumber × List ℕ)} (Some (get_or numbers k number, flat_operands (drop (suc k) numbers))) (Some (number, after)) = sym (read_nth numbers k last number f within at) ∙ r in
+    let same : get_or numbers k number ≡ number = (some_pair_parts _ _ _ _ read).0 in
+    let split : bytes ≡ flat_operands (take k numbers) ++ flat_operands (drop k numbers) =
+    e ∙ ap flat_operands (sym (take-append-drop k numbers)) ∙ flat-operands-append (take k numbers) (drop k numbers) in (
+      slice_get-get_or numbers k number within ∙ ap Some same,
+      omega (arith, ap length split, ap length at, length-append (flat_operands (take k numbers)) (flat_operands (drop k numbers))),
+    )
+
+pub behind_is : (n m : CharStringNumber) (a b : List ℕ) → ◌≡◌ {A = Option (CharStringNumber × List ℕ)} (Some (n, a)) (Some (m, b)) → a ≡ b
+behind_is n m a b e = (some_pair_parts n m a b e).1
+
+-- the code's slice from a place on
+pub rest_from : (place : ℕ) (bytes all : List ℕ) → all ≡ bytes → take (length all - place) (drop place all) ≡ drop place bytes
+rest_from place bytes all e = take_all (length all - place) (drop place all) (omega (arith, length-drop place all)) ∙ ap (drop place) e
+
+-- the last operand of what is viewed
+pub at_view : (w v : Written) (place : ℕ) → w ≡ v → (place ≡ last_place v) × (1 ≤ length v.operands) → (place ≡ last_place w) × (1 ≤ length w.operands)
+at_view w v place e h = subst (λ (x : Written). (place ≡ last_place x) × (1 ≤ length x.operands)) (sym e) h

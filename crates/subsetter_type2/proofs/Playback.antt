@@ -10,7 +10,8 @@ use Rattle.subsetter_type2.specs.Flat.{flat_operands, flat_event, flat_events, f
 use Rattle.subsetter_type2.specs.Machine.{Library, Registers, State, Event, Trace, Act, Does, Fails, Goes, Faults, Lead, On, Into, Back, Over, Outcome, Finishes, Stops, unended, follow, said_also, act_at, move, rests_after, run, outcome, start}
 use Rattle.subsetter_type2.proofs.Runs.{run_more, run_over, run_out}
 use Rattle.subsetter_type2.proofs.RecursionLemmas.{unended_front}
-use Rattle.subsetter_type2.proofs.Replay.{one, operands_run, FitAll}
+use Rattle.subsetter_type2.proofs.Replay.{one, operands_run}
+use Rattle.subsetter_type2.specs.OutputView.{AllFit}
 use Rattle.subsetter_type2.proofs.Acts.{Sound, Silent, Loud, Class, class_at, lead_with}
 
 abbrev pub emptied : Registers → Registers
@@ -117,7 +118,7 @@ plays_silent r r' n events left c p = record {
 empty_sound : (r : Registers) → r.operands ≡ [] → Sound r
 empty_sound r e =
     let n : length r.operands ≡ 0 = ap length e in
-    record { few = omega arith; fit = subst FitAll (sym e) tt }
+    record { few = omega arith; fit = subst AllFit (sym e) tt }
 
 test_moved : (b : Bool) (event : Option Event) (next : State) (said : List Event) (go : List Event → State → Outcome) (u : Trace) → follow (if b then Goes event next else Faults CFFError) said go ≡ Finishes u → go (said_also said event) next ≡ Finishes u
 test_moved true event next said go u e = e

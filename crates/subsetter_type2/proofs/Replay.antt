@@ -7,6 +7,7 @@ use Rattle.subsetter_type2.specs.Token.{Operand}
 use Rattle.subsetter_cffdata.specs.CharStringNumber.{NumberFits, number_at, written}
 use Rattle.subsetter_type2.specs.Token.{token_of}
 use Rattle.subsetter_type2.specs.Flat.{flat_operands}
+use Rattle.subsetter_type2.specs.OutputView.{AllFit}
 use Rattle.subsetter_type2.specs.Machine.{Library, Registers, State, Event, Does, Goes, On, follow, act_at, move, run}
 use Rattle.subsetter_type2.proofs.Runs.{run_more}
 use Rattle.subsetter_type2.proofs.RecursionLemmas.{unended_front}
@@ -32,7 +33,7 @@ some_written n rest h = some_number (written n ++ rest) (n, rest) (read_back n r
 abbrev pub one : List ℕ → Registers → State
 one bytes r = record { rests = bytes ∷ []; registers = r }
 
-act_push : (library : Library) (bytes rest : List ℕ) (n : CharStringNumber) (r : Registers) → token_of bytes ≡ Some (Operand n, rest) → length r.operands < 48 → act_at library bytes r ≡ Does None (record r { operands = r.operands ++ n ∷ [] }) (On rest)
+pub act_push : (library : Library) (bytes rest : List ℕ) (n : CharStringNumber) (r : Registers) → token_of bytes ≡ Some (Operand n, rest) → length r.operands < 48 → act_at library bytes r ≡ Does None (record r { operands = r.operands ++ n ∷ [] }) (On rest)
 unfolding act_at
 act_push library bytes rest n r e h = rw (e, lt-ltb (length r.operands) 48 h) refl
 
@@ -47,12 +48,8 @@ push_run library depth m said n rest r d f l =
     ∙ ap (λ st. follow st said (run library depth m))
     (ap (move depth []) (act_push library (written n ++ rest) rest n r (token_back n rest f) l) ∙ move_on depth None _ rest d)
 
-abbrev pub FitAll : List CharStringNumber → Type 0
-FitAll [] = Unit {0}
-FitAll (n ∷ ns) = NumberFits n × FitAll ns
-
 -- all operands of an event, or those that are left
-pub operands_run : (library : Library) (depth m : ℕ) (said : List Event) (ns : List CharStringNumber) (rest : List ℕ) (r : Registers) → 1 ≤ depth → FitAll ns → length r.operands + length ns ≤ 48
+pub operands_run : (library : Library) (depth m : ℕ) (said : List Event) (ns : List CharStringNumber) (rest : List ℕ) (r : Registers) → 1 ≤ depth → AllFit ns → length r.operands + length ns ≤ 48
     → run library depth (length ns + m) said (one (flat_operands ns ++ rest) r) ≡ run library depth m said (one rest (record r { operands = r.operands ++ ns }))
 operands_run library depth m said [] rest r d f l =
     let z : 0 + m ≡ m = omega arith in

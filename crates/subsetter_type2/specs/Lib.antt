@@ -6,6 +6,8 @@ pub mod Laws
 pub mod Setting
 pub mod Output
 pub mod OutputView
+pub mod Stretch
+pub mod Plain
 pub mod ProgramView
 pub mod View
 pub mod MachineView

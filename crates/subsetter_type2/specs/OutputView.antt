@@ -1,29 +1,51 @@
 -- How the output holds what is written.
-use Rattle.std.specs.Prelude.{◌≡◌, ℕ, ◌+◌, List, [], ◌∷◌, ◌++◌, map, length, take}
+use Rattle.std.specs.Prelude.{◌≡◌, ℕ, zero, suc, ◌+◌, ◌≤◌, List, [], ◌∷◌, ◌++◌, length, take, drop, Option, Some, None, MatchOption}
 use Rattle.subsetter_cffdata.specs.declared.charstring_number.CharStringNumber.{CharStringNumber}
-use Rattle.subsetter_type2.specs.declared.output.Operand.{Operand}
-use Rattle.subsetter_cffdata.specs.CharStringNumber.{written}
+use Rattle.subsetter_cffdata.specs.CharStringNumber.{NumberFits, number_at}
 use Rattle.subsetter_type2.specs.Flat.{flat_operands}
+use Rattle.subsetter_type2.specs.Machine.{last_operand, but_last}
 use Rattle.subsetter_type2.specs.Output.{Written}
 
-abbrev pub values : List Operand → List CharStringNumber
-values operands = map (λ o. o.value) operands
+abbrev pub AllFit : List CharStringNumber → Type 0
+AllFit [] = Unit {0}
+AllFit (n ∷ ns) = NumberFits n × AllFit ns
 
--- what stands before the first operand
-abbrev pub settled_of : List ℕ → List Operand → List ℕ
-settled_of bytes [] = bytes
-settled_of bytes (operand ∷ operands) = take operand.place bytes
+abbrev pub first_and : Option (CharStringNumber × List ℕ) → (List ℕ → List CharStringNumber) → List CharStringNumber
+first_and None go = []
+first_and (Some r) go = r.0 ∷ go r.1
 
-abbrev pub written_of : List ℕ → List Operand → Written
-written_of bytes operands = record { settled = settled_of bytes operands; operands = values operands }
+-- so many numbers, as the bytes spell them
+unfoldable pub numbers_of : ℕ → List ℕ → List CharStringNumber
+numbers_of zero bytes = []
+numbers_of (suc count) bytes = first_and (number_at bytes) (numbers_of count)
 
--- the operands stand one after another from here on
-abbrev pub StandFrom : ℕ → List Operand → Type 0
-StandFrom place [] = Unit {0}
-StandFrom place (operand ∷ operands) =
-    (operand.place ≡ place) × StandFrom (place + length (written operand.value)) operands
+-- what is written, where so many operands begin at this place
+abbrev pub written_at : List ℕ → ℕ → ℕ → Written
+written_at bytes settled count = record { settled = take settled bytes; operands = numbers_of count (drop settled bytes) }
 
--- after the settled bytes come the operands, each at its place
-pub record EndsWith (bytes settled : List ℕ) (operands : List Operand) : Type 0 where
-  pub bytes_are : bytes ≡ settled ++ flat_operands (values operands)
-  pub places : StandFrom (length settled) operands
+-- the bytes are what is settled, and then so many operands, which begin at this place
+pub record Stands (bytes : List ℕ) (settled count : ℕ) (w : Written) : Type 0 where
+  pub bytes_are : bytes ≡ w.settled ++ flat_operands w.operands
+  pub place : settled ≡ length w.settled
+  pub many : count ≡ length w.operands
+  pub fit : AllFit w.operands
+
+-- where the last operand begins
+abbrev pub last_place : Written → ℕ
+last_place w = length w.settled + length (flat_operands (but_last w.operands))
+
+-- the same, where the place of the last operand may be known; 0 where it isn't
+pub record Holds (bytes : List ℕ) (settled count last : ℕ) (w : Written) : Type 0 where
+  pub stands : Stands bytes settled count w
+  pub known : 1 ≤ count → (last ≡ 0 → ⊥) → last ≡ last_place w
+
+-- where the operands begin: behind the last operator of a stretch that stands behind so many bytes; 0 where it has none
+abbrev pub place_after : ℕ → ℕ → ℕ → ℕ
+place_after zero settled before = settled
+place_after (suc end) settled before = before + suc end
+
+-- the last of these numbers, and how many bytes stand before it
+abbrev pub IsLast : List CharStringNumber → Option (CharStringNumber × ℕ) → Type 0
+IsLast numbers result =
+    MatchOption result (numbers ≡ [])
+    (λ r. (last_operand numbers ≡ Some r.0) × (r.1 ≡ length (flat_operands (but_last numbers))))

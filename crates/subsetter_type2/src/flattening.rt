@@ -90,13 +90,18 @@ fn flatten_within<'a, const N: usize>(
     let mut rests: FixedStack<&'a [u8], N> = FixedStack::new(charstring);
     let mut running = charstring;
     let mut tokens = limits.tokens;
-    while let Some(token) = innermost(running, &mut rests) {
-        if tokens == 0 {
-            return Err(Error::CFFError);
+    while let Some(text) = innermost(running, &mut rests) {
+        let stretch = machine.output.take_stretch(text, tokens, machine.mask_len)?;
+        tokens -= stretch.tokens as u32;
+        running = &text[stretch.len..];
+        if !running.is_empty() {
+            if tokens == 0 {
+                return Err(Error::CFFError);
+            }
+            tokens -= 1;
+            let flow = machine.act_at(subroutines, running)?;
+            running = follow(&mut rests, flow, limits.depth)?;
         }
-        tokens -= 1;
-        let flow = machine.act_at(subroutines, token)?;
-        running = follow(&mut rests, flow, limits.depth)?;
     }
     Ok(machine.output.finish())
 }

@@ -6,14 +6,18 @@ pub mod argstack;
 pub mod charstring;
 mod fixed_stack;
 mod flattening;
+mod last_number;
 pub mod laws;
 pub mod limits;
 mod machine;
 pub mod operators;
 mod output;
+mod plain;
 mod program;
 mod recursion;
+mod scanning;
 mod sink;
+mod stretch;
 pub mod subroutines;
 #[cfg(test)]
 mod tests;

@@ -1,10 +1,10 @@
 //! What a token does to the stack, the stems and the output, and where it leads (Technical Note 5177, section 4).
 
-ghost use Rattle.std.specs.Prelude.{◌≡◌, ◌<◌, ◌≤◌, ◌∷◌, [], IfOk, IfErr};
+ghost use Rattle.std.specs.Prelude.{◌≡◌, ◌<◌, ◌≤◌, [], IfOk, IfErr};
 ghost use Rattle.std.specs.Option.{option_copied};
-ghost use Rattle.subsetter_type2.specs.Machine.{subroutine, push, draw, On, stems_after, count_stems, mask, call, end, operate, act_on, act_at, push_at, pushed};
-ghost use Rattle.subsetter_cffdata.specs.CharStringNumber.{middle_number};
+ghost use Rattle.subsetter_type2.specs.Machine.{subroutine, push, draw, On, stems_after, count_stems, mask, call, end, operate, act_on, act_at, push_at};
 ghost use Rattle.subsetter_type2.specs.Token.{two_byte_token};
+ghost use Rattle.subsetter_cffdata.specs.CharStringNumber.{NumberFits};
 ghost use Rattle.subsetter_type2.specs.MachineView.{registers_of, library_of, Performs};
 
 use crate::argstack::MAX_OPERANDS;
@@ -12,7 +12,7 @@ use crate::sink::Sink;
 use crate::subroutines::SubroutineHandler;
 use crate::token::{Effect, find_effect, one_byte_effect};
 use subsetter_base::error::Error;
-use subsetter_cffdata::charstring_number::{CharStringNumber, middle_of, read_number};
+use subsetter_cffdata::charstring_number::{CharStringNumber, read_number};
 use subsetter_cffdata::operator::{Operator, OperatorType};
 
 /// The subroutines that a charstring may call.
@@ -40,7 +40,7 @@ pub enum Flow<'a> {
 pub struct Machine<S> {
     pub output: S,
     stems: u16,
-    mask_len: u16,
+    pub mask_len: u16,
 }
 
 /// The subroutine that the operand names.
@@ -66,6 +66,7 @@ impl<'a, S: Sink<'a>> Machine<S> {
     /// A number goes onto the stack.
     #[inline(always)]
     fn push(&mut self, number: CharStringNumber, rest: &'a [u8]) -> Result<Flow<'a>, Error>
+        requires { NumberFits number }
         ensures { Performs (push number rest.now (registers_of S.written self.old)) S.written self.old self.new result }
     {
         if self.output.count() >= MAX_OPERANDS {
@@ -132,6 +133,7 @@ impl<'a, S: Sink<'a>> Machine<S> {
     }
 
     /// A call of one of these subroutines.
+    #[inline(always)]
     fn call(
         &mut self,
         subroutines: &SubroutineHandler<'a>,
@@ -145,7 +147,6 @@ impl<'a, S: Sink<'a>> Machine<S> {
     }
 
     /// An operator of this effect, with what stands after it in its charstring.
-    #[inline(always)]
     fn operate(
         &mut self,
         subroutines: &Subroutines<'a>,
@@ -185,28 +186,7 @@ impl<'a, S: Sink<'a>> Machine<S> {
         }
     }
 
-    /// A number of a first byte from 247 to 254 and one more.
-    #[inline(always)]
-    fn push_middle(&mut self, first: u8, bytes: &'a [u8]) -> Result<Flow<'a>, Error>
-        requires low { 247 ≤ first }
-        requires high { first < 255 }
-        ensures { Performs (pushed (middle_number first bytes.now) (registers_of S.written self.old)) S.written self.old self.new result }
-    {
-        match bytes {
-            [second, rest @ ..] => {
-                if self.output.count() >= MAX_OPERANDS {
-                    return Err(Error::CFFError);
-                }
-                let number = middle_of(first, *second);
-                self.output.push_pair(number, [first, *second])?;
-                Ok(Flow::GoesOn(rest))
-            }
-            [] => Err(Error::CFFError),
-        }
-    }
-
-    /// A number of more than one byte at the front of these bytes.
-    #[inline(always)]
+    /// A number at the front of these bytes.
     #[tactic(auto, unfolding(crate::specs::Machine::push_at))]
     fn push_at(&mut self, bytes: &'a [u8]) -> Result<Flow<'a>, Error>
         ensures { Performs (push_at bytes.now (registers_of S.written self.old)) S.written self.old self.new result }
@@ -215,27 +195,9 @@ impl<'a, S: Sink<'a>> Machine<S> {
         self.push(number, rest)
     }
 
-    /// A number whose first byte is 32 or more; most have just this one.
-    #[inline(always)]
-    #[tactic(auto, unfolding(crate::specs::Machine::push_at, subsetter_cffdata::specs::CharStringNumber::number_at))]
-    fn push_from(&mut self, first: u8, bytes: &'a [u8], rest: &'a [u8]) -> Result<Flow<'a>, Error>
-        requires low { 32 ≤ first }
-        requires split { bytes.now ≡ first ∷ rest.now }
-        ensures { Performs (push_at bytes.now (registers_of S.written self.old)) S.written self.old self.new result }
-    {
-        if first <= 246 {
-            return self.push(CharStringNumber::Integer(first as i16 - 139), rest);
-        }
-        if first < 255 {
-            return self.push_middle(first, rest);
-        }
-        self.push_at(bytes)
-    }
-
     /// The token at the front of these bytes, which the first byte tells.
-    #[inline(always)]
     #[tactic(auto, unfolding(crate::specs::Machine::act_at, crate::specs::Machine::push_at, crate::specs::Token::token_of, crate::specs::Token::effect_of))]
-    pub fn act_at(
+    fn act_on_any(
         &mut self,
         subroutines: &Subroutines<'a>,
         bytes: &'a [u8],
@@ -246,7 +208,7 @@ impl<'a, S: Sink<'a>> Machine<S> {
             return Err(Error::CFFError);
         };
         if *first >= 32 {
-            return self.push_from(*first, bytes, rest);
+            return self.push_at(bytes);
         }
         if *first == 28 {
             return self.push_at(bytes);
@@ -256,5 +218,31 @@ impl<'a, S: Sink<'a>> Machine<S> {
         }
         let operator = Operator(OperatorType::OneByteOperator([*first]));
         self.operate(subroutines, operator, one_byte_effect(*first), rest)
+    }
+
+    /// The token at the front of these bytes. Calls and returns, which are frequent, are told first.
+    #[inline(always)]
+    #[tactic(auto, unfolding(crate::specs::Machine::act_at, crate::specs::Token::token_of))]
+    pub fn act_at(
+        &mut self,
+        subroutines: &Subroutines<'a>,
+        bytes: &'a [u8],
+    ) -> Result<Flow<'a>, Error>
+        ensures { Performs (act_at (library_of subroutines.now) bytes.now (registers_of S.written self.old)) S.written self.old self.new result }
+    {
+        let [first, rest @ ..] = bytes else {
+            return Err(Error::CFFError);
+        };
+        if *first == 11 {
+            return Ok(Flow::Returns);
+        }
+        if *first == 10 {
+            return self.call(&subroutines.local, rest);
+        }
+        if *first == 29 {
+            return self.call(&subroutines.global, rest);
+        }
+        let flow = self.act_on_any(subroutines, bytes)?;
+        Ok(flow)
     }
 }

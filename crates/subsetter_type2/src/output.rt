@@ -1,29 +1,31 @@
 //! The bytes of the flat form, with the operands that no operator has taken yet at their end.
 
-ghost use Rattle.std.specs.Prelude.{◌≡◌, ◌++◌, [], OnOk, IfErr};
+ghost use Rattle.std.specs.Prelude.{◌≡◌, ◌≤◌, ◌++◌, [], length, OnOk, OnErr, IfOk, IfErr, MatchOption};
 ghost use Rattle.subsetter_base.specs.declared.error.Error.TheVariants.{OutOfMemory};
 ghost use Rattle.subsetter_cffdata.specs.Views.{operator_of};
 ghost use Rattle.subsetter_type2.specs.Flat.{flat_operands};
+ghost use Rattle.subsetter_type2.specs.OutputView.{last_place};
+ghost use Rattle.subsetter_type2.specs.Stretch.{LeadsOn};
 
-use crate::fixed_stack::FixedStack;
+use crate::last_number::find_last_number;
+use crate::scanning::find_stretch;
 use crate::sink::Sink;
+use crate::stretch::Stretch;
 use std::marker::Model;
 use subsetter_base::error::Error;
-use subsetter_cffdata::charstring_number::CharStringNumber;
+use subsetter_cffdata::charstring_number::{CharStringNumber, read_number};
 use subsetter_cffdata::operator::{Operator, OperatorType};
 
-/// An operand, and the place in the output where it begins.
-#[derive(Clone, Copy, Default)]
-pub struct Operand {
-    value: CharStringNumber,
-    place: usize,
-}
-
-/// The output, whose end is the operands on the stack.
+/// The output, whose end is the operands on the stack: they are read there where they are wanted.
 #[derive(Drop)]
 pub struct Output {
     bytes: Vec<u8>,
-    operands: FixedStack<Operand, 48>,
+    /// Where the operands begin.
+    settled: usize,
+    /// How many operands there are.
+    count: usize,
+    /// Where the last operand begins, if that is known; else 0.
+    last: usize,
 }
 
 impl Model for Output {
@@ -31,11 +33,11 @@ impl Model for Output {
 
     ghost Value = { Written };
 
-    ghost use Rattle.subsetter_type2.specs.OutputView.{written_of, EndsWith, settled_of};
+    ghost use Rattle.subsetter_type2.specs.OutputView.{written_at, Holds};
 
-    ghost view = { λ o. written_of o.bytes.items o.operands };
+    ghost view = { λ o. written_at o.bytes.items o.settled o.count };
 
-    ghost invariant = { λ o. EndsWith o.bytes.items (settled_of o.bytes.items o.operands) o.operands };
+    ghost invariant = { λ o. Holds o.bytes.items o.settled o.count o.last (written_at o.bytes.items o.settled o.count) };
 }
 
 impl<'a> Sink<'a> for Output {
@@ -43,36 +45,32 @@ impl<'a> Sink<'a> for Output {
 
     #[inline(always)]
     fn count(&self) -> usize {
-        self.operands.len()
+        self.count
     }
 
-    #[inline(always)]
     fn push(&mut self, value: CharStringNumber) -> Result<(), Error> {
-        let place = self.bytes.len();
         value.append(&mut self.bytes)?;
-        self.operands.push(Operand { value, place });
-        Ok(())
-    }
-
-    #[inline(always)]
-    fn push_pair(&mut self, value: CharStringNumber, text: [u8; 2]) -> Result<(), Error> {
-        let place = self.bytes.len();
-        self.bytes.extend_from_slice(&text)?;
-        self.operands.push(Operand { value, place });
+        self.count += 1;
+        self.last = 0;
         Ok(())
     }
 
     fn pop(&mut self) -> Option<CharStringNumber> {
-        let operand = self.operands.pop()?;
-        self.bytes.truncate(operand.place);
-        Some(operand.value)
+        let place = self.find_last()?;
+        let (value, _) = read_number(&self.bytes[place..])?;
+        self.bytes.truncate(place);
+        self.count -= 1;
+        self.last = 0;
+        Some(value)
     }
 
     #[inline(always)]
     fn draw(&mut self, operator: Operator, mask: &'a [u8]) -> Result<(), Error> {
-        self.operands.clear();
         append_operator(&mut self.bytes, operator)?;
+        self.settled = self.bytes.len();
+        self.count = 0;
         self.bytes.extend_from_slice(mask)?;
+        self.settled = self.bytes.len();
         Ok(())
     }
 }
@@ -82,10 +80,54 @@ impl Output {
     pub fn behind(bytes: Vec<u8>) -> Self
         ensures { result ≡ record { settled = bytes.items; operands = [] } }
     {
+        let settled = bytes.len();
         Output {
             bytes,
-            operands: FixedStack::new(Operand::default()),
+            settled,
+            count: 0,
+            last: 0,
         }
+    }
+
+    /// Where the last operand begins.
+    #[inline(always)]
+    fn find_last(&self) -> Option<usize>
+        ensures { MatchOption result (self.now.operands ≡ []) (λ place. (place ≡ last_place self.now) × (1 ≤ length self.now.operands)) }
+    {
+        if self.count == 0 {
+            return None;
+        }
+        if self.last != 0 {
+            return Some(self.last);
+        }
+        let (_, before) = find_last_number(&self.bytes[self.settled..], self.count)?;
+        Some(self.settled + before)
+    }
+
+    /// Writes the stretch of so many tokens at most at the front of a charstring.
+    #[inline(always)]
+    pub fn take_stretch(
+        &mut self,
+        text: &[u8],
+        tokens: u32,
+        mask_len: u16,
+    ) -> Result<Stretch, Error>
+        ensures leads { IfOk result (λ s. LeadsOn text.now s.len s.tokens mask_len self.old self.new) }
+        ensures moves { IfOk result (λ s. s.tokens ≡ 0 → s.len ≡ 0) }
+        ensures inside { IfOk result (λ s. s.len ≤ length text.now) }
+        ensures few { IfOk result (λ s. s.tokens ≤ tokens) }
+        ensures err { IfErr result (λ e. e ≡ OutOfMemory) }
+    {
+        let stretch = find_stretch(text, tokens, mask_len, self.count);
+        if stretch.len == 0 {
+            return Ok(stretch);
+        }
+        let before = self.bytes.len();
+        self.bytes.extend_from_slice(&text[..stretch.len])?;
+        self.settled = stretch.settled_after(self.settled, before);
+        self.count = stretch.count;
+        self.last = before + stretch.last;
+        Ok(stretch)
     }
 
     /// All that is written.
@@ -101,6 +143,7 @@ impl Output {
 pub fn append_operator(bytes: &mut Vec<u8>, operator: Operator) -> Result<(), Error>
     ensures ok { OnOk result (bytes.new.items ≡ bytes.old.items ++ operator_of operator) }
     ensures err { IfErr result (λ e. e ≡ OutOfMemory) }
+    ensures unchanged { OnErr result (bytes.new.items ≡ bytes.old.items) }
 {
     match &operator.0 {
         OperatorType::OneByteOperator(code) => bytes.extend_from_slice(code)?,

@@ -126,11 +126,6 @@ impl<'a> Sink<'a> for Draft<'a> {
         self.operands.push(value)
     }
 
-    fn push_pair(&mut self, value: CharStringNumber, _text: [u8; 2]) -> Result<(), Error> {
-        self.program.push(Instruction::Operand(value))?;
-        self.operands.push(value)
-    }
-
     fn pop(&mut self) -> Option<CharStringNumber> {
         let value = self.operands.pop()?;
         let _operand = self.program.pop();

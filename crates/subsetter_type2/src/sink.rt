@@ -2,8 +2,8 @@
 
 ghost use Rattle.std.specs.Prelude.{◌≡◌, ◌++◌, ◌∷◌, [], ◌<◌, length, OnOk, IfErr};
 ghost use Rattle.subsetter_type2.specs.Machine.{last_operand, but_last};
-ghost use Rattle.subsetter_cffdata.specs.CharStringNumber.{written as number_bytes};
 ghost use Rattle.subsetter_type2.specs.Flat.{flat_event};
+ghost use Rattle.subsetter_cffdata.specs.CharStringNumber.{NumberFits};
 ghost use Rattle.subsetter_base.specs.declared.error.Error.TheVariants.{OutOfMemory};
 
 use subsetter_base::error::Error;
@@ -22,14 +22,8 @@ pub trait Sink<'a> {
 
     /// A number, which goes onto the stack.
     fn push(&mut self, value: CharStringNumber) -> Result<(), Error>
-        requires { length (written self.old).operands < 48 }
-        ensures ok { OnOk result (written self.new ≡ record { settled = (written self.old).settled; operands = (written self.old).operands ++ value ∷ [] }) }
-        ensures err { IfErr result (λ e. e ≡ OutOfMemory) };
-
-    /// A number whose shortest form is these bytes; it goes onto the stack.
-    fn push_pair(&mut self, value: CharStringNumber, text: [u8; 2]) -> Result<(), Error>
         requires room { length (written self.old).operands < 48 }
-        requires text { text ≡ number_bytes value }
+        requires fits { NumberFits value }
         ensures ok { OnOk result (written self.new ≡ record { settled = (written self.old).settled; operands = (written self.old).operands ++ value ∷ [] }) }
         ensures err { IfErr result (λ e. e ≡ OutOfMemory) };
 

@@ -1,5 +1,5 @@
 -- The glyphs of a subset with a CFF table: the given ones.
-use Rattle.std.proofs.Common.{◌≡◌, ℕ, cond, List, [], Option, Some, None, refl, sym, ap, ◌∙◌}
+use Rattle.std.proofs.Common.{◌≡◌, ℕ, cond, List, [], Option, Some, None, refl, sym, ap}
 use Rattle.std.specs.Prelude.{codes, is_some, Contains, not, ◌==◌}
 use Rattle.std.proofs.lemmas.List.{append-nil}
 use Rattle.subsetter_base.specs.Bytes.{number}

@@ -2,12 +2,13 @@
 use Rattle.std.proofs.Common.{◌≡◌, ℕ, zero, suc, ◌+◌, ◌-◌, ◌<◌, ◌≤◌, Bool, true, false, cond, leb, List, [], ◌∷◌, ◌++◌, length, get_or, take, drop, Option, Some, None, Ok, Err, refl, sym, ap, ◌∙◌, append_assoc, arith}
 use Rattle.std.specs.Option.{option_and_then, option_map, ok_or}
 use Rattle.std.specs.List.{flat_map}
-use Rattle.std.proofs.lemmas.Bool.{le-leb, lt-leb, leb-true, le-ltb}
+use Rattle.std.proofs.lemmas.Bool.{le-leb, lt-leb, leb-true, le-ltb, lt-ltb}
 use Rattle.std.proofs.lemmas.List.{append-nil, length-drop, length-take}
 use Rattle.subsetter_base.specs.Bytes.{range, number}
 use Rattle.subsetter_base.specs.declared.error.Error.TheVariants.{MalformedFont}
 use Rattle.subsetter_base.proofs.Options.{bind_some}
 use Rattle.subsetter.specs.Glyf.Parts.{Component, Chain, Composite, Simple, rest_size, has_more, has_instructions, component_at, with_component, last_component, chain_at, composite_parts, outline_parts, spelled, parts_bytes}
+use Rattle.subsetter.specs.Glyf.Closure.{first_byte_in}
 use Rattle.subsetter.specs.Glyf.Plain.{renumbered_component, renumbered_chain, renumbered, written_behind, rewritten_composite, rewritten}
 
 -- a component that is whole
@@ -164,3 +165,19 @@ unfolding rewritten rewritten_composite outline_parts
 rewritten_high order [] le high = absurd (omega arith)
 rewritten_high order (a ∷ []) le high = absurd (omega arith)
 rewritten_high order (a ∷ b ∷ bytes) le high = ap (λ q. ok_or (option_map (λ p. parts_bytes (renumbered order p)) (cond q (Some (Simple (a ∷ b ∷ bytes))) (composite_parts (a ∷ b ∷ bytes)))) MalformedFont) (le-ltb a 128 high)
+
+-- an outline that begins as a composite does, or has one byte
+pub rewritten_begun : (order bytes : List ℕ) (first : ℕ) → first ≡ first_byte_in (Some bytes) → 128 ≤ first → rewritten order bytes ≡ rewritten_composite order bytes
+unfolding rewritten outline_parts
+rewritten_begun order [] first is high = absurd (omega arith)
+rewritten_begun order (a ∷ []) first is high = sym (composite_short order (a ∷ []) (omega arith))
+rewritten_begun order (a ∷ b ∷ bytes) first is high = rewritten_high order (a ∷ b ∷ bytes) (omega arith) (omega arith)
+
+-- another
+pub rewritten_simple : (order bytes : List ℕ) (first : ℕ) → first ≡ first_byte_in (Some bytes) → first < 128 → rewritten order bytes ≡ Ok bytes
+unfolding rewritten outline_parts
+rewritten_simple order [] first is low = refl
+rewritten_simple order (a ∷ []) first is low = absurd (omega arith)
+rewritten_simple order (a ∷ b ∷ bytes) first is low =
+    let lt : a < 128 = omega arith in
+    ap (λ q. ok_or (option_map (λ p. parts_bytes (renumbered order p)) (cond q (Some (Simple (a ∷ b ∷ bytes))) (composite_parts (a ∷ b ∷ bytes)))) MalformedFont) (lt-ltb a 128 lt)

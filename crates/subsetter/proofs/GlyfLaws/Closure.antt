@@ -1,7 +1,8 @@
 -- The glyphs that a list reaches, while they are found.
 use Rattle.std.proofs.Common.{◌≡◌, ℕ, zero, suc, ◌+◌, ◌-◌, ◌*◌, ◌^◌, ◌<◌, ◌≤◌, Bool, true, false, cond, ltb, ◌&&◌, List, [], ◌∷◌, ◌++◌, length, drop, Option, Some, None, refl, sym, ap, subst, ◌∙◌, ◌⊎◌, inl, inr, append_assoc, arith}
-use Rattle.std.specs.Prelude.{Contains, is_some, not, nat_le}
-use Rattle.std.specs.Option.{option_and_then}
+use Rattle.std.specs.Prelude.{Contains, is_some, map, not, nat_le}
+use Rattle.std.specs.Borrow.{Bor}
+use Rattle.std.specs.Option.{option_and_then, option_copied}
 use Rattle.std.proofs.lemmas.Bool.{ltb-true, leb-false}
 use Rattle.std.proofs.lemmas.List.{append-nil, length_push, length-append}
 use Rattle.std.proofs.lemmas.List.Elements.{Contains-append_left, Contains-append_right, Contains-append_cases, Contains-push, Contains-push_cases}
@@ -17,7 +18,7 @@ use Rattle.subsetter_base.specs.declared.error.Error.TheVariants.{OutOfMemory, M
 use Rattle.subsetter_base.proofs.Lists.{Contains-later}
 use Rattle.subsetter_base.proofs.Options.{none_of}
 use Rattle.subsetter.proofs.GlyfLaws.Components.{components_few, components_simple}
-use Rattle.subsetter.specs.Glyf.Closure.{first_byte_in, is_composite_in, composites_in, components_in, others_in, lacks_head, IsFaulty, IsFull, IsVisited, StopsClosure, no_memory, faulty_glyph, all_reached}
+use Rattle.subsetter.specs.Glyf.Closure.{first_byte_in, AreFound, is_composite_in, composites_in, components_in, others_in, lacks_head, IsFaulty, IsFull, IsVisited, StopsClosure, no_memory, faulty_glyph, all_reached}
 
 -- ---- members of a list
 
@@ -92,6 +93,18 @@ composites_have t (g ∷ glyphs) h c is = by (λ d. composites_have t glyphs h d
     by : (Contains glyphs h → Contains (composites_in t glyphs) h) → (b : Bool) → is_composite_in t g ≡ b → Contains (cond b (g ∷ composites_in t glyphs) (composites_in t glyphs)) h
     by again true e = elim (cons_cases g h glyphs c) [ inl same ↦ here g h (composites_in t glyphs) same | inr later ↦ Contains-later g h (composites_in t glyphs) (again later) ]
     by again false e = elim (cons_cases g h glyphs c) [ inl same ↦ absurd (let k = sym e ∙ ap (is_composite_in t) same ∙ is in cc) | inr later ↦ again later ]
+
+-- the first bytes of outlines that were looked up
+pub heads_of : (t : Outlines) (glyphs : List ℕ) (found : List (Option (Bor (List ℕ)))) → AreFound t glyphs found → map (λ o. first_byte_in (option_copied o)) found ≡ map (λ g. first_byte_in (outline_in t g)) glyphs
+heads_of t glyphs found is = apart found ∙ ap (map first_byte_in) is ∙ joined glyphs
+  where
+    apart : (os : List (Option (Bor (List ℕ)))) → map (λ o. first_byte_in (option_copied o)) os ≡ map first_byte_in (map option_copied os)
+    apart [] = refl
+    apart (o ∷ os) = ap (λ (l : List ℕ). first_byte_in (option_copied o) ∷ l) (apart os)
+
+    joined : (gs : List ℕ) → map first_byte_in (map (outline_in t) gs) ≡ map (λ g. first_byte_in (outline_in t g)) gs
+    joined [] = refl
+    joined (g ∷ gs) = ap (λ (l : List ℕ). first_byte_in (outline_in t g) ∷ l) (joined gs)
 
 -- the others have no components
 simple_none : (o : Option (List ℕ)) (h : ℕ) → nat_le 128 (first_byte_in o) ≡ false → Contains (components_in o) h → ⊥

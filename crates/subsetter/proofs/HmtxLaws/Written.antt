@@ -1,8 +1,10 @@
 -- Metrics of a list of glyphs: read in turn, and the least number of pairs.
-use Rattle.std.proofs.Common.{◌≡◌, ℕ, zero, suc, ◌+◌, ◌<◌, ◌≤◌, Bool, true, false, cond, List, [], ◌∷◌, ◌++◌, length, get_or, take, drop, Some, None, Result, Ok, Err, refl, sym, ap, ◌∙◌, inl, inr, ◌⊎◌, arith}
+use Rattle.std.proofs.Common.{◌≡◌, ℕ, zero, suc, ◌+◌, ◌*◌, ◌<◌, ◌≤◌, Bool, true, false, cond, List, [], ◌∷◌, ◌++◌, length, get_or, take, drop, append_assoc, Some, None, Result, Ok, Err, refl, sym, ap, ◌∙◌, inl, inr, ◌⊎◌, arith}
 use Rattle.std.specs.Prelude.{Contains, ◌==◌}
 use Rattle.std.specs.Option.{ok_or}
+use Rattle.std.specs.List.{flat_map}
 use Rattle.std.specs.Int.{w16, to_be_bytes}
+use Rattle.std.proofs.lemmas.List.{length-append, length-take, length-drop}
 use Rattle.subsetter_base.specs.Bytes.{◌>>=◌}
 use Rattle.subsetter_base.specs.declared.error.Error.{Error}
 use Rattle.subsetter_base.specs.declared.error.Error.TheVariants.{MalformedFont}
@@ -10,12 +12,29 @@ use Rattle.subsetter_base.proofs.Results.{done_is, bind_ok, bind_err, named_ok, 
 use Rattle.subsetter_base.proofs.Lists.{and_parts}
 use Rattle.subsetter.specs.declared.hmtx.Metric.{Metric}
 use Rattle.subsetter.specs.Hmtx.Read.{metric_in}
-use Rattle.subsetter.specs.Hmtx.Written.{hhea_bytes, all_advance, least_count, metrics_all}
+use Rattle.subsetter.specs.Hmtx.Written.{pair_bytes, bearing_bytes, hhea_bytes, hmtx_bytes, all_advance, least_count, metrics_all}
 
 -- `hhea`, written in three parts
-pub header_written : (count : ℕ) (hhea w w1 w2 w3 out : List ℕ) → w ≡ [] → w1 ≡ w ++ take 34 hhea → w2 ≡ w1 ++ to_be_bytes w16 count → w3 ≡ w2 ++ drop 36 hhea → out ≡ w3 → out ≡ hhea_bytes count hhea
+pub header_written : (count : ℕ) (hhea w w1 w2 w3 : List ℕ) → w1 ≡ w ++ take 34 hhea → w2 ≡ w1 ++ to_be_bytes w16 count → w3 ≡ w2 ++ drop 36 hhea → w3 ≡ w ++ hhea_bytes count hhea
 unfolding hhea_bytes
-header_written count hhea w w1 w2 w3 out h0 h1 h2 h3 h = rw (h, h3, h2, h1, h0) refl
+header_written count hhea w w1 w2 w3 h1 h2 h3 = rw (h3, h2, h1) (simp append_assoc)
+
+-- how long the tables are
+pub length-hhea : (count : ℕ) (hhea : List ℕ) → 36 ≤ length hhea → length (hhea_bytes count hhea) ≡ length hhea
+unfolding hhea_bytes
+length-hhea count hhea h = omega (arith, length-append (take 34 hhea ++ to_be_bytes w16 count) (drop 36 hhea), length-append (take 34 hhea) (to_be_bytes w16 count), length-take 34 hhea, length-drop 36 hhea)
+
+pub length-pairs : (ms : List Metric) → length (flat_map pair_bytes ms) ≡ 4 * length ms
+length-pairs [] = refl
+length-pairs (m ∷ ms) = omega (arith, length-append (pair_bytes m) (flat_map pair_bytes ms), length-pairs ms)
+
+pub length-bearings : (ms : List Metric) → length (flat_map bearing_bytes ms) ≡ 2 * length ms
+length-bearings [] = refl
+length-bearings (m ∷ ms) = omega (arith, length-append (bearing_bytes m) (flat_map bearing_bytes ms), length-bearings ms)
+
+pub length-hmtx : (count : ℕ) (ms : List Metric) → count ≤ length ms → length (hmtx_bytes count ms) ≡ 2 * length ms + 2 * count
+unfolding hmtx_bytes
+length-hmtx count ms h = omega (arith, length-append (flat_map pair_bytes (take count ms)) (flat_map bearing_bytes (drop count ms)), length-pairs (take count ms), length-bearings (drop count ms), length-take count ms, length-drop count ms)
 
 -- ---- steps that answer, and the one that failed
 

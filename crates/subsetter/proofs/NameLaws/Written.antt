@@ -1,24 +1,21 @@
 -- Records and strings of `name`.
-use Rattle.std.proofs.Common.{◌≡◌, ℕ, zero, suc, ◌+◌, ◌*◌, ◌/◌, ◌%◌, ◌<◌, ◌≤◌, Bool, true, false, cond, leb, ◌||◌, List, [], ◌∷◌, ◌++◌, length, take, drop, Option, Some, None, Ok, Err, refl, sym, ap, ◌∙◌, append_assoc, arith}
-use Rattle.std.specs.Prelude.{flat_map}
-use Rattle.std.specs.Option.{option_and_then, ok_or}
+use Rattle.std.proofs.Common.{◌≡◌, ℕ, zero, suc, ◌+◌, ◌*◌, ◌/◌, ◌%◌, ◌<◌, ◌≤◌, Bool, true, false, cond, leb, ◌||◌, ◌&&◌, List, [], ◌∷◌, ◌++◌, length, take, drop, Option, Some, None, Ok, Err, refl, sym, ap, ◌∙◌, arith}
+use Rattle.std.specs.Prelude.{IfSome, flat_map}
 use Rattle.std.specs.Int.{w16, to_be_bytes}
+use Rattle.std.specs.Option.{option_and_then, option_map, unwrap_or}
 use Rattle.std.specs.Str.{bytes_eq}
 use Rattle.std.specs.Borrow.{Bor}
-use Rattle.std.proofs.lemmas.Bool.{le-leb, lt-ltb, le-ltb, false≢true}
-use Rattle.std.proofs.lemmas.List.{append-nil, length-append, length-drop, map-append, take-take, drop-take}
+use Rattle.std.proofs.lemmas.Bool.{le-leb, leb-true, leb-false, lt-ltb, le-ltb, false≢true}
+use Rattle.std.proofs.lemmas.List.{append-nil, length-append, length-drop, map-append, take-take, drop-take, take-append-drop, take_all, take-append-le}
 use Rattle.std.proofs.lemmas.Grind.{flat_map-append}
 use Rattle.subsetter_base.specs.Items.{values_of}
-use Rattle.subsetter_base.specs.declared.error.Error.TheVariants.{SubsetError, MalformedFont}
+use Rattle.subsetter_base.specs.declared.error.Error.TheVariants.{SubsetError}
 use Rattle.subsetter_base.proofs.Lists.{five_written, bytes_eq_is, bytes_eq_self}
 use Rattle.subsetter.specs.declared.name.NameRecord.{NameRecord}
-use Rattle.subsetter.specs.Name.Read.{NameTable, name_parts, name_record_of, name_records_in, name_record_bytes, name_bytes, among, string_place, joined}
+use Rattle.subsetter.specs.Name.Read.{name_parts, name_record_of, name_records_in, name_record_bytes, name_bytes, among, string_place, joined}
 use Rattle.subsetter.specs.Name.Plain.{placed_string}
-use Rattle.subsetter.specs.Name.View.{nows}
-
--- six writes in turn
-pub six : (w a b c d e f w1 w2 w3 w4 w5 w6 : List ℕ) → w1 ≡ w ++ a → w2 ≡ w1 ++ b → w3 ≡ w2 ++ c → w4 ≡ w3 ++ d → w5 ≡ w4 ++ e → w6 ≡ w5 ++ f → w6 ≡ w ++ (a ++ b ++ c ++ d ++ e ++ f)
-six w a b c d e f w1 w2 w3 w4 w5 w6 h1 h2 h3 h4 h5 h6 = rw (h6, h5, h4, h3, h2, h1) (simp append_assoc)
+use Rattle.subsetter.specs.declared.name.NameTable.{NameTable as ReadTable}
+use Rattle.subsetter.specs.Name.View.{nows, seen_parts, seen_table}
 
 -- ---- strings among others
 
@@ -89,6 +86,78 @@ pub is_new : (b : Bool) (n : ℕ) → cond b (Some n) None ≡ None → b ≡ fa
 is_new true n h = absurd cc
 is_new false n h = refl
 
+-- the first of some strings is the one that is looked for, or it isn't
+pub found_first : (ts others : List (List ℕ)) (t q : List ℕ) (at : ℕ) (total : Option ℕ) → ts ≡ t ∷ others → bytes_eq t q ≡ true → cond (among ts q) (Some (at + string_place ts q)) None ≡ total → Some at ≡ total
+found_first ts others t q at total is eq h =
+    let k : bytes_eq q t ≡ true = sym (ap (λ x. bytes_eq x t) (bytes_eq_is t q eq)) ∙ bytes_eq_self t in
+    let split : cond (among ts q) (Some (at + string_place ts q)) None ≡ cond (among (t ∷ others) q) (Some (at + string_place (t ∷ others) q)) None = ap (λ l. cond (among l q) (Some (at + string_place l q)) None) is in
+    let now : cond (among (t ∷ others) q) (Some (at + string_place (t ∷ others) q)) None ≡ Some (at + 0) = ap (λ b. cond (b || among others q) (Some (at + cond b 0 (length t + string_place others q))) None) k in
+    let same : at ≡ at + 0 = omega arith in
+    ap Some same ∙ sym now ∙ sym split ∙ h
+
+pub found_later : (ts others : List (List ℕ)) (t q : List ℕ) (at : ℕ) (total : Option ℕ) → ts ≡ t ∷ others → bytes_eq t q ≡ false → cond (among ts q) (Some (at + string_place ts q)) None ≡ total → cond (among others q) (Some (at + length t + string_place others q)) None ≡ total
+found_later ts others t q at total is eq h =
+    let k : bytes_eq q t ≡ false = eq_turned t q false eq refl in
+    let split : cond (among ts q) (Some (at + string_place ts q)) None ≡ cond (among (t ∷ others) q) (Some (at + string_place (t ∷ others) q)) None = ap (λ l. cond (among l q) (Some (at + string_place l q)) None) is in
+    let now : cond (among (t ∷ others) q) (Some (at + string_place (t ∷ others) q)) None ≡ cond (among others q) (Some (at + (length t + string_place others q))) None = ap (λ b. cond (b || among others q) (Some (at + cond b 0 (length t + string_place others q))) None) k in
+    let same : at + length t + string_place others q ≡ at + (length t + string_place others q) = omega arith in
+    ap (λ n. cond (among others q) (Some n) None) same ∙ sym now ∙ sym split ∙ h
+
+pub joined-first : (ts others : List (List ℕ)) (t : List ℕ) (at total : ℕ) → ts ≡ t ∷ others → at + length (joined ts) ≡ total → at + length t + length (joined others) ≡ total
+joined-first ts others t at total is h = omega (arith, ap (λ l. length (joined l)) is, length-append t (joined others))
+
+-- strings of which some stand in front
+pub nows-take : (n : ℕ) (bs : List (Bor (List ℕ))) → nows (take n bs) ≡ take n (nows bs)
+nows-take zero bs = refl
+nows-take (suc n) [] = refl
+nows-take (suc n) (b ∷ bs) = ap (λ l. b.now ∷ l) (nows-take n bs)
+
+pub joined-take : (n : ℕ) (ts : List (List ℕ)) → length (joined (take n ts)) ≤ length (joined ts)
+joined-take zero ts = omega arith
+joined-take (suc n) [] = omega arith
+joined-take (suc n) (t ∷ ts) = omega (arith, joined-take n ts, length-append t (joined (take n ts)), length-append t (joined ts))
+
+pub near_is : (n : ℕ) (ts : List (List ℕ)) (q : List ℕ) (p : ℕ) → Some p ≡ cond (among (take n ts) q) (Some (string_place (take n ts) q)) None → Some p ≡ cond (among ts q) (Some (string_place ts q)) None
+near_is n ts q p h = by (among (take n ts) q) refl h
+  where
+    by : (b : Bool) → among (take n ts) q ≡ b → Some p ≡ cond b (Some (string_place (take n ts) q)) None → Some p ≡ cond (among ts q) (Some (string_place ts q)) None
+    by true t k =
+        let all = take-append-drop n ts in
+        let there : among ts q ≡ true = ap (λ l. among l q) (sym all) ∙ among-append (take n ts) (drop n ts) q ∙ ap (λ b. b || among (drop n ts) q) t in
+        let at : string_place ts q ≡ string_place (take n ts) q = ap (λ l. string_place l q) (sym all) ∙ place_before (take n ts) (drop n ts) q t in
+        k ∙ ap Some (sym at) ∙ sym (ap (λ b. cond b (Some (string_place ts q)) None) there)
+    by false t k = absurd cc
+
+-- where a string that is found or comes last begins
+pub placed_at : (ts : List (List ℕ)) (s : List ℕ) (size n : ℕ) (found : Option ℕ) → found ≡ cond (among ts s) (Some (string_place ts s)) None → n ≡ unwrap_or found size → size ≡ length (joined ts) → string_place ts s ≡ n
+placed_at ts s size n found f is long = by (among ts s) refl f
+  where
+    by : (b : Bool) → among ts s ≡ b → found ≡ cond b (Some (string_place ts s)) None → string_place ts s ≡ n
+    by true t k = sym (is ∙ ap (λ (o : Option ℕ). unwrap_or o size) k)
+    by false t k = place_new ts s t ∙ sym long ∙ sym (is ∙ ap (λ (o : Option ℕ). unwrap_or o size) k)
+
+-- the places of the further strings after one was put at the end
+pub far_more : (ts : List (List ℕ)) (s q : List ℕ) (n : ℕ) (old new : Option ℕ) → among ts s ≡ false → n ≡ length (joined ts) → new ≡ cond (leb 32 (length ts) && bytes_eq s q) (Some n) old
+    → (among (take 32 ts) q ≡ false → old ≡ cond (among ts q) (Some (string_place ts q)) None) → among (take 32 (ts ++ s ∷ [])) q ≡ false → new ≡ cond (among (ts ++ s ∷ []) q) (Some (string_place (ts ++ s ∷ []) q)) None
+far_more ts s q n old new absent at is before h = by (leb 32 (length ts)) refl is
+  where
+    left_false : (a b : Bool) → (a || b) ≡ false → a ≡ false
+    left_false true b e = e
+    left_false false b e = refl
+
+    by : (b : Bool) → leb 32 (length ts) ≡ b → new ≡ cond (b && bytes_eq s q) (Some n) old → new ≡ cond (among (ts ++ s ∷ []) q) (Some (string_place (ts ++ s ∷ []) q)) None
+    by true t k =
+        let long : 32 ≤ length ts = leb-true _ _ t in
+        let near : among (take 32 ts) q ≡ false = ap (λ l. among l q) (sym (take-append-le 32 ts (s ∷ []) long)) ∙ h in
+        k ∙ ap (cond (bytes_eq s q) (Some n)) (before near) ∙ places_more ts s q n absent at
+    by false t k =
+        let few : length ts < 32 = leb-false _ _ t in
+        let whole : take 32 (ts ++ s ∷ []) ≡ ts ++ s ∷ [] = take_all 32 (ts ++ s ∷ []) (omega (arith, length-append ts (s ∷ []))) in
+        let none : among (ts ++ s ∷ []) q ≡ false = ap (λ l. among l q) (sym whole) ∙ h in
+        let old_none : among ts q ≡ false = left_false (among ts q) _ (sym (among-append ts (s ∷ []) q) ∙ none) in
+        let near : among (take 32 ts) q ≡ false = ap (λ l. among l q) (take_all 32 ts (omega arith)) ∙ old_none in
+        k ∙ before near ∙ ap (λ b. cond b (Some (string_place ts q)) None) old_none ∙ sym (ap (λ b. cond b (Some (string_place (ts ++ s ∷ []) q)) None) none)
+
 -- a string's place fits 16 bits, or not
 pub fits_16 : (ts : List (List ℕ)) (s : List ℕ) (n : ℕ) → string_place ts s ≡ n → n < 65536 → placed_string ts s ≡ Ok n
 fits_16 ts s n is lt = ap (λ b. cond b (Ok (string_place ts s)) (Err SubsetError)) (lt-ltb _ _ (omega arith)) ∙ ap Ok is
@@ -120,9 +189,10 @@ record_values (suc n) bytes h =
     by true t more = let one = name_record_of-take bytes in cc
     by false t more = absurd (false≢true t)
 
--- the parts of a table with its records in a list
-pub parsed : (bytes : List ℕ) (t : NameTable) (records : List NameRecord) → name_parts bytes ≡ Some t → records ≡ t.records → ok_or (name_parts bytes) MalformedFont ≡ Ok (record { records = records; storage = t.storage })
-parsed bytes t records h e = ap (λ (o : Option NameTable). ok_or o MalformedFont) h ∙ ap (λ (rs : List NameRecord). Ok (record { records = rs; storage = t.storage })) (sym e)
+-- the parts of a table by the records that a walk yields
+pub walked : (bytes : List ℕ) (o : Option ReadTable) → option_map seen_parts o ≡ name_parts bytes → IfSome o (λ t. length t.records.bytes ≡ t.records.count * 12) → option_map seen_table o ≡ name_parts bytes
+walked bytes None h whole = h
+walked bytes (Some t) h whole = ap (λ (rs : List NameRecord). Some (record { records = rs; storage = t.storage.now })) (record_values t.records.count t.records.bytes (omega arith)) ∙ h
 
 -- version, count, the storage's offset, the records and the storage, in turn
 pub table_written : (w : List ℕ) (records : List NameRecord) (storage w1 w2 w3 w4 w5 : List ℕ) → w1 ≡ w ++ to_be_bytes w16 0 → w2 ≡ w1 ++ to_be_bytes w16 (length records % 65536) → w3 ≡ w2 ++ to_be_bytes w16 ((6 + 12 * (length records % 65536)) % 65536)

@@ -1,5 +1,5 @@
 -- A file that is laid out of a font's tables, read afresh.
-use Rattle.std.proofs.Common.{◌≡◌, ℕ, ◌<◌, true, false, List, length, Option, refl, ap, subst, ◌∙◌, inl, inr}
+use Rattle.std.proofs.Common.{◌≡◌, ℕ, ◌<◌, true, false, List, length, refl, ap, subst, ◌∙◌, inl, inr}
 use Rattle.std.specs.Prelude.{codes}
 use Rattle.std.specs.Option.{option_map}
 use Rattle.std.specs.List.{AllByRecursion}
@@ -9,7 +9,7 @@ use Rattle.subsetter.specs.declared.sfnt.flavor.FontFlavor.TheVariants.{TrueType
 use Rattle.subsetter.specs.Sfnt.Container.{IsSoundContainer}
 use Rattle.subsetter.specs.Sfnt.Read.{as_font, table}
 use Rattle.subsetter.specs.Sfnt.Rows.{bytes_of, present, tags, FontTables, rows}
-use Rattle.subsetter.specs.Sfnt.Written.{Table, IsTable, with_adjustment, fits, file, start_of, kind_word}
+use Rattle.subsetter.specs.Sfnt.Written.{IsTable, with_adjustment, fits, file, start_of, kind_word}
 use Rattle.subsetter.proofs.SfntLaws.Back.{IsKind, word_of}
 use Rattle.subsetter.proofs.SfntLaws.Container.{sound, table_of, head_of}
 use Rattle.subsetter.proofs.SfntLaws.Rows.{HasRoom, rows_ascend, present_ascends, lookup_row, rows_few, rows_tables, AreAlike, same_tags}

@@ -1,12 +1,12 @@
 -- The checksum by the weights of the bytes.
 use Rattle.std.proofs.Common.{◌≡◌, ℕ, zero, suc, ◌+◌, ◌-◌, ◌*◌, ◌%◌, ◌^◌, ◌<◌, ◌≤◌, Bool, true, false, List, [], ◌∷◌, ◌++◌, length, get_or, take, drop, refl, sym, ap, ◌∙◌, ◌⊎◌, inl, inr, arith}
 use Rattle.std.specs.Prelude.{sum, replicate}
-use Rattle.std.proofs.lemmas.List.{drop_more, length-take, drop_all, take-append-drop}
+use Rattle.std.proofs.lemmas.List.{drop_more, length-take, length-take-le, length-append, drop_all, drop-take, take-append-le, take-append-drop, take-take}
 use Rattle.std.proofs.lemmas.List.Sums.{sum_by-cons}
 use Rattle.subsetter_base.specs.Bytes.{be, aligned}
 use Rattle.subsetter_base.proofs.Lists.{rest_of}
 use Rattle.subsetter.specs.Sfnt.Checksum.{words, checksum}
-use Rattle.subsetter.specs.Sfnt.Weights.{weighed}
+use Rattle.subsetter.specs.Sfnt.Weights.{weighed, IsSummed}
 use Rattle.subsetter.specs.Glyf.Unfold.{padded}
 use Rattle.subsetter.proofs.SfntLaws.Checksum.{aligned-append}
 
@@ -86,3 +86,43 @@ outline_added sum phase added size next total long b rest all is so_far a s n =
 
 pub none_added : (sum phase total : ℕ) (all : List ℕ) → all ≡ [] → sum < 2 ^ 32 → (sum + weighed phase all) % 2 ^ 32 ≡ total → sum ≡ total
 none_added sum phase total all is lt h = omega (arith, ap (weighed phase) is)
+
+-- a piece more in the sum of the first bytes
+pub summed_more : (bytes : List ℕ) (value done next size n : ℕ) → IsSummed bytes value done → done + size ≤ length bytes → size % 4 ≡ 0 → n ≡ size → next ≡ (value + weighed 0 (take n (drop done bytes))) % 2 ^ 32 → IsSummed bytes next (done + size)
+summed_more bytes value done next size n h le four same is =
+    let W = take (done + size) bytes in
+    let len : length W ≡ done + size = length-take-le (done + size) bytes le in
+    let there : done ≤ length W = omega (arith, len) in
+    let w = h.whole in
+    let place : (0 + done) % 4 ≡ 0 = omega arith in
+    let split = weighed_split 0 done W there (inl place) in
+    let front : take done W ≡ take done bytes = front_of done size bytes in
+    let back : take (length W - done) (drop done W) ≡ take n (drop done bytes) = rest_of done W ∙ drop-take done size bytes ∙ ap (λ k. take k (drop done bytes)) (sym same) in
+    let v = h.value_is in
+    record {
+      within = le;
+      whole = omega arith;
+      value_is = omega (arith, split, ap (weighed 0) front, ap (weighed 0) back);
+    }
+  where
+    front_of : (a b : ℕ) (l : List ℕ) → take a (take (a + b) l) ≡ take a l
+    front_of a b l = take-take a (a + b) l (omega arith)
+
+-- bytes more behind those that were summed
+pub summed_behind : (bytes more : List ℕ) (value done : ℕ) → IsSummed bytes value done → IsSummed (bytes ++ more) value done
+summed_behind bytes more value done h =
+    let w = h.within in
+    record {
+      within = omega (arith, length-append bytes more);
+      whole = h.whole;
+      value_is = h.value_is ∙ ap (λ (l : List ℕ). weighed 0 l % 2 ^ 32) (sym (take-append-le done bytes more h.within));
+    }
+
+-- the sum of the first bytes and of those behind them
+pub summed_all : (bytes : List ℕ) (value done sum : ℕ) → IsSummed bytes value done → sum ≡ (value + weighed 0 (take (length bytes - done) (drop done bytes))) % 2 ^ 32 → sum ≡ checksum bytes
+summed_all bytes value done sum h is =
+    let w = h.whole in
+    let place : (0 + done) % 4 ≡ 0 = omega arith in
+    let split = weighed_split 0 done bytes h.within (inl place) in
+    let v = h.value_is in
+    omega (arith, split, checksum-weighed bytes)

@@ -1,5 +1,5 @@
 -- The tables that both kinds of outlines share, read afresh from a new font.
-use Rattle.std.proofs.Common.{◌≡◌, ℕ, ◌^◌, ◌<◌, ◌≤◌, Bool, List, length, Option, Some, None, Ok, refl, sym, ap, subst, ◌∙◌}
+use Rattle.std.proofs.Common.{◌≡◌, ℕ, ◌^◌, ◌<◌, ◌≤◌, Bool, List, length, Option, Some, Ok, sym, ap, subst, ◌∙◌}
 use Rattle.std.specs.Prelude.{codes, IsSome}
 use Rattle.std.specs.Option.{option_map}
 use Rattle.subsetter_base.specs.Bytes.{IsBytes}

@@ -5,7 +5,7 @@ use Rattle.std.proofs.lemmas.Bool.{ltb-false}
 use Rattle.subsetter_base.specs.Bytes.{◌>>=◌, IsBytes}
 use Rattle.subsetter_base.specs.declared.error.Error.{Error}
 use Rattle.subsetter_base.specs.declared.error.Error.TheVariants.{MalformedFont, OverflowError, OutOfMemory}
-use Rattle.subsetter_base.proofs.Options.{just, just_is}
+use Rattle.subsetter_base.proofs.Options.{just_is}
 use Rattle.subsetter_base.proofs.Results.{named_ok, done_is, failed_is, bind_err}
 use Rattle.subsetter.specs.declared.sfnt.flavor.FontFlavor.TheVariants.{TrueType, Cff}
 use Rattle.subsetter.specs.Truetype.Answered.{IsAnswered, IsRefused, no_memory, unread, unclosed, unmade, unlaid}
@@ -60,14 +60,14 @@ module _ (tokens depth : ℕ) (font : Font) (glyphs order : List ℕ) (t : Outli
         ]
       ]
 
-  tables_not_made : (e : Error) → truetype_tables (table font) t order ≡ Err e → HasFault tokens depth font glyphs order e
+  pub tables_not_made : (e : Error) → truetype_tables (table font) t order ≡ Err e → HasFault tokens depth font glyphs order e
   unfolding truetype_tables
   tables_not_made e h = elim (bind_err (made_of (table font) t order) (λ m. Ok (laid (table font) m)) e h) [
     | inl k ↦ not_made e k
     | inr a ↦ absurd (let z = a.2 in cc)
   ]
 
-  not_laid_out : (ts : List Table) (e : Error) → truetype_tables (table font) t order ≡ Ok ts → file_of (kind_word TrueType) ts ≡ Err e → HasFault tokens depth font glyphs order e
+  pub not_laid_out : (ts : List Table) (e : Error) → truetype_tables (table font) t order ≡ Ok ts → file_of (kind_word TrueType) ts ≡ Err e → HasFault tokens depth font glyphs order e
   unfolding file_of
   not_laid_out ts e k h =
       let c = not_chosen (fits (start_of ts) ts) (file (kind_word TrueType) ts) OverflowError e h in
@@ -82,10 +82,10 @@ has_fault tokens depth font glyphs e there (unclosed t h stops) =
       | inl m ↦ inl m
       | inr f ↦ inr ([], faults.in_outlines f)
     ]
-has_fault tokens depth font glyphs e there (unmade t order h o k) =
+has_fault tokens depth font glyphs e there (unmade t order h o found k) =
     let read = named_ok (outlines font) MalformedFont t h in
     inr (order, tables_not_made tokens depth font glyphs order t read (order_in font glyphs order t read o) e k)
-has_fault tokens depth font glyphs e there (unlaid t order ts h o k l) =
+has_fault tokens depth font glyphs e there (unlaid t order ts h o found k l) =
     let read = named_ok (outlines font) MalformedFont t h in
     inr (order, not_laid_out tokens depth font glyphs order t read (order_in font glyphs order t read o) ts e k l)
 

@@ -54,11 +54,11 @@ module _ (find : List ℕ → Option (List ℕ)) (glyphs order : List ℕ) (t : 
   unfolding truetype_tables
   unmade_tables e h = ap (λ (r : Result Made Error). r >>= λ x. Ok (laid find x)) h
 
-  pub refused_made : (e : Error) → Fails e (made_of find t order) → IsRefused find glyphs e
-  refused_made e h =
+  pub refused_made : (e : Error) → Finds t order glyphs [] glyphs → Fails e (made_of find t order) → IsRefused find glyphs e
+  refused_made e found h =
       elim (failing e (made_of find t order) h) [
         | inl memory ↦ subst (IsRefused find glyphs) (sym memory) no_memory
-        | inr k ↦ unmade t order read closed (unmade_tables e k)
+        | inr k ↦ unmade t order read closed found (unmade_tables e k)
       ]
 
   module _ (m : Made) (made : made_of find t order ≡ Ok m) (ts : List NewTable) (there : views ts ≡ present (rows (font_of find m))) where
@@ -84,5 +84,5 @@ module _ (find : List ℕ → Option (List ℕ)) (glyphs order : List ℕ) (t : 
       laid_out = ap (file_of (kind_word TrueType)) (sym are) ∙ h;
     }
 
-    pub refused_file : (e : Error) → file_of (kind_word TrueType) (views ts) ≡ Err e → IsRefused find glyphs e
-    refused_file e h = unlaid t order (laid find m) read closed (made_tables m made) (ap (file_of (kind_word TrueType)) (sym are) ∙ h)
+    pub refused_file : Finds t order glyphs [] glyphs → (e : Error) → file_of (kind_word TrueType) (views ts) ≡ Err e → IsRefused find glyphs e
+    refused_file found e h = unlaid t order (laid find m) read closed found (made_tables m made) (ap (file_of (kind_word TrueType)) (sym are) ∙ h)

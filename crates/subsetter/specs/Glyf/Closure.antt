@@ -1,5 +1,7 @@
 -- How the glyphs that a list reaches are found.
-use Rattle.std.specs.Prelude.{◌≡◌, ℕ, ◌+◌, ◌<◌, ◌^◌, Bool, true, false, not, ◌&&◌, List, [], ◌∷◌, ◌++◌, length, Option, Some, None, is_some, filter, slice_index, nat_lt, nat_le, if◌then◌else◌}
+use Rattle.std.specs.Prelude.{◌≡◌, ℕ, ◌+◌, ◌<◌, ◌^◌, Bool, true, false, not, ◌&&◌, List, [], ◌∷◌, ◌++◌, length, Option, Some, None, is_some, filter, map, slice_index, nat_lt, nat_le, if◌then◌else◌}
+use Rattle.std.specs.Borrow.{Bor}
+use Rattle.std.specs.Option.{option_copied}
 use Rattle.subsetter_base.specs.Places.{place, with_glyph}
 use Rattle.subsetter_base.specs.declared.error.Error.{Error}
 use Rattle.subsetter_base.specs.declared.error.Error.TheVariants.{MalformedFont, OverflowError, OutOfMemory}
@@ -15,6 +17,10 @@ components_in (Some bytes) = component_numbers bytes
 -- the numbers that aren't in a list
 abbrev pub others_in : List ℕ → List ℕ → List ℕ
 others_in order numbers = filter (λ h. not (is_some (place order h))) numbers
+
+-- the outlines of some glyphs, each if it is there
+abbrev pub AreFound : Outlines → List ℕ → List (Option (Bor (List ℕ))) → Type 0
+AreFound t glyphs found = map option_copied found ≡ map (outline_in t) glyphs
 
 -- the first byte of an outline, 0 where there is none; 255 where it is the only one, so that the glyph is followed and found faulty
 abbrev pub first_byte_in : Option (List ℕ) → ℕ

@@ -58,3 +58,23 @@ kept_all t order (g ∷ gs) = do
   first ← kept t order g
   rest ← kept_all t order gs
   Ok (first ∷ rest)
+
+-- ---- the same of outlines that were looked up before
+
+-- a list with more outlines
+abbrev pub with_outlines : List (List ℕ) → Result (List (List ℕ)) Error → Result (List (List ℕ)) Error
+with_outlines outlines read = read >>= λ more. Ok (outlines ++ more)
+
+-- an outline that is kept, if it is there
+unfoldable pub kept_outline : List ℕ → Option (List ℕ) → Result (List ℕ) Error
+kept_outline order found = do
+  bytes ← ok_or found MalformedFont
+  rewritten order bytes
+
+-- such outlines
+abbrev pub kept_outlines : List ℕ → List (Option (List ℕ)) → Result (List (List ℕ)) Error
+kept_outlines order [] = Ok []
+kept_outlines order (o ∷ os) = do
+  first ← kept_outline order o
+  rest ← kept_outlines order os
+  Ok (first ∷ rest)

@@ -8,16 +8,11 @@ use Rattle.subsetter_base.specs.declared.error.Error.{Error}
 use Rattle.subsetter_base.specs.declared.error.Error.TheVariants.{MalformedFont, OverflowError}
 use Rattle.subsetter.specs.Hmtx.Read.{number_of_metrics, metric_in}
 use Rattle.subsetter.specs.declared.hmtx.Metric.{Metric}
-use Rattle.subsetter.specs.declared.hmtx.MetricTables.{MetricTables}
 
 -- the bytes of the two tables
 pub record MetricBytes : Type 0 where
   pub hhea : List ℕ
   pub hmtx : List ℕ
-
--- the tables that the code answers, as bytes
-abbrev pub seen : MetricTables → MetricBytes
-seen tables = record { hhea = tables.hhea.items; hmtx = tables.hmtx.items }
 
 -- each has that advance
 abbrev pub all_advance : ℕ → List Metric → Bool

@@ -1,11 +1,12 @@
 -- The plain way to subset `name`, with the error that is answered for each fault.
-use Rattle.std.specs.Prelude.{ℕ, List, [], ◌∷◌, length, filter, codes, Option, Some, None, Result, Ok, Err, nat_lt, nat_le, ◌==◌, if◌then◌else◌}
+use Rattle.std.specs.Prelude.{ℕ, ◌+◌, ◌*◌, ◌/◌, List, [], ◌∷◌, ◌++◌, length, filter, flat_map, codes, Option, Some, None, Result, Ok, Err, nat_lt, nat_le, ◌==◌, if◌then◌else◌}
 use Rattle.std.specs.Option.{ok_or}
+use Rattle.std.specs.Int.{w16, to_be_bytes}
 use Rattle.subsetter_base.specs.Bytes.{◌>>=◌, number}
 use Rattle.subsetter_base.specs.declared.error.Error.{Error}
 use Rattle.subsetter_base.specs.declared.error.Error.TheVariants.{MalformedFont, SubsetError}
 use Rattle.subsetter.specs.declared.name.NameRecord.{NameRecord}
-use Rattle.subsetter.specs.Name.Read.{NameTable, name_parts, string_of, is_kept_record, with_string, string_place, joined, name_bytes}
+use Rattle.subsetter.specs.Name.Read.{NameTable, name_parts, string_of, is_kept_record, with_string, string_place, joined, name_record_bytes, name_bytes}
 
 -- records with their new offsets, and the strings that they use
 pub record Placed : Type 0 where
@@ -28,14 +29,39 @@ placed storage strings (r ∷ rs) = do
   p ← placed storage (with_string strings s) rs
   Ok (with_name r at p)
 
+-- version, count and the storage's offset
+unfoldable pub header_bytes : ℕ → List ℕ
+header_bytes count = to_be_bytes w16 0 ++ to_be_bytes w16 count ++ to_be_bytes w16 (6 + 12 * count)
+
+-- the bytes of records, and the strings that stand behind them
+pub record Laid : Type 0 where
+  pub bytes : List ℕ
+  pub strings : List (List ℕ)
+
+-- placed records behind other bytes
+abbrev pub laid_behind : List ℕ → Result Placed Error → Result Laid Error
+laid_behind front read = read >>= λ p. Ok (record { bytes = front ++ flat_map name_record_bytes p.names; strings = p.strings })
+
+-- a table of at most 5460 records, which have twelve bytes each
+abbrev pub few_laid : Laid → Result (List ℕ) Error
+few_laid l = if nat_le (length l.bytes) 65520 then Ok (header_bytes (length l.bytes / 12) ++ l.bytes ++ joined l.strings) else Err SubsetError
+
 -- at most 5460 records, so that the storage's offset fits
 abbrev pub few_names : Placed → Result NameTable Error
 few_names p = if nat_le (length p.names) 5460 then Ok (record { records = p.names; storage = joined p.strings }) else Err SubsetError
+
+-- the bytes of the kept records, with their strings behind them
+abbrev pub laid_bytes : NameTable → Result (List ℕ) Error
+laid_bytes t = laid_behind [] (placed t.storage [] (filter is_kept_record t.records)) >>= few_laid
 
 unfoldable pub subset_names : NameTable → Result NameTable Error
 subset_names t = do
   p ← placed t.storage [] (filter is_kept_record t.records)
   few_names p
+
+-- the bytes of the new table
+abbrev pub kept_bytes : NameTable → Result (List ℕ) Error
+kept_bytes t = subset_names t >>= λ new. Ok (name_bytes new.records new.storage)
 
 unfoldable pub name_of_table : List ℕ → Result (List ℕ) Error
 name_of_table bytes = do

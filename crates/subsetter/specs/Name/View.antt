@@ -1,17 +1,24 @@
 -- What the code's values of `name` stand for.
-use Rattle.std.specs.Prelude.{ℕ, List, map}
+use Rattle.std.specs.Prelude.{ℕ, List, map, Some}
 use Rattle.std.specs.Borrow.{Bor}
-use Rattle.std.specs.Cow.{cow_slice_items}
-use Rattle.subsetter.specs.declared.name.NameTable.{NameTable as NewNameTable}
-use Rattle.subsetter.specs.declared.name.Parts.{Parts}
-use Rattle.subsetter.specs.Name.Read.{NameTable, name_records_in}
+use Rattle.subsetter_base.specs.Items.{values}
+use Rattle.subsetter.specs.declared.name.NameTable.{NameTable as ReadTable}
+use Rattle.subsetter.specs.declared.name.NewName.{NewName}
+use Rattle.subsetter.specs.declared.name.NewName.TheVariants.{Copied, Kept}
+use Rattle.subsetter.specs.Name.Read.{NameTable, name_record_of, name_records_in}
 
 -- what a list of slices points to
 abbrev pub nows : List (Bor (List ℕ)) → List (List ℕ)
 nows bs = map (λ (b : Bor (List ℕ)). b.now) bs
 
-abbrev pub seen_table : NewNameTable → NameTable
-seen_table t = record { records = t.names.items; storage = cow_slice_items t.storage }
+-- a table by its whole records
+abbrev pub seen_parts : ReadTable → NameTable
+seen_parts t = record { records = name_records_in t.records.count t.records.bytes; storage = t.storage.now }
 
-abbrev pub seen_parts : Parts → NameTable
-seen_parts p = record { records = name_records_in p.records.count p.records.bytes; storage = p.storage.now }
+-- the same by the records that a walk through it yields
+abbrev pub seen_table : ReadTable → NameTable
+seen_table t = record { records = values 12 (λ bytes. Some (name_record_of bytes)) t.records; storage = t.storage.now }
+
+abbrev pub name_seen : NewName → List ℕ
+name_seen (Copied bytes) = bytes.now
+name_seen (Kept names) = names

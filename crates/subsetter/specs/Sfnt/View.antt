@@ -1,21 +1,25 @@
 -- What the code's tables of a new font stand for.
 use Rattle.std.specs.Prelude.{ℕ, List, map}
 use Rattle.std.specs.Option.{option_map}
-use Rattle.std.specs.Cow.{cow_slice_items}
 use Rattle.subsetter_cff.specs.TableBy.{table_bytes as piece_bytes}
 use Rattle.subsetter.specs.declared.sfnt.tables.TableData.{TableData}
-use Rattle.subsetter.specs.declared.sfnt.tables.TableData.TheVariants.{Whole, Outlines, Pieces}
+use Rattle.subsetter.specs.declared.sfnt.tables.TableData.TheVariants.{Whole, Outlines, Pieces, Head, Hhea, Hmtx, Maxp, Names}
 use Rattle.subsetter.specs.declared.sfnt.tables.NewTable.{NewTable}
 use Rattle.subsetter.specs.declared.sfnt.tables.FontTables.{FontTables as NewFont}
 use Rattle.subsetter.specs.Sfnt.Written.{Table}
 use Rattle.subsetter.specs.Sfnt.Rows.{FontTables}
 use Rattle.subsetter.specs.Glyf.Written.{glyf_bytes}
 
--- the bytes of a table, which is whole, a list of outlines, or two pieces
+-- the bytes of a table, which is whole, a list of outlines, two pieces, or what a module writes
 abbrev pub table_bytes : TableData → List ℕ
-table_bytes (Whole bytes) = cow_slice_items bytes
-table_bytes (Outlines outlines long) = glyf_bytes long outlines
-table_bytes (Pieces table) = piece_bytes table
+table_bytes (Whole bytes) = bytes.now
+table_bytes (Outlines outlines long) = glyf_bytes long outlines.now
+table_bytes (Pieces table) = piece_bytes table.now
+table_bytes (Head head) = head.now
+table_bytes (Hhea metrics) = metrics.now.hhea
+table_bytes (Hmtx metrics) = metrics.now.hmtx
+table_bytes (Maxp maxp) = maxp.now
+table_bytes (Names names) = names.now
 
 -- a table by its tag and its bytes
 abbrev pub view : NewTable → Table

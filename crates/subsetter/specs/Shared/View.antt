@@ -2,8 +2,8 @@
 use Rattle.std.specs.Option.{option_map}
 use Rattle.std.specs.Cow.{cow_slice_items}
 use Rattle.subsetter.specs.declared.shared.SharedTables.{SharedTables as Made}
-use Rattle.subsetter.specs.Hmtx.Written.{seen}
+use Rattle.subsetter.specs.Name.View.{name_seen}
 use Rattle.subsetter.specs.Shared.Plain.{SharedTables}
 
 abbrev pub shared_seen : Made → SharedTables
-shared_seen m = record { head = option_map (λ v. v.items) m.head; metrics = option_map seen m.metrics; maxp = option_map (λ v. v.items) m.maxp; name = option_map cow_slice_items m.name; post = option_map cow_slice_items m.post }
+shared_seen m = record { head = m.head; metrics = m.metrics; maxp = m.maxp; name = option_map name_seen m.name; post = option_map cow_slice_items m.post }

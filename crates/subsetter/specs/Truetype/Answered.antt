@@ -28,5 +28,5 @@ pub data IsRefused (find : List ℕ → Option (List ℕ)) (glyphs : List ℕ) :
   no_memory : IsRefused find glyphs OutOfMemory
   unread : {e : Error} → outlines_read find ≡ Err e → IsRefused find glyphs e
   unclosed : {e : Error} (source : Outlines) → outlines_read find ≡ Ok source → StopsClosure source glyphs e → IsRefused find glyphs e
-  unmade : {e : Error} (source : Outlines) (order : List ℕ) → outlines_read find ≡ Ok source → IsGlyphOrderBy (outline_in source) glyphs order → truetype_tables find source order ≡ Err e → IsRefused find glyphs e
-  unlaid : {e : Error} (source : Outlines) (order : List ℕ) (tables : List Table) → outlines_read find ≡ Ok source → IsGlyphOrderBy (outline_in source) glyphs order → truetype_tables find source order ≡ Ok tables → file_of (kind_word TrueType) tables ≡ Err e → IsRefused find glyphs e
+  unmade : {e : Error} (source : Outlines) (order : List ℕ) → outlines_read find ≡ Ok source → IsGlyphOrderBy (outline_in source) glyphs order → Finds source order glyphs [] glyphs → truetype_tables find source order ≡ Err e → IsRefused find glyphs e
+  unlaid : {e : Error} (source : Outlines) (order : List ℕ) (tables : List Table) → outlines_read find ≡ Ok source → IsGlyphOrderBy (outline_in source) glyphs order → Finds source order glyphs [] glyphs → truetype_tables find source order ≡ Ok tables → file_of (kind_word TrueType) tables ≡ Err e → IsRefused find glyphs e

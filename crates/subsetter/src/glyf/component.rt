@@ -1,15 +1,15 @@
 //! The components of a composite glyph (OpenType, "glyf": composite glyph description).
 
-ghost use Rattle.std.specs.Prelude.{◌≡◌, ◌+◌, [], ◌++◌, length, drop, OnOk, IfErr, if◌then◌else◌, nat_le};
+ghost use Rattle.std.specs.Prelude.{◌≡◌, ◌+◌, ◌-◌, ◌≤◌, [], ◌++◌, length, take, drop, if◌then◌else◌, nat_le, Some};
+ghost use Rattle.std.specs.Int.{w16, to_be_bytes};
 ghost use Rattle.std.specs.Option.{option_map};
 ghost use Rattle.subsetter_base.specs.Gives.{Gives};
-ghost use Rattle.subsetter_base.specs.declared.error.Error.TheVariants.{OutOfMemory};
 ghost use Rattle.subsetter.specs.Glyf.View.{component_seen};
-ghost use Rattle.subsetter.specs.Glyf.Parts.{rest_size, has_more, has_instructions, component_at, numbers_at, component_numbers, spelled};
-ghost use Rattle.subsetter.specs.Glyf.Plain.{renumbered_component, written_behind, rewritten_composite};
+ghost use Rattle.subsetter.specs.Glyf.Parts.{rest_size, has_more, has_instructions, component_at, numbers_at, component_numbers};
+ghost use Rattle.subsetter.specs.Glyf.Plain.{new_number, written_behind, rewritten_composite};
 
 use std::marker::Model;
-use subsetter_base::read::{Reader, u16_at};
+use subsetter_base::read::u16_at;
 use subsetter_base::{Error, GlyphRemapper};
 
 /// Two words of arguments follow, and not two bytes.
@@ -72,10 +72,12 @@ fn has_instructions(flags: u16) -> bool
 fn read_component(bytes: &[u8]) -> Option<Component<'_>>
     ensures { option_map component_seen result ≡ component_at bytes.now }
 {
-    let mut r = Reader::new(bytes);
-    let flags = r.read::<u16>()?;
-    let glyph = r.read::<u16>()?;
-    let rest = r.read_bytes(rest_size(flags))?;
+    if bytes.len() < 4 {
+        return None;
+    }
+    let flags = u16_at(bytes, 0);
+    let glyph = u16_at(bytes, 2);
+    let rest = bytes.get(4..4 + rest_size(flags))?;
     Some(Component { flags, glyph, rest })
 }
 
@@ -168,34 +170,44 @@ fn behind(bytes: &[u8], flags: u16) -> &[u8]
     }
 }
 
-/// Writes a component under the new number of its glyph.
-fn write_component(
-    out: &mut Vec<u8>,
-    order: &GlyphRemapper,
-    component: Component<'_>,
-) -> Result<(), Error>
-    ensures ok { OnOk result (out.new.items ≡ out.old.items ++ spelled (renumbered_component order.now (component_seen component.entry))) }
-    ensures err { IfErr result (λ e. e ≡ OutOfMemory) }
+/// What stands behind a component at the front.
+fn behind_component<'a>(bytes: &'a [u8], component: Component<'_>) -> &'a [u8]
+    requires { component_at bytes.now ≡ Some (component_seen component) }
+    ensures { result.now ≡ drop (4 + rest_size component.entry.flags) bytes.now }
 {
-    let number = order.get(component.glyph).unwrap_or(0);
-    out.extend_from_slice(&component.flags.to_be_bytes())?;
-    out.extend_from_slice(&number.to_be_bytes())?;
-    out.extend_from_slice(component.rest)?;
-    Ok(())
+    &bytes[4 + component.rest.len()..]
 }
 
-/// Writes the bytes behind the last component, which are its instructions or nothing.
-fn write_tail(out: &mut Vec<u8>, flags: u16, rest: &[u8]) -> Result<(), Error>
-    ensures ok { OnOk result (out.new.items ≡ out.old.items ++ (if has_instructions flags then rest.now else [])) }
-    ensures err { IfErr result (λ e. e ≡ OutOfMemory) }
+/// Puts a number in the place of two bytes.
+fn put_number(out: &mut Vec<u8>, at: usize, number: u16)
+    requires { at + 2 ≤ length out.old.items }
+    ensures { out.new.items ≡ take at out.old.items ++ to_be_bytes w16 number ++ drop (at + 2) out.old.items }
 {
-    if has_instructions(flags) {
-        out.extend_from_slice(rest)?;
+    out[at..at + 2].copy_from_slice(&number.to_be_bytes());
+}
+
+/// Puts a component's flags and the new number of its glyph in the place of four bytes.
+fn renumber(out: &mut Vec<u8>, at: usize, order: &GlyphRemapper, component: Component<'_>)
+    requires { at + 4 ≤ length out.old.items }
+    ensures { out.new.items ≡ take at out.old.items ++ to_be_bytes w16 component.entry.flags ++ to_be_bytes w16 (new_number order.now component.entry.glyph) ++ drop (at + 4) out.old.items }
+{
+    let number = order.get(component.glyph).unwrap_or(0);
+    put_number(out, at, component.flags);
+    put_number(out, at + 2, number);
+}
+
+/// Leaves out as many bytes behind the last component, unless these are its instructions.
+fn cut_tail(out: &mut Vec<u8>, flags: u16, size: usize)
+    requires { size ≤ length out.old.items }
+    ensures { out.new.items ≡ (if has_instructions flags then out.old.items else take (length out.old.items - size) out.old.items) }
+{
+    if !has_instructions(flags) {
+        out.truncate(out.len() - size);
     }
-    Ok(())
 }
 
 /// Writes a composite with its components under their new numbers behind other bytes. `MalformedFont` where it is cut.
+/// It is copied as it is, and then each component gets its new number in its place.
 pub fn rewrite_composite(
     before: Vec<u8>,
     outline: &[u8],
@@ -207,16 +219,17 @@ pub fn rewrite_composite(
         return Err(Error::MalformedFont);
     }
     let mut out = before;
-    out.extend_from_slice(&outline[..10])?;
+    out.extend_from_slice(outline)?;
     let mut rest = &outline[10..];
     loop {
         let Some(component) = read_component(rest) else {
             return Err(Error::MalformedFont);
         };
-        write_component(&mut out, order, component)?;
-        rest = after(rest, component.flags);
+        let at = out.len() - rest.len();
+        renumber(&mut out, at, order, component);
+        rest = behind_component(rest, component);
         if !has_more(component.flags) {
-            write_tail(&mut out, component.flags, rest)?;
+            cut_tail(&mut out, component.flags, rest.len());
             return Ok(out);
         }
     }

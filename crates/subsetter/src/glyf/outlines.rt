@@ -4,11 +4,13 @@ ghost use Rattle.std.specs.Prelude.{◌≡◌, ◌+◌, ◌<◌, ◌≤◌, ◌^
 ghost use Rattle.std.specs.Iterator.{YieldsFirstRef, item_count};
 ghost use Rattle.subsetter_base.specs.Gives.{Gives};
 ghost use Rattle.subsetter_base.specs.declared.error.Error.TheVariants.{OutOfMemory};
-ghost use Rattle.subsetter.specs.Glyf.Plain.{rewritten, rewritten_composite, with_last};
+ghost use Rattle.subsetter.specs.Glyf.Plain.{rewritten_composite, with_last};
 ghost use Rattle.subsetter.specs.Glyf.Unfold.{padded};
 ghost use Rattle.subsetter.specs.Glyf.Written.{glyf_bytes};
+ghost use Rattle.subsetter.specs.Sfnt.Checksum.{checksum};
 
-use crate::glyf::component::{is_composite, rewrite_composite};
+use crate::glyf::component::rewrite_composite;
+use crate::sfnt::checksum::Sum;
 use crate::sfnt::room::put;
 use std::alloc::Global;
 use std::marker::Model;
@@ -63,25 +65,8 @@ impl<'a> OutlineList<'a> {
         })
     }
 
-    /// Puts an outline of the source last, with its components under their new numbers.
-    /// `MalformedFont` for one byte and for a composite that is cut.
-    #[tactic(auto, unfolding(crate::specs::Glyf::Plain::rewritten, crate::specs::Glyf::Parts::outline_parts))]
-    pub fn push(self, outline: &'a [u8], order: &GlyphRemapper) -> Result<Self, Error>
-        ensures { Gives (λ list. list) result (with_last self.entry (rewritten order.now outline.now)) }
-    {
-        match outline {
-            [_] => Err(Error::MalformedFont),
-            [high, _, ..] if is_composite(*high) => self.push_composite(outline, order),
-            _ => {
-                let mut list = self;
-                list.push_kept(outline)?;
-                Ok(list)
-            }
-        }
-    }
-
     /// Puts a composite last, with its components under their new numbers. `MalformedFont` where it is cut.
-    fn push_composite(self, outline: &[u8], order: &GlyphRemapper) -> Result<Self, Error>
+    pub fn push_composite(self, outline: &[u8], order: &GlyphRemapper) -> Result<Self, Error>
         ensures { Gives (λ list. list) result (with_last self.entry (rewritten_composite order.now outline.now)) }
     {
         let Self {
@@ -109,7 +94,7 @@ impl<'a> OutlineList<'a> {
     }
 
     /// Puts an outline of the source last.
-    fn push_kept(&mut self, outline: &'a [u8]) -> Result<(), Error>
+    pub fn push_kept(&mut self, outline: &'a [u8]) -> Result<(), Error>
         ensures ok { OnOk result (self.new ≡ self.old ++ outline.now ∷ []) }
         ensures err { IfErr result (λ e. e ≡ OutOfMemory) }
     {
@@ -246,13 +231,19 @@ fn write_outline(out: &mut Vec<u8>, outline: &[u8], long: bool)
     }
 }
 
-/// Writes the outlines one after another.
-pub fn write_outlines(out: &mut Vec<u8>, outlines: &OutlineList<'_>, long: bool)
+/// Writes the outlines one after another, and answers the checksum of what it wrote.
+/// They are summed in pieces, while these are at hand.
+pub fn write_outlines(out: &mut Vec<u8>, outlines: &OutlineList<'_>, long: bool) -> u32
     requires { length out.old.items + length (glyf_bytes long outlines.now) ≤ vec_capacity out.old }
     ensures items { out.new.items ≡ out.old.items ++ glyf_bytes long outlines.now }
     ensures capacity { vec_capacity out.old ≤ vec_capacity out.new }
+    ensures sum { result ≡ checksum (glyf_bytes long outlines.now) }
 {
+    let start = out.len();
+    let mut sum = Sum::new();
     for outline in outlines.iter() {
         write_outline(out, outline, long);
+        sum = sum.go_on(&out[start..]);
     }
+    sum.finish(&out[start..])
 }

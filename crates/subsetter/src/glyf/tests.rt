@@ -36,9 +36,9 @@ fn order_of(alloc: Global, loca: &[u8], glyf: &[u8], given: &[u16]) -> Result<Ve
         long: false,
     };
     let mapper = GlyphRemapper::new_from_glyphs(alloc, given)?;
-    let order = closure(alloc, &table, &mapper)?;
+    let reached = closure(alloc, &table, &mapper)?;
     let mut glyphs = Vec::new(alloc);
-    for glyph in order.remapped_gids() {
+    for glyph in reached.order.remapped_gids() {
         glyphs.push(glyph)?;
     }
     Ok(glyphs)

@@ -1,8 +1,8 @@
 //! Checksums of tables.
 
-ghost use Rattle.std.specs.Prelude.{◌≡◌, ◌+◌, ◌-◌, ◌%◌, ◌^◌, ◌≤◌};
+ghost use Rattle.std.specs.Prelude.{◌≡◌, ◌+◌, ◌-◌, ◌%◌, ◌^◌, ◌≤◌, []};
 ghost use Rattle.subsetter.specs.Sfnt.Checksum.{checksum};
-ghost use Rattle.subsetter.specs.Sfnt.Weights.{weighed};
+ghost use Rattle.subsetter.specs.Sfnt.Weights.{weighed, IsSummed};
 
 /// What a byte at a place counts in its word.
 fn weight(at: usize) -> u32
@@ -48,4 +48,47 @@ pub fn checksum(bytes: &[u8]) -> u32
     ensures { result ≡ checksum bytes.now }
 {
     add_words(0, bytes)
+}
+
+/// How many bytes are summed at a time while others are written behind them.
+const PIECE: usize = 0x4000;
+
+/// The sum of the first bytes of a table that is being written, so that its bytes are summed while they are at hand.
+#[derive(Clone, Copy)]
+pub struct Sum {
+    value: u32,
+    /// How many bytes were summed, a multiple of four.
+    done: usize,
+}
+
+impl Sum {
+    /// No bytes yet.
+    pub fn new() -> Self
+        ensures { IsSummed [] result.value result.done }
+    {
+        Self { value: 0, done: 0 }
+    }
+
+    /// Adds a piece of the table, if so many bytes of it stand behind those that were summed.
+    pub fn go_on(self, table: &[u8]) -> Self
+        requires { IsSummed table.now self.value self.done }
+        ensures { IsSummed table.now result.value result.done }
+    {
+        if table.len() - self.done < PIECE {
+            return self;
+        }
+        let end = self.done + PIECE;
+        Self {
+            value: add_words(self.value, &table[self.done..end]),
+            done: end,
+        }
+    }
+
+    /// The checksum of the table, which is written.
+    pub fn finish(self, table: &[u8]) -> u32
+        requires { IsSummed table.now self.value self.done }
+        ensures { result ≡ checksum table.now }
+    {
+        add_words(self.value, &table[self.done..])
+    }
 }

@@ -13,12 +13,12 @@ ghost use Rattle.subsetter.specs.Sfnt.View.{view, views};
 use crate::sfnt::checksum::checksum;
 use crate::sfnt::flavor::FontFlavor;
 use crate::sfnt::room::{align, aligned_len, patch, put};
-use crate::sfnt::tables::NewTable;
+use crate::sfnt::tables::{NewTable, write_summed};
 use std::alloc::Global;
 use subsetter_base::{Error, Tag};
 
 /// How many bytes the file has, unless a place or a length is 2^32 or more.
-fn measured(tables: &[NewTable<'_>]) -> Option<usize>
+fn measured(tables: &[NewTable<'_, '_>]) -> Option<usize>
     requires { length tables.now < 16 }
     ensures some { IfSome result (λ n. (fits (start_of (views tables.now)) (views tables.now) ≡ true) × (n ≡ start_of (views tables.now) + length (body (views tables.now)))) }
     ensures none { IfNone result (fits (start_of (views tables.now)) (views tables.now) ≡ false) }
@@ -72,15 +72,28 @@ fn write_header(out: &mut Vec<u8>, kind: u32, count: u16)
     ensures capacity { vec_capacity out.old ≤ vec_capacity out.new }
 {
     let range = search_range(count);
-    put(out, &kind.to_be_bytes());
-    put(out, &count.to_be_bytes());
-    put(out, &range.to_be_bytes());
-    put(out, &entry_selector(count).to_be_bytes());
-    put(out, &(16 * count).saturating_sub(range).to_be_bytes());
+    let [a, b, c, d] = kind.to_be_bytes();
+    let [e, f] = count.to_be_bytes();
+    let [g, h] = range.to_be_bytes();
+    let [i, j] = entry_selector(count).to_be_bytes();
+    let [k, l] = (16 * count).saturating_sub(range).to_be_bytes();
+    put(out, &[a, b, c, d, e, f, g, h, i, j, k, l]);
+}
+
+/// Writes three words.
+fn write_words(out: &mut Vec<u8>, sum: u32, at: u32, len: u32)
+    requires room { length out.old.items + 12 ≤ vec_capacity out.old }
+    ensures items { out.new.items ≡ out.old.items ++ (to_be_bytes w32 sum ++ to_be_bytes w32 at ++ to_be_bytes w32 len) }
+    ensures capacity { vec_capacity out.old ≤ vec_capacity out.new }
+{
+    let [a, b, c, d] = sum.to_be_bytes();
+    let [e, f, g, h] = at.to_be_bytes();
+    let [i, j, k, l] = len.to_be_bytes();
+    put(out, &[a, b, c, d, e, f, g, h, i, j, k, l]);
 }
 
 /// Writes the record of a table that stands at a place.
-fn write_record(out: &mut Vec<u8>, at: usize, len: usize, sum: u32, table: &NewTable<'_>)
+fn write_record(out: &mut Vec<u8>, at: usize, len: usize, sum: u32, table: &NewTable<'_, '_>)
     requires at { at < 2 ^ 32 }
     requires len { (len ≡ length (view table.now).bytes) × (len < 2 ^ 32) }
     requires sum { sum ≡ checksum (view table.now).bytes }
@@ -89,52 +102,55 @@ fn write_record(out: &mut Vec<u8>, at: usize, len: usize, sum: u32, table: &NewT
     ensures capacity { vec_capacity out.old ≤ vec_capacity out.new }
 {
     put(out, table.tag.get());
-    put(out, &sum.to_be_bytes());
-    put(out, &(at as u32).to_be_bytes());
-    put(out, &(len as u32).to_be_bytes());
+    write_words(out, sum, at as u32, len as u32);
 }
 
-/// Writes the records of tables that stand from a place on, and answers the checksum of all the tables.
-/// The checksums are taken of the tables as they were laid out.
-fn write_directory(out: &mut Vec<u8>, start: usize, tables: &[NewTable<'_>], laid: &[u8]) -> u32
+/// Writes a table, with zeros up to a multiple of four, and its record, and answers its checksum.
+fn write_table(out: &mut Vec<u8>, front: &mut Vec<u8>, at: usize, table: &NewTable<'_, '_>) -> u32
+    requires at { (at < 2 ^ 32) × (length (view table.now).bytes < 2 ^ 32) }
+    requires multiple { length out.old.items % 4 ≡ 0 }
+    requires room { length out.old.items + length (aligned 4 (view table.now).bytes) ≤ vec_capacity out.old }
+    requires front_room { length front.old.items + 16 ≤ vec_capacity front.old }
+    ensures items { out.new.items ≡ out.old.items ++ aligned 4 (view table.now).bytes }
+    ensures capacity { vec_capacity out.old ≤ vec_capacity out.new }
+    ensures front_items { front.new.items ≡ front.old.items ++ record_bytes at (view table.now) }
+    ensures front_capacity { vec_capacity front.old ≤ vec_capacity front.new }
+    ensures sum { result ≡ checksum (view table.now).bytes }
+{
+    let sum = write_summed(out, &table.data);
+    align(out);
+    write_record(front, at, table.data.len(), sum, table);
+    sum
+}
+
+/// Writes tables, each with zeros up to a multiple of four, and the records of tables that stand from a place on.
+/// Answers the checksum of all the tables.
+fn write_tables(
+    out: &mut Vec<u8>,
+    front: &mut Vec<u8>,
+    start: usize,
+    tables: &[NewTable<'_, '_>],
+) -> u32
     requires tables { AllByRecursion IsTable (views tables.now) }
     requires fit { fits start (views tables.now) ≡ true }
-    requires laid { laid.now ≡ body (views tables.now) }
-    requires room { length out.old.items + 16 * length tables.now ≤ vec_capacity out.old }
-    ensures items { out.new.items ≡ out.old.items ++ directory_bytes start (views tables.now) }
-    ensures capacity { vec_capacity out.old ≤ vec_capacity out.new }
+    requires multiple { length out.old.items % 4 ≡ 0 }
+    requires room { length out.old.items + length (body (views tables.now)) ≤ vec_capacity out.old }
+    requires front_room { length front.old.items + 16 * length tables.now ≤ vec_capacity front.old }
+    ensures items { out.new.items ≡ out.old.items ++ body (views tables.now) }
+    ensures front_items { front.new.items ≡ front.old.items ++ directory_bytes start (views tables.now) }
     ensures sum { result ≡ checksum (body (views tables.now)) }
 {
     let mut at = start;
     let mut sum: u32 = 0;
-    let mut rest = laid;
     for table in tables {
-        let len = table.data.len();
-        let size = aligned_len(len);
-        let (bytes, behind) = rest.split_at(size);
-        let table_sum = checksum(bytes);
-        write_record(out, at, len, table_sum, table);
-        sum = sum.wrapping_add(table_sum);
-        rest = behind;
-        at += size;
+        sum = sum.wrapping_add(write_table(out, front, at, table));
+        at += aligned_len(table.data.len());
     }
     sum
 }
 
-/// Writes the tables, each with zeros up to a multiple of four.
-fn write_body(out: &mut Vec<u8>, tables: &[NewTable<'_>])
-    requires multiple { length out.old.items % 4 ≡ 0 }
-    requires room { length out.old.items + length (body (views tables.now)) ≤ vec_capacity out.old }
-    ensures { out.new.items ≡ out.old.items ++ body (views tables.now) }
-{
-    for table in tables {
-        table.data.write(out);
-        align(out);
-    }
-}
-
 /// Puts the adjustment into a table that stands at a place, if it is `head`.
-fn adjust_table(out: &mut Vec<u8>, at: usize, word: u32, table: &NewTable<'_>)
+fn adjust_table(out: &mut Vec<u8>, at: usize, word: u32, table: &NewTable<'_, '_>)
     requires is_table { IsTable (view table.now) }
     requires within { at + length (view table.now).bytes ≤ length out.old.items }
     requires there { take (length (view table.now).bytes) (drop at out.old.items) ≡ (view table.now).bytes }
@@ -146,7 +162,7 @@ fn adjust_table(out: &mut Vec<u8>, at: usize, word: u32, table: &NewTable<'_>)
 }
 
 /// Puts the adjustment into `head` among the tables that stand from a place on.
-fn adjust(out: &mut Vec<u8>, start: usize, word: u32, tables: &[NewTable<'_>])
+fn adjust(out: &mut Vec<u8>, start: usize, word: u32, tables: &[NewTable<'_, '_>])
     requires tables { AllByRecursion IsTable (views tables.now) }
     requires fit { fits start (views tables.now) ≡ true }
     requires start { start ≤ length out.old.items }
@@ -179,12 +195,12 @@ fn patch_bytes(out: &mut Vec<u8>, at: usize, bytes: &[u8])
 }
 
 /// Lays out a file in room that its caller reserved, also for what stands before the tables. No memory is taken.
-/// The tables are written first, so that their checksums are taken of one piece.
+/// Each table is summed as it is written.
 pub fn construct(
     out: Vec<u8>,
     front: Vec<u8>,
     flavor: FontFlavor,
-    tables: &[NewTable<'_>],
+    tables: &[NewTable<'_, '_>],
 ) -> Vec<u8>
     requires few { length tables.now < 16 }
     requires tables { AllByRecursion IsTable (views tables.now) }
@@ -198,9 +214,8 @@ pub fn construct(
     let mut front = front;
     let start = 12 + 16 * tables.len();
     skip_front(&mut out, start);
-    write_body(&mut out, tables);
     write_header(&mut front, flavor.kind(), tables.len() as u16);
-    let tables_sum = write_directory(&mut front, start, tables, &out[start..]);
+    let tables_sum = write_tables(&mut out, &mut front, start, tables);
     patch_bytes(&mut out, 0, &front);
     // Each table begins at a multiple of four, so the sum of the file is that of its parts.
     let sum = checksum(&front).wrapping_add(tables_sum);
@@ -210,7 +225,11 @@ pub fn construct(
 
 /// Lays out a file. Its size is taken first: `OverflowError` where a place or a length is 2^32 or more. Room is reserved once.
 #[tactic(auto, unfolding(crate::specs::Sfnt::Plain::file_of))]
-pub fn finish(alloc: Global, flavor: FontFlavor, tables: &[NewTable<'_>]) -> Result<Vec<u8>, Error>
+pub fn finish(
+    alloc: Global,
+    flavor: FontFlavor,
+    tables: &[NewTable<'_, '_>],
+) -> Result<Vec<u8>, Error>
     requires few { length tables.now < 16 }
     requires tables { AllByRecursion IsTable (views tables.now) }
     ensures { Gives (λ v. v.items) result (file_of (kind_word flavor) (views tables.now)) }

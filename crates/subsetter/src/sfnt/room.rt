@@ -27,8 +27,12 @@ pub fn align(out: &mut Vec<u8>)
     ensures items { out.new.items ≡ aligned 4 out.old.items }
     ensures capacity { vec_capacity out.old ≤ vec_capacity out.new }
 {
-    let count = (4 - out.len() % 4) % 4;
-    put(out, &[0, 0, 0][..count]);
+    match out.len() % 4 {
+        0 => {}
+        1 => put(out, &[0, 0, 0]),
+        2 => put(out, &[0, 0]),
+        _ => put(out, &[0]),
+    }
 }
 
 /// Puts a word in the place of four bytes.

@@ -25,10 +25,9 @@ fn values_are_laid_out_as_opentype_says(rt: HostRuntime) -> Result<(), Fail> {
     assert_eq!(rt; w.finish().as_slice(), wanted.as_slice());
     // With CFF outlines `maxp` has the number of glyphs alone.
     let source = [0, 1, 0, 0, 0, 3, 0xAA, 0xBB];
-    let short = maxp::subset(rt.alloc(), Some(&source), FontFlavor::Cff, 2)?;
-    assert_eq!(rt;
-        short.ok_or("a table")?.as_slice(),
-        [0, 0, 0x50, 0, 0, 2].as_slice()
-    );
+    let short = maxp::subset(Some(&source), FontFlavor::Cff, 2)?.ok_or("a table")?;
+    let mut out = Vec::with_capacity(rt.alloc(), short.len())?;
+    short.write(&mut out);
+    assert_eq!(rt; out.as_slice(), [0, 0, 0x50, 0, 0, 2].as_slice());
     Ok(())
 }

@@ -5,7 +5,7 @@ use Rattle.subsetter.specs.Limits.{token_limit, depth_limit}
 use Rattle.subsetter.specs.Sfnt.Read.{Font}
 use Rattle.subsetter.specs.Answer.{IsAnswer}
 use Rattle.cid_embed.specs.Embed.{numbering, IsEmbedded, HasEmbedFault}
-use Rattle.cid_embed.proofs.Promises.{IsRefusal}
+use Rattle.cid_embed.proofs.Promises.{IsRefusal, IsFinal}
 use Rattle.cid_embed.proofs.embedding.embed.Goals as goal
 
 -- what holds at two numbers holds at the default limits, which they are
@@ -31,3 +31,8 @@ pub returns-clause-err : goal.returns-clause-err
 returns-clause-err c =
     let font : Font = record { bytes = c.args.«data».now; index = c.args.index } in
     at_default (λ t d. IfErr c.embed_with_limits.result (λ why. IsRefusal t d font c.args.glyphs.now why)) c.default.result.tokens c.default.result.depth c.default.ensures.0 c.default.ensures.1 c.embed_with_limits.ensures.err
+
+pub returns-clause-no_answer : goal.returns-clause-no_answer
+returns-clause-no_answer c =
+    let font : Font = record { bytes = c.args.«data».now; index = c.args.index } in
+    at_default (λ t d. IfErr c.embed_with_limits.result (λ why. IsFinal t d font c.args.glyphs.now why)) c.default.result.tokens c.default.result.depth c.default.ensures.0 c.default.ensures.1 c.embed_with_limits.ensures.no_answer

@@ -2,7 +2,7 @@ use Rattle.std.proofs.Common.{ℕ, List, Vec, Global, refl, subst}
 use Rattle.std.proofs.lemmas.Result.{err_from_is_err_and}
 use Rattle.subsetter.specs.Sfnt.Read.{Font}
 use Rattle.subsetter.specs.Answer.{IsTheAnswer}
-use Rattle.cid_embed.proofs.Promises.{asked_known, mapper_refused, subset_refused, widths_refused, answered}
+use Rattle.cid_embed.proofs.Promises.{asked_known, mapper_refused, mapper_final, subset_refused, subset_final, widths_refused, widths_final, answered}
 use Rattle.cid_embed.proofs.embedding.embed_with_limits.Goals as goal
 
 pub returns-in_err-mapper-clause-err : goal.returns-in_err-mapper-clause-err
@@ -40,3 +40,21 @@ pub returns-clause-same : goal.returns-clause-same
 returns-clause-same c =
     let font : Font = record { bytes = c.args.«data».now; index = c.args.index } in
     subst (λ (l : List ℕ). IsTheAnswer font l c.in_ok-font.font.items) c.in_ok-mapper.ensures.ok c.in_ok-font.ensures.same
+
+pub returns-in_err-mapper-clause-no_answer : goal.returns-in_err-mapper-clause-no_answer
+returns-in_err-mapper-clause-no_answer c =
+    let p = err_from_is_err_and c.from_residual.result c.from_residual.ensures.1 in
+    let font : Font = record { bytes = c.args.«data».now; index = c.args.index } in
+    rw (p.1, p.2) (mapper_final c.args.limits.now.tokens c.args.limits.now.depth font c.args.glyphs.now c.in_err-mapper.field-0.0 c.in_err-mapper.ensures.err)
+
+pub returns-in_err-font-clause-no_answer : goal.returns-in_err-font-clause-no_answer
+returns-in_err-font-clause-no_answer c =
+    let p = err_from_is_err_and c.from_residual-in_err-font.result c.from_residual-in_err-font.ensures.1 in
+    let font : Font = record { bytes = c.args.«data».now; index = c.args.index } in
+    rw (p.1, p.2) (subset_final c.args.limits.now.tokens c.args.limits.now.depth font c.args.glyphs.now c.in_ok-mapper.mapper c.in_err-font.field-0.0 c.in_ok-mapper.ensures.ok c.in_err-font.ensures.no_answer)
+
+pub returns-in_err-widths-clause-no_answer : goal.returns-in_err-widths-clause-no_answer
+returns-in_err-widths-clause-no_answer c =
+    let p = err_from_is_err_and c.from_residual-in_err-widths.result c.from_residual-in_err-widths.ensures.1 in
+    let font : Font = record { bytes = c.args.«data».now; index = c.args.index } in
+    rw (p.1, p.2) (widths_final c.args.limits.now.tokens c.args.limits.now.depth font c.args.glyphs.now c.in_ok-mapper.mapper c.in_ok-font.font.items c.deref.result.now c.num_gids.result c.in_ok-mapper.ensures.ok c.deref.ensures.value c.num_gids.ensures.count c.in_ok-font.ensures.clean {X = Vec ℕ Global} (λ v. v.items) c.in_err-widths.field-0.0 c.in_err-widths.ensures)

@@ -10,7 +10,7 @@ use Rattle.subsetter.specs.Sfnt.Read.{as_font}
 use Rattle.subsetter_again.specs.Again.{IsTrueTypeOrCidKeyed}
 use Rattle.subsetter_again.specs.Shrink.{OfEachSource, IsShrunk, IsGivenBack}
 use Rattle.subsetter_again.proofs.Shrunk.{is_shrunk, is_given_back, no_fault_for_all}
-use Rattle.cid_embed.specs.Embed.{numbering, IsEmbedded, HasEmbedFault}
+use Rattle.cid_embed.specs.Embed.{numbering, IsEmbedded, HasEmbedFault, HasNoEmbedding}
 use Rattle.cid_embed.specs.Width.{HasWidthFault}
 use Rattle.cid_embed.proofs.FewerCids.{some_numbered, unknown_cid, only_widths}
 use Rattle.cid_embed.proofs.shrinking.shrink.Goals as goal
@@ -62,6 +62,11 @@ returns-clause-only_widths c =
     subst (λ (g : List ℕ). IfErr c.embed.result (λ why. OfEachSource g (λ source first. AreAll (length first) (numbering cids) → IsTrueTypeOrCidKeyed source → (why ≡ OutOfMemory) ⊎ HasWidthFault (as_font g) why))) c.font_of.ensures.font
     (for_err c.embed.result (λ why. (why ≡ OutOfMemory) ⊎ ((order : List ℕ) × HasEmbedFault token_limit depth_limit (as_font seen) cids order why))
     (λ why. OfEachSource seen (λ source first. AreAll (length first) (numbering cids) → IsTrueTypeOrCidKeyed source → (why ≡ OutOfMemory) ⊎ HasWidthFault (as_font seen) why)) (λ why found. only_widths seen cids why c.font_of.ensures.bytes found) c.embed.ensures.err)
+
+pub returns-clause-no_answer : goal.returns-clause-no_answer
+returns-clause-no_answer c =
+    let cids = c.args.cids.now in
+    subst (λ (g : List ℕ). IfErr c.embed.result (λ why. (why ≡ OutOfMemory) ⊎ HasNoEmbedding token_limit depth_limit (as_font g) cids)) c.font_of.ensures.font c.embed.ensures.no_answer
 
 pub returns-clause-unknown : goal.returns-clause-unknown
 returns-clause-unknown c = unknown_cid c.args.e.now.font.items c.args.cids.now

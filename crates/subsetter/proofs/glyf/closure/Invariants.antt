@@ -1,4 +1,5 @@
 use Rattle.std.proofs.Common.{◌≡◌, ◌+◌, ◌-◌, ◌*◌, ◌^◌, [], length}
+use Rattle.subsetter.specs.Glyf.Closure.{AreFound}
 use Rattle.subsetter.specs.Glyf.View.{seen}
 use Rattle.subsetter.proofs.GlyfLaws.Closure.{Follows}
 use Rattle.subsetter.proofs.GlyfLaws.Found.{FoundFrom}
@@ -8,6 +9,7 @@ abbrev pub invariant-loop-glyph : goal.invariant-loop-glyph
 invariant-loop-glyph l = record {
   follows : Follows (seen l.table) l.mapper l.given.items [] l.order;
   none_waits : l.waiting.items ≡ [];
+  outlines : AreFound (seen l.table) l.order l.outlines.items;
   found : FoundFrom (seen l.table) l.mapper l.given.items [] l.order;
 }
 
@@ -17,6 +19,7 @@ decreases-loop-glyph l = length l.given.items
 abbrev pub invariant-loop-component : goal.invariant-loop-component
 invariant-loop-component l = record {
   follows : Follows (seen l.table) l.mapper l.given.items l.waiting.items l.order;
+  outlines : AreFound (seen l.table) l.order l.outlines.items;
   found : FoundFrom (seen l.table) l.mapper l.given.items l.waiting.items l.order;
 }
 

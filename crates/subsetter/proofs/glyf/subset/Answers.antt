@@ -1,13 +1,39 @@
-use Rattle.std.proofs.Common.{ℕ, List, sym, ap, ◌∙◌}
-use Rattle.subsetter_base.proofs.Results.{with_front}
-use Rattle.subsetter.specs.Glyf.View.{seen}
-use Rattle.subsetter.specs.Glyf.Plain.{kept_all}
-use Rattle.subsetter.proofs.GlyfLaws.KeptList.{kept_next}
+use Rattle.std.proofs.Common.{◌≡◌, ◌+◌, ◌-◌, List, ℕ, drop, take, sym, ap, ◌∙◌, arith}
+use Rattle.std.specs.Option.{option_copied}
+use Rattle.std.specs.Prelude.{map}
+use Rattle.std.proofs.lemmas.Result.{err_from_is_err_and}
+use Rattle.subsetter.specs.Glyf.Plain.{kept_outlines, with_outlines}
+use Rattle.subsetter.proofs.GlyfLaws.KeptList.{none_before, block_of, outlines_block, outlines_fail}
 use Rattle.subsetter.proofs.glyf.subset.Goals as goal
 
-pub loop-old-preserved : goal.loop-old-preserved
-loop-old-preserved c =
-    let t = seen c.args.table.now in
+pub loop-at-init : goal.loop-at-init
+loop-at-init c =
+    let all = kept_outlines c.args.order.now (map option_copied c.args.found.items) in
+    ap (λ (l : List (List ℕ)). with_outlines l all) c.in_ok-list.ensures.ok ∙ none_before all
+
+pub returns-in_err-list-2 : goal.returns-in_err-list-2
+returns-in_err-list-2 c =
+    let p = err_from_is_err_and c.from_residual-in_err-list-2.result c.from_residual-in_err-list-2.ensures.1 in
     let order = c.args.order.now in
-    let outlines = c.loop-old.outlines in
-    kept_next t order outlines c.in_ok-outlines-2.outlines c.in-Some.old c.next.new.self (kept_all t order order) c.in_ok-outlines-2.ensures (ap (λ (l : List ℕ). with_front outlines (kept_all t order l)) (sym c.in-Some.ensures.steps) ∙ c.loop-old.invariant)
+    let at = c.loop-at.at in
+    let items = c.args.found.items in
+    let list = c.loop-at.list in
+    let total = kept_outlines order (map option_copied c.args.found.items) in
+    let n = at + c.min-count.result - at in
+    let os = map option_copied (take n (drop at c.deref.result.now)) in
+    let rest = map option_copied (drop (at + c.min-count.result) items) in
+    let all = block_of items c.deref.result.now at c.min-count.result n c.deref.ensures.value (omega arith) in
+    rw (p.1, p.2) (outlines_fail c.in_err-list-2.field-0.0 order list os rest total c.in_err-list-2.ensures (ap (λ l. with_outlines list (kept_outlines order l)) all ∙ c.loop-at.invariant))
+
+pub loop-at-preserved : goal.loop-at-preserved
+loop-at-preserved c =
+    let order = c.args.order.now in
+    let at = c.loop-at.at in
+    let items = c.args.found.items in
+    let list = c.loop-at.list in
+    let total = kept_outlines order (map option_copied c.args.found.items) in
+    let n = at + c.min-count.result - at in
+    let os = map option_copied (take n (drop at c.deref.result.now)) in
+    let rest = map option_copied (drop (at + c.min-count.result) items) in
+    let all = block_of items c.deref.result.now at c.min-count.result n c.deref.ensures.value (omega arith) in
+    outlines_block order list c.in_ok-list-2.list os rest total c.in_ok-list-2.ensures (ap (λ l. with_outlines list (kept_outlines order l)) all ∙ c.loop-at.invariant)

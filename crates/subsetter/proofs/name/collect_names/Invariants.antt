@@ -1,10 +1,9 @@
-use Rattle.std.proofs.Common.{◌≡◌, [], drop}
+use Rattle.std.proofs.Common.{◌≡◌, [], Some}
 use Rattle.std.specs.Prelude.{filter}
-use Rattle.std.specs.Cow.{cow_slice_items}
-use Rattle.subsetter.specs.Name.Read.{is_kept_record}
-use Rattle.subsetter.specs.Name.Plain.{placed}
-use Rattle.subsetter.proofs.NameLaws.Placed.{with_names}
+use Rattle.subsetter_base.specs.Items.{values}
+use Rattle.subsetter.specs.Name.Read.{name_record_of, is_kept_record}
+use Rattle.subsetter.specs.Name.Plain.{placed, laid_behind}
 use Rattle.subsetter.proofs.name.collect_names.Given as goal
 
 abbrev pub invariant-loop-record : goal.invariant-loop-record
-invariant-loop-record l = with_names l.names.items (placed (cow_slice_items l.table.storage) l.strings (filter is_kept_record (drop l.record-index l.record-items))) ≡ placed (cow_slice_items l.table.storage) [] (filter is_kept_record l.record-items)
+invariant-loop-record l = laid_behind l.front (placed l.table.storage.now l.strings (filter is_kept_record (values 12 (λ bytes. Some (name_record_of bytes)) l.record-iterator))) ≡ laid_behind [] (placed l.table.storage.now [] (filter is_kept_record (values 12 (λ bytes. Some (name_record_of bytes)) l.initial.record-iterator)))

@@ -6,7 +6,7 @@ use Rattle.subsetter.specs.Limits.{token_limit, depth_limit}
 use Rattle.subsetter.specs.Sfnt.Read.{Font}
 use Rattle.subsetter.specs.Subset.{IsSubset}
 use Rattle.subsetter.specs.Fault.{HasFault}
-use Rattle.subsetter.specs.Answer.{IsAnswer}
+use Rattle.subsetter.specs.Answer.{IsAnswer, HasNoAnswer}
 use Rattle.subsetter.proofs.TruetypeLaws.Fault.{Stands}
 use Rattle.subsetter.proofs.subsetting.subset.Goals as goal
 
@@ -33,3 +33,8 @@ pub returns-clause-exact : goal.returns-clause-exact
 returns-clause-exact c =
     let font : Font = record { bytes = c.args.«data».now; index = c.args.index } in
     at_default (λ t d. IfOk c.subset_with_limits.result (λ out. IsAnswer t d font c.args.mapper.now out.items)) c.default.result.tokens c.default.result.depth c.default.ensures.0 c.default.ensures.1 c.subset_with_limits.ensures.exact
+
+pub returns-clause-no_answer : goal.returns-clause-no_answer
+returns-clause-no_answer c =
+    let font : Font = record { bytes = c.args.«data».now; index = c.args.index } in
+    at_default (λ t d. IfErr c.subset_with_limits.result (λ e. (e ≡ OutOfMemory) ⊎ HasNoAnswer t d font c.args.mapper.now)) c.default.result.tokens c.default.result.depth c.default.ensures.0 c.default.ensures.1 c.subset_with_limits.ensures.no_answer

@@ -9,10 +9,10 @@ use Rattle.subsetter.specs.Sfnt.Read.{Font, table_in}
 use Rattle.subsetter.specs.Sfnt.Plain.{flavored}
 use Rattle.subsetter.specs.Fault.{HasFault}
 use Rattle.subsetter.specs.Subset.{IsSubset}
-use Rattle.subsetter.specs.Answer.{IsAnswer, IsTheAnswer}
+use Rattle.subsetter.specs.Answer.{IsAnswer, HasNoAnswer, IsTheAnswer}
 use Rattle.subsetter.proofs.TruetypeLaws.Fault.{Stands}
 use Rattle.subsetter.proofs.SfntLaws.Fault.{opened_refused, flavored_refused}
-use Rattle.subsetter.proofs.Headline.{not_memory, unopened, unflavored, cff_answered, cff_refused, cff_opening_clean, truetype_subset, truetype_refused, opening_clean}
+use Rattle.subsetter.proofs.Headline.{not_memory, unopened, unflavored, cff_answered, cff_refused, cff_opening_clean, truetype_subset, truetype_refused, opening_clean, unopened_no_answer, unflavored_no_answer, truetype_no_answer, cff_no_answer}
 use Rattle.subsetter.specs.Cff.Plain.{cff_file}
 use Rattle.subsetter.proofs.TwoLimits.{one_answer}
 use Rattle.subsetter.proofs.TruetypeLaws.PlainAnswers.{gave_ok, gave_err}
@@ -142,3 +142,32 @@ returns-in-Cff-clause-same c =
     let font : Font = record { bytes = c.args.«data».now; index = c.args.index } in
     for_ok c.charstrings.result (λ v. IsAnswer c.args.limits.now.tokens c.args.limits.now.depth font c.args.mapper.now v.items) (λ v. IsTheAnswer font c.args.mapper.now v.items)
     (λ v a tokens depth other b. one_answer font c.args.mapper.now c.args.limits.now.tokens c.args.limits.now.depth tokens depth v.items other a b) (returns-in-Cff-clause-exact c)
+
+pub returns-in_err-face-clause-no_answer : goal.returns-in_err-face-clause-no_answer
+returns-in_err-face-clause-no_answer c =
+    let font : Font = record { bytes = c.args.«data».now; index = c.args.index } in
+    let p = err_from_is_err_and c.from_residual.result c.from_residual.ensures.1 in
+    rw (p.1, p.2) (unopened_no_answer c.args.limits.now.tokens c.args.limits.now.depth font c.args.mapper.now c.in_err-face.field-0.0 c.in_err-face.ensures.err)
+
+pub returns-in_err-flavor-clause-no_answer : goal.returns-in_err-flavor-clause-no_answer
+returns-in_err-flavor-clause-no_answer c =
+    let font : Font = record { bytes = c.args.«data».now; index = c.args.index } in
+    let p = err_from_is_err_and c.from_residual-in_err-flavor.result c.from_residual-in_err-flavor.ensures.1 in
+    let f = same_flavor c.in_ok-face.face.«data».now c.args.«data».now c.in_ok-face.face.records.now (Err c.in_err-flavor.field-0.0) c.in_ok-face.ensures.ok.0 c.in_err-flavor.ensures in
+    rw (p.1, p.2) (unflavored_no_answer c.args.limits.now.tokens c.args.limits.now.depth font c.args.mapper.now c.in_ok-face.face.records.now c.in_err-flavor.field-0.0 c.in_ok-face.ensures.ok.1 f)
+
+pub returns-in-TrueType-clause-no_answer : goal.returns-in-TrueType-clause-no_answer
+returns-in-TrueType-clause-no_answer c =
+    let font : Font = record { bytes = c.args.«data».now; index = c.args.index } in
+    let f = same_flavor c.in_ok-face.face.«data».now c.args.«data».now c.in_ok-face.face.records.now (Ok c.in_ok-flavor.field-0) c.in_ok-face.ensures.ok.0 c.in_ok-flavor.ensures ∙ ap (λ (x : FontFlavor). Ok x) c.in-TrueType.is in
+    for_err c.truetype.result (λ e. IsRefused (table_in c.in_ok-face.face.«data».now c.in_ok-face.face.records.now) c.args.mapper.now e) (λ e. (e ≡ OutOfMemory) ⊎ HasNoAnswer c.args.limits.now.tokens c.args.limits.now.depth font c.args.mapper.now)
+    (λ e r. truetype_no_answer c.args.limits.now.tokens c.args.limits.now.depth font c.args.mapper.now c.in_ok-face.face.records.now c.in_ok-face.ensures.ok.1 f e
+    (subst (λ (b : List ℕ). IsRefused (table_in b c.in_ok-face.face.records.now) c.args.mapper.now e) c.in_ok-face.ensures.ok.0 r)) c.truetype.ensures.err
+
+pub returns-in-Cff-clause-no_answer : goal.returns-in-Cff-clause-no_answer
+returns-in-Cff-clause-no_answer c =
+    let font : Font = record { bytes = c.args.«data».now; index = c.args.index } in
+    let f = same_flavor c.in_ok-face.face.«data».now c.args.«data».now c.in_ok-face.face.records.now (Ok c.in_ok-flavor.field-0) c.in_ok-face.ensures.ok.0 c.in_ok-flavor.ensures ∙ ap (λ (x : FontFlavor). Ok x) c.in-Cff.is in
+    gave_err (λ v. v.items) c.charstrings.result (cff_file (table_in c.in_ok-face.face.«data».now c.in_ok-face.face.records.now) c.args.limits.now.tokens c.args.limits.now.depth c.args.mapper.now) (λ e. (e ≡ OutOfMemory) ⊎ HasNoAnswer c.args.limits.now.tokens c.args.limits.now.depth font c.args.mapper.now) c.charstrings.ensures (inl refl)
+    (λ e h. cff_no_answer c.args.limits.now.tokens c.args.limits.now.depth font c.args.mapper.now c.in_ok-face.face.records.now c.in_ok-face.ensures.ok.1 f e c.num_gids-count.ensures.once
+    (same_file c.args.limits.now.tokens c.args.limits.now.depth c.in_ok-face.face.«data».now c.args.«data».now c.in_ok-face.face.records.now c.args.mapper.now (Err e) c.in_ok-face.ensures.ok.0 h))

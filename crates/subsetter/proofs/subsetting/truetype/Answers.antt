@@ -17,16 +17,16 @@ returns-in_err-table-clause-err c =
     let p = err_from_is_err_and c.from_residual.result c.from_residual.ensures.1 in
     rw (p.1, p.2) (unread c.in_err-table.ensures.err)
 
-pub returns-in_err-order-clause-err : goal.returns-in_err-order-clause-err
-returns-in_err-order-clause-err c =
-    let p = err_from_is_err_and c.from_residual-in_err-order.result c.from_residual-in_err-order.ensures.1 in
-    rw (p.1, p.2) (unclosed (seen c.in_ok-table.table) c.in_ok-table.ensures.ok c.in_err-order.ensures.err)
+pub returns-in_err-reached-clause-err : goal.returns-in_err-reached-clause-err
+returns-in_err-reached-clause-err c =
+    let p = err_from_is_err_and c.from_residual-in_err-reached.result c.from_residual-in_err-reached.ensures.1 in
+    rw (p.1, p.2) (unclosed (seen c.in_ok-table.table) c.in_ok-table.ensures.ok c.in_err-reached.ensures.err)
 
 pub returns-in_err-made-clause-err : goal.returns-in_err-made-clause-err
 returns-in_err-made-clause-err c =
     let p = err_from_is_err_and c.from_residual-in_err-made.result c.from_residual-in_err-made.ensures.1 in
     let find : List ℕ → Option (List ℕ) = table_in c.args.face.now.«data».now c.args.face.now.records.now in
-    rw (p.1, p.2) (refused_made find c.args.mapper.now c.in_ok-order.order (seen c.in_ok-table.table) c.in_ok-table.ensures.ok c.in_ok-order.ensures.ok c.in_err-made.field-0.0 c.in_err-made.ensures.exact)
+    rw (p.1, p.2) (refused_made find c.args.mapper.now c.in_ok-reached.reached.order (seen c.in_ok-table.table) c.in_ok-table.ensures.ok c.in_ok-reached.ensures.ok c.in_err-made.field-0.0 c.in_ok-reached.ensures.found c.in_err-made.ensures.exact)
 
 pub returns-in_err-list-clause-err : goal.returns-in_err-list-clause-err
 returns-in_err-list-clause-err c =
@@ -36,21 +36,21 @@ returns-in_err-list-clause-err c =
 pub finish-requires-clause-few : goal.finish-requires-clause-few
 finish-requires-clause-few c =
     let find : List ℕ → Option (List ℕ) = table_in c.args.face.now.«data».now c.args.face.now.records.now in
-    few_tables find c.args.mapper.now c.in_ok-order.order (seen c.in_ok-table.table) c.in_ok-table.ensures.ok c.in_ok-order.ensures.ok (made_seen c.in_ok-made.made) c.in_ok-made.ensures.exact c.deref.result.now (ap views c.deref.ensures.value ∙ c.in_ok-list.ensures.ok ∙ ap (λ (t : FontTables). present (rows t)) c.font_tables.ensures)
+    few_tables find c.args.mapper.now c.in_ok-reached.reached.order (seen c.in_ok-table.table) c.in_ok-table.ensures.ok c.in_ok-reached.ensures.ok (made_seen c.in_ok-made.made) c.in_ok-made.ensures.exact c.deref.result.now (ap views c.deref.ensures.value ∙ c.in_ok-list.ensures.ok ∙ ap (λ (t : FontTables). present (rows t)) c.font_tables.ensures)
 
 pub finish-requires-clause-tables : goal.finish-requires-clause-tables
 finish-requires-clause-tables c =
     let find : List ℕ → Option (List ℕ) = table_in c.args.face.now.«data».now c.args.face.now.records.now in
-    all_tables find c.args.mapper.now c.in_ok-order.order (seen c.in_ok-table.table) c.in_ok-table.ensures.ok c.in_ok-order.ensures.ok (made_seen c.in_ok-made.made) c.in_ok-made.ensures.exact c.deref.result.now (ap views c.deref.ensures.value ∙ c.in_ok-list.ensures.ok ∙ ap (λ (t : FontTables). present (rows t)) c.font_tables.ensures)
+    all_tables find c.args.mapper.now c.in_ok-reached.reached.order (seen c.in_ok-table.table) c.in_ok-table.ensures.ok c.in_ok-reached.ensures.ok (made_seen c.in_ok-made.made) c.in_ok-made.ensures.exact c.deref.result.now (ap views c.deref.ensures.value ∙ c.in_ok-list.ensures.ok ∙ ap (λ (t : FontTables). present (rows t)) c.font_tables.ensures)
 
 pub returns-clause-ok : goal.returns-clause-ok
 returns-clause-ok c =
     let find : List ℕ → Option (List ℕ) = table_in c.args.face.now.«data».now c.args.face.now.records.now in
     gave_ok (λ v. v.items) c.finish.result (file_of (kind_word TrueType) (views c.deref.result.now)) (IsAnswered find c.args.mapper.now) c.finish.ensures
-    (λ out h. answered find c.args.mapper.now c.in_ok-order.order (seen c.in_ok-table.table) c.in_ok-table.ensures.ok c.in_ok-order.ensures.ok (made_seen c.in_ok-made.made) c.in_ok-made.ensures.exact c.deref.result.now (ap views c.deref.ensures.value ∙ c.in_ok-list.ensures.ok ∙ ap (λ (t : FontTables). present (rows t)) c.font_tables.ensures) out c.in_ok-order.ensures.found (omega (arith, c.num_gids-count.ensures.few)) h)
+    (λ out h. answered find c.args.mapper.now c.in_ok-reached.reached.order (seen c.in_ok-table.table) c.in_ok-table.ensures.ok c.in_ok-reached.ensures.ok (made_seen c.in_ok-made.made) c.in_ok-made.ensures.exact c.deref.result.now (ap views c.deref.ensures.value ∙ c.in_ok-list.ensures.ok ∙ ap (λ (t : FontTables). present (rows t)) c.font_tables.ensures) out c.in_ok-reached.ensures.found (omega (arith, c.num_gids-count.ensures.few)) h)
 
 pub returns-clause-err : goal.returns-clause-err
 returns-clause-err c =
     let find : List ℕ → Option (List ℕ) = table_in c.args.face.now.«data».now c.args.face.now.records.now in
     gave_err (λ v. v.items) c.finish.result (file_of (kind_word TrueType) (views c.deref.result.now)) (IsRefused find c.args.mapper.now) c.finish.ensures no_memory
-    (refused_file find c.args.mapper.now c.in_ok-order.order (seen c.in_ok-table.table) c.in_ok-table.ensures.ok c.in_ok-order.ensures.ok (made_seen c.in_ok-made.made) c.in_ok-made.ensures.exact c.deref.result.now (ap views c.deref.ensures.value ∙ c.in_ok-list.ensures.ok ∙ ap (λ (t : FontTables). present (rows t)) c.font_tables.ensures))
+    (refused_file find c.args.mapper.now c.in_ok-reached.reached.order (seen c.in_ok-table.table) c.in_ok-table.ensures.ok c.in_ok-reached.ensures.ok (made_seen c.in_ok-made.made) c.in_ok-made.ensures.exact c.deref.result.now (ap views c.deref.ensures.value ∙ c.in_ok-list.ensures.ok ∙ ap (λ (t : FontTables). present (rows t)) c.font_tables.ensures) c.in_ok-reached.ensures.found)

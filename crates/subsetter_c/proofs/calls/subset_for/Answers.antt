@@ -12,9 +12,9 @@ returns-in_err-mapper-clause-err c =
 pub returns-clause-ok : goal.returns-clause-ok
 returns-clause-ok c =
     let font : Font = record { bytes = c.args.font.now; index = c.args.index } in
-    subset_sound c.args.limits.now.tokens c.args.limits.now.depth font c.args.glyphs.now c.in_ok-mapper.mapper c.subset_with_limits.result c.in_ok-mapper.ensures.ok c.subset_with_limits.ensures.clean
+    subset_sound c.args.limits.now.tokens c.args.limits.now.depth font c.args.glyphs.now c.in_ok-mapper.mapper c.subset_with_limits.result c.in_ok-mapper.ensures.ok c.subset_with_limits.ensures.exact c.subset_with_limits.ensures.same
 
 pub returns-clause-err : goal.returns-clause-err
 returns-clause-err c =
     let font : Font = record { bytes = c.args.font.now; index = c.args.index } in
-    subset_refused c.args.limits.now.tokens c.args.limits.now.depth font c.args.glyphs.now c.in_ok-mapper.mapper c.subset_with_limits.result c.in_ok-mapper.ensures.ok c.subset_with_limits.ensures.err
+    subset_refused c.args.limits.now.tokens c.args.limits.now.depth font c.args.glyphs.now c.in_ok-mapper.mapper c.subset_with_limits.result c.in_ok-mapper.ensures.ok c.subset_with_limits.ensures.err c.subset_with_limits.ensures.no_answer

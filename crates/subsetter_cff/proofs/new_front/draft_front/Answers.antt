@@ -1,8 +1,5 @@
-use Rattle.std.proofs.Common.{◌≡◌, ◌+◌, ◌∙◌, ap, arith, length, List, ℕ}
+use Rattle.std.proofs.Common.{◌≡◌, ◌+◌, ap, arith, length}
 use Rattle.std.proofs.lemmas.Result.{err_from_is_err_and}
-use Rattle.subsetter_cff.specs.FrontDraft.{named_bytes}
-use Rattle.subsetter_cff.specs.NewTable.{top_by}
-use Rattle.subsetter_cff.specs.TableBy.{front_size}
 use Rattle.subsetter_cff.proofs.FrontDrafts.{front_size_is, limits_hold, limits_break}
 use Rattle.subsetter_cff.proofs.new_front.draft_front.Goals as goal
 

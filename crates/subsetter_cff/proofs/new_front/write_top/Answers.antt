@@ -1,5 +1,4 @@
 use Rattle.std.proofs.Common.{◌∙◌, ◌++◌, ap, arith, List, ℕ}
-use Rattle.std.specs.Prelude.{OnOk}
 use Rattle.subsetter_cff.specs.TopDictView.{places_of}
 use Rattle.subsetter_cff.proofs.FrontDrafts.{top_written}
 use Rattle.subsetter_cff.proofs.new_front.write_top.Goals as goal

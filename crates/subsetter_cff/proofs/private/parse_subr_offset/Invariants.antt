@@ -1,5 +1,5 @@
 use Rattle.std.proofs.Common.{◌≡◌, length}
-use Rattle.subsetter_cffdata.specs.Dict.{entries, operand_limit}
+use Rattle.subsetter_cffdata.specs.Dict.{entries}
 use Rattle.subsetter_cffdata.specs.ParserView.{left}
 use Rattle.subsetter_cff.specs.Operators.{subroutines_operator}
 use Rattle.subsetter_cff.specs.TopDicts.{first_offset}
@@ -8,7 +8,7 @@ use Rattle.subsetter_cff.proofs.private.parse_subr_offset.Given as goal
 abbrev pub invariant-loop-operator : goal.invariant-loop-operator
 invariant-loop-operator l = record {
   first : first_offset subroutines_operator (entries (left l.parser)) ≡ first_offset subroutines_operator (entries l.dict);
-  room : length l.parser.operands.now ≡ operand_limit;
+  room : length l.parser.operands.now ≡ 2;
 }
 
 abbrev pub decreases-loop-operator : goal.decreases-loop-operator

@@ -1,8 +1,5 @@
-use Rattle.std.proofs.Common.{◌≡◌, ◌∙◌, ap, sym, Some, None}
-use Rattle.std.specs.Prelude.{unwrap_or}
-use Rattle.std.specs.Option.{option_map}
+use Rattle.std.proofs.Common.{◌∙◌, Some, None}
 use Rattle.subsetter_cffdata.specs.Dict.{entries}
-use Rattle.subsetter_cff.specs.Private.{no_private, private_at}
 use Rattle.subsetter_cff.specs.PrivateView.{private_view}
 use Rattle.subsetter_cff.proofs.OwnPrivates.{own_without, own_with, range_ordered}
 use Rattle.subsetter_cff.proofs.source.own_private.Goals as goal

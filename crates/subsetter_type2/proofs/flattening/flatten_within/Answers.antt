@@ -1,13 +1,15 @@
-use Rattle.std.proofs.Common.{◌≡◌, ◌-◌, ◌∷◌, suc, length, ap, refl, sym, ◌∙◌, Ok, arith}
+use Rattle.std.proofs.Common.{◌≡◌, ◌-◌, ◌<◌, ◌∷◌, suc, length, take, drop, ap, refl, sym, ◌∙◌, Ok, arith, rules}
 use Rattle.std.proofs.lemmas.Result.{err_from_is_err_and}
 use Rattle.subsetter_type2.specs.View.{rests_of}
 use Rattle.subsetter_type2.specs.MachineView.{registers_of}
+use Rattle.subsetter_type2.proofs.RecursionLemmas.{unended_front}
 use Rattle.subsetter_type2.proofs.Runs.{gives_fault}
+use Rattle.subsetter_type2.proofs.Stretches.{behind_stretch, fewer_tokens, length_rests}
 use Rattle.subsetter_type2.proofs.BehindRuns.{behind_start, behind_over, behind_out, behind_fault, behind_more, behind_same, behind_deep, behind_stops, behind_fails}
 use Rattle.subsetter_type2.proofs.flattening.flatten_within.Goals as goal
 
-pub loop-token-init : goal.loop-token-init
-loop-token-init g c =
+pub loop-text-init : goal.loop-text-init
+loop-text-init g c =
     record {
       reached = behind_start _ _ _ _ _ _ _ _ (ap (λ r. c.args.charstring.now ∷ rests_of r) c.new-rests.ensures)
           (ap (registers_of (λ w. w)) c.new-machine.ensures ∙ ap (λ w. record { operands = w.operands; stems = 0; mask_len = 0 }) c.behind.ensures)
@@ -17,32 +19,63 @@ loop-token-init g c =
 
 pub returns-then-tokens-eq0 : goal.returns-then-tokens-eq0
 returns-then-tokens-eq0 g c =
-    behind_stops _ _ _ (behind_out _ _ _ _ _ _ _ c.loop-token.invariant.reached _ _ c.if-tokens-eq0.true c.in-Some.ensures.rest)
+    let s = c.in_ok-stretch.ensures in
+    let room : length (rests_of c.innermost.new.rests) < c.args.limits.now.depth = omega (arith, c.in-Some.ensures.room, c.loop-text.invariant.room, length_rests c.innermost.new.rests) in
+    let came = behind_stretch _ _ _ _ _ _ _ _ _ _ _ _ _ _ c.loop-text.invariant.reached c.in-Some.ensures.rest s.leads room s.few in
+    let rest = take (length c.in-Some.text.now - c.in_ok-stretch.stretch.len) (drop c.in_ok-stretch.stretch.len c.in-Some.text.now) in
+    let some : 0 < length rest = search rules in
+    behind_stops _ _ _ (behind_out _ _ _ _ _ _ _ came rest (rests_of c.innermost.new.rests) c.if-tokens-eq0.true (unended_front rest (rests_of c.innermost.new.rests) some))
 
 pub returns-in_err-flow : goal.returns-in_err-flow
 returns-in_err-flow g c =
-    let p = err_from_is_err_and c.from_residual.result c.from_residual.ensures.1 in
-    let n : c.loop-token.tokens ≡ suc (c.loop-token.tokens - 1) = omega arith in
+    let s = c.in_ok-stretch.ensures in
+    let room : length (rests_of c.innermost.new.rests) < c.args.limits.now.depth = omega (arith, c.in-Some.ensures.room, c.loop-text.invariant.room, length_rests c.innermost.new.rests) in
+    let came = behind_stretch _ _ _ _ _ _ _ _ _ _ _ _ _ _ c.loop-text.invariant.reached c.in-Some.ensures.rest s.leads room s.few in
+    let p = err_from_is_err_and c.from_residual-in_err-flow.result c.from_residual-in_err-flow.ensures.1 in
+    let left = c.loop-text.tokens - c.in_ok-stretch.stretch.tokens in
+    let n : left ≡ suc (left - 1) = omega arith in
     rw (p.1, p.2)
-    (behind_fails _ _ _ (gives_fault _ _ (λ ne. behind_fault _ _ _ _ _ _ _ c.loop-token.invariant.reached _ _ _ n c.in-Some.ensures.rest _ (c.in_err-flow.ensures ne))))
+    (behind_fails _ _ _ (gives_fault _ _ (λ ne. behind_fault _ _ _ _ _ _ _ came _ _ _ n (unended_front _ _ (search rules)) _ (c.in_err-flow.ensures ne))))
 
-pub loop-token-preserved : goal.loop-token-preserved
-loop-token-preserved g c =
-    let n : c.loop-token.tokens ≡ suc (c.loop-token.tokens - 1) = omega arith in
+pub loop-text-preserved-then-not-is_empty : goal.loop-text-preserved-then-not-is_empty
+loop-text-preserved-then-not-is_empty g c =
+    let s = c.in_ok-stretch.ensures in
+    let room : length (rests_of c.innermost.new.rests) < c.args.limits.now.depth = omega (arith, c.in-Some.ensures.room, c.loop-text.invariant.room, length_rests c.innermost.new.rests) in
+    let came = behind_stretch _ _ _ _ _ _ _ _ _ _ _ _ _ _ c.loop-text.invariant.reached c.in-Some.ensures.rest s.leads room s.few in
+    let left = c.loop-text.tokens - c.in_ok-stretch.stretch.tokens in
+    let n : left ≡ suc (left - 1) = omega arith in
     record {
       reached = behind_same _ _ _ _ _ _ _ _ _
-          (behind_more _ _ _ _ _ _ _ c.loop-token.invariant.reached _ _ _ n c.in-Some.ensures.rest _ _ c.in_ok-flow.ensures refl c.in_ok-running.ensures.deep)
+          (behind_more _ _ _ _ _ _ _ came _ _ _ n (unended_front _ _ (search rules)) _ _ c.in_ok-flow.ensures refl c.in_ok-running.ensures.deep)
           (sym c.in_ok-running.ensures.ok);
       room = c.in_ok-running.ensures.room;
     }
 
 pub returns-in_err-running : goal.returns-in_err-running
 returns-in_err-running g c =
+    let s = c.in_ok-stretch.ensures in
+    let room : length (rests_of c.innermost.new.rests) < c.args.limits.now.depth = omega (arith, c.in-Some.ensures.room, c.loop-text.invariant.room, length_rests c.innermost.new.rests) in
+    let came = behind_stretch _ _ _ _ _ _ _ _ _ _ _ _ _ _ c.loop-text.invariant.reached c.in-Some.ensures.rest s.leads room s.few in
     let p = err_from_is_err_and c.from_residual-in_err-running.result c.from_residual-in_err-running.ensures.1 in
-    let n : c.loop-token.tokens ≡ suc (c.loop-token.tokens - 1) = omega arith in
+    let left = c.loop-text.tokens - c.in_ok-stretch.stretch.tokens in
+    let n : left ≡ suc (left - 1) = omega arith in
     rw (p.1, p.2, c.in_err-running.ensures.err.0)
-    (behind_stops _ _ _ (behind_deep _ _ _ _ _ _ _ c.loop-token.invariant.reached _ _ _ n c.in-Some.ensures.rest _ c.in_ok-flow.ensures c.in_err-running.ensures.err.1))
+    (behind_stops _ _ _ (behind_deep _ _ _ _ _ _ _ came _ _ _ n (unended_front _ _ (search rules)) _ c.in_ok-flow.ensures c.in_err-running.ensures.err.1))
+
+pub loop-text-smaller : goal.loop-text-smaller
+loop-text-smaller g c =
+    let s = c.in_ok-stretch.ensures in
+    fewer_tokens (c.loop-text.running.now ∷ rests_of c.loop-text.rests) (rests_of c.innermost.new.rests) c.in-Some.text.now c.in_ok-stretch.stretch.len c.in_ok-stretch.stretch.tokens c.loop-text.tokens c.in-Some.ensures.rest s.moves s.few (search rules)
+
+pub loop-text-preserved : goal.loop-text-preserved
+loop-text-preserved g c =
+    let s = c.in_ok-stretch.ensures in
+    let room : length (rests_of c.innermost.new.rests) < c.args.limits.now.depth = omega (arith, c.in-Some.ensures.room, c.loop-text.invariant.room, length_rests c.innermost.new.rests) in
+    record {
+      reached = behind_stretch _ _ _ _ _ _ _ _ _ _ _ _ _ _ c.loop-text.invariant.reached c.in-Some.ensures.rest s.leads room s.few;
+      room = omega (arith, c.in-Some.ensures.room, c.loop-text.invariant.room);
+    }
 
 pub returns : goal.returns
 returns g c =
-    behind_over _ _ _ _ _ _ _ c.loop-token.invariant.reached c.in_default.ensures.rest ∙ ap Ok (sym c.finish.ensures)
+    behind_over _ _ _ _ _ _ _ c.loop-text.invariant.reached c.in_default.ensures.rest ∙ ap Ok (sym c.finish.ensures)

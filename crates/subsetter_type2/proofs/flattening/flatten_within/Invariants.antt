@@ -5,8 +5,8 @@ use Rattle.subsetter_type2.specs.View.{rests_of}
 use Rattle.subsetter_type2.specs.MachineView.{registers_of, library_of}
 use Rattle.subsetter_type2.proofs.flattening.flatten_within.Given as goal
 
-abbrev pub invariant-loop-token : goal.invariant-loop-token
-invariant-loop-token g l =
+abbrev pub invariant-loop-text : goal.invariant-loop-text
+invariant-loop-text g l =
     let library = library_of l.subroutines in
     record {
       reached : ReachedBehind l.fn.bytes.items (outcome library l.limits.tokens l.limits.depth l.charstring) library l.limits.depth l.tokens
@@ -14,5 +14,5 @@ invariant-loop-token g l =
       room : length l.rests < l.limits.depth;
     }
 
-abbrev pub decreases-loop-token : goal.decreases-loop-token
-decreases-loop-token g l = l.tokens
+abbrev pub decreases-loop-text : goal.decreases-loop-text
+decreases-loop-text g l = l.tokens

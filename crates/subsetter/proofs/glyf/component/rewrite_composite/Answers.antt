@@ -1,13 +1,20 @@
-use Rattle.std.proofs.Common.{ℕ, List, Option, ◌++◌, take, drop, sym, ap, ◌∙◌, arith}
+use Rattle.std.proofs.Common.{◌≡◌, ℕ, ◌-◌, List, Option, ◌++◌, length, take, drop, sym, ap, ◌∙◌, arith}
 use Rattle.std.specs.Option.{ok_or}
+use Rattle.subsetter_base.proofs.Lists.{rest_of}
 use Rattle.subsetter_base.specs.declared.error.Error.TheVariants.{MalformedFont}
 use Rattle.subsetter.specs.Glyf.Plain.{written_behind}
 use Rattle.subsetter.specs.Glyf.View.{component_seen}
-use Rattle.subsetter.proofs.GlyfLaws.Chains.{with_front, chain_text, text_goes_on, text_ends, text_fails, composite_short, composite_behind}
+use Rattle.subsetter.proofs.GlyfLaws.Chains.{with_front, chain_text, text_fails, composite_short, composite_behind}
+use Rattle.subsetter.proofs.GlyfLaws.Renumbering.{underway_starts, underway_next, underway_ends}
 use Rattle.subsetter.proofs.glyf.component.rewrite_composite.Goals as goal
 
 pub returns-then-outline-lt10 : goal.returns-then-outline-lt10
 returns-then-outline-lt10 c = ap (written_behind c.args.before.items) (composite_short c.args.order.now c.args.outline.now (omega arith))
+
+pub loop-component-init : goal.loop-component-init
+loop-component-init c =
+    let outline = c.args.outline.now in
+    underway_starts c.args.order.now c.args.before.items outline c.extend_from_slice.new.self.items _ (omega arith) c.in_ok-extend_from_slice.ensures.items (rest_of 10 outline)
 
 pub returns-in_default : goal.returns-in_default
 returns-in_default c =
@@ -15,7 +22,7 @@ returns-in_default c =
     let outline = c.args.outline.now in
     let before = c.args.before.items in
     let total = with_front (before ++ take 10 outline) (chain_text order (drop 10 outline)) in
-    composite_behind before order outline (omega arith) ∙ ap (λ (o : Option (List ℕ)). ok_or o MalformedFont) (text_fails order c.loop-component.out.items c.loop-component.rest.now total (sym c.in_default.ensures) c.loop-component.invariant)
+    composite_behind before order outline (omega arith) ∙ ap (λ (o : Option (List ℕ)). ok_or o MalformedFont) (text_fails order _ c.loop-component.rest.now total (sym c.in_default.ensures) c.loop-component.invariant.whole)
 
 pub returns-then-not-has_more : goal.returns-then-not-has_more
 returns-then-not-has_more c =
@@ -23,11 +30,18 @@ returns-then-not-has_more c =
     let outline = c.args.outline.now in
     let before = c.args.before.items in
     let total = with_front (before ++ take 10 outline) (chain_text order (drop 10 outline)) in
-    let is = text_ends order c.loop-component.out.items c.loop-component.rest.now (component_seen c.in-Some.component) c.write_component.new.out.items c.write_tail.new.out.items c.after-rest.result.now total (sym c.in-Some.ensures) (sym c.if-not-has_more.ensures) c.in_ok-write_component.ensures.ok c.after-rest.ensures c.in_ok-write_tail.ensures.ok c.loop-component.invariant in
+    let left = length c.loop-component.rest.now in
+    let at = c.len.result - left in
+    let place : at ≡ length c.loop-component.out.items - left = omega (arith, c.len.ensures) in
+    let is = underway_ends order c.loop-component.out.items c.loop-component.rest.now at (component_seen c.in-Some.component) c.renumber.new.out.items c.behind_component-rest.result.now c.cut_tail.new.out.items total c.loop-component.invariant place (sym c.in-Some.ensures) c.renumber.ensures c.behind_component-rest.ensures (sym c.if-not-has_more.ensures) c.cut_tail.ensures in
     composite_behind before order outline (omega arith) ∙ ap (λ (o : Option (List ℕ)). ok_or o MalformedFont) is
 
 pub loop-component-preserved : goal.loop-component-preserved
 loop-component-preserved c =
     let order = c.args.order.now in
     let outline = c.args.outline.now in
-    text_goes_on order c.loop-component.out.items c.loop-component.rest.now (component_seen c.in-Some.component) c.write_component.new.out.items c.after-rest.result.now (with_front (c.args.before.items ++ take 10 outline) (chain_text order (drop 10 outline))) (sym c.in-Some.ensures) (sym c.if-not-has_more.ensures) c.in_ok-write_component.ensures.ok c.after-rest.ensures c.loop-component.invariant
+    let total = with_front (c.args.before.items ++ take 10 outline) (chain_text order (drop 10 outline)) in
+    let left = length c.loop-component.rest.now in
+    let at = c.len.result - left in
+    let place : at ≡ length c.loop-component.out.items - left = omega (arith, c.len.ensures) in
+    underway_next order c.loop-component.out.items c.loop-component.rest.now at (component_seen c.in-Some.component) c.renumber.new.out.items c.behind_component-rest.result.now total c.loop-component.invariant place (sym c.in-Some.ensures) c.renumber.ensures c.behind_component-rest.ensures (sym c.if-not-has_more.ensures)

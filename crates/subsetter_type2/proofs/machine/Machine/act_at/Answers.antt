@@ -1,12 +1,20 @@
-use Rattle.std.proofs.Common.{sym, subst, ◌<◌, arith, get_or}
-use Rattle.subsetter_type2.specs.Machine.{Act}
+use Rattle.std.proofs.Common.{List, ℕ, Ok, ap, append-nil, sym, subst}
+use Rattle.subsetter_type2.specs.Machine.{Act, Back}
 use Rattle.subsetter_type2.specs.MachineView.{registers_of, library_of, Performs}
-use Rattle.subsetter_type2.proofs.Operating.{operates}
+use Rattle.subsetter_type2.proofs.Operating.{returns_at, calls_local_at, calls_global_at}
 use Rattle.subsetter_type2.proofs.machine.Machine.act_at.Goals as goal
 
-pub returns : goal.returns
-returns g c =
-    let low : get_or c.args.bytes.now 0 0 < 32 = omega arith in
-    let whole = operates (library_of c.args.subroutines.now) c.args.bytes.now (registers_of g.S.Sink.written c.args.self.now) c.one_byte_effect.result c.in-len1-up.len_at_least low c.if-first-eq28.false c.if-first-eq12.false
-    c.one_byte_effect.ensures in
-    subst (λ (a : Act). Performs a g.S.Sink.written c.args.self.now c.operate.new.self c.operate.result) (sym whole) c.operate.ensures
+pub returns-then-first-eq11 : goal.returns-then-first-eq11
+returns-then-first-eq11 g c =
+    rw (returns_at (library_of c.args.subroutines.now) c.args.bytes.now (registers_of g.S.Sink.written c.args.self.now) c.in-len1-up.len_at_least c.if-first-eq11.true)
+    (ap (λ (b : List ℕ). Ok (record { registers = registers_of g.S.Sink.written c.args.self.now; settled = b; lead = Back })) (append-nil (g.S.Sink.written c.args.self.now.output).settled))
+
+pub returns-then-first-eq10 : goal.returns-then-first-eq10
+returns-then-first-eq10 g c =
+    let whole = calls_local_at (library_of c.args.subroutines.now) c.args.bytes.now (registers_of g.S.Sink.written c.args.self.now) c.in-len1-up.len_at_least c.if-first-eq10.true in
+    subst (λ (a : Act). Performs a g.S.Sink.written c.args.self.now c.call.new.self c.call.result) (sym whole) c.call.ensures
+
+pub returns-then-first-eq29 : goal.returns-then-first-eq29
+returns-then-first-eq29 g c =
+    let whole = calls_global_at (library_of c.args.subroutines.now) c.args.bytes.now (registers_of g.S.Sink.written c.args.self.now) c.in-len1-up.len_at_least c.if-first-eq29.true in
+    subst (λ (a : Act). Performs a g.S.Sink.written c.args.self.now c.call-then-first-eq29.new.self c.call-then-first-eq29.result) (sym whole) c.call-then-first-eq29.ensures

@@ -1,9 +1,11 @@
-use Rattle.std.proofs.Common.{◌∙◌}
-use Rattle.subsetter_type2.proofs.OutputLemmas.{ends_after_push}
+use Rattle.std.proofs.Common.{refl}
+use Rattle.subsetter_type2.proofs.OutputLemmas.{holds_at, stands_more, written_is}
 use Rattle.subsetter_type2.proofs.output.OutputSink.push.Goals as goal
 
 pub invariant_of-self-2 : goal.invariant_of-self-2
 invariant_of-self-2 c =
-    ends_after_push c.self.inside.bytes.items _ _ c.self.inside.operands _ _ c.push.ensures
-    c.in_ok-append.ensures.ok
-    (c.len-place.ensures ∙ c.self.inside.bytes.ok.0) c.self.invariant
+    holds_at _ _ _ _ _ (stands_more _ _ _ _ _ _ c.args.value c.self.invariant.stands c.requires.fits c.in_ok-append.ensures.ok refl) refl
+
+pub returns-clause-ok : goal.returns-clause-ok
+returns-clause-ok c =
+    rw (← c.self.view_is) (written_is _ _ _ _ (stands_more _ _ _ _ _ _ c.args.value c.self.invariant.stands c.requires.fits c.in_ok-append.ensures.ok refl))
