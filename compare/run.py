@@ -14,7 +14,7 @@ It builds both drivers, which have the same words, print the same lines and time
     floor     gcc's build of floor.c, which copies and sums the output's bytes and does nothing else
     binding   with --binding: the original's driver over the Rust binding (binding.py), which shows what the crossing costs
 Then it subsets each font to 3, 80, 2,000 and all glyphs by all, once with low numbers in order and once with numbers
-that are spread over the whole face and jumbled, in three rounds that take turns, and last gives damaged copies to the
+that are spread over the whole face and jumbled, in five rounds that take turns, and last gives damaged copies to the
 port and the original.
 It prints four tables and writes them to compare/build/report.md:
     bytes     `same`, or the first place where the outputs differ and the table that it is in
@@ -55,7 +55,8 @@ BINDING = os.path.join(HERE, "binding", "target", "release", "binding_bench")
 PORT = os.path.join(ROOT, "crates", "subset_bench", "out", "subset_bench")
 HARFBUZZ = os.path.join(BUILD, "harfbuzz_bench")
 FLOOR = os.path.join(BUILD, "floor_bench")
-CALLS_AT_MOST = 5000
+ROUNDS = 5
+CALLS_AT_MOST = 100_000
 
 
 def run(program, task, room, counted=False):
@@ -121,14 +122,14 @@ def case(drivers, beside, task, seconds, room):
 
 
 def least_times(timed, seconds, room):
-    """The least time and the least median of each program at its task, in three rounds that take turns."""
+    """The least time and the least median of each program at its task, in rounds that take turns."""
     least = {}
-    for _ in range(3):
+    for _ in range(ROUNDS):
         for name, (program, task) in timed.items():
             before = least.get(name) or answer(run(program, [*task, 1], room)[0])[1:][::-1]
             if not before:
                 continue
-            calls = max(5, min(CALLS_AT_MOST, int(seconds * 1e9 / max(1, before[0]))))
+            calls = max(3, min(CALLS_AT_MOST, int(seconds * 1e9 / max(1, before[0]))))
             _, median, fastest = answer(run(program, [*task, calls], room)[0])
             least[name] = min(fastest, before[0]), min(median, before[1])
     return least
