@@ -14,7 +14,7 @@ It builds both drivers, which have the same words, print the same lines and time
     floor     gcc's build of floor.c, which copies and sums the output's bytes and does nothing else
     binding   with --binding: the original's driver over the Rust binding (binding.py), which shows what the crossing costs
 Then it subsets each font to 3, 80, 2,000 and all glyphs by all, once with low numbers in order and once with numbers
-that are spread over the whole face and jumbled, in five rounds that take turns, and last gives damaged copies to the
+that are spread over the whole face and jumbled, in twelve rounds that take turns, and last gives damaged copies to the
 port and the original.
 It prints four tables and writes them to compare/build/report.md:
     bytes     `same`, or the first place where the outputs differ and the table that it is in
@@ -30,7 +30,7 @@ It prints four tables and writes them to compare/build/report.md:
 
 The fonts have TrueType outlines; with --cff they have CFF outlines, and with --all both kinds stand in one run.
 --original-only leaves the port out; --only WORD takes the fonts whose file names have this word; --copies N takes N
-damaged copies (2000; 0 for none); --seconds S gives each driver about S seconds a case and round (0.3). --growth FILE
+damaged copies (2000; 0 for none); --seconds S gives each driver about S seconds a case and round (0.05). --growth FILE
 does none of this: it times growing numbers of glyphs of four fonts (growth.py), and draws them into FILE, an SVG.
 """
 import argparse
@@ -55,7 +55,7 @@ BINDING = os.path.join(HERE, "binding", "target", "release", "binding_bench")
 PORT = os.path.join(ROOT, "crates", "subset_bench", "out", "subset_bench")
 HARFBUZZ = os.path.join(BUILD, "harfbuzz_bench")
 FLOOR = os.path.join(BUILD, "floor_bench")
-ROUNDS = 5
+ROUNDS = 12
 CALLS_AT_MOST = 100_000
 
 
@@ -129,7 +129,7 @@ def least_times(timed, seconds, room):
             before = least.get(name) or answer(run(program, [*task, 1], room)[0])[1:][::-1]
             if not before:
                 continue
-            calls = max(3, min(CALLS_AT_MOST, int(seconds * 1e9 / max(1, before[0]))))
+            calls = max(2, min(CALLS_AT_MOST, int(seconds * 1e9 / max(1, before[0]))))
             _, median, fastest = answer(run(program, [*task, calls], room)[0])
             least[name] = min(fastest, before[0]), min(median, before[1])
     return least
@@ -234,7 +234,7 @@ def read_words():
     words.add_argument("--only", default="")
     words.add_argument("--growth")
     words.add_argument("--copies", type=int, default=2000)
-    words.add_argument("--seconds", type=float, default=0.3)
+    words.add_argument("--seconds", type=float, default=0.05)
     words.add_argument("--to", default=os.path.join(BUILD, "report.md"))
     return words.parse_args()
 
