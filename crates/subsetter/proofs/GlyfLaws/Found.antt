@@ -1,13 +1,10 @@
 -- The order in which glyphs are found is one.
-use Rattle.std.proofs.Common.{◌≡◌, ℕ, Bool, true, false, cond, List, [], ◌∷◌, ◌++◌, length, Option, Some, None, refl, sym, ap, subst, ◌∙◌, arith}
-use Rattle.std.specs.Prelude.{is_some, nat_le}
-use Rattle.std.proofs.lemmas.Bool.{leb-false}
-use Rattle.std.proofs.lemmas.List.{length_push, append-nil}
-use Rattle.std.proofs.lemmas.List.Elements.{filter-append}
+use Rattle.std.proofs.Common.{◌≡◌, ℕ, cond, List, [], ◌∷◌, ◌++◌, length, refl, sym, ap, subst, ◌∙◌, arith}
+use Rattle.std.specs.Prelude.{is_some}
+use Rattle.std.proofs.lemmas.List.{length_push}
 use Rattle.subsetter_base.specs.Places.{place}
 use Rattle.subsetter.specs.Glyf.Read.{Outlines, outline_in}
-use Rattle.subsetter.specs.Glyf.Closure.{first_byte_in, components_in, others_in, IsVisited, Finds, all_found, follows, visits}
-use Rattle.subsetter.proofs.GlyfLaws.Components.{components_simple}
+use Rattle.subsetter.specs.Glyf.Closure.{components_in, others_in, IsVisited, Finds, all_found, follows, visits}
 
 -- ---- lists with a last member
 

@@ -1,8 +1,7 @@
 -- A composite that was copied, while its components get their new numbers.
-use Rattle.std.proofs.Common.{◌≡◌, ℕ, ◌+◌, ◌-◌, ◌≤◌, Bool, true, false, cond, List, [], ◌∷◌, ◌++◌, length, take, drop, Option, Some, None, refl, sym, ap, ◌∙◌, append_assoc, arith}
+use Rattle.std.proofs.Common.{◌≡◌, ℕ, ◌+◌, ◌-◌, ◌≤◌, Bool, true, false, cond, List, [], ◌++◌, length, take, drop, Option, Some, refl, sym, ap, ◌∙◌, append_assoc, arith}
 use Rattle.std.specs.Int.{w16, to_be_bytes}
-use Rattle.std.proofs.lemmas.List.{append-nil, length-append, length-drop, length-take-le, take-append-drop, drop-drop, take_at, drop_at}
-use Rattle.subsetter_base.specs.Bytes.{range}
+use Rattle.std.proofs.lemmas.List.{append-nil, length-append, length-take-le, take-append-drop, drop-drop, take_at, drop_at}
 use Rattle.subsetter_base.proofs.ByteLemmas.{range-take_drop}
 use Rattle.subsetter.specs.Glyf.Parts.{Component, rest_size, has_more, has_instructions, component_at, spelled}
 use Rattle.subsetter.specs.Glyf.Plain.{new_number, renumbered_component}

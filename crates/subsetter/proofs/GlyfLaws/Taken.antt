@@ -5,8 +5,8 @@ use Rattle.std.specs.Borrow.{Bor}
 use Rattle.std.specs.Option.{MatchOption, option_copied, option_to_list, unwrap_or}
 use Rattle.std.proofs.lemmas.List.{take-append-le, take-map, take_more, map-append, get_or-map, get_or_append_left, take-append-drop, length-append, length-map, length-drop}
 use Rattle.subsetter.specs.Glyf.Read.{Outlines, outline_in}
-use Rattle.subsetter.specs.Glyf.Closure.{first_byte_in, AreFound, EndsWith, IsTaken, components_in, others_in}
-use Rattle.subsetter.proofs.GlyfLaws.Closure.{Follows, heads_of}
+use Rattle.subsetter.specs.Glyf.Closure.{first_byte_in, AreFound, EndsWith, IsTaken}
+use Rattle.subsetter.proofs.GlyfLaws.Closure.{heads_of}
 use Rattle.subsetter.proofs.GlyfLaws.Found.{push_same}
 
 -- ---- the first bytes that were read
@@ -78,7 +78,7 @@ pub head_taken : (t : Outlines) (glyphs all rest : List ℕ) (before n first : �
 head_taken t glyphs all rest before n first lt e is taken =
     let g = get_or glyphs n 0 in
     let parts : heads_in t (take before glyphs) ≡ heads_in t (take n glyphs) ++ first_byte_in (outline_in t g) ∷ [] =
-        ap (heads_in t) (one_taken glyphs before n lt e) ∙ map-append (λ q. first_byte_in (outline_in t q)) (take n glyphs) (g ∷ []) in
+    ap (heads_in t) (one_taken glyphs before n lt e) ∙ map-append (λ q. first_byte_in (outline_in t q)) (take n glyphs) (g ∷ []) in
     let both = push_same taken.front (heads_in t (take n glyphs)) first (first_byte_in (outline_in t g)) (sym taken.is ∙ is ∙ parts) in
     (both.1, subst (λ (l : List ℕ). EndsWith l rest) both.0 taken.ends)
 

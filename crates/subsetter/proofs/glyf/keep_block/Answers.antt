@@ -1,4 +1,4 @@
-use Rattle.std.proofs.Common.{◌≡◌, ◌+◌, Ok, get_or, drop, sym, ap, subst, ◌∙◌, rules}
+use Rattle.std.proofs.Common.{◌+◌, Ok, get_or, drop, sym, ap, subst, ◌∙◌, rules}
 use Rattle.std.specs.Option.{option_copied}
 use Rattle.std.specs.Prelude.{map}
 use Rattle.std.proofs.lemmas.Bool.{leb-true, leb-false}
@@ -6,7 +6,7 @@ use Rattle.std.proofs.lemmas.Result.{err_from_is_err_and}
 use Rattle.subsetter_base.specs.Gives.{Fails}
 use Rattle.subsetter_base.specs.declared.error.Error.TheVariants.{MalformedFont}
 use Rattle.subsetter_base.proofs.Results.{named_ok}
-use Rattle.subsetter.specs.Glyf.Plain.{kept_outline, kept_outlines, with_outlines, with_last}
+use Rattle.subsetter.specs.Glyf.Plain.{kept_outlines, with_outlines, with_last}
 use Rattle.subsetter.proofs.GlyfLaws.KeptList.{outline_at, outlines_ends, outlines_next, head_at, kept_composite, kept_simple, kept_none}
 use Rattle.subsetter.proofs.glyf.keep_block.Goals.{then-is_composite+in_ok-list, else-is_composite+in_ok-push_kept}
 use Rattle.subsetter.proofs.glyf.keep_block.Goals as goal

@@ -1,4 +1,4 @@
-use Rattle.std.proofs.Common.{◌≡◌, ◌++◌, length, take, drop}
+use Rattle.std.proofs.Common.{◌++◌, length, take, drop}
 use Rattle.subsetter.proofs.GlyfLaws.Chains.{with_front, chain_text}
 use Rattle.subsetter.proofs.GlyfLaws.Renumbering.{IsUnderway}
 use Rattle.subsetter.proofs.glyf.component.rewrite_composite.Given as goal
