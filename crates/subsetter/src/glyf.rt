@@ -6,7 +6,7 @@
 
 ghost use Rattle.std.specs.Prelude.{◌≡◌, ◌+◌, ◌<◌, ◌≤◌, ◌^◌, [], ◌++◌, ◌⊎◌, length, map, IfOk, IfErr, IfSome, OnOk, Ok, Err};
 ghost use Rattle.std.specs.Option.{option_copied};
-ghost use Rattle.subsetter_base.specs.Gives.{Gives};
+ghost use Rattle.subsetter_base.specs.Gives.{Gives, Fails};
 ghost use Rattle.subsetter_base.specs.Places.{IsWithoutRepeats};
 ghost use Rattle.subsetter.specs.Glyf.Closure.{first_byte_in, AreFound, EndsWith, IsTaken, components_in, others_in, lacks_head, LacksParts, IsFaulty, IsFull, IsVisited, StopsClosure, Finds};
 ghost use Rattle.subsetter.specs.Sfnt.Read.{table_in};
@@ -118,26 +118,26 @@ fn find_outlines<'a>(
 /// Puts outlines last, each with its components under their new numbers. `heads` is room for their first bytes.
 /// `MalformedFont` where one isn't there, has one byte or is a composite that is cut.
 fn keep_block<'a>(
-    list: OutlineList<'a>,
+    list: &mut OutlineList<'a>,
     heads: &mut Vec<u8>,
     block: &[Option<&'a [u8]>],
     order: &GlyphRemapper,
-) -> Result<OutlineList<'a>, Error>
-    ensures { Gives (λ list. list) result (with_outlines list.entry (kept_outlines order.now (map option_copied block.now))) }
+) -> Result<(), Error>
+    ensures ok { OnOk result (with_outlines list.old (kept_outlines order.now (map option_copied block.now)) ≡ Ok list.new) }
+    ensures err { IfErr result (λ e. Fails e (with_outlines list.old (kept_outlines order.now (map option_copied block.now)))) }
 {
     read_first_bytes(heads, block)?;
-    let mut list = list;
     let mut place: usize = 0;
     for outline in block {
         let outline = outline.ok_or(Error::MalformedFont)?;
         if is_composite(heads[place]) {
-            list = list.push_composite(outline, order)?;
+            list.push_composite(outline, order)?;
         } else {
             list.push_kept(outline)?;
         }
         place += 1;
     }
-    Ok(list)
+    Ok(())
 }
 
 /// Outlines that were looked up, each as it stands in the new `glyf` but for its padding.
@@ -155,7 +155,7 @@ pub fn subset<'a>(
     let mut at: usize = 0;
     while at < found.len() {
         let count = (found.len() - at).min(BLOCK);
-        list = keep_block(list, &mut heads, &found[at..at + count], order)?;
+        keep_block(&mut list, &mut heads, &found[at..at + count], order)?;
         at += count;
     }
     list.shrink_to_fit();
