@@ -12,3 +12,4 @@ pub mod Parts
 pub mod Renumbering
 pub mod Unfold
 pub mod Found
+pub mod Taken

@@ -6,9 +6,9 @@
 
 ghost use Rattle.std.specs.Prelude.{◌≡◌, ◌+◌, ◌<◌, ◌≤◌, ◌^◌, [], ◌++◌, ◌⊎◌, length, map, IfOk, IfErr, IfSome, OnOk, Ok, Err};
 ghost use Rattle.std.specs.Option.{option_copied};
-ghost use Rattle.subsetter_base.specs.Gives.{Gives};
+ghost use Rattle.subsetter_base.specs.Gives.{Gives, Fails};
 ghost use Rattle.subsetter_base.specs.Places.{IsWithoutRepeats};
-ghost use Rattle.subsetter.specs.Glyf.Closure.{first_byte_in, AreFound, composites_in, components_in, others_in, lacks_head, IsFaulty, IsFull, IsVisited, StopsClosure, Finds};
+ghost use Rattle.subsetter.specs.Glyf.Closure.{first_byte_in, AreFound, EndsWith, IsTaken, components_in, others_in, lacks_head, LacksParts, IsFaulty, IsFull, IsVisited, StopsClosure, Finds};
 ghost use Rattle.subsetter.specs.Sfnt.Read.{table_in};
 ghost use Rattle.subsetter.specs.Glyf.Read.{offset, outline_in};
 ghost use Rattle.subsetter.specs.Glyf.View.{seen};
@@ -118,26 +118,26 @@ fn find_outlines<'a>(
 /// Puts outlines last, each with its components under their new numbers. `heads` is room for their first bytes.
 /// `MalformedFont` where one isn't there, has one byte or is a composite that is cut.
 fn keep_block<'a>(
-    list: OutlineList<'a>,
+    list: &mut OutlineList<'a>,
     heads: &mut Vec<u8>,
     block: &[Option<&'a [u8]>],
     order: &GlyphRemapper,
-) -> Result<OutlineList<'a>, Error>
-    ensures { Gives (λ list. list) result (with_outlines list.entry (kept_outlines order.now (map option_copied block.now))) }
+) -> Result<(), Error>
+    ensures ok { OnOk result (with_outlines list.old (kept_outlines order.now (map option_copied block.now)) ≡ Ok list.new) }
+    ensures err { IfErr result (λ e. Fails e (with_outlines list.old (kept_outlines order.now (map option_copied block.now)))) }
 {
     read_first_bytes(heads, block)?;
-    let mut list = list;
     let mut place: usize = 0;
     for outline in block {
         let outline = outline.ok_or(Error::MalformedFont)?;
         if is_composite(heads[place]) {
-            list = list.push_composite(outline, order)?;
+            list.push_composite(outline, order)?;
         } else {
             list.push_kept(outline)?;
         }
         place += 1;
     }
-    Ok(list)
+    Ok(())
 }
 
 /// Outlines that were looked up, each as it stands in the new `glyf` but for its padding.
@@ -155,7 +155,7 @@ pub fn subset<'a>(
     let mut at: usize = 0;
     while at < found.len() {
         let count = (found.len() - at).min(BLOCK);
-        list = keep_block(list, &mut heads, &found[at..at + count], order)?;
+        keep_block(&mut list, &mut heads, &found[at..at + count], order)?;
         at += count;
     }
     list.shrink_to_fit();
@@ -174,19 +174,17 @@ fn lacks_head(outline: &[u8]) -> bool
     }
 }
 
-/// Puts the components of a glyph that are not in the order behind those that wait.
-/// `MalformedFont` where the glyph has one byte or is a composite that is shorter than its head.
+/// Puts the components of a composite that are not in the order behind those that wait.
+/// `MalformedFont` where the outline has one byte or is shorter than its head.
 fn push_components(
-    table: &OutlineTables<'_>,
+    outline: Option<&[u8]>,
     order: &GlyphRemapper,
     waiting: &mut Vec<u16>,
-    glyph: u16,
 ) -> Result<(), Error>
-    ensures ok { OnOk result (waiting.new.items ≡ waiting.old.items ++ others_in order.now (components_in (outline_in (seen table.now) glyph))) }
-    ensures few { OnOk result (length waiting.new.items < length waiting.old.items + 2 ^ 32) }
-    ensures err { IfErr result (λ e. (e ≡ OutOfMemory) ⊎ ((e ≡ MalformedFont) × IsFaulty (seen table.now) glyph)) }
+    ensures ok { OnOk result (waiting.new.items ≡ waiting.old.items ++ others_in order.now (components_in (option_copied outline.entry))) }
+    ensures err { IfErr result (λ e. (e ≡ OutOfMemory) ⊎ ((e ≡ MalformedFont) × LacksParts (option_copied outline.entry))) }
 {
-    let Some(outline) = table.glyph_data(glyph) else {
+    let Some(outline) = outline else {
         return Ok(());
     };
     if lacks_head(outline) {
@@ -198,6 +196,25 @@ fn push_components(
         }
     }
     Ok(())
+}
+
+/// Puts the components of an outline with this first byte, which a simple one doesn't have, behind those that wait.
+/// `MalformedFont` where the outline has one byte or is a composite that is shorter than its head.
+fn follow(
+    first: u8,
+    outline: Option<&[u8]>,
+    order: &GlyphRemapper,
+    waiting: &mut Vec<u16>,
+) -> Result<(), Error>
+    requires { first ≡ first_byte_in (option_copied outline) }
+    ensures ok { OnOk result (waiting.new.items ≡ waiting.old.items ++ others_in order.now (components_in (option_copied outline.entry))) }
+    ensures err { IfErr result (λ e. (e ≡ OutOfMemory) ⊎ ((e ≡ MalformedFont) × LacksParts (option_copied outline.entry))) }
+{
+    if is_composite(first) {
+        push_components(outline, order, waiting)
+    } else {
+        Ok(())
+    }
 }
 
 /// Takes a glyph that waited: a new one goes last in the order, its outline last, and its components wait.
@@ -222,8 +239,10 @@ fn visit<'a>(
         return Err(Error::OverflowError);
     }
     order.remap(glyph)?;
-    outlines.push(table.glyph_data(glyph))?;
-    push_components(table, order, waiting, glyph)
+    let outline = table.glyph_data(glyph);
+    outlines.push(outline)?;
+    follow(first_byte(outline), outline, order, waiting)?;
+    Ok(())
 }
 
 /// The first byte of an outline, 0 where there is none. A glyph of one byte counts as a composite: the closure finds it
@@ -252,37 +271,26 @@ fn read_first_bytes(heads: &mut Vec<u8>, outlines: &[Option<&[u8]>]) -> Result<(
     Ok(())
 }
 
-/// The composites among the glyphs of a remapper, as a stack whose last member is taken first.
-fn stacked(
-    alloc: Global,
-    table: &OutlineTables<'_>,
-    mapper: &GlyphRemapper,
-    outlines: &[Option<&[u8]>],
-) -> Result<Vec<u16>, Error>
-    requires { AreFound (seen table.now) mapper.now outlines.now }
-    ensures ok { IfOk result (λ v. v.items ≡ composites_in (seen table.now) mapper.now) }
+/// Takes the first byte of the last of some outlines, where `heads` are the first bytes of those at the end.
+/// Where there are none, a block of them is read.
+fn take_head(heads: &mut Vec<u8>, outlines: &[Option<&[u8]>]) -> Result<u8, Error>
+    requires some { 1 ≤ length outlines.now }
+    requires ends { EndsWith (map (λ o. first_byte_in (option_copied o)) outlines.now) heads.old.items }
+    ensures ok { IfOk result (λ first. IsTaken (map (λ o. first_byte_in (option_copied o)) outlines.now) first heads.new.items) }
     ensures err { IfErr result (λ e. e ≡ OutOfMemory) }
-    ensures once { IsWithoutRepeats mapper.now }
-    ensures few { length mapper.now < 65536 }
 {
-    // What `num_gids` says of the mapper is promised here too.
-    let _count = mapper.num_gids();
-    let mut heads = Vec::with_capacity(alloc, outlines.len())?;
-    read_first_bytes(&mut heads, outlines)?;
-    let mut glyphs = Vec::new(alloc);
-    let mut place: usize = 0;
-    for glyph in mapper.remapped_gids() {
-        if is_composite(heads[place]) {
-            glyphs.push(glyph)?;
-        }
-        place += 1;
+    if let Some(first) = heads.pop() {
+        return Ok(first);
     }
-    Ok(glyphs)
+    let start = outlines.len().saturating_sub(BLOCK);
+    read_first_bytes(heads, &outlines[start..])?;
+    Ok(heads.pop().unwrap_or(0))
 }
 
 /// The mapper's glyphs, and then each further one that they reach through components, with the outlines of all.
 ///
-/// The last of the waiting glyphs is taken first, and the mapper's glyphs lie below all others.
+/// The last of the waiting glyphs is taken first, and the mapper's glyphs lie below all others. The outlines of these are
+/// begun a block at a time, and the components of a block are read while it is at hand.
 /// `OverflowError` where all 65536 numbers are reached; `MalformedFont` where a reached glyph has
 /// one byte or is a composite that is shorter than its head.
 pub fn closure<'a>(
@@ -297,10 +305,13 @@ pub fn closure<'a>(
 {
     let mut order = mapper.clone()?;
     let mut outlines = find_outlines(alloc, table, mapper)?;
-    let mut given = stacked(alloc, table, mapper, &outlines)?;
+    let mut left = mapper.num_gids() as usize;
+    let mut heads = Vec::with_capacity(alloc, left.min(BLOCK))?;
     let mut waiting = Vec::new(alloc);
-    while let Some(glyph) = given.pop() {
-        push_components(table, &order, &mut waiting, glyph)?;
+    while left > 0 {
+        let first = take_head(&mut heads, &outlines[..left])?;
+        left -= 1;
+        follow(first, outlines[left], &order, &mut waiting)?;
         while let Some(component) = waiting.pop() {
             visit(table, &mut order, &mut outlines, &mut waiting, component)?;
         }

@@ -1,12 +1,12 @@
 -- The glyphs that a list reaches, while they are found.
 use Rattle.std.proofs.Common.{◌≡◌, ℕ, zero, suc, ◌+◌, ◌-◌, ◌*◌, ◌^◌, ◌<◌, ◌≤◌, Bool, true, false, cond, ltb, ◌&&◌, List, [], ◌∷◌, ◌++◌, length, drop, Option, Some, None, refl, sym, ap, subst, ◌∙◌, ◌⊎◌, inl, inr, append_assoc, arith}
-use Rattle.std.specs.Prelude.{Contains, is_some, map, not, nat_le}
+use Rattle.std.specs.Prelude.{Contains, IfSome, is_some, map, not, nat_le}
 use Rattle.std.specs.Borrow.{Bor}
 use Rattle.std.specs.Option.{option_and_then, option_copied}
 use Rattle.std.proofs.lemmas.Bool.{ltb-true, leb-false}
 use Rattle.std.proofs.lemmas.List.{append-nil, length_push, length-append}
 use Rattle.std.proofs.lemmas.List.Elements.{Contains-append_left, Contains-append_right, Contains-append_cases, Contains-push, Contains-push_cases}
-use Rattle.subsetter_base.specs.Places.{place, IsWithoutRepeats}
+use Rattle.subsetter_base.specs.Places.{place, with_glyph, IsWithoutRepeats}
 use Rattle.subsetter_base.proofs.PlaceLemmas.{IsWithoutRepeats-push}
 use Rattle.subsetter_base.proofs.GlyphLemmas.{place-Contains, length-le_small, small-push}
 use Rattle.subsetter.specs.Glyf.Read.{Outlines, outline_in}
@@ -18,7 +18,7 @@ use Rattle.subsetter_base.specs.declared.error.Error.TheVariants.{OutOfMemory, M
 use Rattle.subsetter_base.proofs.Lists.{Contains-later}
 use Rattle.subsetter_base.proofs.Options.{none_of}
 use Rattle.subsetter.proofs.GlyfLaws.Components.{components_few, components_simple}
-use Rattle.subsetter.specs.Glyf.Closure.{first_byte_in, AreFound, is_composite_in, composites_in, components_in, others_in, lacks_head, IsFaulty, IsFull, IsVisited, StopsClosure, no_memory, faulty_glyph, all_reached}
+use Rattle.subsetter.specs.Glyf.Closure.{first_byte_in, AreFound, components_in, others_in, lacks_head, IsFaulty, IsFull, IsVisited, StopsClosure, no_memory, faulty_glyph, all_reached}
 
 -- ---- members of a list
 
@@ -77,23 +77,6 @@ pub record Follows (t : Outlines) (glyphs left waiting order : List ℕ) : Type 
   pub waits : (g : ℕ) → Contains waiting g → Reached t glyphs g
   pub closed : (g h : ℕ) → Contains order g → Contains (components_in (outline_in t g)) h → Contains left g ⊎ (Contains order h ⊎ Contains waiting h)
 
--- the composites are among the glyphs
-composites_are : (t : Outlines) (glyphs : List ℕ) (h : ℕ) → Contains (composites_in t glyphs) h → Contains glyphs h
-composites_are t [] h c = c
-composites_are t (g ∷ glyphs) h c = by (λ d. composites_are t glyphs h d) (is_composite_in t g) c
-  where
-    by : (Contains (composites_in t glyphs) h → Contains glyphs h) → (b : Bool) → Contains (cond b (g ∷ composites_in t glyphs) (composites_in t glyphs)) h → Contains (g ∷ glyphs) h
-    by again true d = elim (cons_cases g h (composites_in t glyphs) d) [ inl is ↦ here g h glyphs is | inr later ↦ Contains-later g h glyphs (again later) ]
-    by again false d = Contains-later g h glyphs (again d)
-
-composites_have : (t : Outlines) (glyphs : List ℕ) (h : ℕ) → Contains glyphs h → is_composite_in t h ≡ true → Contains (composites_in t glyphs) h
-composites_have t [] h c is = absurd (no_member h c)
-composites_have t (g ∷ glyphs) h c is = by (λ d. composites_have t glyphs h d is) (is_composite_in t g) refl
-  where
-    by : (Contains glyphs h → Contains (composites_in t glyphs) h) → (b : Bool) → is_composite_in t g ≡ b → Contains (cond b (g ∷ composites_in t glyphs) (composites_in t glyphs)) h
-    by again true e = elim (cons_cases g h glyphs c) [ inl same ↦ here g h (composites_in t glyphs) same | inr later ↦ Contains-later g h (composites_in t glyphs) (again later) ]
-    by again false e = elim (cons_cases g h glyphs c) [ inl same ↦ absurd (let k = sym e ∙ ap (is_composite_in t) same ∙ is in cc) | inr later ↦ again later ]
-
 -- the first bytes of outlines that were looked up
 pub heads_of : (t : Outlines) (glyphs : List ℕ) (found : List (Option (Bor (List ℕ)))) → AreFound t glyphs found → map (λ o. first_byte_in (option_copied o)) found ≡ map (λ g. first_byte_in (outline_in t g)) glyphs
 heads_of t glyphs found is = apart found ∙ ap (map first_byte_in) is ∙ joined glyphs
@@ -106,28 +89,17 @@ heads_of t glyphs found is = apart found ∙ ap (map first_byte_in) is ∙ joine
     joined [] = refl
     joined (g ∷ gs) = ap (λ (l : List ℕ). first_byte_in (outline_in t g) ∷ l) (joined gs)
 
--- the others have no components
-simple_none : (o : Option (List ℕ)) (h : ℕ) → nat_le 128 (first_byte_in o) ≡ false → Contains (components_in o) h → ⊥
-simple_none None h e c = no_member h c
-simple_none (Some []) h e c = no_member h (subst (λ (l : List ℕ). Contains l h) (components_simple [] (omega arith)) c)
-simple_none (Some (a ∷ [])) h e c = absurd cc
-simple_none (Some (a ∷ b ∷ bytes)) h e c = no_member h (subst (λ (l : List ℕ). Contains l h) (components_simple (a ∷ b ∷ bytes) (leb-false 128 a e)) c)
-
-pub begin : (t : Outlines) (glyphs left : List ℕ) → left ≡ composites_in t glyphs → IsWithoutRepeats glyphs → length glyphs < 65536 → Follows t glyphs left [] glyphs
-begin t glyphs left same once room = record {
+pub begin : (t : Outlines) (glyphs : List ℕ) → IsWithoutRepeats glyphs → length glyphs < 65536 → Follows t glyphs glyphs [] glyphs
+begin t glyphs once room = record {
   others = [];
   begins = sym (append-nil glyphs);
   once = once;
   room = room;
-  are_given = λ g c. composites_are t glyphs g (subst (λ (l : List ℕ). Contains l g) same c);
+  are_given = λ g c. c;
   reached = λ g c. given g c;
   waits = λ g c. absurd (no_member g c);
-  closed = λ g h at c. by g h at c (is_composite_in t g) refl;
+  closed = λ g h at c. inl at;
 }
-  where
-    by : (g h : ℕ) → Contains glyphs g → Contains (components_in (outline_in t g)) h → (b : Bool) → is_composite_in t g ≡ b → Contains left g ⊎ (Contains glyphs h ⊎ Contains {X = ℕ} [] h)
-    by g h at c true e = inl (subst (λ (l : List ℕ). Contains l g) (sym same) (composites_have t glyphs g at e))
-    by g h at c false e = absurd (simple_none (outline_in t g) h e c)
 
 -- a given glyph was followed
 pub follow : (t : Outlines) (glyphs left waiting order : List ℕ) (g : ℕ) (after : List ℕ) → after ≡ waiting ++ others_in order (components_in (outline_in t g)) → Follows t glyphs (left ++ g ∷ []) waiting order → Follows t glyphs left after order
@@ -257,8 +229,8 @@ overflows t glyphs left waiting order g full f q lt =
 
 -- ---- the steps, as the code takes them
 
-pub start : (t : Outlines) (glyphs left order : List ℕ) → left ≡ composites_in t glyphs → order ≡ glyphs → IsWithoutRepeats glyphs → length glyphs < 65536 → Follows t glyphs left [] order
-start t glyphs left order a b once room = subst (λ (l : List ℕ). Follows t glyphs left [] l) (sym b) (begin t glyphs left a once room)
+pub start : (t : Outlines) (glyphs left order : List ℕ) → left ≡ glyphs → order ≡ glyphs → IsWithoutRepeats glyphs → length glyphs < 65536 → Follows t glyphs left [] order
+start t glyphs left order a b once room = subst (λ (l : List ℕ). Follows t glyphs l [] order) (sym a) (subst (λ (l : List ℕ). Follows t glyphs glyphs [] l) (sym b) (begin t glyphs once room))
 
 pub followed : (t : Outlines) (glyphs before left waiting order : List ℕ) (g : ℕ) (after : List ℕ) → before ≡ left ++ g ∷ [] → waiting ≡ [] → after ≡ waiting ++ others_in order (components_in (outline_in t g)) → Follows t glyphs before [] order → Follows t glyphs left after order
 followed t glyphs before left waiting order g after e none is f =
@@ -310,7 +282,29 @@ others_few : (order ns : List ℕ) → length (others_in order ns) ≤ length ns
 others_few order [] = omega arith
 others_few order (n ∷ ns) = elim (is_some (place order n)) as (λ b. length (cond (not b) (n ∷ others_in order ns) (others_in order ns)) ≤ length (n ∷ ns)) [ true ↦ omega (arith, others_few order ns) | false ↦ omega (arith, others_few order ns) ]
 
-pub few_more : (waiting rest before order bytes : List ℕ) (o : Option (List ℕ)) → waiting ++ rest ≡ before ++ others_in order (components_in o) → Some bytes ≡ o → length bytes < 2 ^ 32 → length waiting < length before + 2 ^ 32
-few_more waiting rest before order bytes o is e lt =
+pub few_more : (before order bytes : List ℕ) (o : Option (List ℕ)) → Some bytes ≡ o → length bytes < 2 ^ 32 → length (before ++ others_in order (components_in o)) < length before + 2 ^ 32
+few_more before order bytes o e lt =
     let same : length (components_in o) ≡ length (component_numbers bytes) = ap (λ (p : Option (List ℕ)). length (components_in p)) (sym e) in
-    omega (arith, ap length is, length-append waiting rest, length-append before (others_in order (components_in o)), others_few order (components_in o), same, components_few bytes, lt)
+    omega (arith, length-append before (others_in order (components_in o)), others_few order (components_in o), same, components_few bytes, lt)
+
+pub few_found : (before order : List ℕ) (o : Option (Bor (List ℕ))) → IfSome o (λ b. length b.now < 2 ^ 32) → length (before ++ others_in order (components_in (option_copied o))) < length before + 2 ^ 32
+few_found before order None small = omega (arith, length-append before [])
+few_found before order (Some b) small = few_more before order b.now (Some b.now) refl small
+
+-- an outline that doesn't begin as a composite has no components
+simple_parts : (o : Option (List ℕ)) → nat_le 128 (first_byte_in o) ≡ false → components_in o ≡ []
+simple_parts None e = refl
+simple_parts (Some []) e = components_simple [] (omega arith)
+simple_parts (Some (a ∷ [])) e = absurd cc
+simple_parts (Some (a ∷ b ∷ bytes)) e = components_simple (a ∷ b ∷ bytes) (leb-false 128 a e)
+
+pub none_wait : (waiting order : List ℕ) (o : Option (List ℕ)) (first : ℕ) → first ≡ first_byte_in o → nat_le 128 first ≡ false → waiting ≡ waiting ++ others_in order (components_in o)
+none_wait waiting order o first is low =
+    sym (append-nil waiting) ∙ ap (λ (l : List ℕ). waiting ++ others_in order l) (sym (simple_parts o (sym (ap (nat_le 128) is) ∙ low)))
+
+pub room_left : (order after : List ℕ) (g : ℕ) → after ≡ with_glyph order g → length order < 65535 → length after < 65536
+room_left order after g is lt = omega (arith, ap length is, by (is_some (place order g)))
+  where
+    by : (b : Bool) → length (cond b order (order ++ g ∷ [])) ≤ length order + 1
+    by true = omega arith
+    by false = omega (arith, length_push order g)

@@ -1,8 +1,7 @@
 -- A composite that was copied, while its components get their new numbers.
-use Rattle.std.proofs.Common.{◌≡◌, ℕ, ◌+◌, ◌-◌, ◌≤◌, Bool, true, false, cond, List, [], ◌∷◌, ◌++◌, length, take, drop, Option, Some, None, refl, sym, ap, ◌∙◌, append_assoc, arith}
+use Rattle.std.proofs.Common.{◌≡◌, ℕ, ◌+◌, ◌-◌, ◌≤◌, Bool, true, false, cond, List, [], ◌++◌, length, take, drop, Option, Some, refl, sym, ap, ◌∙◌, append_assoc, arith}
 use Rattle.std.specs.Int.{w16, to_be_bytes}
-use Rattle.std.proofs.lemmas.List.{append-nil, length-append, length-drop, length-take-le, take-append-drop, drop-drop, take_at, drop_at}
-use Rattle.subsetter_base.specs.Bytes.{range}
+use Rattle.std.proofs.lemmas.List.{append-nil, length-append, length-drop, length-take-le, take-append-drop, take-append-le, take-take, drop-drop, take_at, drop_at}
 use Rattle.subsetter_base.proofs.ByteLemmas.{range-take_drop}
 use Rattle.subsetter.specs.Glyf.Parts.{Component, rest_size, has_more, has_instructions, component_at, spelled}
 use Rattle.subsetter.specs.Glyf.Plain.{new_number, renumbered_component}
@@ -75,4 +74,35 @@ underway_starts order before outline out rest le is e =
       fits = omega arith;
       behind = ap (drop (length out - length rest)) whole ∙ drop_at front rest (length out - length rest) cut;
       whole = ap (λ (l : List ℕ). with_front l (chain_text order rest)) (ap (take (length out - length rest)) whole ∙ take_at front rest (length out - length rest) cut) ∙ ap (λ (l : List ℕ). with_front front (chain_text order l)) e;
+    }
+
+-- what stood there before stays
+pub record IsBehind (before out rest : List ℕ) : Type 0 where
+  pub room : length before + length rest ≤ length out
+  pub front : take (length before) out ≡ before
+
+pub behind_starts : (before outline out rest : List ℕ) → out ≡ before ++ outline → rest ≡ drop 10 outline → IsBehind before out rest
+behind_starts before outline out rest is e = record {
+  room = omega (arith, ap length is, length-append before outline, ap length e, length-drop 10 outline);
+  front = ap (take (length before)) is ∙ take_at before outline (length before) refl;
+}
+
+pub behind_next : (before order out rest : List ℕ) (at : ℕ) (c : Component) (after_out after : List ℕ) → IsBehind before out rest → at ≡ length out - length rest → component_at rest ≡ Some c → after_out ≡ patched order out at c → after ≡ drop (4 + rest_size c.flags) rest → IsBehind before after_out after
+behind_next before order out rest at c after_out after b place h is e =
+    let k = is_component rest c h in
+    let F = to_be_bytes w16 c.flags in
+    let N = to_be_bytes w16 (new_number order c.glyph) in
+    let behind = drop (at + 4) out in
+    let room = b.room in
+    let within = k.within in
+    let at_most : at ≤ length out = omega (arith, place) in
+    let below : length before ≤ at = omega (arith, place, room) in
+    let cut : length (take at out) ≡ at = length-take-le at out at_most in
+    let two_f : length F ≡ 2 = refl in
+    let two_n : length N ≡ 2 = refl in
+    let whole : after_out ≡ take at out ++ (F ++ (N ++ behind)) = is ∙ simp append_assoc in
+    let long : length after_out ≡ length out = omega (arith, ap length whole, length-append (take at out) (F ++ (N ++ behind)), length-append F (N ++ behind), length-append N behind, cut, two_f, two_n, length-drop (at + 4) out, place, room, within) in
+    record {
+      room = omega (arith, long, room, ap length e, length-drop (4 + rest_size c.flags) rest);
+      front = ap (take (length before)) whole ∙ take-append-le (length before) (take at out) (F ++ (N ++ behind)) (omega (arith, cut, below)) ∙ take-take (length before) at out below ∙ b.front;
     }

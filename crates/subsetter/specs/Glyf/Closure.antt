@@ -1,5 +1,5 @@
 -- How the glyphs that a list reaches are found.
-use Rattle.std.specs.Prelude.{◌≡◌, ℕ, ◌+◌, ◌<◌, ◌^◌, Bool, true, false, not, ◌&&◌, List, [], ◌∷◌, ◌++◌, length, Option, Some, None, is_some, filter, map, slice_index, nat_lt, nat_le, if◌then◌else◌}
+use Rattle.std.specs.Prelude.{◌≡◌, ℕ, ◌+◌, ◌<◌, ◌^◌, Bool, true, false, not, ◌&&◌, List, [], ◌∷◌, ◌++◌, length, Option, Some, None, is_some, filter, map, slice_index, nat_lt, if◌then◌else◌}
 use Rattle.std.specs.Borrow.{Bor}
 use Rattle.std.specs.Option.{option_copied}
 use Rattle.subsetter_base.specs.Places.{place, with_glyph}
@@ -29,12 +29,16 @@ first_byte_in (Some []) = 0
 first_byte_in (Some (a ∷ [])) = 255
 first_byte_in (Some (a ∷ b ∷ bytes)) = a
 
-abbrev pub is_composite_in : Outlines → ℕ → Bool
-is_composite_in t g = nat_le 128 (first_byte_in (outline_in t g))
+-- a list ends with another
+pub record EndsWith (all end : List ℕ) : Type 0 where
+  pub front : List ℕ
+  pub is : all ≡ front ++ end
 
--- those of some glyphs that can have components
-abbrev pub composites_in : Outlines → List ℕ → List ℕ
-composites_in t glyphs = filter (λ g. is_composite_in t g) glyphs
+-- the last member of a list was taken, and what is before it ends with another list
+pub record IsTaken (all : List ℕ) (last : ℕ) (end : List ℕ) : Type 0 where
+  pub front : List ℕ
+  pub is : all ≡ front ++ last ∷ []
+  pub ends : EndsWith front end
 
 -- one byte, or a composite of fewer than ten bytes
 unfoldable pub lacks_head : List ℕ → Bool
@@ -42,11 +46,15 @@ lacks_head [] = false
 lacks_head (a ∷ []) = true
 lacks_head (a ∷ b ∷ bytes) = not (nat_lt a 128) && nat_lt (length (a ∷ b ∷ bytes)) 10
 
--- a glyph has an outline without parts
-pub record IsFaulty (t : Outlines) (g : ℕ) : Type 0 where
+-- there is an outline, but it has no parts
+pub record LacksParts (outline : Option (List ℕ)) : Type 0 where
   pub bytes : List ℕ
-  pub there : outline_in t g ≡ Some bytes
+  pub there : outline ≡ Some bytes
   pub faulty : outline_parts bytes ≡ None
+
+-- a glyph has an outline without parts
+abbrev pub IsFaulty : Outlines → ℕ → Type 0
+IsFaulty t g = LacksParts (outline_in t g)
 
 -- a list of 65535 glyphs lacks a further one
 pub record IsFull (order : List ℕ) (g : ℕ) : Type 0 where

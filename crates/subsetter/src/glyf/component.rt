@@ -1,9 +1,9 @@
 //! The components of a composite glyph (OpenType, "glyf": composite glyph description).
 
-ghost use Rattle.std.specs.Prelude.{◌≡◌, ◌+◌, ◌-◌, ◌≤◌, [], ◌++◌, length, take, drop, if◌then◌else◌, nat_le, Some};
+ghost use Rattle.std.specs.Prelude.{◌≡◌, ◌+◌, ◌-◌, ◌≤◌, [], ◌++◌, length, take, drop, if◌then◌else◌, nat_le, Some, Ok, OnOk, OnErr, IfErr};
 ghost use Rattle.std.specs.Int.{w16, to_be_bytes};
 ghost use Rattle.std.specs.Option.{option_map};
-ghost use Rattle.subsetter_base.specs.Gives.{Gives};
+ghost use Rattle.subsetter_base.specs.Gives.{Fails};
 ghost use Rattle.subsetter.specs.Glyf.View.{component_seen};
 ghost use Rattle.subsetter.specs.Glyf.Parts.{rest_size, has_more, has_instructions, component_at, numbers_at, component_numbers};
 ghost use Rattle.subsetter.specs.Glyf.Plain.{new_number, written_behind, rewritten_composite};
@@ -207,30 +207,33 @@ fn cut_tail(out: &mut Vec<u8>, flags: u16, size: usize)
 }
 
 /// Writes a composite with its components under their new numbers behind other bytes. `MalformedFont` where it is cut.
-/// It is copied as it is, and then each component gets its new number in its place.
+/// It is copied as it is, and then each component gets its new number in its place. Where that fails, nothing is written.
 pub fn rewrite_composite(
-    before: Vec<u8>,
+    out: &mut Vec<u8>,
     outline: &[u8],
     order: &GlyphRemapper,
-) -> Result<Vec<u8>, Error>
-    ensures { Gives (λ v. v.items) result (written_behind before.items (rewritten_composite order.now outline.now)) }
+) -> Result<(), Error>
+    ensures ok { OnOk result (written_behind out.old.items (rewritten_composite order.now outline.now) ≡ Ok out.new.items) }
+    ensures err { IfErr result (λ e. Fails e (written_behind out.old.items (rewritten_composite order.now outline.now))) }
+    ensures unchanged { OnErr result (out.new.items ≡ out.old.items) }
 {
     if outline.len() < 10 {
         return Err(Error::MalformedFont);
     }
-    let mut out = before;
+    let start = out.len();
     out.extend_from_slice(outline)?;
     let mut rest = &outline[10..];
     loop {
         let Some(component) = read_component(rest) else {
+            out.truncate(start);
             return Err(Error::MalformedFont);
         };
         let at = out.len() - rest.len();
-        renumber(&mut out, at, order, component);
+        renumber(out, at, order, component);
         rest = behind_component(rest, component);
         if !has_more(component.flags) {
-            cut_tail(&mut out, component.flags, rest.len());
-            return Ok(out);
+            cut_tail(out, component.flags, rest.len());
+            return Ok(());
         }
     }
 }

@@ -1,8 +1,8 @@
 //! The outlines of a new `glyf`.
 
-ghost use Rattle.std.specs.Prelude.{◌≡◌, ◌+◌, ◌<◌, ◌≤◌, ◌^◌, ◌++◌, ◌∷◌, [], length, vec_capacity, OnOk, IfOk, IfErr};
+ghost use Rattle.std.specs.Prelude.{◌≡◌, ◌+◌, ◌<◌, ◌≤◌, ◌^◌, ◌++◌, ◌∷◌, [], length, vec_capacity, Ok, OnOk, IfOk, IfErr};
 ghost use Rattle.std.specs.Iterator.{YieldsFirstRef, item_count};
-ghost use Rattle.subsetter_base.specs.Gives.{Gives};
+ghost use Rattle.subsetter_base.specs.Gives.{Fails};
 ghost use Rattle.subsetter_base.specs.declared.error.Error.TheVariants.{OutOfMemory};
 ghost use Rattle.subsetter.specs.Glyf.Plain.{rewritten_composite, with_last};
 ghost use Rattle.subsetter.specs.Glyf.Unfold.{padded};
@@ -66,31 +66,21 @@ impl<'a> OutlineList<'a> {
     }
 
     /// Puts a composite last, with its components under their new numbers. `MalformedFont` where it is cut.
-    pub fn push_composite(self, outline: &[u8], order: &GlyphRemapper) -> Result<Self, Error>
-        ensures { Gives (λ list. list) result (with_last self.entry (rewritten_composite order.now outline.now)) }
+    pub fn push_composite(&mut self, outline: &[u8], order: &GlyphRemapper) -> Result<(), Error>
+        ensures ok { OnOk result (with_last self.old (rewritten_composite order.now outline.now) ≡ Ok self.new) }
+        ensures err { IfErr result (λ e. Fails e (with_last self.old (rewritten_composite order.now outline.now))) }
     {
-        let Self {
-            kept,
-            sizes,
-            made,
-            size,
-            even_size,
-        } = self;
-        let start = made.len();
-        let made = rewrite_composite(made, outline, order)?;
-        let written = &made[start..];
+        self.kept.reserve(1)?;
+        self.sizes.reserve(1)?;
+        let start = self.made.len();
+        rewrite_composite(&mut self.made, outline, order)?;
+        let written = &self.made[start..];
         let (long_len, short_len) = (padded_len(written, true), padded_len(written, false));
-        let mut kept = kept;
-        let mut sizes = sizes;
-        kept.push(&[])?;
-        sizes.push(long_len)?;
-        Ok(Self {
-            kept,
-            sizes,
-            made,
-            size: size.saturating_add(long_len),
-            even_size: even_size.saturating_add(short_len),
-        })
+        self.kept.push(&[]).unwrap();
+        self.sizes.push(long_len).unwrap();
+        self.size = self.size.saturating_add(long_len);
+        self.even_size = self.even_size.saturating_add(short_len);
+        Ok(())
     }
 
     /// Puts an outline of the source last.

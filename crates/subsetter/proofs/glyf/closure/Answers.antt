@@ -1,10 +1,16 @@
-use Rattle.std.proofs.Common.{◌≡◌, ℕ, ◌-◌, List, [], ◌++◌, take, sym, ap, ◌∙◌}
+use Rattle.std.proofs.Common.{◌≡◌, ◌⊎◌, ℕ, ◌-◌, ◌<◌, List, [], ◌++◌, length, take, get_or, sym, ap, subst, ◌∙◌, arith}
 use Rattle.std.specs.Prelude.{map}
+use Rattle.std.specs.Option.{option_copied}
 use Rattle.std.proofs.lemmas.Result.{err_from_is_err_and}
+use Rattle.std.proofs.lemmas.List.{append-nil, length-take-le}
+use Rattle.std.proofs.Math.Seq.{take-length}
+use Rattle.subsetter.specs.Glyf.Closure.{first_byte_in, EndsWith, components_in, others_in, LacksParts}
+use Rattle.subsetter_base.specs.declared.error.Error.TheVariants.{OutOfMemory, MalformedFont}
 use Rattle.subsetter.specs.Glyf.Read.{outline_in}
 use Rattle.subsetter.specs.Glyf.View.{seen}
-use Rattle.subsetter.proofs.GlyfLaws.Closure.{start, followed, visited_next, finished, stops_memory, stops_given, stops_visit}
-use Rattle.subsetter.proofs.GlyfLaws.Found.{found_start, found_followed, found_visited, found_last}
+use Rattle.subsetter.proofs.GlyfLaws.Closure.{Follows, start, followed, visited_next, finished, stops_memory, stops_given, stops_visit}
+use Rattle.subsetter.proofs.GlyfLaws.Found.{FoundFrom, found_start, found_followed, found_visited, found_last}
+use Rattle.subsetter.proofs.GlyfLaws.Taken.{heads_in, outlines_left, heads_left, head_taken, found_at, one_taken}
 use Rattle.subsetter.proofs.glyf.closure.Goals as goal
 
 pub returns-in_err-order-clause-err : goal.returns-in_err-order-clause-err
@@ -17,51 +23,139 @@ returns-in_err-outlines-clause-err c =
     let p = err_from_is_err_and c.from_residual-in_err-outlines.result c.from_residual-in_err-outlines.ensures.1 in
     rw (p.1, p.2) (stops_memory (seen c.args.table.now) c.args.mapper.now c.in_err-outlines.field-0.0 c.in_err-outlines.ensures.err)
 
-pub returns-in_err-given-clause-err : goal.returns-in_err-given-clause-err
-returns-in_err-given-clause-err c =
-    let p = err_from_is_err_and c.from_residual-in_err-given.result c.from_residual-in_err-given.ensures.1 in
-    rw (p.1, p.2) (stops_memory (seen c.args.table.now) c.args.mapper.now c.in_err-given.field-0.0 c.in_err-given.ensures.err)
+pub loop-left-init : goal.loop-left-init
+loop-left-init c =
+    let t = seen c.args.table.now in
+    let glyphs = c.args.mapper.now in
+    let all : take c.num_gids-left.result glyphs ≡ glyphs = ap (λ n. take n glyphs) c.num_gids-left.ensures.count ∙ take-length glyphs in
+    record {
+      within = omega (arith, c.num_gids-left.ensures.count);
+      heads = record { front = heads_in t (take c.num_gids-left.result glyphs); is = sym (append-nil _) ∙ ap (λ (l : List ℕ). heads_in t (take c.num_gids-left.result glyphs) ++ l) (sym c.in_ok-heads.ensures.items) };
+      follows = start t glyphs _ c.in_ok-order.order all c.in_ok-order.ensures.ok c.num_gids-left.ensures.once (omega (arith, c.num_gids-left.ensures.few));
+      none_waits = c.new-waiting.ensures.items;
+      outlines = c.in_ok-outlines.ensures.ok ∙ ap (map (outline_in t)) (sym c.in_ok-order.ensures.ok);
+      found = found_start t glyphs _ c.in_ok-order.order all c.in_ok-order.ensures.ok;
+    }
 
-pub loop-glyph-init : goal.loop-glyph-init
-loop-glyph-init c = record {
-  follows = start (seen c.args.table.now) c.args.mapper.now c.in_ok-given.given.items c.in_ok-order.order c.in_ok-given.ensures.ok c.in_ok-order.ensures.ok c.in_ok-given.ensures.once c.in_ok-given.ensures.few;
-  none_waits = c.new-waiting.ensures.items;
-  outlines = c.in_ok-outlines.ensures.ok ∙ ap (map (outline_in (seen c.args.table.now))) (sym c.in_ok-order.ensures.ok);
-  found = found_start (seen c.args.table.now) c.args.mapper.now c.in_ok-given.given.items c.in_ok-order.order c.in_ok-given.ensures.ok c.in_ok-order.ensures.ok;
-}
+pub slice_bounds-take_head-end : goal.slice_bounds-take_head-end
+slice_bounds-take_head-end c =
+    let i = c.loop-left.invariant in
+    sym (length-take-le c.loop-left.left c.deref.result.now (outlines_left (seen c.args.table.now) c.args.mapper.now i.follows.others c.loop-left.order c.loop-left.outlines.items c.deref.result.now c.loop-left.left i.outlines i.follows.begins i.within c.deref.ensures.value))
 
-pub returns-in_err-push_components-clause-err : goal.returns-in_err-push_components-clause-err
-returns-in_err-push_components-clause-err c =
-    let p = err_from_is_err_and c.from_residual-in_err-push_components.result c.from_residual-in_err-push_components.ensures.1 in
-    rw (p.1, p.2) (stops_given (seen c.args.table.now) c.args.mapper.now c.loop-glyph.given.items c.pop.new.self.items c.loop-glyph.order c.in-Some.glyph c.in_err-push_components.field-0.0 c.in-Some.ensures.items c.loop-glyph.invariant.follows c.in_err-push_components.ensures.err)
+pub take_head-requires-clause-some : goal.take_head-requires-clause-some
+take_head-requires-clause-some c =
+    let i = c.loop-left.invariant in
+    omega (arith, c.loop-left-test.true, length-take-le c.loop-left.left c.deref.result.now (outlines_left (seen c.args.table.now) c.args.mapper.now i.follows.others c.loop-left.order c.loop-left.outlines.items c.deref.result.now c.loop-left.left i.outlines i.follows.begins i.within c.deref.ensures.value))
+
+pub take_head-requires-clause-ends : goal.take_head-requires-clause-ends
+take_head-requires-clause-ends c =
+    let i = c.loop-left.invariant in
+    subst (λ (l : List ℕ). EndsWith l c.loop-left.heads.items) (sym (heads_left (seen c.args.table.now) c.args.mapper.now i.follows.others c.loop-left.order c.loop-left.outlines.items _ c.loop-left.left (ap (take c.loop-left.left) c.deref.ensures.value) i.outlines i.follows.begins i.within)) i.heads
+
+pub returns-in_err-first-clause-err : goal.returns-in_err-first-clause-err
+returns-in_err-first-clause-err c =
+    let p = err_from_is_err_and c.from_residual-in_err-first.result c.from_residual-in_err-first.ensures.1 in
+    rw (p.1, p.2) (stops_memory (seen c.args.table.now) c.args.mapper.now c.in_err-first.field-0.0 c.in_err-first.ensures.err)
+
+pub index-requires : goal.index-requires
+index-requires c =
+    let i = c.loop-left.invariant in
+    omega (arith, c.loop-left-test.true, c.deref.ensures.len, outlines_left (seen c.args.table.now) c.args.mapper.now i.follows.others c.loop-left.order c.loop-left.outlines.items c.deref.result.now c.loop-left.left i.outlines i.follows.begins i.within c.deref.ensures.value)
+
+pub follow-requires : goal.follow-requires
+follow-requires c =
+    let i = c.loop-left.invariant in
+    let t = seen c.args.table.now in
+    let glyphs = c.args.mapper.now in
+    let n = c.loop-left.left - 1 in
+    let lt : n < length glyphs = omega (arith, c.loop-left-test.true, i.within) in
+    let all = heads_left t glyphs i.follows.others c.loop-left.order c.loop-left.outlines.items _ c.loop-left.left (ap (take c.loop-left.left) c.deref.ensures.value) i.outlines i.follows.begins i.within in
+    let taken = head_taken t glyphs _ c.take_head.new.heads.items c.loop-left.left n c.in_ok-first.first lt (omega (arith, c.loop-left-test.true)) all c.in_ok-first.ensures.ok in
+    let here = ap option_copied c.index.ensures ∙ found_at t glyphs i.follows.others c.loop-left.order c.loop-left.outlines.items n c.index.result.now i.outlines i.follows.begins lt in
+    taken.0 ∙ ap first_byte_in (sym here)
+
+pub returns-in_err-follow-clause-err : goal.returns-in_err-follow-clause-err
+returns-in_err-follow-clause-err c =
+    let p = err_from_is_err_and c.from_residual-in_err-follow.result c.from_residual-in_err-follow.ensures.1 in
+    let i = c.loop-left.invariant in
+    let t = seen c.args.table.now in
+    let glyphs = c.args.mapper.now in
+    let n = c.loop-left.left - 1 in
+    let lt : n < length glyphs = omega (arith, c.loop-left-test.true, i.within) in
+    let parts = one_taken glyphs c.loop-left.left n lt (omega (arith, c.loop-left-test.true)) in
+    let here = ap option_copied c.index.ensures ∙ found_at t glyphs i.follows.others c.loop-left.order c.loop-left.outlines.items n c.index.result.now i.outlines i.follows.begins lt in
+    let e = c.in_err-follow.field-0.0 in
+    rw (p.1, p.2) (stops_given t glyphs _ _ c.loop-left.order (get_or glyphs n 0) e parts i.follows (subst (λ o. (e ≡ OutOfMemory) ⊎ ((e ≡ MalformedFont) × LacksParts o)) here c.in_err-follow.ensures.err))
 
 pub loop-component-init : goal.loop-component-init
-loop-component-init c = record {
-  follows = followed (seen c.args.table.now) c.args.mapper.now c.loop-glyph.given.items c.pop.new.self.items c.loop-glyph.waiting.items c.loop-glyph.order c.in-Some.glyph c.push_components.new.waiting.items c.in-Some.ensures.items c.loop-glyph.invariant.none_waits c.in_ok-push_components.ensures.ok c.loop-glyph.invariant.follows;
-  outlines = c.loop-glyph.invariant.outlines;
-  found = found_followed (seen c.args.table.now) c.args.mapper.now c.loop-glyph.given.items c.pop.new.self.items c.loop-glyph.waiting.items c.loop-glyph.order c.in-Some.glyph c.push_components.new.waiting.items c.in-Some.ensures.items c.loop-glyph.invariant.none_waits c.in_ok-push_components.ensures.ok c.loop-glyph.invariant.found;
-}
+loop-component-init c =
+    let i = c.loop-left.invariant in
+    let t = seen c.args.table.now in
+    let glyphs = c.args.mapper.now in
+    let n = c.loop-left.left - 1 in
+    let order = c.loop-left.order in
+    let lt : n < length glyphs = omega (arith, c.loop-left-test.true, i.within) in
+    let g = get_or glyphs n 0 in
+    let parts = one_taken glyphs c.loop-left.left n lt (omega (arith, c.loop-left-test.true)) in
+    let here = ap option_copied c.index.ensures ∙ found_at t glyphs i.follows.others order c.loop-left.outlines.items n c.index.result.now i.outlines i.follows.begins lt in
+    let wait = subst (λ o. c.follow.new.waiting.items ≡ c.loop-left.waiting.items ++ others_in order (components_in o)) here c.in_ok-follow.ensures.ok in
+    record {
+      follows = followed t glyphs _ _ c.loop-left.waiting.items order g c.follow.new.waiting.items parts i.none_waits wait i.follows;
+      outlines = i.outlines;
+      found = found_followed t glyphs _ _ c.loop-left.waiting.items order g c.follow.new.waiting.items parts i.none_waits wait i.found;
+    }
+
+pub visit-requires : goal.visit-requires
+visit-requires c = c.loop-component.invariant.outlines
 
 pub loop-component-preserved : goal.loop-component-preserved
 loop-component-preserved c = record {
-  follows = visited_next (seen c.args.table.now) c.args.mapper.now c.pop.new.self.items c.loop-component.waiting.items c.pop-in-loop-component.new.self.items c.loop-component.order c.in-Some-pop.component c.visit.new.order c.visit.new.waiting.items c.in-Some-pop.ensures.items c.in_ok-visit.ensures.ok c.loop-component.invariant.follows;
+  follows = visited_next (seen c.args.table.now) c.args.mapper.now _ c.loop-component.waiting.items c.pop.new.self.items c.loop-component.order c.in-Some.component c.visit.new.order c.visit.new.waiting.items c.in-Some.ensures.items c.in_ok-visit.ensures.ok c.loop-component.invariant.follows;
   outlines = c.in_ok-visit.ensures.found;
-  found = found_visited (seen c.args.table.now) c.args.mapper.now c.pop.new.self.items c.loop-component.waiting.items c.pop-in-loop-component.new.self.items c.loop-component.order c.in-Some-pop.component c.visit.new.order c.visit.new.waiting.items c.in-Some-pop.ensures.items c.in_ok-visit.ensures.ok c.loop-component.invariant.found;
+  found = found_visited (seen c.args.table.now) c.args.mapper.now _ c.loop-component.waiting.items c.pop.new.self.items c.loop-component.order c.in-Some.component c.visit.new.order c.visit.new.waiting.items c.in-Some.ensures.items c.in_ok-visit.ensures.ok c.loop-component.invariant.found;
 }
 
 pub returns-in_err-visit-clause-err : goal.returns-in_err-visit-clause-err
 returns-in_err-visit-clause-err c =
     let p = err_from_is_err_and c.from_residual-in_err-visit.result c.from_residual-in_err-visit.ensures.1 in
-    rw (p.1, p.2) (stops_visit (seen c.args.table.now) c.args.mapper.now c.pop.new.self.items c.loop-component.waiting.items c.pop-in-loop-component.new.self.items c.loop-component.order c.in-Some-pop.component c.in_err-visit.field-0.0 c.in-Some-pop.ensures.items c.loop-component.invariant.follows c.in_err-visit.ensures.err)
+    rw (p.1, p.2) (stops_visit (seen c.args.table.now) c.args.mapper.now _ c.loop-component.waiting.items c.pop.new.self.items c.loop-component.order c.in-Some.component c.in_err-visit.field-0.0 c.in-Some.ensures.items c.loop-component.invariant.follows c.in_err-visit.ensures.err)
+
+pub loop-left-preserved : goal.loop-left-preserved
+loop-left-preserved c =
+    let i = c.loop-left.invariant in
+    let t = seen c.args.table.now in
+    let glyphs = c.args.mapper.now in
+    let n = c.loop-left.left - 1 in
+    let lt : n < length glyphs = omega (arith, c.loop-left-test.true, i.within) in
+    let all = heads_left t glyphs i.follows.others c.loop-left.order c.loop-left.outlines.items _ c.loop-left.left (ap (take c.loop-left.left) c.deref.ensures.value) i.outlines i.follows.begins i.within in
+    let taken = head_taken t glyphs _ c.take_head.new.heads.items c.loop-left.left n c.in_ok-first.first lt (omega (arith, c.loop-left-test.true)) all c.in_ok-first.ensures.ok in
+    let waiting = c.loop-component.waiting.items in
+    let none : waiting ≡ [] = c.in_default.ensures.items ∙ ap (λ (l : List ℕ). l ++ []) (c.in_default.ensures.rest ∙ ap (λ k. take (k - 1) waiting) c.in_default.ensures.cases.0) in
+    record {
+      within = omega (arith, lt);
+      heads = taken.1;
+      follows = subst (λ (l : List ℕ). Follows t glyphs (take n glyphs) l c.loop-component.order) none c.loop-component.invariant.follows;
+      none_waits = c.in_default.ensures.rest ∙ ap (λ k. take (k - 1) waiting) c.in_default.ensures.cases.0;
+      outlines = c.loop-component.invariant.outlines;
+      found = subst (λ (l : List ℕ). FoundFrom t glyphs (take n glyphs) l c.loop-component.order) none c.loop-component.invariant.found;
+    }
 
 pub returns-clause-ok : goal.returns-clause-ok
 returns-clause-ok c =
-    let left = c.loop-glyph.given.items in
-    let none : left ≡ [] = c.in_default.ensures.items ∙ ap (λ (l : List ℕ). l ++ []) (c.in_default.ensures.rest ∙ ap (λ n. take (n - 1) left) c.in_default.ensures.cases.0) in
-    finished (seen c.args.table.now) c.args.mapper.now c.loop-glyph.given.items c.loop-glyph.order none c.loop-glyph.invariant.follows
+    let glyphs = c.args.mapper.now in
+    let none : take c.loop-left.left glyphs ≡ [] = ap (λ n. take n glyphs) (let e : c.loop-left.left ≡ 0 = omega (arith, c.loop-left-test.false) in e) in
+    finished (seen c.args.table.now) glyphs _ c.loop-left.order none c.loop-left.invariant.follows
 
 pub returns-clause-found : goal.returns-clause-found
 returns-clause-found c =
-    let left = c.loop-glyph.given.items in
-    let none : left ≡ [] = c.in_default.ensures.items ∙ ap (λ (l : List ℕ). l ++ []) (c.in_default.ensures.rest ∙ ap (λ n. take (n - 1) left) c.in_default.ensures.cases.0) in
-    found_last (seen c.args.table.now) c.args.mapper.now c.loop-glyph.given.items c.loop-glyph.order none c.loop-glyph.invariant.found
+    let glyphs = c.args.mapper.now in
+    let none : take c.loop-left.left glyphs ≡ [] = ap (λ n. take n glyphs) (let e : c.loop-left.left ≡ 0 = omega (arith, c.loop-left-test.false) in e) in
+    found_last (seen c.args.table.now) glyphs _ c.loop-left.order none c.loop-left.invariant.found
+
+pub returns-clause-outlines : goal.returns-clause-outlines
+returns-clause-outlines c = c.loop-left.invariant.outlines
+
+pub returns-in_err-heads-clause-err : goal.returns-in_err-heads-clause-err
+returns-in_err-heads-clause-err c =
+    let p = err_from_is_err_and c.from_residual-in_err-heads.result c.from_residual-in_err-heads.ensures.1 in
+    rw p.1 (stops_memory (seen c.args.table.now) c.args.mapper.now p.0 p.2)

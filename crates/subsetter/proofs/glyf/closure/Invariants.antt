@@ -1,26 +1,29 @@
-use Rattle.std.proofs.Common.{◌≡◌, ◌+◌, ◌-◌, ◌*◌, ◌^◌, [], length}
-use Rattle.subsetter.specs.Glyf.Closure.{AreFound}
+use Rattle.std.proofs.Common.{◌≡◌, ◌≤◌, ◌+◌, ◌-◌, ◌*◌, ◌^◌, [], length, take}
+use Rattle.subsetter.specs.Glyf.Closure.{AreFound, EndsWith}
 use Rattle.subsetter.specs.Glyf.View.{seen}
 use Rattle.subsetter.proofs.GlyfLaws.Closure.{Follows}
 use Rattle.subsetter.proofs.GlyfLaws.Found.{FoundFrom}
+use Rattle.subsetter.proofs.GlyfLaws.Taken.{heads_in}
 use Rattle.subsetter.proofs.glyf.closure.Given as goal
 
-abbrev pub invariant-loop-glyph : goal.invariant-loop-glyph
-invariant-loop-glyph l = record {
-  follows : Follows (seen l.table) l.mapper l.given.items [] l.order;
+abbrev pub invariant-loop-left : goal.invariant-loop-left
+invariant-loop-left l = record {
+  within : l.left ≤ length l.mapper;
+  heads : EndsWith (heads_in (seen l.table) (take l.left l.mapper)) l.heads.items;
+  follows : Follows (seen l.table) l.mapper (take l.left l.mapper) [] l.order;
   none_waits : l.waiting.items ≡ [];
   outlines : AreFound (seen l.table) l.order l.outlines.items;
-  found : FoundFrom (seen l.table) l.mapper l.given.items [] l.order;
+  found : FoundFrom (seen l.table) l.mapper (take l.left l.mapper) [] l.order;
 }
 
-abbrev pub decreases-loop-glyph : goal.decreases-loop-glyph
-decreases-loop-glyph l = length l.given.items
+abbrev pub decreases-loop-left : goal.decreases-loop-left
+decreases-loop-left l = l.left
 
 abbrev pub invariant-loop-component : goal.invariant-loop-component
 invariant-loop-component l = record {
-  follows : Follows (seen l.table) l.mapper l.given.items l.waiting.items l.order;
+  follows : Follows (seen l.table) l.mapper (take l.left l.mapper) l.waiting.items l.order;
   outlines : AreFound (seen l.table) l.order l.outlines.items;
-  found : FoundFrom (seen l.table) l.mapper l.given.items l.waiting.items l.order;
+  found : FoundFrom (seen l.table) l.mapper (take l.left l.mapper) l.waiting.items l.order;
 }
 
 abbrev pub decreases-loop-component : goal.decreases-loop-component

@@ -1,4 +1,4 @@
-use Rattle.std.proofs.Common.{◌≡◌, ◌+◌, ◌-◌, List, ℕ, drop, take, sym, ap, ◌∙◌, arith}
+use Rattle.std.proofs.Common.{◌+◌, ◌-◌, List, ℕ, drop, take, ap, ◌∙◌, arith}
 use Rattle.std.specs.Option.{option_copied}
 use Rattle.std.specs.Prelude.{map}
 use Rattle.std.proofs.lemmas.Result.{err_from_is_err_and}
@@ -11,9 +11,9 @@ loop-at-init c =
     let all = kept_outlines c.args.order.now (map option_copied c.args.found.items) in
     ap (λ (l : List (List ℕ)). with_outlines l all) c.in_ok-list.ensures.ok ∙ none_before all
 
-pub returns-in_err-list-2 : goal.returns-in_err-list-2
-returns-in_err-list-2 c =
-    let p = err_from_is_err_and c.from_residual-in_err-list-2.result c.from_residual-in_err-list-2.ensures.1 in
+pub returns-in_err-keep_block : goal.returns-in_err-keep_block
+returns-in_err-keep_block c =
+    let p = err_from_is_err_and c.from_residual-in_err-keep_block.result c.from_residual-in_err-keep_block.ensures.1 in
     let order = c.args.order.now in
     let at = c.loop-at.at in
     let items = c.args.found.items in
@@ -23,7 +23,7 @@ returns-in_err-list-2 c =
     let os = map option_copied (take n (drop at c.deref.result.now)) in
     let rest = map option_copied (drop (at + c.min-count.result) items) in
     let all = block_of items c.deref.result.now at c.min-count.result n c.deref.ensures.value (omega arith) in
-    rw (p.1, p.2) (outlines_fail c.in_err-list-2.field-0.0 order list os rest total c.in_err-list-2.ensures (ap (λ l. with_outlines list (kept_outlines order l)) all ∙ c.loop-at.invariant))
+    rw (p.1, p.2) (outlines_fail c.in_err-keep_block.field-0.0 order list os rest total c.in_err-keep_block.ensures.err (ap (λ l. with_outlines list (kept_outlines order l)) all ∙ c.loop-at.invariant))
 
 pub loop-at-preserved : goal.loop-at-preserved
 loop-at-preserved c =
@@ -36,4 +36,4 @@ loop-at-preserved c =
     let os = map option_copied (take n (drop at c.deref.result.now)) in
     let rest = map option_copied (drop (at + c.min-count.result) items) in
     let all = block_of items c.deref.result.now at c.min-count.result n c.deref.ensures.value (omega arith) in
-    outlines_block order list c.in_ok-list-2.list os rest total c.in_ok-list-2.ensures (ap (λ l. with_outlines list (kept_outlines order l)) all ∙ c.loop-at.invariant)
+    outlines_block order list c.keep_block.new.list os rest total c.in_ok-keep_block.ensures.ok (ap (λ l. with_outlines list (kept_outlines order l)) all ∙ c.loop-at.invariant)

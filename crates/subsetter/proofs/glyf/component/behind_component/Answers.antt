@@ -1,6 +1,5 @@
-use Rattle.std.proofs.Common.{◌≡◌, ◌+◌, ◌≤◌, ℕ, length, drop, sym, ap, ◌∙◌, arith}
+use Rattle.std.proofs.Common.{◌+◌, ℕ, drop, ap, ◌∙◌, arith}
 use Rattle.subsetter_base.proofs.Lists.{rest_of}
-use Rattle.subsetter.specs.Glyf.Parts.{rest_size}
 use Rattle.subsetter.specs.Glyf.View.{component_seen}
 use Rattle.subsetter.proofs.GlyfLaws.Chains.{is_component}
 use Rattle.subsetter.proofs.glyf.component.behind_component.Goals as goal

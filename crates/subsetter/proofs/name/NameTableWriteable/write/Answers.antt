@@ -1,4 +1,4 @@
-use Rattle.std.proofs.Common.{◌+◌, ◌*◌, ◌%◌, ◌++◌, List, ap, ◌∙◌, ℕ, length}
+use Rattle.std.proofs.Common.{◌+◌, ◌*◌, ◌%◌, ◌++◌, ap, ◌∙◌, ℕ}
 use Rattle.std.specs.Int.{w16, to_be_bytes}
 use Rattle.subsetter.specs.Name.View.{seen_table}
 use Rattle.subsetter.proofs.NameLaws.Written.{table_written}
