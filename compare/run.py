@@ -14,7 +14,7 @@ It builds both drivers, which have the same words, print the same lines and time
     floor     gcc's build of floor.c, which copies and sums the output's bytes and does nothing else
     binding   with --binding: the original's driver over the Rust binding (binding.py), which shows what the crossing costs
 Then it subsets each font to 3, 80, 2,000 and all glyphs by all, once with low numbers in order and once with numbers
-that are spread over the whole face and jumbled, in twelve rounds that take turns, and last gives damaged copies to the
+that are spread over the whole face and jumbled, in eight rounds that take turns, and last gives damaged copies to the
 port and the original.
 It prints four tables and writes them to compare/build/report.md:
     bytes     `same`, or the first place where the outputs differ and the table that it is in
@@ -55,7 +55,7 @@ BINDING = os.path.join(HERE, "binding", "target", "release", "binding_bench")
 PORT = os.path.join(ROOT, "crates", "subset_bench", "out", "subset_bench")
 HARFBUZZ = os.path.join(BUILD, "harfbuzz_bench")
 FLOOR = os.path.join(BUILD, "floor_bench")
-ROUNDS = 12
+ROUNDS = 8
 CALLS_AT_MOST = 100_000
 
 
@@ -122,16 +122,17 @@ def case(drivers, beside, task, seconds, room):
 
 
 def least_times(timed, seconds, room):
-    """The least time and the least median of each program at its task, in rounds that take turns."""
-    least = {}
+    """The least time and the least median of each program at its task, in rounds that take turns. All programs have turns
+    of one length: so many seconds, or a call of the slowest of them."""
+    first = {name: answer(run(program, [*task, 1], room)[0])[1:] for name, (program, task) in timed.items()}
+    least = {name: (took[1], took[0]) for name, took in first.items() if took}
+    turn = max([seconds * 1e9, *(fastest for fastest, _ in least.values())])
     for _ in range(ROUNDS):
-        for name, (program, task) in timed.items():
-            before = least.get(name) or answer(run(program, [*task, 1], room)[0])[1:][::-1]
-            if not before:
-                continue
-            calls = max(2, min(CALLS_AT_MOST, int(seconds * 1e9 / max(1, before[0]))))
-            _, median, fastest = answer(run(program, [*task, calls], room)[0])
-            least[name] = min(fastest, before[0]), min(median, before[1])
+        for name, (fastest, median) in least.items():
+            program, task = timed[name]
+            calls = max(1, min(CALLS_AT_MOST, round(turn / max(1, fastest))))
+            _, middle, now = answer(run(program, [*task, calls], room)[0])
+            least[name] = min(now, fastest), min(middle, median)
     return least
 
 
