@@ -1,8 +1,8 @@
 #!/usr/bin/python3
 """Shows by three PDF readers that a subset is drawn as its source.
 
-    compare/pdf.py FONT INDEX GID[,GID..] [--keep FOLDER]
-    compare/pdf.py --faces N [--keep FOLDER]
+    compare/pdf.py FONT INDEX GID[,GID..] [--bare] [--keep FOLDER]
+    compare/pdf.py --faces N [--bare] [--keep FOLDER]
     compare/pdf.py --specimen PNG
 
 For a font and glyphs it writes two PDF files by hand. `source.pdf` embeds the whole font and shows the glyphs by their old
@@ -24,6 +24,8 @@ MuPDF, Poppler and Ghostscript draw both. Of each reader
 
 --faces N takes N faces of the fonts that are installed (one after another TrueType, SID-keyed, CID-keyed), some glyphs
 of each, and prints a line a face and the sum. A font that is refused is named, and the next is taken.
+--bare takes subsets without hinting, names and glyph names, and has Ghostscript draw both fonts without hinting (MuPDF
+and Poppler hint nothing).
 --specimen draws four scripts from subsets of three fonts into a picture.
 --keep FOLDER leaves the files there. Status 0 where nothing differs, else 1.
 
@@ -52,6 +54,11 @@ NAMES = "cmap", "post"
 CELL, GRID, LINE = 56, 32, 10
 
 
+# With --bare: the words of the program, and of Ghostscript.
+BARE = ["--no-hinting", "--no-names", "--no-glyph-names"]
+UNHINTED = ["-dGridFitTT=0"]
+
+
 class Refused(Exception):
     """The program refused the font; what it said."""
 
@@ -60,9 +67,9 @@ class Refused(Exception):
 UNREADABLE = (OSError, KeyError, IndexError, struct.error)
 
 
-def subset(font, index, glyphs, out):
+def subset(font, index, glyphs, out, bare):
     """The new number of each glyph, and the widths of the new glyphs as the text of `/W`."""
-    words = [PROGRAM, "--widths", font, out, str(index), ",".join(map(str, glyphs))]
+    words = [PROGRAM, *(BARE if bare else []), "--widths", font, out, str(index), ",".join(map(str, glyphs))]
     answer = subprocess.run(words, capture_output=True, text=True)
     if answer.returncode:
         raise Refused(answer.stderr.strip())
@@ -132,9 +139,10 @@ READERS = {
 }
 
 
-def drawn(reader, folder):
+def drawn(reader, folder, bare):
     """A reader's pictures of the two pages, each as (width, height, bytes), and the lines that it says."""
-    said = subprocess.run(READERS[reader], cwd=folder, capture_output=True, text=True, errors="replace")
+    program, *words = READERS[reader]
+    said = subprocess.run([program, *(UNHINTED if bare and program == "gs" else []), *words], cwd=folder, capture_output=True, text=True, errors="replace")
     lines = {line for line in (said.stdout + said.stderr).splitlines() if line and not line.startswith("page page.pdf")}
     if said.returncode:
         lines.add(f"status {said.returncode}")
@@ -165,17 +173,17 @@ def places_by_trace(folder):
     return [float(x) for x in re.findall(r'<g [^>]*\bx="([-0-9.e]+)"', said)]
 
 
-def differences(folder, count):
+def differences(folder, count, bare):
     """What the readers show otherwise for the subset than for the source, and which of them do so by names alone."""
     wrong, noted = [], []
     source, copy = os.path.join(folder, "source"), os.path.join(folder, "subset")
     for reader in READERS:
-        (before, said), (after, answer) = drawn(reader, source), drawn(reader, copy)
+        (before, said), (after, answer) = drawn(reader, source, bare), drawn(reader, copy, bare)
         if before is None or after is None:
             wrong.append(f"{reader} draws nothing of the {'source' if before is None else 'subset'}")
             continue
         if before[0] != after[0]:
-            (one, _), (other, _) = (drawn(reader, os.path.join(folder, f"{it}-nameless")) for it in ("source", "subset"))
+            (one, _), (other, _) = (drawn(reader, os.path.join(folder, f"{it}-nameless"), bare) for it in ("source", "subset"))
             same = one is not None and other is not None and one[0] == other[0]
             (noted if same else wrong).append(f"{reader}: {'without names' if same else 'other pixels'}")
         if set(after[0][2]) == {255}:
@@ -193,10 +201,10 @@ def differences(folder, count):
     return wrong, noted
 
 
-def compare(font, index, glyphs, folder):
+def compare(font, index, glyphs, folder, bare):
     """How a face is embedded, and what differs."""
     out = os.path.join(folder, "subset.font")
-    numbers, widths = subset(font, index, glyphs, out)
+    numbers, widths = subset(font, index, glyphs, out, bare)
     with open(font, "rb") as file:
         source = Face(file.read(), index)
     with open(out, "rb") as file:
@@ -205,7 +213,7 @@ def compare(font, index, glyphs, folder):
     ways = ["CIDFontType0C", "OpenType"] if source.is_cff else ["TrueType"]
     for way in ways:
         room = os.path.join(folder, way)
-        found, known = differences(room, write(source, copy, glyphs, numbers, widths, way, room))
+        found, known = differences(room, write(source, copy, glyphs, numbers, widths, way, room), bare)
         wrong += [f"{way}: {it}" for it in found]
         noted += known
     return ways, wrong, noted
@@ -253,7 +261,7 @@ def some_glyphs(path, index):
     return take
 
 
-def all_faces(count, keep):
+def all_faces(count, keep, bare):
     """A line a face, and the sum; whether all are alike."""
     alike = refused = different = glyphs = nameless = 0
     for kind, path, index in chosen(count):
@@ -263,7 +271,7 @@ def all_faces(count, keep):
             os.makedirs(folder, exist_ok=True)
             try:
                 asked = some_glyphs(path, index)
-                _, wrong, noted = compare(path, index, asked, folder)
+                _, wrong, noted = compare(path, index, asked, folder, bare)
             except Refused as it:
                 refused += 1
                 print(f"{kind:9} {name}: refused: {it}", flush=True)
@@ -290,19 +298,20 @@ def main():
     words.add_argument("--faces", type=int)
     words.add_argument("--specimen")
     words.add_argument("--keep")
+    words.add_argument("--bare", action="store_true")
     given = words.parse_args()
     if given.specimen:
         import specimen
         return specimen.draw(given.specimen)
     if given.faces:
-        return 0 if all_faces(given.faces, given.keep) else 1
+        return 0 if all_faces(given.faces, given.keep, given.bare) else 1
     if given.glyphs is None:
         words.error("FONT INDEX GID[,GID..], --faces N or --specimen PNG is wanted")
     with tempfile.TemporaryDirectory() as room:
         folder = given.keep or room
         os.makedirs(folder, exist_ok=True)
         try:
-            ways, wrong, noted = compare(given.font, given.index, [int(g) for g in given.glyphs.split(",")], folder)
+            ways, wrong, noted = compare(given.font, given.index, [int(g) for g in given.glyphs.split(",")], folder, given.bare)
         except Refused as it:
             print(f"refused: {it}")
             return 1

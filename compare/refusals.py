@@ -11,8 +11,8 @@ At the first disagreement it tells it, and ends with status 1. What is demanded:
     no memory     with every request refused, the calls that take no memory answer, and so does `subset` on fonts that are
                   refused by the first checks
     subset_font   status 1 and `out of memory`, while IN is read status 3 and `cannot read IN`; OUT isn't touched
-    files         a failed call gives status 3 and its text; OUT isn't touched before the font is made, and is whole where
-                  the standard output fails
+    files         a failed call gives status 3 and its text, and OUT is what it was; it is whole where the standard output
+                  fails, and where the program does without the call. No other file is left
     given back    no block of memory is held at the end that isn't held at the end of a run without a refusal
 
 The fonts are small ones of made.py; with --more also some of Debian's (fonts.py).
@@ -32,7 +32,7 @@ HERE = os.path.dirname(os.path.realpath(__file__))
 ROOT = os.path.dirname(HERE)
 BUILD = os.path.join(HERE, "build")
 REFUSE = os.path.join(BUILD, "refuse.so")
-CALLS = ("open", "size", "read", "write", "write1", "write2")
+CALLS = ("open", "size", "read", "write", "write1", "write2", "rename")
 NO_MEMORY = b"error out of memory\n"
 
 
@@ -185,26 +185,35 @@ def check_mapper(room):
 OLD = b"what stood there before"
 
 
-def run_font(room, glyphs, **wishes):
-    """Runs the program on `in`, with an OUT that is there already."""
+def run_font(room, glyphs, front=(), **wishes):
+    """Runs the program on `in`, with an OUT that is there already. The glyphs are words, or a file lists them."""
     put(room, "out", OLD)
-    return run([FONT, "in", "out", "0", glyphs], room, **wishes)
+    words = ["--gids-file", "list", "in", "out", "0"] if "--gids-file" in front else ["in", "out", "0", glyphs]
+    put(room, "list", glyphs.encode())
+    got = run([FONT, *(it for it in front if it != "--gids-file"), *words], room, **wishes)
+    beside = [name for name in os.listdir(room) if name.startswith("out.")]
+    demand(not beside, f"subset_font {front} with {wishes} leaves {beside}", got)
+    return got
 
 
-def base_of(name, data, glyphs, room):
+def base_of(name, data, glyphs, room, front=()):
     put(room, "in", data)
-    base = run_font(room, glyphs)
+    base = run_font(room, glyphs, front)
     demand((base.status, base.err) == (0, b"") and take(room, "out") != OLD, f"subset_font on {name}", base)
     return base, take(room, "out")
 
 
-def check_program(name, data, glyphs, room):
+def check_program(name, data, glyphs, room, front=()):
     """The program ends with its status at each refused request, and OUT isn't touched."""
-    base, whole = base_of(name, data, glyphs, room)
-    texts = {"reading": (3, b"cannot read in\n"), "before": (1, b"out of memory\n"), "after": (1, b"out of memory\n")}
+    base, whole = base_of(name, data, glyphs, room, front)
+    memory, in_reading = (1, b"out of memory\n"), (3, b"cannot read in\n")
+    texts = {"reading": [in_reading], "before": [memory], "after": [memory]}
+    if "--gids-file" in front:
+        # The file that is read first is the list.
+        texts = {"reading": [(3, b"cannot read list\n")], "before": [memory], "after": [memory, in_reading]}
     counts = dict.fromkeys([*texts, "no change"], 0)
     for number in itertools.count(1):
-        got = run_font(room, glyphs, REFUSE=number)
+        got = run_font(room, glyphs, front, REFUSE=number)
         if got.refused == 0:
             return counts
         what = f"subset_font on {name}, request {number} ({got.stage})"
@@ -214,26 +223,31 @@ def check_program(name, data, glyphs, room):
             demand((got.out, got.err, take(room, "out")) == (base.out, b"", whole), what, got)
             counts["no change"] += 1
             continue
-        demand(not got.is_less and (got.status, got.err) == texts.get(got.stage), what, got)
+        demand(not got.is_less and (got.status, got.err) in texts.get(got.stage, []), what, got)
         demand(got.out == b"" and take(room, "out") == OLD, f"{what}: something was written", got)
         counts[got.stage] += 1
+
+
+# What the program does without: to look at the file that the lines go to and at OUT, and a file beside OUT.
+DISPENSABLE = {("open", 3), *(("size", number) for number in (1, 2, 4, 5, 6))}
 
 
 def check_files(name, data, glyphs, room):
     """The program ends with its status at each failed call."""
     base, whole = base_of(name, data, glyphs, room)
     counts = {}
-    for what in CALLS[:5]:
+    for what in (*CALLS[:5], "rename"):
         for number in range(1, base.calls[what] + 1):
             got = run_font(room, glyphs, FAIL=f"{what}:{number}")
             told, out = (got.status, got.err), take(room, "out")
             case = f"subset_font on {name}, {what} {number}"
-            if what == "write1":
+            if (what, number) in DISPENSABLE:
+                demand(told == (0, b"") and got.out == base.out and out == whole, case, got)
+            elif what == "write1":
                 demand(told == (3, b"cannot write standard output\n") and out == whole, case, got)
                 demand(base.out.startswith(got.out), case, got)
-            elif what == "write" or (what, number) == ("open", 2):
-                demand(told == (3, b"cannot write out\n") and got.out == b"", case, got)
-                demand(out == OLD if what == "open" else whole.startswith(out), f"{case}: {out!r}", got)
+            elif what in ("write", "rename") or (what, number) == ("open", 2):
+                demand(told == (3, b"cannot write out\n") and got.out == b"" and out == OLD, case, got)
             else:
                 demand(told == (3, b"cannot read in\n") and got.out == b"" and out == OLD, case, got)
             gives_back(base, got, case)
@@ -290,6 +304,11 @@ def main():
         for name, data, glyphs in cases:
             counts = check_program(name, data, glyphs, room)
             print(f"subset_font, {name}: {sum(counts.values())} requests refused, {counts}")
+            refused += sum(counts.values())
+        for front in (["--json", "--gids-file"], ["--quiet", "--no-names", "--gids-file"]):
+            name, data, glyphs = cases[0]
+            counts = check_program(name, data, glyphs, room, front)
+            print(f"subset_font {' '.join(front)}, {name}: {sum(counts.values())} requests refused, {counts}")
             refused += sum(counts.values())
         for name, data, glyphs in cases:
             many = ",".join([glyphs] * 400)

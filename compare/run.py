@@ -237,6 +237,7 @@ def read_words():
     words.add_argument("--copies", type=int, default=2000)
     words.add_argument("--seconds", type=float, default=0.05)
     words.add_argument("--to", default=os.path.join(BUILD, "report.md"))
+    words.add_argument("--results", metavar="FOLDER", help="write the times as CSV files there, as compare/results has them")
     return words.parse_args()
 
 
@@ -264,6 +265,21 @@ def draw_growth(drivers, taken, seconds, name):
         file.write(growth.picture(curves))
 
 
+def write_results(folder, rows, drivers):
+    """The second table as two files, one for each kind of outlines, with the commit in front (`compare/results`)."""
+    cff = {os.path.basename(path) for _, path, *_ in fonts.CFF_FONTS}
+    commit = subprocess.run(["git", "-C", ROOT, "rev-parse", "--short", "HEAD"], capture_output=True, text=True).stdout.strip()
+    changed = subprocess.run(["git", "-C", ROOT, "status", "--porcelain", "crates"], capture_output=True, text=True).stdout.strip()
+    head = "font,glyphs kept,crate ns,port ns,ratio," + ",".join(f"{it.lower()} ns" for it in drivers) + ",floor ns,crate held KiB,port held KiB,source and twice the output KiB"
+    os.makedirs(folder, exist_ok=True)
+    for name in ("truetype", "cff"):
+        wanted = [row for row in rows if (row[0].split(" #")[0] in cff) == (name == "cff")]
+        if wanted:
+            with open(os.path.join(folder, f"{name}.csv"), "w") as file:
+                file.write(f"# compare/run.py {' '.join(sys.argv[1:])}, commit {commit}{' with changes' if changed else ''}, {os.cpu_count()} cores\n{head}\n")
+                file.writelines(",".join(map(str, row)) + "\n" for row in wanted)
+
+
 def main():
     given = read_words()
     if not given.no_build:
@@ -286,6 +302,8 @@ def main():
         return
     rows = measure(drivers, beside, taken, given.seconds)
     refusal_rows = refusals(drivers, [path for _, path in damaged], given.copies, os.path.join(BUILD, "damaged"))
+    if given.results and len(drivers) == 2:
+        write_results(given.results, rows[1], beside)
     text = report(rows, refusal_rows, len(drivers) == 2, beside)
     os.makedirs(os.path.dirname(os.path.abspath(given.to)), exist_ok=True)
     with open(given.to, "w") as file:

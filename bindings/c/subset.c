@@ -1,24 +1,73 @@
-/* Subsets a font: subset IN OUT INDEX GID.. */
+/* Subsets a font: subset IN OUT INDEX GID[,GID..] */
 #include "subsetter.h"
 
 #include <stdio.h>
 #include <stdlib.h>
+#include <string.h>
 
-/* The bytes of a file, or null. */
+/* How the program ends: 0, or one of these. */
+enum { REFUSED = 1, WRONG_USAGE = 2, NO_FILE = 3 };
+
+/* A number of one or more ASCII digits that is at most `most`: what stands behind it, or null. */
+static const char *read_number(const char *text, uint32_t most, uint32_t *number)
+{
+    const char *at = text;
+    uint64_t value = 0;
+    for (; *at >= '0' && *at <= '9'; at++) {
+        value = 10 * value + (uint64_t)(*at - '0');
+        if (value > most)
+            return NULL;
+    }
+    *number = (uint32_t)value;
+    return at > text ? at : NULL;
+}
+
+/* A word that is one number. */
+static int is_number(const char *word, uint32_t *number)
+{
+    const char *behind = read_number(word, UINT32_MAX, number);
+    return behind != NULL && *behind == 0;
+}
+
+/* The numbers of a word such as `36,37,38`, for which there is room: how many they are, or 0 for another word. */
+static size_t read_glyphs(const char *word, uint16_t *glyphs)
+{
+    size_t count = 0;
+    for (const char *at = word;; at++) {
+        uint32_t glyph;
+        at = read_number(at, UINT16_MAX, &glyph);
+        if (at == NULL)
+            return 0;
+        glyphs[count++] = (uint16_t)glyph;
+        if (*at != ',')
+            return *at == 0 ? count : 0;
+    }
+}
+
+/* The bytes of a file, which the caller frees, or null. */
 static uint8_t *read_file(const char *name, size_t *size)
 {
     FILE *file = fopen(name, "rb");
     if (file == NULL)
         return NULL;
-    uint8_t *bytes = NULL;
-    if (fseek(file, 0, SEEK_END) == 0 && ftell(file) >= 0) {
-        *size = (size_t)ftell(file);
-        rewind(file);
-        bytes = malloc(*size + 1);
-        if (bytes != NULL && fread(bytes, 1, *size, file) != *size) {
-            free(bytes);
-            bytes = NULL;
+    size_t room = 1 << 16;
+    uint8_t *bytes = malloc(room);
+    *size = 0;
+    while (bytes != NULL) {
+        size_t read = fread(bytes + *size, 1, room - *size, file);
+        *size += read;
+        if (read == 0)
+            break;
+        if (*size == room) {
+            uint8_t *larger = realloc(bytes, room *= 2);
+            if (larger == NULL)
+                free(bytes);
+            bytes = larger;
         }
+    }
+    if (bytes != NULL && ferror(file)) {
+        free(bytes);
+        bytes = NULL;
     }
     fclose(file);
     return bytes;
@@ -34,64 +83,51 @@ static int write_file(const char *name, const uint8_t *bytes, size_t size)
     return fclose(file) == 0 && written == size;
 }
 
-/* Says on the standard error what a status means. */
-static void tell(uint32_t status)
+/* Subsets one file into another: how the program ends. */
+static int run(const char *in, const char *out, uint32_t index, const uint16_t *glyphs, size_t count)
 {
-    uint8_t text[64];
-    size_t length = 0;
-    if (subsetter_error_text(status, text, sizeof text, &length) == SUBSETTER_DONE)
-        fprintf(stderr, "%.*s\n", (int)length, (const char *)text);
-}
-
-/* Subsets a font in memory; the caller frees the answer. */
-static uint8_t *subset(const uint8_t *font, size_t size, uint32_t index, const uint16_t *glyphs, size_t count,
-                       size_t *length)
-{
-    /* Mostly the subset is smaller than the font; else the first call says how large it is. */
-    uint8_t *out = malloc(size + 1);
-    uint32_t status = SUBSETTER_OUT_OF_MEMORY;
-    if (out != NULL)
-        status = subsetter_subset(font, size, index, glyphs, count, out, size, length);
-    if (status == SUBSETTER_BUFFER_TOO_SMALL) {
-        free(out);
-        out = malloc(*length);
-        status = SUBSETTER_OUT_OF_MEMORY;
-        if (out != NULL)
-            status = subsetter_subset(font, size, index, glyphs, count, out, *length, length);
+    size_t size;
+    uint8_t *font = read_file(in, &size);
+    if (font == NULL) {
+        fprintf(stderr, "cannot read %s\n", in);
+        return NO_FILE;
     }
-    if (status == SUBSETTER_DONE)
-        return out;
-    tell(status);
-    free(out);
-    return NULL;
+    /* All is kept: options that say otherwise would stand in the place of NULL. */
+    subsetter_made made;
+    uint32_t status = subsetter_make_subset(font, size, index, glyphs, count, NULL, &made);
+    free(font);
+    if (status != SUBSETTER_DONE) {
+        fprintf(stderr, "%s\n", subsetter_status_text(status));
+        return REFUSED;
+    }
+    int is_written = write_file(out, made.font, made.font_size);
+    subsetter_free(&made);
+    if (!is_written) {
+        fprintf(stderr, "cannot write %s\n", out);
+        return NO_FILE;
+    }
+    return 0;
 }
 
 int main(int argc, char **argv)
 {
-    if (argc < 4) {
-        fprintf(stderr, "usage: subset IN OUT INDEX GID..\n");
-        return 2;
+    uint32_t index;
+    size_t count = 0;
+    uint16_t *glyphs = NULL;
+    if (argc == 5 && is_number(argv[3], &index)) {
+        /* (a list has at most as many numbers as characters) */
+        glyphs = malloc((strlen(argv[4]) + 1) * sizeof *glyphs);
+        if (glyphs == NULL) {
+            fprintf(stderr, "%s\n", subsetter_status_text(SUBSETTER_OUT_OF_MEMORY));
+            return REFUSED;
+        }
+        count = read_glyphs(argv[4], glyphs);
     }
-    size_t count = (size_t)argc - 4;
-    uint16_t *glyphs = calloc(count + 1, sizeof *glyphs);
-    size_t size = 0;
-    uint8_t *font = read_file(argv[1], &size);
-    if (font == NULL || glyphs == NULL) {
-        fprintf(stderr, "cannot read %s\n", argv[1]);
-        return 3;
-    }
-    for (size_t i = 0; i < count; i++)
-        glyphs[i] = (uint16_t)strtoul(argv[4 + i], NULL, 10);
-    size_t length = 0;
-    uint8_t *out = subset(font, size, (uint32_t)strtoul(argv[3], NULL, 10), glyphs, count, &length);
-    if (out == NULL)
-        return 1;
-    if (!write_file(argv[2], out, length)) {
-        fprintf(stderr, "cannot write %s\n", argv[2]);
-        return 3;
-    }
-    free(out);
-    free(font);
+    int end = WRONG_USAGE;
+    if (count > 0)
+        end = run(argv[1], argv[2], index, glyphs, count);
+    else
+        fprintf(stderr, "usage: subset IN OUT INDEX GID[,GID..]\n");
     free(glyphs);
-    return 0;
+    return end;
 }

@@ -3,8 +3,8 @@
  * Every call is a function of its arguments. It keeps nothing between calls and shares nothing, so threads may call at
  * the same time, each with buffers of its own; the font and the glyph numbers they may share, as long as nobody writes
  * them. It may not be called from a signal handler, nor from the forked child of a process with threads. It takes memory
- * from malloc and gives all of it back before it returns (malloc, realloc and free are to come from one allocator); the
- * caller owns all that it passes, and the library keeps none of it.
+ * from malloc and gives all of it back before it returns, but for what the `make` calls hand over (malloc, realloc and
+ * free are to come from one allocator); the caller owns all that it passes, and the library keeps none of it.
  *
  * A list is a pointer and a count of items, and is aligned as its items are. For a count of 0 the pointer may be null. A
  * buffer that is written must not overlap anything else that is passed. A size (`length`, `sizes`) is written by each
@@ -14,6 +14,9 @@
  * with one font it isn't looked at. `glyphs` are glyph numbers of the font, in any order, with repeats if need be. The new
  * font has glyph 0, then the given glyphs in order, each once, and then each further glyph that these need as components.
  * A glyph's CID is its number there.
+ *
+ * For other languages: the library exports the functions that are declared here without `static inline`. The inline ones
+ * need this header; each stands beside the exported call that does its work.
  */
 #ifndef SUBSETTER_H
 #define SUBSETTER_H
@@ -24,6 +27,17 @@
 #ifdef __cplusplus
 extern "C" {
 #endif
+
+/* The version of this header: that of the Rust crate whose interface it follows, and a number of its own. */
+#define SUBSETTER_VERSION_MAJOR 0
+#define SUBSETTER_VERSION_MINOR 2
+#define SUBSETTER_VERSION_PATCH 6
+#define SUBSETTER_VERSION_N 1
+#define SUBSETTER_VERSION_TEXT "0.2.6+1"
+/* The four in one number, eight bits each. */
+#define SUBSETTER_VERSION                                                                    \
+    (((uint32_t)SUBSETTER_VERSION_MAJOR << 24) | ((uint32_t)SUBSETTER_VERSION_MINOR << 16)   \
+     | ((uint32_t)SUBSETTER_VERSION_PATCH << 8) | (uint32_t)SUBSETTER_VERSION_N)
 
 /* What a call answers. */
 enum {
@@ -36,8 +50,8 @@ enum {
     SUBSETTER_UNIMPLEMENTED = 3,
     /* A kept string lies outside its table, or the new `name` would be too large. */
     SUBSETTER_SUBSET_ERROR = 4,
-    /* The glyphs leave no number for glyph 0, or a limit is passed (of glyphs, names, font dicts or sizes); or `hhea` counts
-     * no metrics. */
+    /* The glyphs leave no number for glyph 0, or a limit is passed (of glyphs, names, font dicts or sizes); or a real
+     * number in `CFF ` has more than 64 characters when it is written in full; or `hhea` counts no metrics. */
     SUBSETTER_OVERFLOW_ERROR = 5,
     /* `CFF ` has another version than 1, or a charstring can't be run. */
     SUBSETTER_CFF_ERROR = 6,
@@ -46,8 +60,79 @@ enum {
     /* A buffer is too small. Nothing is written but the sizes, which are exact. */
     SUBSETTER_BUFFER_TOO_SMALL = 8,
     /* The limit of the depth is 0. */
-    SUBSETTER_NO_DEPTH = 9
+    SUBSETTER_NO_DEPTH = 9,
+    /* The options have a size, a depth or a bit that this library doesn't know. */
+    SUBSETTER_UNKNOWN_OPTION = 10
 };
+
+/* What a status says, in English. */
+static inline const char *subsetter_status_text(uint32_t status)
+{
+    static const char *const texts[] = {
+        "all done", "unknown font kind", "malformed font", "unsupported feature in font", "subsetting of font failed",
+        "overflow occurred", "processing CFF table failed", "out of memory", "a buffer is too small",
+        "the limit of the depth is 0", "unknown option"
+    };
+    return status < sizeof texts / sizeof *texts ? texts[status] : "unknown status";
+}
+
+/* The same from the library, in ASCII, without a zero behind it: print it by "%.*s", with (int)length in front.
+ *   0: `out` begins with the text, and `*length` is its size in bytes.
+ *   8: `out` is too small and as it was; `*length` is the exact size (at most 27).
+ */
+uint32_t subsetter_error_text(uint32_t status, uint8_t *out, size_t out_size, size_t *length);
+
+/* The version of the library, as SUBSETTER_VERSION. */
+uint32_t subsetter_version(void);
+
+/* ---- choices */
+
+/* What is left out (`drop`, added up). Without any of them all is kept. */
+enum {
+    /* The instructions of outlines in `glyf`, and the tables `cvt `, `fpgm` and `prep`. The hints of charstrings (CFF)
+     * stay. Not for fonts whose instructions draw, as some old CJK fonts do: their glyphs come out misshapen. */
+    SUBSETTER_DROP_HINTING = 1,
+    /* The table `name`. */
+    SUBSETTER_DROP_NAMES = 2,
+    /* The names of glyphs: `post` has version 3.0, with its first 32 bytes alone. */
+    SUBSETTER_DROP_GLYPH_NAMES = 4
+};
+
+/* All choices of a call. Later versions put further fields behind these; in each of them 0 is the default. A field past
+ * `size` has its default, and a `size` that the library doesn't know is refused (status 10), so that a program and a
+ * library of two versions never misread each other. A null pointer in its place means all defaults.
+ *
+ *     subsetter_options options = SUBSETTER_DEFAULT_OPTIONS;
+ *     options.drop = SUBSETTER_DROP_HINTING | SUBSETTER_DROP_NAMES;
+ */
+typedef struct subsetter_options {
+    /* sizeof (subsetter_options). */
+    uint32_t size;
+    /* The most numbers and operators that the charstring of a glyph may run for (CFF outlines); 0 for 1000000. */
+    uint32_t tokens;
+    /* How deep it may call, where the glyph's own charstring is at depth 1; 0 for 64. At most 255, else status 10. */
+    uint32_t depth;
+    /* The sum of some of SUBSETTER_DROP_HINTING, .._NAMES and .._GLYPH_NAMES. Another bit is status 10. */
+    uint32_t drop;
+} subsetter_options;
+
+#define SUBSETTER_DEFAULT_OPTIONS { sizeof(subsetter_options), 0, 0, 0 }
+
+/* The exported calls take the options as the list of their 32-bit words (`options`, `option_count`): the size in bytes of
+ * all of them, which is 4 * option_count, then tokens, depth and drop as far as they are given. No words: all defaults.
+ * These two make that list of a struct. */
+static inline const uint32_t *subsetter_option_words(const subsetter_options *options)
+{
+    return options == NULL ? NULL : &options->size;
+}
+
+static inline size_t subsetter_option_count(const subsetter_options *options)
+{
+    /* (a size of no whole words is refused: its first word isn't 4 times the count) */
+    return options == NULL ? 0 : options->size < 4 ? 1 : options->size / 4;
+}
+
+/* ---- a subset in the caller's buffer */
 
 /* The subset of a font.
  *
@@ -70,6 +155,25 @@ uint32_t subsetter_subset_with_limits(const uint8_t *font, size_t font_size, uin
                                       uint32_t tokens, uint8_t depth,
                                       uint8_t *out, size_t out_size, size_t *length);
 
+/* The same with all choices.
+ *   10: an option is unknown; `out` is as it was, and `*length` is 0.
+ */
+uint32_t subsetter_subset_by_words(const uint8_t *font, size_t font_size, uint32_t index,
+                                   const uint16_t *glyphs, size_t glyph_count,
+                                   const uint32_t *options, size_t option_count,
+                                   uint8_t *out, size_t out_size, size_t *length);
+
+static inline uint32_t subsetter_subset_with_options(const uint8_t *font, size_t font_size, uint32_t index,
+                                                     const uint16_t *glyphs, size_t glyph_count,
+                                                     const subsetter_options *options,
+                                                     uint8_t *out, size_t out_size, size_t *length)
+{
+    return subsetter_subset_by_words(font, font_size, index, glyphs, glyph_count, subsetter_option_words(options),
+                                     subsetter_option_count(options), out, out_size, length);
+}
+
+/* ---- with CIDs and widths */
+
 /* How large the parts of an embedded font are. */
 typedef struct subsetter_sizes {
     /* The font, in bytes. */
@@ -84,7 +188,8 @@ typedef struct subsetter_sizes {
  * thousandths of the em, rounded to the nearest. `cid_count` and `width_count` say for how many items there is room:
  * `glyph_count` CIDs and `glyph_count` + 1 widths always suffice, so that only the font's size has to be asked.
  *   0: each buffer begins with its part, what is behind it is as it was, and `*sizes` are the sizes.
- *   8: one of the buffers is too small, and all are as they were; `*sizes` are the exact sizes.
+ *   8: one of the buffers is too small, and all are as they were; `*sizes` are the exact sizes. Call again with that
+ *      room: the same call answers the same, or 7.
  *   1 to 7: the buffers are as they were, and `*sizes` are 0. 2 also where the font has no `hmtx` or no `head`, or 0 units
  *   per em.
  */
@@ -95,11 +200,80 @@ uint32_t subsetter_embed(const uint8_t *font, size_t font_size, uint32_t index,
                          uint32_t *widths, size_t width_count,
                          subsetter_sizes *sizes);
 
-/* What a status says, in English and in ASCII, without a zero behind it: print it by "%.*s", with (int)length in front.
- *   0: `out` begins with the text, and `*length` is its size in bytes.
- *   8: `out` is too small and as it was; `*length` is the exact size (at most 27).
+/* The same with all choices.
+ *   10: an option is unknown; the buffers are as they were, and `*sizes` are 0.
  */
-uint32_t subsetter_error_text(uint32_t status, uint8_t *out, size_t out_size, size_t *length);
+uint32_t subsetter_embed_by_words(const uint8_t *font, size_t font_size, uint32_t index,
+                                  const uint16_t *glyphs, size_t glyph_count,
+                                  const uint32_t *options, size_t option_count,
+                                  uint8_t *out, size_t out_size,
+                                  uint16_t *cids, size_t cid_count,
+                                  uint32_t *widths, size_t width_count,
+                                  subsetter_sizes *sizes);
+
+static inline uint32_t subsetter_embed_with_options(const uint8_t *font, size_t font_size, uint32_t index,
+                                                    const uint16_t *glyphs, size_t glyph_count,
+                                                    const subsetter_options *options,
+                                                    uint8_t *out, size_t out_size,
+                                                    uint16_t *cids, size_t cid_count,
+                                                    uint32_t *widths, size_t width_count,
+                                                    subsetter_sizes *sizes)
+{
+    return subsetter_embed_by_words(font, font_size, index, glyphs, glyph_count, subsetter_option_words(options),
+                                    subsetter_option_count(options), out, out_size, cids, cid_count, widths, width_count,
+                                    sizes);
+}
+
+/* ---- in memory of the library's: one call, and no size to be asked first */
+
+/* What a `make` call hands over: lists that the caller only reads, and gives back by `subsetter_free`. Where a size or a
+ * count is 0, its pointer says nothing. */
+typedef struct subsetter_made {
+    /* The subset, in bytes. */
+    const uint8_t *font;
+    size_t font_size;
+    /* The CID of each given glyph, and the width of each CID, as `subsetter_embed` answers them. */
+    const uint16_t *cids;
+    size_t cid_count;
+    const uint32_t *widths;
+    size_t width_count;
+} subsetter_made;
+
+/* The subset of a font, in memory that the library takes by malloc.
+ *   0: `made->font` is the subset, `made->font_size` its size in bytes; the two counts are 0.
+ *   1 to 7, 10: the size and the counts are 0, and nothing is to be freed.
+ * `made` is written by each call and must not be null; what it held before isn't freed.
+ */
+uint32_t subsetter_make_subset_by_words(const uint8_t *font, size_t font_size, uint32_t index,
+                                        const uint16_t *glyphs, size_t glyph_count,
+                                        const uint32_t *options, size_t option_count,
+                                        subsetter_made *made);
+
+static inline uint32_t subsetter_make_subset(const uint8_t *font, size_t font_size, uint32_t index,
+                                             const uint16_t *glyphs, size_t glyph_count,
+                                             const subsetter_options *options, subsetter_made *made)
+{
+    return subsetter_make_subset_by_words(font, font_size, index, glyphs, glyph_count, subsetter_option_words(options),
+                                          subsetter_option_count(options), made);
+}
+
+/* The same with CIDs and widths. 2 also where the font has no `hmtx` or no `head`, or 0 units per em. */
+uint32_t subsetter_make_embedded_by_words(const uint8_t *font, size_t font_size, uint32_t index,
+                                          const uint16_t *glyphs, size_t glyph_count,
+                                          const uint32_t *options, size_t option_count,
+                                          subsetter_made *made);
+
+static inline uint32_t subsetter_make_embedded(const uint8_t *font, size_t font_size, uint32_t index,
+                                               const uint16_t *glyphs, size_t glyph_count,
+                                               const subsetter_options *options, subsetter_made *made)
+{
+    return subsetter_make_embedded_by_words(font, font_size, index, glyphs, glyph_count,
+                                            subsetter_option_words(options), subsetter_option_count(options), made);
+}
+
+/* Gives back what a `make` call handed over, and sets the pointers to null and the sizes to 0, so that it may be called
+ * again. Also after a call that failed, or with a null pointer: then it does nothing. */
+void subsetter_free(subsetter_made *made);
 
 #ifdef __cplusplus
 }

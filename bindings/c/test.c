@@ -1,4 +1,5 @@
-/* Tests of the C library: each row of ../rows.txt, buffers that are too small, memory that is refused, and two threads. */
+/* Tests of the C library: each row of the files that are named, in buffers that are exact, larger, too small and null, and in
+ * memory of the library; options of all sizes; memory that is refused; and two threads. */
 #include "subsetter.h"
 
 #include <pthread.h>
@@ -17,32 +18,61 @@ static _Thread_local unsigned long refused;
 static _Thread_local unsigned long requests;
 /* Blocks that are held. */
 static _Thread_local long held;
+/* Whether the refused request asked to give room back. */
+static _Thread_local int gave_back;
+
+/* The blocks that are held, with the sizes that were asked for. */
+enum { MOST_BLOCKS = 512 };
+static _Thread_local struct block {
+    void *at;
+    size_t size;
+} blocks[MOST_BLOCKS];
+
+/* The entry of a block, or a free one for null. */
+static struct block *entry(const void *block)
+{
+    for (int i = 0; i < MOST_BLOCKS; i++)
+        if (blocks[i].at == block)
+            return &blocks[i];
+    printf("no entry for a block: one that isn't held, or too many\n");
+    exit(3);
+}
 
 void *__wrap_malloc(size_t size)
 {
     if (++requests == refused)
         return NULL;
+    void *block = __real_malloc(size);
+    *entry(NULL) = (struct block){block, size};
     held++;
-    return __real_malloc(size);
+    return block;
 }
 
 void *__wrap_realloc(void *block, size_t size)
 {
-    if (++requests == refused)
+    if (block == NULL)
+        return __wrap_malloc(size);
+    struct block *known = entry(block);
+    if (++requests == refused) {
+        gave_back = size < known->size;
         return NULL;
-    held += block == NULL;
-    return __real_realloc(block, size);
+    }
+    *known = (struct block){__real_realloc(block, size), size};
+    return known->at;
 }
 
 void __wrap_free(void *block)
 {
-    held -= block != NULL;
+    if (block == NULL)
+        return;
+    *entry(block) = (struct block){NULL, 0};
+    held--;
     __real_free(block);
 }
 
 /* ---- rows */
 
-enum { MOST = 128, WORDS = 9, BEHIND = 8 };
+enum { MOST = 256, WORDS = 12, BEHIND = 8, LINES = 1024 };
 
 struct row {
     char *words[WORDS];
@@ -50,9 +80,8 @@ struct row {
     const uint16_t *glyphs, *cids;
     const uint32_t *widths;
     size_t font_size, size, glyph_count, cid_count, width_count;
-    uint32_t index, tokens, status;
-    uint8_t depth;
-    int embeds, limits;
+    uint32_t index, tokens, depth, drop, status;
+    int embeds, limits, options;
 };
 
 struct named_font {
@@ -138,6 +167,8 @@ static void check_text(uint32_t status, const char *digits)
     size_t size, length = 99;
     uint8_t *wanted = hex(digits, &size);
     memset(text, 0xA5, sizeof text);
+    check(strlen(subsetter_status_text(status)) == size && memcmp(subsetter_status_text(status), wanted, size) == 0,
+        "the text of the header", digits);
     check(subsetter_error_text(status, text, size - 1, &length) == 8 && length == size, "text too long", digits);
     check(text[0] == 0xA5, "text not written", digits);
     check(subsetter_error_text(status, NULL, 0, &length) == 8 && length == size, "no room", digits);
@@ -161,15 +192,18 @@ static void add_row(char **words)
     struct row *row = &rows[row_count++];
     memcpy(row->words, words, sizeof row->words);
     find_font(row);
-    row->embeds = strcmp(words[0], "embed") == 0;
+    row->embeds = strncmp(words[0], "embed", 5) == 0;
     row->limits = strcmp(words[0], "limits") == 0;
+    row->options = strstr(words[0], "options") != NULL;
     row->index = number(words[3]);
     row->glyphs = short_numbers(words[4], &row->glyph_count);
     int next = 5;
-    if (row->limits) {
+    if (row->limits || row->options) {
         row->tokens = number(words[next++]);
-        row->depth = (uint8_t)number(words[next++]);
+        row->depth = number(words[next++]);
     }
+    if (row->options)
+        row->drop = number(words[next++]);
     row->status = number(words[next++]);
     row->bytes = hex(words[next++], &row->size);
     if (row->embeds) {
@@ -178,39 +212,58 @@ static void add_row(char **words)
     }
 }
 
+static int is_one_of(const char *word, const char *const *words)
+{
+    while (*words != NULL && strcmp(word, *words) != 0)
+        words++;
+    return *words != NULL;
+}
+
 static void read_line(char *line)
 {
+    static const char *const kinds[] = {"subset", "limits", "options", "embed", "embed_options", NULL};
     char *words[WORDS] = {0};
     int count = 0;
     for (char *word = strtok(line, " \n"); word != NULL && count < WORDS; word = strtok(NULL, " \n"))
         words[count++] = word;
     if (count == 0 || words[0][0] == '#')
         return;
-    if (strcmp(words[0], "font") == 0) {
+    if (strcmp(words[0], "font") == 0 && font_count < MOST) {
         struct named_font *font = &fonts[font_count++];
         font->name = words[1];
         font->bytes = hex(words[2], &font->size);
     } else if (strcmp(words[0], "text") == 0) {
         check_text(number(words[1]), words[2]);
-    } else {
+    } else if (is_one_of(words[0], kinds) && row_count < MOST) {
         add_row(words);
+    } else {
+        check(0, "no kind of row that is known, or too many rows", words[0]);
     }
+}
+
+/* The text of a file with a zero behind it, which stays. */
+static char *read_text(const char *name)
+{
+    FILE *file = fopen(name, "r");
+    if (file == NULL || fseek(file, 0, SEEK_END) != 0) {
+        printf("cannot read %s\n", name);
+        exit(3);
+    }
+    size_t size = (size_t)ftell(file);
+    char *text = room(size);
+    rewind(file);
+    text[fread(text, 1, size, file)] = 0;
+    fclose(file);
+    return text;
 }
 
 static void read_rows(const char *name)
 {
-    static char text[1 << 20];
-    char *lines[1024];
+    char *lines[LINES];
     int count = 0;
-    FILE *file = fopen(name, "r");
-    if (file == NULL) {
-        printf("cannot read %s\n", name);
-        exit(3);
-    }
-    text[fread(text, 1, sizeof text - 1, file)] = 0;
-    fclose(file);
-    for (char *line = text; line != NULL && count < 1024; line = strchr(line, '\n') ? strchr(line, '\n') + 1 : NULL)
+    for (char *line = read_text(name); line != NULL && count < LINES; line = strchr(line, '\n') ? strchr(line, '\n') + 1 : NULL)
         lines[count++] = line;
+    check(count < LINES, "too many lines", name);
     for (int i = 1; i < count; i++)
         lines[i][-1] = 0;
     for (int i = 0; i < count; i++)
@@ -250,8 +303,35 @@ static void give_up(struct answer *a)
     __real_free(a->widths);
 }
 
+/* The options of a row; those of one with limits are the same limits. */
+static subsetter_options options_of(const struct row *row)
+{
+    subsetter_options options = SUBSETTER_DEFAULT_OPTIONS;
+    options.tokens = row->tokens;
+    options.depth = row->depth;
+    options.drop = row->drop;
+    return options;
+}
+
+static void call_with(const struct row *row, const subsetter_options *options, struct answer *a)
+{
+    if (row->embeds) {
+        a->status = subsetter_embed_with_options(row->font, row->font_size, row->index, row->glyphs, row->glyph_count,
+            options, a->font, a->room, a->cids, a->cid_room, a->widths, a->width_room, &a->told);
+        return;
+    }
+    a->told.cids = a->told.widths = 0;
+    a->status = subsetter_subset_with_options(row->font, row->font_size, row->index, row->glyphs, row->glyph_count,
+        options, a->font, a->room, &a->told.font);
+}
+
 static void call(const struct row *row, struct answer *a)
 {
+    subsetter_options options = options_of(row);
+    if (row->options) {
+        call_with(row, &options, a);
+        return;
+    }
     if (row->embeds) {
         a->status = subsetter_embed(row->font, row->font_size, row->index, row->glyphs, row->glyph_count,
             a->font, a->room, a->cids, a->cid_room, a->widths, a->width_room, &a->told);
@@ -260,7 +340,7 @@ static void call(const struct row *row, struct answer *a)
     a->told.cids = a->told.widths = 0;
     if (row->limits)
         a->status = subsetter_subset_with_limits(row->font, row->font_size, row->index, row->glyphs,
-            row->glyph_count, row->tokens, row->depth, a->font, a->room, &a->told.font);
+            row->glyph_count, row->tokens, (uint8_t)row->depth, a->font, a->room, &a->told.font);
     else
         a->status = subsetter_subset(row->font, row->font_size, row->index, row->glyphs, row->glyph_count,
             a->font, a->room, &a->told.font);
@@ -338,39 +418,161 @@ static void check_buffers(const struct row *row)
     check(nothing.status == 8 && told(&nothing, size, cids, widths), "null buffers", row->words[1]);
 }
 
-/* Each request for memory refused in turn: nothing is written. One of them asks to give room back, and a call goes on
- * without it. */
+/* Each request for memory refused in turn: nothing is written. Where it asks to give room back, the call goes on without it.
+ * A font that is none is told as such, whatever memory there is. */
 static void check_memory(const struct row *row)
 {
     struct answer a;
-    int harmless = 0, met = 1;
+    int met = 1;
     for (refused = 1; met; refused++) {
         prepare(&a, row->size, row->cid_count, row->width_count);
         long before = held;
         requests = 0;
+        gave_back = 0;
         call(row, &a);
         met = requests >= refused;
         int is_clean = a.status == 7 && told(&a, 0, 0, 0) && untouched(&a, 0, 0, 0);
         int is_whole = a.status == row->status && told(&a, row->size, row->cid_count, row->width_count)
             && is_same(a.font, row->bytes, row->size);
         check(held == before, "all memory is given back", row->words[1]);
-        check(is_whole || (met && is_clean), "out of memory", row->words[1]);
-        harmless += met && is_whole;
+        check(is_whole || (met && is_clean && row->status != 1), "out of memory", row->words[1]);
+        check(!met || row->status != 0 || is_clean != gave_back, "which requests may be refused", row->words[1]);
         give_up(&a);
     }
     refused = 0;
-    check(harmless <= 1, "which requests may be refused", row->words[1]);
+}
+
+/* ---- options */
+
+/* The row with options that have so many bytes, behind which there is rubbish: it is answered, or the size is unknown. */
+static void check_size(const struct row *row, uint32_t size, int is_known)
+{
+    struct answer a;
+    struct {
+        subsetter_options known;
+        uint32_t further;
+    } options = {options_of(row), 0};
+    uint32_t *const fields[] = {&options.known.tokens, &options.known.depth, &options.known.drop};
+    for (uint32_t i = 0; i < 3; i++)
+        if (4 * (i + 2) > size)
+            *fields[i] = 4294967295u;
+    options.known.size = size;
+    prepare(&a, row->size, row->cid_count, row->width_count);
+    call_with(row, &options.known, &a);
+    if (is_known) {
+        check(a.status == row->status && told(&a, row->size, row->cid_count, row->width_count), "shorter options", row->words[1]);
+        check(is_same(a.font, row->bytes, row->size), "bytes with shorter options", row->words[1]);
+    } else {
+        check(a.status == 10 && told(&a, 0, 0, 0) && untouched(&a, 0, 0, 0), "options of an unknown size", row->words[1]);
+    }
+    give_up(&a);
+}
+
+/* Options without the fields that have their defaults answer the same, down to none at all. */
+static void check_sizes(const struct row *row)
+{
+    static const uint32_t unknown[] = {0, 1, 2, 3, 5, 7, 9, 13, 15, 17, 18, 19, 20, 4294967295u};
+    for (size_t i = 0; i < sizeof unknown / sizeof *unknown; i++)
+        check_size(row, unknown[i], 0);
+    check_size(row, 16, 1);
+    if (row->drop == 0)
+        check_size(row, 12, 1);
+    if (row->drop == 0 && row->depth == 0)
+        check_size(row, 8, 1);
+    if (row->drop == 0 && row->depth == 0 && row->tokens == 0) {
+        struct answer a;
+        check_size(row, 4, 1);
+        prepare(&a, row->size, row->cid_count, row->width_count);
+        call_with(row, NULL, &a);
+        check(a.status == row->status && told(&a, row->size, row->cid_count, row->width_count)
+            && is_same(a.font, row->bytes, row->size), "no options", row->words[1]);
+        give_up(&a);
+    }
+}
+
+/* ---- in memory of the library */
+
+static uint32_t make(const struct row *row, const subsetter_options *options, subsetter_made *made)
+{
+    memset(made, 0xA5, sizeof *made);
+    if (row->embeds)
+        return subsetter_make_embedded(row->font, row->font_size, row->index, row->glyphs, row->glyph_count, options, made);
+    return subsetter_make_subset(row->font, row->font_size, row->index, row->glyphs, row->glyph_count, options, made);
+}
+
+static int is_made(const struct row *row, const subsetter_made *made)
+{
+    return made->font_size == row->size && made->cid_count == row->cid_count && made->width_count == row->width_count
+        && is_same(made->font, row->bytes, row->size) && is_same(made->cids, row->cids, 2 * row->cid_count)
+        && is_same(made->widths, row->widths, 4 * row->width_count);
+}
+
+static int is_nothing(const subsetter_made *made)
+{
+    return made->font_size == 0 && made->cid_count == 0 && made->width_count == 0;
+}
+
+/* The row in memory of the library, which makes one subset for it: as many requests for memory as with an exact buffer. */
+static void check_made(const struct row *row)
+{
+    struct answer a;
+    subsetter_made made;
+    const subsetter_options options = options_of(row);
+    prepare(&a, row->size, row->cid_count, row->width_count);
+    requests = 0;
+    call(row, &a);
+    unsigned long once = requests;
+    give_up(&a);
+    long before = held;
+    requests = 0;
+    uint32_t status = make(row, &options, &made);
+    check(requests == once, "one subset is made", row->words[1]);
+    check(status == row->status && is_made(row, &made), "made", row->words[1]);
+    check(held == before + (made.font_size > 0) + (made.cid_count > 0) + (made.width_count > 0), "what is held", row->words[1]);
+    subsetter_free(&made);
+    check(held == before && is_nothing(&made) && made.font == NULL && made.cids == NULL && made.widths == NULL, "given back", row->words[1]);
+    subsetter_free(&made);
+    check(held == before, "given back once", row->words[1]);
+    if (row->tokens == 0 && row->depth == 0 && row->drop == 0) {
+        check(make(row, NULL, &made) == row->status && is_made(row, &made), "made without options", row->words[1]);
+        subsetter_free(&made);
+    }
+}
+
+/* Each request for memory refused in turn: nothing is handed over. */
+static void check_made_memory(const struct row *row)
+{
+    const subsetter_options options = options_of(row);
+    subsetter_made made;
+    int met = 1;
+    for (refused = 1; met; refused++) {
+        long before = held;
+        requests = 0;
+        uint32_t status = make(row, &options, &made);
+        met = requests >= refused;
+        int is_clean = status == 7 && is_nothing(&made) && held == before;
+        check((status == row->status && is_made(row, &made)) || (met && is_clean && row->status != 1), "out of memory", row->words[1]);
+        subsetter_free(&made);
+        check(held == before, "all memory is given back", row->words[1]);
+    }
+    refused = 0;
+}
+
+/* Whether the options can say what the row says: there 0 is the default. */
+static int has_options(const struct row *row)
+{
+    return !row->limits || (row->tokens != 0 && row->depth != 0);
 }
 
 /* ---- two threads */
 
 static void *many_calls(void *wrong)
 {
-    for (int turn = 0; turn < 2000; turn++)
+    for (int turn = 0; turn < 100; turn++)
         for (size_t i = 0; i < row_count; i++) {
             const struct row *row = &rows[i];
             struct answer a;
-            if (row->glyph_count > 1000)
+            if (row->glyph_count > 1000 || row->font_size > 100000)
                 continue;
             prepare(&a, row->size, row->cid_count, row->width_count);
             call(row, &a);
@@ -378,6 +580,13 @@ static void *many_calls(void *wrong)
                 || !is_same(a.font, row->bytes, row->size))
                 (*(size_t *)wrong)++;
             give_up(&a);
+            if (has_options(row)) {
+                const subsetter_options options = options_of(row);
+                subsetter_made made;
+                if (make(row, &options, &made) != row->status || !is_made(row, &made))
+                    (*(size_t *)wrong)++;
+                subsetter_free(&made);
+            }
         }
     return NULL;
 }
@@ -396,11 +605,21 @@ static void check_threads(void)
 
 int main(int argc, char **argv)
 {
-    read_rows(argc > 1 ? argv[1] : "../rows.txt");
+    for (int i = 1; i < argc; i++)
+        read_rows(argv[i]);
     for (size_t i = 0; i < row_count; i++) {
-        check_buffers(&rows[i]);
-        if (rows[i].glyph_count < 1000)
-            check_memory(&rows[i]);
+        const struct row *row = &rows[i];
+        int is_short = row->glyph_count < 1000 && row->font_size < 100000;
+        check_buffers(row);
+        if (is_short)
+            check_memory(row);
+        if (!has_options(row))
+            continue;
+        check_made(row);
+        if (is_short) {
+            check_made_memory(row);
+            check_sizes(row);
+        }
     }
     check_threads();
     printf("C: %zu rows, %zu checks, %zu failed\n", row_count, checks, failures);

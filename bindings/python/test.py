@@ -1,16 +1,50 @@
 #!/usr/bin/env python3
-"""Tests of the Python module: each row of ../rows.txt, and what can't be passed."""
+"""Tests of the Python module: each row of ../rows.txt and of a font of this machine, what can be passed and what can't, where
+the library is looked for, and memory."""
 
+import array
+import builtins
+import ctypes
+import inspect
+import mmap
 import os
+import resource
+import shutil
+import subprocess
 import sys
+import tempfile
+import textwrap
 import threading
+import time
 
-sys.path.insert(0, os.path.dirname(os.path.abspath(__file__)))
+HERE = os.path.dirname(os.path.abspath(__file__))
+BUILT = os.path.join(HERE, "..", "c", "out", "libsubsetter.so")
+sys.path.insert(0, HERE)
 import subsetter
 
-NAMES = [None, subsetter.UnknownKind, subsetter.MalformedFont, subsetter.Unimplemented, subsetter.SubsetError,
-         subsetter.OverflowError, subsetter.CFFError, subsetter.OutOfMemory]
+ERRORS = [None, subsetter.UnknownKind, subsetter.MalformedFont, subsetter.Unimplemented, subsetter.SubsetError,
+          subsetter.OverflowError, subsetter.CFFError, subsetter.OutOfMemory]
+failures, checks = [], 0
 
+
+def check(holds, what):
+    global checks
+    checks += 1
+    if not holds:
+        failures.append(what)
+        print("FAILED:", what)
+
+
+def raised(call, *arguments, **choices):
+    """The exception of a call, or None."""
+    try:
+        call(*arguments, **choices)
+    except Exception as error:
+        return error
+    return None
+
+
+# ---- rows
 
 def numbers(word):
     found = []
@@ -24,16 +58,56 @@ def hexadecimal(word):
     return b"" if word == "-" else bytes.fromhex(word)
 
 
-def answer(call, *arguments):
+# By the kind of a row: how many choices it has, and whether it embeds.
+KINDS = {"subset": (0, False), "limits": (2, False), "options": (3, False), "embed": (0, True), "embed_options": (3, True)}
+
+
+class Row:
+    def __init__(self, words, fonts, texts):
+        choices, self.embeds = KINDS[words[0]]
+        self.kind, self.name = words[:2]
+        self.font, self.index, self.glyphs = fonts[words[2]], int(words[3]), numbers(words[4])
+        self.tokens, self.depth, self.drop = (list(map(int, words[5:5 + choices])) + [0, 0, 0])[:3]
+        status, font, *lists = words[5 + choices:]
+        assert len(lists) == (2 if self.embeds else 0), words[1]
+        self.status = int(status)
+        if self.status:
+            self.wanted = self.status, texts[self.status]
+        elif self.embeds:
+            self.wanted = hexadecimal(font), numbers(lists[0]), numbers(lists[1])
+        else:
+            self.wanted = hexadecimal(font)
+
+    def can_be_said(self):
+        return self.drop < 8 and self.depth < 256
+
+    def choices(self):
+        """The keywords of the row: those alone that aren't the default."""
+        found = {}
+        if self.kind == "limits" or self.tokens:
+            found["tokens"] = self.tokens
+        if self.kind == "limits" or self.depth:
+            found["depth"] = self.depth
+        for bit, name in ((1, "hinting"), (2, "names"), (4, "glyph_names")):
+            if self.drop & bit:
+                found[name] = False
+        return found
+
+    def all_choices(self):
+        return {"hinting": True, "names": True, "glyph_names": True, "tokens": None, "depth": None, **self.choices()}
+
+
+def answer(call, *arguments, **choices):
     try:
-        return call(*arguments)
+        found = call(*arguments, **choices)
+        return found if isinstance(found, bytes) else tuple(found)
     except subsetter.Error as error:
-        return type(error), str(error)
+        return ERRORS.index(type(error)), str(error)
 
 
-def rows():
-    fonts, texts, found = {}, {}, []
-    with open(os.path.join(os.path.dirname(os.path.abspath(__file__)), "..", "rows.txt")) as file:
+def read_rows(name, fonts, texts):
+    found = []
+    with open(name) as file:
         for words in map(str.split, file):
             if not words or words[0] == "#":
                 continue
@@ -41,49 +115,386 @@ def rows():
                 fonts[words[1]] = hexadecimal(words[2])
             elif words[0] == "text":
                 texts[int(words[1])] = hexadecimal(words[2]).decode()
-            elif words[0] in ("subset", "embed"):
+            else:
                 found.append(words)
-    for words in found:
-        status = int(words[5])
-        if status:
-            wanted = NAMES[status], texts[status]
-        elif words[0] == "embed":
-            wanted = (hexadecimal(words[6]), numbers(words[7]), numbers(words[8]))
-        else:
-            wanted = hexadecimal(words[6])
-        call = subsetter.embed if words[0] == "embed" else subsetter.subset
-        yield words[1], (call, fonts[words[2]], numbers(words[4]), int(words[3])), wanted
+    return [Row(words, fonts, texts) for words in found]
 
 
-def main():
-    table, failed = list(rows()), []
-    for name, arguments, wanted in table:
-        if answer(*arguments) != wanted:
-            failed.append(name)
-    for glyphs, index, kind in (([65536], 0, builtin_overflow), ([-1], 0, builtin_overflow), ([1], 1 << 32, ValueError)):
-        try:
-            subsetter.subset(b"", glyphs, index)
-            failed.append(f"{glyphs} {index}")
-        except kind:
-            pass
-    few = [row for row in table if len(row[1][2]) < 1000]
+def is_right(row):
+    call = subsetter.embed if row.embeds else subsetter.subset
+    if row.kind == "limits" and 0 in (row.tokens, row.depth):
+        return isinstance(raised(call, row.font, row.glyphs, row.index, **row.choices()), ValueError)
+    answers = [answer(call, row.font, row.glyphs, row.index, **row.choices()),
+               answer(call, glyphs=iter(row.glyphs), data=row.font, index=row.index, **row.all_choices())]
+    if row.index == 0:
+        answers.append(answer(call, row.font, row.glyphs, **row.choices()))
+    return all(each == row.wanted for each in answers)
+
+
+def check_rows(rows):
+    for row in rows:
+        if row.can_be_said():
+            check(is_right(row), row.name)
+
+
+def check_font_rows(texts):
+    name = os.environ.get("SUBSETTER_FONT_ROWS")
+    if name:
+        rows = read_rows(name, {}, texts)
+        check(len(rows) > 4, "the rows of a font of this machine")
+        check_rows(rows)
+    else:
+        check(os.environ.get("SUBSETTER_SKIP") == "font", "no SUBSETTER_FONT_ROWS: run bindings/test")
+        print("the font of this machine is skipped, as was asked for")
+
+
+def check_threads(rows):
+    few = [row for row in rows if len(row.glyphs) < 1000 and row.can_be_said()]
+    wrong = []
 
     def many():
-        for _ in range(50):
-            failed.extend(name for name, arguments, wanted in few if answer(*arguments) != wanted)
+        for _ in range(30):
+            wrong.extend(row.name for row in few if not is_right(row))
 
     threads = [threading.Thread(target=many) for _ in range(2)]
     for thread in threads:
         thread.start()
     for thread in threads:
         thread.join()
-    for name in failed:
-        print("FAILED:", name)
-    print(f"Python: {len(table)} rows, {len(failed)} failed")
-    return bool(failed) or not table
+    check(not wrong, f"two threads answer alike: {wrong[:3]}")
 
 
-builtin_overflow = __builtins__.OverflowError
+def check_other_threads(fonts):
+    """Another thread goes on in the middle of a call that takes some time."""
+    font, stamps, ends = fonts["most_tokens"], [], threading.Event()
+
+    def stamp():
+        while not ends.is_set():
+            stamps.append(time.monotonic())
+            time.sleep(0.001)
+
+    thread = threading.Thread(target=stamp)
+    thread.start()
+    goes_on = False
+    for _ in range(50):
+        start = time.monotonic()
+        subsetter.subset(font, [])
+        took = time.monotonic() - start
+        goes_on = any(start + took / 4 < stamp < start + took * 3 / 4 for stamp in stamps[-10000:])
+        if goes_on:
+            break
+    ends.set()
+    thread.join()
+    check(goes_on, "other threads go on while a call runs")
+
+
+# ---- what can be passed
+
+def check_buffers(fonts, rows):
+    font = fonts["three_glyphs"]
+    wanted = next(row.wanted for row in rows if row.name == "simple")
+    with tempfile.TemporaryFile() as file:
+        file.write(b"ten bytes." + font)
+        file.flush()
+        with mmap.mmap(file.fileno(), 0, access=mmap.ACCESS_READ) as mapped:
+            whole = memoryview(mapped)[10:]
+            check(subsetter.subset(whole, [2]) == wanted, "a mapped file that is read alone")
+            whole.release()
+        with mmap.mmap(file.fileno(), 0) as mapped:
+            whole = memoryview(mapped)[10:]
+            check(subsetter.subset(whole, [2]) == wanted, "a mapped file")
+            whole.release()
+            check(isinstance(raised(subsetter.subset, mapped, [2]), subsetter.UnknownKind), "a mapped file as a whole")
+    buffers = {
+        "bytes": font, "bytearray": bytearray(font), "memoryview": memoryview(font),
+        "array of bytes": array.array("B", font), "array of signed bytes": array.array("b", font),
+        "C array": (ctypes.c_uint8 * len(font)).from_buffer_copy(font),
+        "C string": (ctypes.c_char * len(font)).from_buffer_copy(font),
+        "slice": memoryview(b"123" + font + b"45")[3:-2], "part of a bytearray": memoryview(bytearray(b"1" + font))[1:],
+        "memoryview of chars": memoryview(font).cast("c"),
+    }
+    for name, buffer in buffers.items():
+        check(subsetter.subset(buffer, [2]) == wanted, f"a font as {name}")
+        check(isinstance(raised(subsetter.embed, buffer, [2]), subsetter.MalformedFont), f"a font as {name}, embedded")
+    # The buffer is let go: it can be resized, which is refused while somebody holds it.
+    held = bytearray(font)
+    subsetter.subset(held, [2])
+    held.append(0)
+    raised(subsetter.subset, held, [9])
+    held.append(0)
+    held[:] = b""
+    check(isinstance(raised(subsetter.subset, held, [2]), subsetter.UnknownKind), "an empty bytearray")
+    # It isn't copied: a font of 40 MB in a process that has 20 MB left for it.
+    check(child("""
+        import resource, subsetter
+        font = bytearray(40_000_000)
+        subsetter._library()
+        size = int(open("/proc/self/statm").read().split()[0]) * 4096
+        resource.setrlimit(resource.RLIMIT_AS, (size + 20_000_000,) * 2)
+        for buffer in (font, memoryview(font), memoryview(font).toreadonly()):
+            for call in (subsetter.subset, subsetter.embed):
+                try:
+                    call(buffer, [2])
+                except subsetter.UnknownKind:
+                    print("refused", end=" ")
+    """) == "refused " * 6, "no font is copied")
+
+
+def check_refusals(font):
+    for call in (subsetter.subset, subsetter.embed):
+        for data in (5, "text", None, 1.5, [0, 1], {}, object(), array.array("H", [1, 2]), array.array("d", [1]),
+                     memoryview(font)[::2], memoryview(font)[::-1], memoryview(bytes(16)).cast("B", (4, 4)),
+                     memoryview(bytes(16)).cast("I"), memoryview(bytes(4)).cast("?"), (ctypes.c_uint16 * 4)(), open):
+            check(type(raised(call, data, [2])) is TypeError, f"a font as {data!r}")
+        for glyphs in (b"", bytes([36, 3]), bytearray([36, 3]), memoryview(bytes([36, 3])), "", "36", 5, None, [1.0], ["1"],
+                       [None], [b"1"], [[1]], 1.5, object(), [1, 2.5]):
+            check(type(raised(call, font, glyphs)) is TypeError, f"glyphs as {glyphs!r}")
+        for glyphs in ([65536], [-1], [2, 65538], [1 << 40], [1 << 80], [-(1 << 80)], range(65535, 65537)):
+            check(type(raised(call, font, glyphs)) is ValueError, f"glyphs as {glyphs!r}")
+        for index in (-1, 1 << 32, (1 << 32) + 1, 1 << 70):
+            check(type(raised(call, font, [2], index)) is ValueError, f"index {index}")
+        for index in (None, "0", 0.0, b"0", [0]):
+            check(type(raised(call, font, [2], index)) is TypeError, f"index {index!r}")
+        for name, most in (("tokens", 4294967295), ("depth", 255)):
+            for number in (0, -1, most + 1, most + 2, 1 << 70):
+                check(type(raised(call, font, [2], **{name: number})) is ValueError, f"{name} {number}")
+            for number in ("1", 1.0, b"1", [1]):
+                check(type(raised(call, font, [2], **{name: number})) is TypeError, f"{name} {number!r}")
+        for name in ("hinting", "names", "glyph_names"):
+            for value in (0, 1, None, "no", "", 1.0):
+                check(type(raised(call, font, [2], **{name: value})) is TypeError, f"{name} {value!r}")
+        check(type(raised(call, font, [2], 0, 5)) is TypeError, "choices are given by name alone")
+        check(type(raised(call, font, [2], hint=False)) is TypeError, "no such choice")
+
+
+def check_iterables(font, wanted):
+    class Number:
+        def __index__(self):
+            return 2
+
+    def endless():
+        yield 2
+        raise KeyError("mine")
+
+    for glyphs in ((2,), {2}, {2: 0}, range(2, 3), iter([2]), array.array("H", [2]), array.array("q", [2]), [Number()],
+                   (number for number in (2, 2)), frozenset([2])):
+        check(subsetter.subset(font, glyphs) == wanted, f"glyphs as {glyphs!r}")
+    check(subsetter.subset(font, [2], Number()) == wanted, "an index that has a number")
+    check(type(raised(subsetter.subset, font, endless())) is KeyError, "an error of the iterable is the caller's")
+
+
+# ---- limits, errors, names
+
+def check_limits(fonts):
+    most, more = fonts["most_tokens"], fonts["one_token_more"]
+    wanted = subsetter.subset(most, [])
+    for call in (subsetter.subset, subsetter.embed):
+        check(raised(call, most, []) is None, "a million tokens")
+        check(isinstance(raised(call, more, []), subsetter.CFFError), "a token more")
+        check(raised(call, more, [], tokens=1000001) is None, "a token more, as allowed")
+        check(isinstance(raised(call, most, [], tokens=999999), subsetter.CFFError), "a token less allowed")
+        check(raised(call, most, [], tokens=4294967295, depth=255) is None, "the greatest limits")
+    check(subsetter.embed(most, []) == (wanted, [], [321]), "a million tokens, embedded")
+
+
+def check_names(texts):
+    for status, error in enumerate(ERRORS[1:], 1):
+        check(issubclass(error, subsetter.Error) and issubclass(error, Exception), error.__name__)
+        check(subsetter._text(subsetter._library(), status) == texts[status], f"the text of status {status}")
+    check(issubclass(subsetter.OutOfMemory, MemoryError), "OutOfMemory is a MemoryError")
+    check(issubclass(subsetter.OverflowError, builtins.OverflowError), "OverflowError is one")
+    check(not issubclass(subsetter.Error, builtins.OverflowError), "an Error is none")
+    names = {}
+    exec("from subsetter import *", names)
+    check("OverflowError" not in names, "the builtin isn't shadowed")
+    wanted = {"subset", "embed", "Embedded", "Error", "UnknownKind", "MalformedFont", "Unimplemented", "SubsetError",
+              "CFFError", "OutOfMemory"}
+    check(wanted == set(names) - {"__builtins__"}, "the names of import *")
+    with open(os.path.join(HERE, "..", "..", "VERSION")) as file:
+        check(subsetter.__version__ == file.read().strip(), "the version")
+    check(os.path.isfile(os.path.join(HERE, "subsetter", "py.typed")), "py.typed")
+    for call in (subsetter.subset, subsetter.embed):
+        found = [(it.name, it.default, it.kind) for it in inspect.signature(call).parameters.values()]
+        both, named, none = inspect.Parameter.POSITIONAL_OR_KEYWORD, inspect.Parameter.KEYWORD_ONLY, inspect.Parameter.empty
+        check(found == [("data", none, both), ("glyphs", none, both), ("index", 0, both), ("tokens", None, named),
+                        ("depth", None, named), ("hinting", True, named), ("names", True, named),
+                        ("glyph_names", True, named)], "the signature")
+        check(set(call.__annotations__) == {name for name, _, _ in found} | {"return"}, "each argument has its type")
+
+
+def check_kinds(fonts):
+    found = subsetter.embed(fonts["three_advances"], [2, 2, 1])
+    check(type(found) is subsetter.Embedded and type(found.font) is bytes, "an embedded font is what it says")
+    check((found.cids, found.widths) == ([1, 1, 2], [500, 250, 600]), "CIDs and widths by their names")
+    check(found._fields == ("font", "cids", "widths"), "the order of the parts")
+    check(type(subsetter.subset(fonts["three_glyphs"], [2])) is bytes, "a subset is bytes")
+
+
+# ---- one subset for one answer
+
+def check_work(fonts):
+    """The answers are larger than their font, and each is made once and given back once."""
+    library, font = subsetter._library(), fonts["one_call_with_metrics"]
+    counts = {}
+
+    def counted(name):
+        real = getattr(library, name)
+
+        def call(*arguments):
+            counts[name] = counts.get(name, 0) + 1
+            refused.append(type(raised(held.append, 0)))
+            return real(*arguments)
+
+        return real, call
+
+    names = ["subsetter_make_subset_by_words", "subsetter_make_embedded_by_words", "subsetter_free"]
+    real = {name: counted(name) for name in names}
+    held, refused = bytearray(font), []
+    for name in names:
+        setattr(library, name, real[name][1])
+    try:
+        check(len(subsetter.subset(font, [])) > len(font), "a subset outgrows its font")
+        check(counts == {names[0]: 1, names[2]: 1}, f"one subset is made: {counts}")
+        counts.clear()
+        check(len(subsetter.embed(font, []).font) > len(font), "an embedded font outgrows its font")
+        check(counts == {names[1]: 1, names[2]: 1}, f"one embedded font is made: {counts}")
+        held[:] = font
+        refused.clear()
+        subsetter.subset(held, [])
+        check(refused[0] is BufferError, "while the call runs nobody can resize the font")
+    finally:
+        for name in names:
+            setattr(library, name, real[name][0])
+
+
+# ---- memory
+
+def resident():
+    with open("/proc/self/statm") as file:
+        return int(file.read().split()[1]) * 4096
+
+
+def growth(call):
+    """By how many bytes the process grows while it calls so often."""
+    for _ in range(100):
+        call()
+    before = resident()
+    for _ in range(10000):
+        call()
+    return resident() - before
+
+
+def check_memory(fonts):
+    long, many, glyphs = fonts["long_glyph"], fonts["many_glyphs"], list(range(1, 300))
+    check(growth(lambda: subsetter.subset(long, [1])) < 4_000_000, "a subset is given back")
+    check(growth(lambda: subsetter.embed(many, glyphs)) < 4_000_000, "an embedded font is given back")
+    check(growth(lambda: raised(subsetter.embed, many, [300])) < 4_000_000, "after an error nothing is held")
+    check(child("""
+        import resource, subsetter
+        font = bytearray(bytes.fromhex(%r))
+        font.extend(bytes(100_000_128 - len(font)))
+        subsetter._library()
+        size = int(open("/proc/self/statm").read().split()[0]) * 4096
+        resource.setrlimit(resource.RLIMIT_AS, (size + 50_000_000,) * 2)
+        for call in (subsetter.subset, subsetter.embed):
+            try:
+                print("answered", len(call(font, [1])))
+            except subsetter.OutOfMemory as error:
+                print(error, end="; ")
+    """ % fonts["front_of_a_large_one"].hex()) == "out of memory; " * 2, "without memory both calls say so")
+
+
+# ---- where the library is looked for
+
+def child(program, environment=None, folder="/", path=HERE):
+    """What a Python of its own prints, or what went wrong."""
+    taken = ("LD_LIBRARY_PATH", "SUBSETTER_LIBRARY")
+    variables = {name: value for name, value in os.environ.items() if name not in taken}
+    variables.update({"PYTHONPATH": path, "PYTHONDONTWRITEBYTECODE": "1"}, **(environment or {}))
+    found = subprocess.run([sys.executable, "-c", textwrap.dedent(program)], env=variables, cwd=folder, text=True,
+                           stdout=subprocess.PIPE, stderr=subprocess.STDOUT)
+    return found.stdout
+
+
+CALLS = """
+    import os, subsetter
+    early = "subsetter.so" in open("/proc/self/maps").read()
+    said = "loaded before the first call: " if early else ""
+    try:
+        subsetter.subset(b"", [])
+    except subsetter.UnknownKind:
+        maps = {line.split()[-1] for line in open("/proc/self/maps") if line.count("/") and ".so" in line}
+        print(said + " ".join(path for path in maps if "subsetter" in os.path.basename(path)))
+    except OSError as error:
+        print(said + str(error))
+"""
+
+
+def check_places():
+    with tempfile.TemporaryDirectory() as top:
+        top = os.path.realpath(top)
+        named, inside = os.path.join(top, "named_subsetter.so"), os.path.join(top, "bindings", "python")
+        beside = os.path.join(inside, "subsetter", "libsubsetter.so")
+        built = os.path.join(top, "bindings", "c", "out", "libsubsetter.so")
+        system = os.path.join(top, "system", "libsubsetter.so")
+        shutil.copytree(os.path.join(HERE, "subsetter"), os.path.dirname(beside),
+                        ignore=shutil.ignore_patterns("__pycache__", "*.so"))
+        os.makedirs(os.path.dirname(built))
+        os.makedirs(os.path.dirname(system))
+        loader = {"LD_LIBRARY_PATH": os.path.dirname(system)}
+        found = child(CALLS, path=inside)
+        check(found.startswith("libsubsetter.so isn't found"), f"no library: {found}")
+        for words in (f"{beside} isn't there", f"{built} isn't there", "the system's loader", "SUBSETTER_LIBRARY isn't set",
+                      "`make` in bindings/c"):
+            check(words in found, f"no library: {words} is not in {found}")
+        # One place after the other gets a library: the first that has one is taken.
+        for path, variables in ((system, loader), (built, loader), (beside, loader),
+                                (named, {"SUBSETTER_LIBRARY": named, **loader})):
+            shutil.copy(BUILT, path)
+            check(child(CALLS, variables, path=inside) == path + "\n", f"the library at {path}")
+        check(child(CALLS, {"SUBSETTER_LIBRARY": ""}, path=inside) == beside + "\n", "an empty name names none")
+        check(child(CALLS, {"SUBSETTER_LIBRARY": "named_subsetter.so"}, folder=top, path=inside) == named + "\n",
+              "a relative name is read from where the program runs")
+        missing = os.path.join(top, "missing.so")
+        found = child(CALLS, {"SUBSETTER_LIBRARY": missing}, path=inside)
+        check(found.startswith(f"SUBSETTER_LIBRARY names {missing}, which can't be loaded"), f"a missing file: {found}")
+        with open(beside, "wb") as file:
+            file.write(b"no library")
+        found = child(CALLS, {"SUBSETTER_LIBRARY": beside}, path=inside)
+        check(found.startswith(f"SUBSETTER_LIBRARY names {beside}, which can't be loaded"), f"no library: {found}")
+        # A library of another version, and one that is found but lacks a call.
+        source = os.path.join(top, "other.c")
+        with open(source, "w") as file:
+            file.write("int subsetter_make_subset_by_words(void) { return 99; }\n"
+                       "int subsetter_make_embedded_by_words(void) { return 8; }\n"
+                       "int subsetter_error_text(void) { return 0; }\n#ifdef FREE\nvoid subsetter_free(void) {}\n#endif\n")
+        for flag, words in (("-DFREE", "answers status 99: it is of another version"),
+                            ("-DNONE", f"{named} has no call subsetter_free: it is of another version")):
+            subprocess.run([os.environ.get("CC", "cc"), "-shared", "-fPIC", flag, source, "-o", named], check=True)
+            found = child(CALLS, {"SUBSETTER_LIBRARY": named}, path=inside)
+            check(words in found, f"another library: {found}")
+
+
+def main():
+    fonts, texts = {}, {}
+    rows = read_rows(os.path.join(HERE, "..", "rows.txt"), fonts, texts)
+    simple = next(row.wanted for row in rows if row.name == "simple")
+    check_rows(rows)
+    check_font_rows(texts)
+    check_kinds(fonts)
+    check_buffers(fonts, rows)
+    check_refusals(fonts["three_glyphs"])
+    check_iterables(fonts["three_glyphs"], simple)
+    check_limits(fonts)
+    check_names(texts)
+    check_work(fonts)
+    check_places()
+    check_memory(fonts)
+    check_threads(rows)
+    check_other_threads(fonts)
+    print(f"Python: {len(rows)} rows, {checks} checks, {len(failures)} failed")
+    return bool(failures) or len(rows) < 80 or checks < 350
+
 
 if __name__ == "__main__":
     sys.exit(main())

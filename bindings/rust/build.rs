@@ -1,19 +1,27 @@
 //! Says where `libsubsetter.a` stands: in the folder that SUBSETTER_LIBRARY_FOLDER names, else in `../c/out`.
 
 use std::env;
-use std::path::PathBuf;
+use std::path::{Path, PathBuf};
 
 fn main() {
     println!("cargo:rerun-if-env-changed=SUBSETTER_LIBRARY_FOLDER");
-    let folder = match env::var_os("SUBSETTER_LIBRARY_FOLDER") {
+    let named = env::var_os("SUBSETTER_LIBRARY_FOLDER").filter(|folder| !folder.is_empty());
+    let folder = match named {
         Some(folder) => PathBuf::from(folder),
-        None => PathBuf::from(env!("CARGO_MANIFEST_DIR")).join("../c/out"),
+        None => Path::new(env!("CARGO_MANIFEST_DIR")).join("../c/out"),
     };
+    // (Cargo runs this program in the package's folder, and doesn't say where it was called itself)
+    if folder.is_relative() {
+        panic!(
+            "SUBSETTER_LIBRARY_FOLDER is the relative {}: name the whole path of the folder, from / on",
+            folder.display()
+        );
+    }
     let library = folder.join("libsubsetter.a");
     println!("cargo:rerun-if-changed={}", library.display());
     if !library.is_file() {
         panic!(
-            "{} isn't there: `make` in bindings/c builds it",
+            "{} isn't there: `make` in bindings/c builds it, and SUBSETTER_LIBRARY_FOLDER names another folder",
             library.display()
         );
     }

@@ -6,8 +6,8 @@ use Rattle.std.proofs.lemmas.List.{take-take, drop-take, drop-drop}
 use Rattle.subsetter_base.specs.Bytes.{range}
 use Rattle.subsetter_base.proofs.ByteLemmas.{range-fits, range-take_drop, range-short}
 use Rattle.subsetter_base.proofs.Options.{just_is}
-use Rattle.subsetter.specs.declared.sfnt.face.TableRecord.{TableRecord}
-use Rattle.subsetter.specs.Sfnt.Read.{record_of, directory_records, find_record}
+use Rattle.subsetter_sfnt.specs.declared.face.TableRecord.{TableRecord}
+use Rattle.subsetter_sfnt.specs.Read.{record_of, directory_records, find_record}
 use Rattle.cid_embed.specs.declared.reader.Place.{Place}
 use Rattle.cid_embed.specs.Afresh.{place_in}
 

@@ -12,7 +12,7 @@ use Rattle.subsetter_base.proofs.Options.{some_of}
 use Rattle.subsetter_cff.specs.Again.{AreAll}
 use Rattle.subsetter.specs.Fault.{HasFault}
 use Rattle.subsetter.specs.Limits.{token_limit, depth_limit}
-use Rattle.subsetter.specs.Sfnt.Read.{as_font}
+use Rattle.subsetter_sfnt.specs.Read.{as_font}
 use Rattle.subsetter_again.specs.Again.{IsTrueTypeOrCidKeyed}
 use Rattle.subsetter_again.specs.Shrink.{OfEachSource}
 use Rattle.subsetter_again.proofs.Shrunk.{no_fault_for_all, fault_for_unknown}

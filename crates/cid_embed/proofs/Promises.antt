@@ -8,12 +8,12 @@ use Rattle.subsetter_base.specs.Places.{place, HasAllAboveZero}
 use Rattle.subsetter_base.specs.declared.error.Error.{Error}
 use Rattle.subsetter_base.specs.declared.error.Error.TheVariants.{UnknownKind, MalformedFont, Unimplemented, SubsetError, OverflowError, CFFError, OutOfMemory}
 use Rattle.subsetter_base.proofs.GlyphLemmas.{known, known-all, Contains-place}
-use Rattle.subsetter.specs.Sfnt.Read.{Font}
-use Rattle.subsetter.specs.Fault.{HasFault}
+use Rattle.subsetter_sfnt.specs.Read.{Font}
+use Rattle.subsetter.specs.Fault.{HasFault, in_opening}
 use Rattle.subsetter.specs.Subset.{IsSubset}
 use Rattle.subsetter.specs.Answer.{HasNoAnswer, IsAnswer}
 use Rattle.cid_embed.specs.Afresh.{table_of, widths_of}
-use Rattle.cid_embed.specs.Embed.{numbering, IsEmbedded, HasEmbedFault, HasNoEmbedding, in_numbering, in_subset, in_widths}
+use Rattle.cid_embed.specs.Embed.{numbering, HasMapperFault, all_asked, unopened, IsEmbedded, HasEmbedFault, HasNoEmbedding, in_numbering, in_subset, in_widths}
 use Rattle.cid_embed.specs.Width.{HasWidthFault}
 use Rattle.cid_embed.specs.declared.embedding.Embedded.{Embedded}
 use Rattle.cid_embed.proofs.Reading.{IsReading, is_reading}
@@ -37,18 +37,25 @@ IsRefusal tokens depth font glyphs why = (why ≡ OutOfMemory) ⊎ ((order : Lis
 abbrev pub IsFinal : ℕ → ℕ → Font → List ℕ → Error → Type 0
 IsFinal tokens depth font glyphs why = (why ≡ OutOfMemory) ⊎ HasNoEmbedding tokens depth font glyphs
 
+-- what a mapper refuses, as a fault of numbering
+pub unnumbered : (font : Font) (glyphs : List ℕ) (why : Error) → (why ≡ OutOfMemory) ⊎ ((why ≡ OverflowError) × HasAllAboveZero glyphs) → (why ≡ OutOfMemory) ⊎ HasMapperFault font glyphs why
+unnumbered font glyphs why (inl memory) = inl memory
+unnumbered font glyphs why (inr full) = inr (subst (HasMapperFault font glyphs) (sym full.0) (all_asked full.1))
+
 module _ (tokens depth : ℕ) (font : Font) (glyphs : List ℕ) where
-  pub mapper_refused : (why : Error) → (why ≡ OutOfMemory) ⊎ ((why ≡ OverflowError) × HasAllAboveZero glyphs) → IsRefusal tokens depth font glyphs why
+  pub mapper_refused : (why : Error) → (why ≡ OutOfMemory) ⊎ HasMapperFault font glyphs why → IsRefusal tokens depth font glyphs why
   mapper_refused why (inl memory) = inl memory
-  mapper_refused why (inr full) = inr ([], subst (HasEmbedFault tokens depth font glyphs []) (sym full.0) (in_numbering full.1))
+  mapper_refused why (inr (all_asked all)) = inr ([], in_numbering all)
+  mapper_refused why (inr (unopened fault)) = inr ([], in_subset (in_opening fault))
 
   pub subset_refused : (mapper : List ℕ) (why : Error) → mapper ≡ numbering glyphs → (why ≡ OutOfMemory) ⊎ ((order : List ℕ) × HasFault tokens depth font mapper order why) → IsRefusal tokens depth font glyphs why
   subset_refused mapper why m (inl memory) = inl memory
   subset_refused mapper why m (inr fault) = inr (fault.0, in_subset (subst (λ (l : List ℕ). HasFault tokens depth font l fault.0 why) m fault.1))
 
-  pub mapper_final : (why : Error) → (why ≡ OutOfMemory) ⊎ ((why ≡ OverflowError) × HasAllAboveZero glyphs) → IsFinal tokens depth font glyphs why
+  pub mapper_final : (why : Error) → (why ≡ OutOfMemory) ⊎ HasMapperFault font glyphs why → IsFinal tokens depth font glyphs why
   mapper_final why (inl memory) = inl memory
-  mapper_final why (inr full) = inr (λ e a. a.clean OverflowError (in_numbering full.1))
+  mapper_final why (inr (all_asked all)) = inr (λ e a. a.clean OverflowError (in_numbering all))
+  mapper_final why (inr (unopened fault)) = inr (λ e a. a.clean why (in_subset (in_opening fault)))
 
   pub subset_final : (mapper : List ℕ) (why : Error) → mapper ≡ numbering glyphs → (why ≡ OutOfMemory) ⊎ HasNoAnswer tokens depth font mapper → IsFinal tokens depth font glyphs why
   subset_final mapper why m (inl memory) = inl memory

@@ -11,8 +11,8 @@ use Rattle.subsetter_base.specs.declared.error.Error.TheVariants.{MalformedFont}
 use Rattle.subsetter_base.proofs.ByteLemmas.{number-short}
 use Rattle.subsetter_base.proofs.Options.{just_is, is_some_of, some_not_none}
 use Rattle.subsetter.specs.declared.hmtx.Metric.{Metric}
-use Rattle.subsetter.specs.Sfnt.Read.{Font, as_font, table}
-use Rattle.subsetter.specs.Sfnt.Rows.{tags_of}
+use Rattle.subsetter_sfnt.specs.Read.{Font, as_font, table}
+use Rattle.subsetter_sfnt.specs.Rows.{tags_of}
 use Rattle.subsetter.specs.Glyf.Fault.{short_head}
 use Rattle.subsetter.specs.Head.Read.{KeepsHead}
 use Rattle.subsetter.specs.Hmtx.Read.{number_of_metrics, metric_at, metric_in, metric_of, KeepsMetrics}

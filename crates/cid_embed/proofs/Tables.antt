@@ -5,13 +5,13 @@ use Rattle.std.specs.Option.{option_and_then}
 use Rattle.std.specs.Str.{bytes_eq}
 use Rattle.subsetter_base.specs.Bytes.{range, number}
 use Rattle.subsetter_base.proofs.Options.{map_some, none_of}
-use Rattle.subsetter.specs.declared.sfnt.face.TableRecord.{TableRecord}
-use Rattle.subsetter.specs.declared.sfnt.flavor.FontFlavor.{FontFlavor}
-use Rattle.subsetter.specs.declared.sfnt.flavor.FontFlavor.TheVariants.{TrueType, Cff}
-use Rattle.subsetter.specs.Sfnt.Container.{NameTablesFrom, padded_size, IsSoundContainer}
-use Rattle.subsetter.specs.Sfnt.Read.{Font, as_font, kind_of, header_by_kind, header_place, directory_records, find_record, records, records_at, table, table_in}
-use Rattle.subsetter.specs.Sfnt.Rows.{Row, opt, present, tags, rows, called_for, tags_of}
-use Rattle.subsetter.specs.Sfnt.Written.{kind_word}
+use Rattle.subsetter_sfnt.specs.declared.face.TableRecord.{TableRecord}
+use Rattle.subsetter_sfnt.specs.declared.flavor.FontFlavor.{FontFlavor}
+use Rattle.subsetter_sfnt.specs.declared.flavor.FontFlavor.TheVariants.{TrueType, Cff}
+use Rattle.subsetter_sfnt.specs.Container.{NameTablesFrom, padded_size, IsSoundContainer}
+use Rattle.subsetter_sfnt.specs.Read.{Font, as_font, kind_of, header_by_kind, header_place, directory_records, find_record, records, records_at, table, table_in}
+use Rattle.subsetter_sfnt.specs.Rows.{Row, opt, present, tags, rows, called_for, tags_of}
+use Rattle.subsetter_sfnt.specs.Written.{kind_word}
 use Rattle.cid_embed.specs.Afresh.{directory_bytes, table_of}
 
 -- ---- a font's header stands at the start

@@ -5,8 +5,8 @@ use Rattle.subsetter_base.specs.Bytes.{range, number, ◌>>=◌}
 use Rattle.subsetter_base.specs.declared.error.Error.{Error}
 use Rattle.subsetter_base.specs.declared.error.Error.TheVariants.{MalformedFont}
 use Rattle.std.specs.Option.{option_and_then}
-use Rattle.subsetter.specs.declared.sfnt.face.TableRecord.{TableRecord}
-use Rattle.subsetter.specs.Sfnt.Read.{table_in}
+use Rattle.subsetter_sfnt.specs.declared.face.TableRecord.{TableRecord}
+use Rattle.subsetter_sfnt.specs.Read.{table_in}
 use Rattle.subsetter.specs.Hmtx.Read.{number_of_metrics}
 use Rattle.cid_embed.specs.declared.reader.Place.{Place}
 use Rattle.cid_embed.specs.declared.reader.Metrics.{Metrics}

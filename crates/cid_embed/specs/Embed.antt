@@ -3,16 +3,24 @@ use Rattle.std.specs.Prelude.{◌≡◌, ℕ, List, [], ◌∷◌, map, Some}
 use Rattle.subsetter_base.specs.Places.{place, with_glyphs, HasAllAboveZero}
 use Rattle.subsetter_base.specs.declared.error.Error.{Error}
 use Rattle.subsetter_base.specs.declared.error.Error.TheVariants.{OverflowError}
-use Rattle.subsetter.specs.Sfnt.Read.{Font}
+use Rattle.subsetter_sfnt.specs.Read.{Font}
 use Rattle.subsetter.specs.Subset.{IsSubset}
 use Rattle.subsetter.specs.Answer.{IsAnswer}
 use Rattle.subsetter.specs.Fault.{HasFault}
+use Rattle.subsetter_sfnt.specs.Fault.{HasOpeningFault}
 use Rattle.cid_embed.specs.Width.{width, HasWidthFault}
 use Rattle.cid_embed.specs.declared.embedding.Embedded.{Embedded}
 
 -- the glyphs by their new numbers: 0, then the asked ones in order, each once
 abbrev pub numbering : List ℕ → List ℕ
 numbering glyphs = with_glyphs (0 ∷ []) glyphs
+
+-- what can stand against numbering the asked glyphs of a font, under the name of the error
+pub data HasMapperFault (font : Font) (glyphs : List ℕ) : Error → Type 0 where
+  -- they leave no number for glyph 0
+  all_asked : HasAllAboveZero glyphs → HasMapperFault font glyphs OverflowError
+  -- the font can't be opened
+  unopened : {e : Error} → HasOpeningFault font e → HasMapperFault font glyphs e
 
 -- a subset of the font for the asked glyphs, with their CIDs and the widths; a charstring is run within two limits
 pub record IsEmbedded (tokens depth : ℕ) (font : Font) (glyphs : List ℕ) (e : Embedded) : Type 0 where

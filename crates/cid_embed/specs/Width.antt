@@ -3,8 +3,8 @@ use Rattle.std.specs.Prelude.{◌≡◌, ℕ, ◌+◌, ◌*◌, ◌/◌, List, c
 use Rattle.subsetter_base.specs.Bytes.{number}
 use Rattle.subsetter_base.specs.declared.error.Error.{Error}
 use Rattle.subsetter_base.specs.declared.error.Error.TheVariants.{MalformedFont}
-use Rattle.subsetter.specs.Optional.{◌>>=◌}
-use Rattle.subsetter.specs.Sfnt.Read.{Font, table}
+use Rattle.subsetter_sfnt.specs.Optional.{◌>>=◌}
+use Rattle.subsetter_sfnt.specs.Read.{Font, table}
 use Rattle.subsetter.specs.Hmtx.Read.{metric}
 
 -- unitsPerEm: how many font design units the em has

@@ -1,16 +1,20 @@
 //! The subset of a font with the CIDs and the widths of its glyphs.
 
-ghost use Rattle.std.specs.Prelude.{◌≡◌, ◌⊎◌, ℕ, List, map, All, IfOk, IfErr, IsSome, Some};
-ghost use Rattle.subsetter_base.specs.Places.{place};
+ghost use Rattle.std.specs.Prelude.{◌≡◌, ◌≢◌, ◌⊎◌, ℕ, List, map, All, IfOk, IfErr, OnOk, IsSome, Some, Err};
+ghost use Rattle.subsetter_base.specs.Places.{place, HasAllAboveZero};
 ghost use Rattle.subsetter_base.specs.declared.error.Error.{Error as SpecError};
 ghost use Rattle.subsetter_base.specs.declared.error.Error.TheVariants.{OutOfMemory};
+ghost use Rattle.subsetter_sfnt.specs.Extras.{all_extras};
+ghost use Rattle.subsetter_sfnt.specs.Fault.{HasOpeningFault};
 ghost use Rattle.subsetter.specs.Limits.{token_limit, depth_limit};
 ghost use Rattle.subsetter.specs.Answer.{IsAnswer, IsTheAnswer};
-ghost use Rattle.cid_embed.specs.Embed.{numbering, IsEmbedded, HasEmbedFault, HasNoEmbedding};
+ghost use Rattle.cid_embed.specs.Embed.{numbering, HasMapperFault, IsEmbedded, HasEmbedFault, HasNoEmbedding};
 
 use crate::widths::read_widths;
 use std::alloc::Global;
-use subsetter::{Error, GlyphRemapper, Limits, subset_with_limits};
+use subsetter::{
+    Error, Extras, GlyphRemapper, Limits, Options, check_opening, subset_with_options,
+};
 
 /// What a PDF writer needs of a font for the glyphs that it asks for.
 #[derive(Debug, Drop)]
@@ -36,6 +40,35 @@ fn cids(alloc: Global, mapper: &GlyphRemapper, glyphs: &[u16]) -> Result<Vec<u16
     Ok(cids)
 }
 
+/// The mapper of glyph 0 and the given glyphs of a font: glyph 0, then the given ones in order, each once.
+///
+/// # Errors
+///
+/// - `OverflowError`: all glyphs above 0 are given, which leaves no number for glyph 0.
+/// - `OutOfMemory`: a request for memory was refused. For a font that can't be opened it is what `check_opening` answers.
+pub fn mapper_for(
+    alloc: Global,
+    data: &[u8],
+    index: u32,
+    glyphs: &[u16],
+    extras: Extras,
+) -> Result<GlyphRemapper, Error>
+    ensures ok { IfOk result (λ mapper. mapper ≡ numbering glyphs.now) }
+    ensures room { OnOk result (HasAllAboveZero glyphs.now → ⊥) }
+    ensures err { IfErr result (λ why. (why ≡ OutOfMemory) ⊎ HasMapperFault (record { bytes = «data».now; index = index; extras = extras }) glyphs.now why) }
+    // Where a fault stands that is found before memory is taken, the answer isn't want of memory.
+    ensures before_memory { (e : SpecError) → HasOpeningFault (record { bytes = «data».now; index = index; extras = extras }) e → result ≢ Err OutOfMemory }
+{
+    match GlyphRemapper::new_from_glyphs(alloc, glyphs) {
+        Ok(mapper) => Ok(mapper),
+        Err(Error::OverflowError) => Err(Error::OverflowError),
+        Err(error) => {
+            check_opening(data, index, extras)?;
+            Err(error)
+        }
+    }
+}
+
 /// The subset of a font for the asked glyphs, with the CID of each of them and the width of each CID.
 ///
 /// The font has glyph 0, then the asked glyphs in order, each once, and then each further glyph that these reach through
@@ -47,21 +80,23 @@ fn cids(alloc: Global, mapper: &GlyphRemapper, glyphs: &[u16]) -> Result<Vec<u16
 /// - `OverflowError`: all glyphs above 0 are asked for, which leaves no number for glyph 0.
 /// - Those of `subset`.
 /// - `MalformedFont`: there is no `hmtx` or no `head`, or unitsPerEm is 0.
-/// - `OutOfMemory`: a request for memory was refused.
+/// - `OutOfMemory`: a request for memory was refused; never for a font that `check_opening` refuses.
 ///
-/// They are looked for in this order.
+/// But for want of memory they are looked for in this order.
 pub fn embed(alloc: Global, data: &[u8], index: u32, glyphs: &[u16]) -> Result<Embedded, Error>
     // What is answered is a subset with CIDs and widths.
-    ensures ok { IfOk result (λ e. IsEmbedded token_limit depth_limit (record { bytes = «data».now; index = index }) glyphs.now e) }
+    ensures ok { IfOk result (λ e. IsEmbedded token_limit depth_limit (record { bytes = «data».now; index = index; extras = all_extras }) glyphs.now e) }
     // And then no fault stands in the source, the size limits being judged for the answer's order of glyphs.
-    ensures clean { IfOk result (λ e. (s : IsEmbedded token_limit depth_limit (record { bytes = «data».now; index = index }) glyphs.now e) × ((why : SpecError) → ¬ (HasEmbedFault token_limit depth_limit (record { bytes = «data».now; index = index }) glyphs.now s.subset.keeps.order why))) }
+    ensures clean { IfOk result (λ e. (s : IsEmbedded token_limit depth_limit (record { bytes = «data».now; index = index; extras = all_extras }) glyphs.now e) × ((why : SpecError) → ¬ (HasEmbedFault token_limit depth_limit (record { bytes = «data».now; index = index; extras = all_extras }) glyphs.now s.subset.keeps.order why))) }
     // Its font is the one that `subset` answers.
-    ensures exact { IfOk result (λ e. IsAnswer token_limit depth_limit (record { bytes = «data».now; index = index }) (numbering glyphs.now) e.font.items) }
-    ensures same { IfOk result (λ e. IsTheAnswer (record { bytes = «data».now; index = index }) (numbering glyphs.now) e.font.items) }
+    ensures exact { IfOk result (λ e. IsAnswer token_limit depth_limit (record { bytes = «data».now; index = index; extras = all_extras }) (numbering glyphs.now) e.font.items) }
+    ensures same { IfOk result (λ e. IsTheAnswer (record { bytes = «data».now; index = index; extras = all_extras }) (numbering glyphs.now) e.font.items) }
     // What is refused has a fault of that name.
-    ensures err { IfErr result (λ why. (why ≡ OutOfMemory) ⊎ ((order : List ℕ) × HasEmbedFault token_limit depth_limit (record { bytes = «data».now; index = index }) glyphs.now order why)) }
+    ensures err { IfErr result (λ why. (why ≡ OutOfMemory) ⊎ ((order : List ℕ) × HasEmbedFault token_limit depth_limit (record { bytes = «data».now; index = index; extras = all_extras }) glyphs.now order why)) }
     // And, but for want of memory, it has no answer: no call answers it within these limits.
-    ensures no_answer { IfErr result (λ why. (why ≡ OutOfMemory) ⊎ HasNoEmbedding token_limit depth_limit (record { bytes = «data».now; index = index }) glyphs.now) }
+    ensures no_answer { IfErr result (λ why. (why ≡ OutOfMemory) ⊎ HasNoEmbedding token_limit depth_limit (record { bytes = «data».now; index = index; extras = all_extras }) glyphs.now) }
+    // Where a fault stands that is found before memory is taken, the answer isn't want of memory.
+    ensures before_memory { (e : SpecError) → HasOpeningFault (record { bytes = «data».now; index = index; extras = all_extras }) e → result ≢ Err OutOfMemory }
 {
     embed_with_limits(alloc, data, index, glyphs, &Limits::default())
 }
@@ -79,19 +114,55 @@ pub fn embed_with_limits(
     limits: &Limits,
 ) -> Result<Embedded, Error>
     // What is answered is a subset with CIDs and widths.
-    ensures ok { IfOk result (λ e. IsEmbedded limits.now.tokens limits.now.depth (record { bytes = «data».now; index = index }) glyphs.now e) }
+    ensures ok { IfOk result (λ e. IsEmbedded limits.now.tokens limits.now.depth (record { bytes = «data».now; index = index; extras = all_extras }) glyphs.now e) }
     // And then no fault stands in the source, the size limits being judged for the answer's order of glyphs.
-    ensures clean { IfOk result (λ e. (s : IsEmbedded limits.now.tokens limits.now.depth (record { bytes = «data».now; index = index }) glyphs.now e) × ((why : SpecError) → ¬ (HasEmbedFault limits.now.tokens limits.now.depth (record { bytes = «data».now; index = index }) glyphs.now s.subset.keeps.order why))) }
+    ensures clean { IfOk result (λ e. (s : IsEmbedded limits.now.tokens limits.now.depth (record { bytes = «data».now; index = index; extras = all_extras }) glyphs.now e) × ((why : SpecError) → ¬ (HasEmbedFault limits.now.tokens limits.now.depth (record { bytes = «data».now; index = index; extras = all_extras }) glyphs.now s.subset.keeps.order why))) }
     // Its font is the one that `subset_with_limits` answers.
-    ensures exact { IfOk result (λ e. IsAnswer limits.now.tokens limits.now.depth (record { bytes = «data».now; index = index }) (numbering glyphs.now) e.font.items) }
-    ensures same { IfOk result (λ e. IsTheAnswer (record { bytes = «data».now; index = index }) (numbering glyphs.now) e.font.items) }
+    ensures exact { IfOk result (λ e. IsAnswer limits.now.tokens limits.now.depth (record { bytes = «data».now; index = index; extras = all_extras }) (numbering glyphs.now) e.font.items) }
+    ensures same { IfOk result (λ e. IsTheAnswer (record { bytes = «data».now; index = index; extras = all_extras }) (numbering glyphs.now) e.font.items) }
     // What is refused has a fault of that name.
-    ensures err { IfErr result (λ why. (why ≡ OutOfMemory) ⊎ ((order : List ℕ) × HasEmbedFault limits.now.tokens limits.now.depth (record { bytes = «data».now; index = index }) glyphs.now order why)) }
+    ensures err { IfErr result (λ why. (why ≡ OutOfMemory) ⊎ ((order : List ℕ) × HasEmbedFault limits.now.tokens limits.now.depth (record { bytes = «data».now; index = index; extras = all_extras }) glyphs.now order why)) }
     // And, but for want of memory, it has no answer: no call answers it within these limits.
-    ensures no_answer { IfErr result (λ why. (why ≡ OutOfMemory) ⊎ HasNoEmbedding limits.now.tokens limits.now.depth (record { bytes = «data».now; index = index }) glyphs.now) }
+    ensures no_answer { IfErr result (λ why. (why ≡ OutOfMemory) ⊎ HasNoEmbedding limits.now.tokens limits.now.depth (record { bytes = «data».now; index = index; extras = all_extras }) glyphs.now) }
+    // Where a fault stands that is found before memory is taken, the answer isn't want of memory.
+    ensures before_memory { (e : SpecError) → HasOpeningFault (record { bytes = «data».now; index = index; extras = all_extras }) e → result ≢ Err OutOfMemory }
 {
-    let mapper = GlyphRemapper::new_from_glyphs(alloc, glyphs)?;
-    let font = subset_with_limits(alloc, data, index, &mapper, limits)?;
+    let options = Options {
+        limits: *limits,
+        extras: Extras::ALL,
+    };
+    embed_with_options(alloc, data, index, glyphs, &options)
+}
+
+/// As `embed_with_limits`, where the new font has only those of its extras that are asked for. The CIDs and the widths
+/// are the same for all of these.
+///
+/// # Errors
+///
+/// Those of `embed_with_limits`, but for what is said of a table that isn't asked for.
+pub fn embed_with_options(
+    alloc: Global,
+    data: &[u8],
+    index: u32,
+    glyphs: &[u16],
+    options: &Options,
+) -> Result<Embedded, Error>
+    // What is answered is a subset with CIDs and widths.
+    ensures ok { IfOk result (λ e. IsEmbedded options.now.limits.tokens options.now.limits.depth (record { bytes = «data».now; index = index; extras = options.now.extras }) glyphs.now e) }
+    // And then no fault stands in the source, the size limits being judged for the answer's order of glyphs.
+    ensures clean { IfOk result (λ e. (s : IsEmbedded options.now.limits.tokens options.now.limits.depth (record { bytes = «data».now; index = index; extras = options.now.extras }) glyphs.now e) × ((why : SpecError) → ¬ (HasEmbedFault options.now.limits.tokens options.now.limits.depth (record { bytes = «data».now; index = index; extras = options.now.extras }) glyphs.now s.subset.keeps.order why))) }
+    // Its font is the one that `subset_with_options` answers.
+    ensures exact { IfOk result (λ e. IsAnswer options.now.limits.tokens options.now.limits.depth (record { bytes = «data».now; index = index; extras = options.now.extras }) (numbering glyphs.now) e.font.items) }
+    ensures same { IfOk result (λ e. IsTheAnswer (record { bytes = «data».now; index = index; extras = options.now.extras }) (numbering glyphs.now) e.font.items) }
+    // What is refused has a fault of that name.
+    ensures err { IfErr result (λ why. (why ≡ OutOfMemory) ⊎ ((order : List ℕ) × HasEmbedFault options.now.limits.tokens options.now.limits.depth (record { bytes = «data».now; index = index; extras = options.now.extras }) glyphs.now order why)) }
+    // And, but for want of memory, it has no answer: no call answers it within these limits.
+    ensures no_answer { IfErr result (λ why. (why ≡ OutOfMemory) ⊎ HasNoEmbedding options.now.limits.tokens options.now.limits.depth (record { bytes = «data».now; index = index; extras = options.now.extras }) glyphs.now) }
+    // Where a fault stands that is found before memory is taken, the answer isn't want of memory.
+    ensures before_memory { (e : SpecError) → HasOpeningFault (record { bytes = «data».now; index = index; extras = options.now.extras }) e → result ≢ Err OutOfMemory }
+{
+    let mapper = mapper_for(alloc, data, index, glyphs, options.extras)?;
+    let font = subset_with_options(alloc, data, index, &mapper, options)?;
     let widths = read_widths(alloc, &font, mapper.num_gids())?;
     let cids = cids(alloc, &mapper, glyphs)?;
     Ok(Embedded { font, cids, widths })

@@ -8,7 +8,7 @@ mod shrinking;
 mod widths;
 
 pub use array::write_widths;
-pub use embedding::{Embedded, embed, embed_with_limits};
+pub use embedding::{Embedded, embed, embed_with_limits, embed_with_options, mapper_for};
 pub use shrinking::shrink;
 pub use subsetter_again::shrink_font;
 

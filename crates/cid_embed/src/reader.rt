@@ -3,7 +3,7 @@
 ghost use Rattle.std.specs.Prelude.{◌≡◌, ◌/◌, ◌<◌, length, IfOk, IfErr};
 ghost use Rattle.std.specs.Option.{option_copied, option_map};
 ghost use Rattle.std.specs.Str.{bytes_eq};
-ghost use Rattle.subsetter.specs.Sfnt.Read.{record_of, find_record, directory_records};
+ghost use Rattle.subsetter_sfnt.specs.Read.{record_of, find_record, directory_records};
 ghost use Rattle.cid_embed.specs.Afresh.{directory_bytes, place_in, table_of, advance_in, measures_of, measures_seen};
 
 use subsetter_base::read::{Reader, u32_at};

@@ -6,7 +6,7 @@ ghost use Rattle.subsetter_base.specs.declared.error.Error.{Error as SpecError};
 ghost use Rattle.subsetter_base.specs.declared.error.Error.TheVariants.{MalformedFont, OutOfMemory};
 ghost use Rattle.subsetter.specs.Answer.{IsAnswer, IsTheAnswer};
 ghost use Rattle.subsetter.specs.Limits.{token_limit, depth_limit};
-ghost use Rattle.subsetter.specs.Sfnt.Read.{as_font};
+ghost use Rattle.subsetter_sfnt.specs.Read.{as_font};
 ghost use Rattle.subsetter_again.specs.Again.{IsTrueTypeOrCidKeyed};
 ghost use Rattle.subsetter_again.specs.Shrink.{OfEachSource, IsShrunk, IsGivenBack, HasNoFaultForAll};
 ghost use Rattle.subsetter_cff.specs.Again.{AreAll};

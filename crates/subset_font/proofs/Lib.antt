@@ -1,2 +1,3 @@
-mod Known
-mod Written
+mod Directory
+mod Making
+mod Failing

@@ -1,7 +1,7 @@
-pub mod Carried
-pub mod Failure
-pub mod Lines
+pub mod Chosen
+pub mod Asked
 pub mod Made
-pub mod Widths
-pub mod Words
-pub mod WordsView
+pub mod Told
+pub mod Carried
+pub mod FaceView
+pub mod Failure

@@ -1,31 +1,88 @@
 -- What is made of a font that is read, and why it isn't.
-use Rattle.std.specs.Prelude.{◌≡◌, ◌⊎◌, ℕ, List, [], ◌∷◌, Option, IfSome}
+use Rattle.std.specs.Prelude.{◌≡◌, ◌⊎◌, ℕ, List, [], ◌∷◌, map, Some, MatchBool}
+use Rattle.subsetter_sfnt.specs.Extras.{all_extras}
 use Rattle.subsetter.specs.Fault.{HasFault}
-use Rattle.subsetter.specs.Sfnt.Read.{Font}
+use Rattle.subsetter_sfnt.specs.Read.{Font}
 use Rattle.subsetter.specs.Subset.{IsSubset}
 use Rattle.subsetter_base.specs.Places.{with_glyphs, HasAllAboveZero}
 use Rattle.subsetter_base.specs.declared.error.Error.{Error as Refusal}
 use Rattle.subsetter_base.specs.declared.error.Error.TheVariants.{OutOfMemory, OverflowError}
 use Rattle.cid_embed.specs.Embed.{numbering, HasEmbedFault}
+use Rattle.cid_embed.specs.Text.{width_array}
+use Rattle.cid_embed.specs.Width.{width}
+use Rattle.subset_lines.specs.Json.{array_of}
+use Rattle.subset_font.specs.Asked.{IsAsked, IsUnasked}
+use Rattle.subset_font.specs.declared.task.Task.{Task}
+use Rattle.subset_font.specs.declared.task.Form.{Form}
+use Rattle.subset_font.specs.declared.task.Form.TheVariants.{Lines, Json, Silence}
+use Rattle.subset_font.specs.declared.subset.Made.{Made}
 use Rattle.subset_font.specs.declared.failure.Failure.{Failure}
 use Rattle.subset_font.specs.declared.failure.Failure.TheVariants.{Error, Read}
 
+-- the face that is read, with all that stands in it
+abbrev pub face_of : Task → List ℕ → Font
+face_of task bytes = record { bytes = bytes; index = task.index; extras = all_extras }
+
+-- the same, as far as it is asked for
+abbrev pub font_of : Task → List ℕ → Font
+font_of task bytes = record { bytes = bytes; index = task.index; extras = task.options.extras }
+
 -- a subset of a font in which no fault stands, within two limits on the run of a charstring, the size limits being judged for the subset's order of glyphs
 abbrev pub IsFaultless : ℕ → ℕ → Font → List ℕ → List ℕ → Type 0
-IsFaultless tokens depth font glyphs out = (s : IsSubset tokens depth font glyphs out) × ((e : Refusal) → ¬ (HasFault tokens depth font glyphs s.keeps.order e))
-
--- the given glyphs leave no number for glyph 0, or a fault stands in the font that is read, where its bytes are known
-abbrev pub IsRefusal : ℕ → ℕ → Option (List ℕ) → ℕ → List ℕ → Refusal → Type 0
-IsRefusal tokens depth known index glyphs why = ((why ≡ OverflowError) × HasAllAboveZero glyphs) ⊎ IfSome known (λ bytes. (order : List ℕ) × HasFault tokens depth (record { bytes = bytes; index = index }) (with_glyphs (0 ∷ []) glyphs) order why)
-
--- why there is no subset: the reader failed, memory ran out, or the glyphs or the font are refused
-abbrev pub IsFailureToMake : ℕ → ℕ → Option (List ℕ) → ℕ → List ℕ → Failure → Type 0
-IsFailureToMake tokens depth known index glyphs failure = (failure ≡ Read) ⊎ ((failure ≡ Error OutOfMemory) ⊎ ((why : Refusal) × (failure ≡ Error why) × IsRefusal tokens depth known index glyphs why))
+IsFaultless tokens depth font glyphs out = (s : IsSubset tokens depth font (numbering glyphs) out) × ((e : Refusal) → ¬ (HasFault tokens depth font (numbering glyphs) s.keeps.order e))
 
 -- a subset of a font in which nothing stands against it or the widths of the asked glyphs
 abbrev pub IsFaultlessWithWidths : ℕ → ℕ → Font → List ℕ → List ℕ → Type 0
 IsFaultlessWithWidths tokens depth font glyphs out = (s : IsSubset tokens depth font (numbering glyphs) out) × ((e : Refusal) → ¬ (HasEmbedFault tokens depth font glyphs s.keeps.order e))
 
--- why there is no subset with widths: the reader failed, memory ran out, or a fault stands for the glyphs and the font that is read, where its bytes are known
-abbrev pub IsFailureToMakeWidths : ℕ → ℕ → Option (List ℕ) → ℕ → List ℕ → Failure → Type 0
-IsFailureToMakeWidths tokens depth known index glyphs failure = (failure ≡ Read) ⊎ ((failure ≡ Error OutOfMemory) ⊎ ((why : Refusal) × (failure ≡ Error why) × IfSome known (λ bytes. (order : List ℕ) × HasEmbedFault tokens depth (record { bytes = bytes; index = index }) glyphs order why)))
+-- a faultless subset of the font for the asked glyphs, also for its widths where they are told
+abbrev pub IsCleanSubset : Task → List ℕ → List ℕ → List ℕ → Type 0
+IsCleanSubset task bytes glyphs out = MatchBool task.widths (IsFaultlessWithWidths task.options.limits.tokens task.options.limits.depth (font_of task bytes) glyphs out) (IsFaultless task.options.limits.tokens task.options.limits.depth (font_of task bytes) glyphs out)
+
+-- the text of widths: the value of `W` in a PDF, or in JSON an array
+abbrev pub width_text : Form → List ℕ → List ℕ
+width_text Lines widths = width_array widths
+width_text Json widths = array_of widths
+width_text Silence widths = width_array widths
+
+-- the text of the widths of glyph 0 and the asked glyphs, in the order of their new numbers
+pub record IsWidthText (form : Form) (font : Font) (glyphs text : List ℕ) : Type 0 where
+  pub widths : List ℕ
+  pub are : map Some widths ≡ map (width font) (numbering glyphs)
+  pub text_is : text ≡ width_text form widths
+
+-- the text that is told last: the widths, where they are asked for, and else nothing
+abbrev pub IsLastText : Task → List ℕ → List ℕ → List ℕ → Type 0
+IsLastText task bytes glyphs text = MatchBool task.widths (IsWidthText task.form (font_of task bytes) glyphs text) (text ≡ [])
+
+-- what a task makes of the bytes of a font
+pub record IsMade (task : Task) (bytes : List ℕ) (made : Made) : Type 0 where
+  pub asked : IsAsked (face_of task bytes) task.asked made.picked.characters.items made.picked.glyphs.items
+  pub order : made.mapper ≡ numbering made.picked.glyphs.items
+  pub subset : IsCleanSubset task bytes made.picked.glyphs.items made.font.items
+  pub text : IsLastText task bytes made.picked.glyphs.items made.text.items
+
+-- the given glyphs leave no number for glyph 0, or a fault stands in the font
+abbrev pub IsRefusal : ℕ → ℕ → Font → List ℕ → Refusal → Type 0
+IsRefusal tokens depth font glyphs why = ((why ≡ OverflowError) × HasAllAboveZero glyphs) ⊎ ((order : List ℕ) × HasFault tokens depth font (numbering glyphs) order why)
+
+-- or one against its widths
+abbrev pub IsRefusalOfWidths : ℕ → ℕ → Font → List ℕ → Refusal → Type 0
+IsRefusalOfWidths tokens depth font glyphs why = (order : List ℕ) × HasEmbedFault tokens depth font glyphs order why
+
+-- why there is no subset for glyphs
+abbrev pub IsRefused : Task → List ℕ → List ℕ → Refusal → Type 0
+IsRefused task bytes glyphs why = MatchBool task.widths (IsRefusalOfWidths task.options.limits.tokens task.options.limits.depth (font_of task bytes) glyphs why) (IsRefusal task.options.limits.tokens task.options.limits.depth (font_of task bytes) glyphs why)
+
+-- the asked glyphs are refused
+pub record IsRefusedTask (task : Task) (bytes : List ℕ) (failure : Failure) : Type 0 where
+  pub characters : List ℕ
+  pub glyphs : List ℕ
+  pub asked : IsAsked (face_of task bytes) task.asked characters glyphs
+  pub why : Refusal
+  pub failure_is : failure ≡ Error why
+  pub refused : IsRefused task bytes glyphs why
+
+-- why nothing is made of the bytes of a font: memory ran out, no glyphs are found, or they are refused
+abbrev pub IsUnmade : Task → List ℕ → Failure → Type 0
+IsUnmade task bytes failure = (failure ≡ Error OutOfMemory) ⊎ (IsUnasked (face_of task bytes) task.asked failure ⊎ IsRefusedTask task bytes failure)

@@ -3,8 +3,8 @@
 ghost use Rattle.std.specs.Prelude.{◌≡◌, ◌≤◌};
 ghost use Rattle.subset_font.specs.Failure.{status_of, status_of_end};
 
-use crate::words::Job;
 use std::fmt;
+use subset_args::{Glyphs, Job};
 use subsetter::Error;
 
 /// Why a run of the program ended without a subset.
@@ -13,12 +13,21 @@ pub enum Failure {
     /// The font is refused, or memory ran out.
     #[error(transparent)]
     Error(#[from] Error),
+    /// The face has no table by which Unicode characters have glyphs.
+    #[error("no Unicode cmap in font")]
+    NoMapping,
     /// The words after the program's name aren't as the usage says.
     #[error("usage: subset_font IN OUT INDEX GID[,GID..]")]
     Usage,
+    /// The file of glyphs isn't a list of them.
+    #[error("usage: subset_font IN OUT INDEX GID[,GID..]")]
+    List,
     /// The source can't be read. The text wants the file's name after it.
     #[error("cannot read")]
     Read,
+    /// The list of glyphs can't be read. The text wants the file's name after it.
+    #[error("cannot read")]
+    ReadList,
     /// The output can't be written. The text wants the file's name after it.
     #[error("cannot write")]
     Write,
@@ -34,9 +43,9 @@ impl Failure {
         ensures range { (1 ≤ result) × (result ≤ 3) }
     {
         match self {
-            Failure::Error(_) => 1,
-            Failure::Usage => 2,
-            Failure::Read | Failure::Write | Failure::Output => 3,
+            Failure::Error(_) | Failure::NoMapping => 1,
+            Failure::Usage | Failure::List => 2,
+            Failure::Read | Failure::ReadList | Failure::Write | Failure::Output => 3,
         }
     }
 }
@@ -50,13 +59,25 @@ pub struct Told<'a> {
     pub job: Option<&'a Job>,
 }
 
+/// The name of the file that failed.
+fn file_of<'a>(failure: &Failure, job: &'a Job) -> Option<&'a str> {
+    match (failure, &job.glyphs) {
+        (Failure::Read, _) => Some(job.input.as_str()),
+        (Failure::Write, _) => Some(job.output.as_str()),
+        (Failure::ReadList, Glyphs::InFile(name)) => Some(name.as_str()),
+        _ => None,
+    }
+}
+
 impl fmt::Display for Told<'_> {
     fn fmt<W: fmt::Write>(&self, f: &mut fmt::Formatter<W>) -> fmt::Result {
         let failure = self.failure;
-        match (failure, self.job) {
-            (Failure::Read, Some(job)) => write!(f, "{failure} {}", job.input),
-            (Failure::Write, Some(job)) => write!(f, "{failure} {}", job.output),
-            _ => write!(f, "{failure}"),
+        let Some(job) = self.job else {
+            return write!(f, "{failure}");
+        };
+        match file_of(failure, job) {
+            Some(name) => write!(f, "{failure} {name}"),
+            None => write!(f, "{failure}"),
         }
     }
 }

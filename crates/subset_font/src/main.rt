@@ -1,26 +1,32 @@
-//! Writes a subset of a font: `subset_font IN OUT INDEX GID[,GID..]`.
+//! Writes a subset of a font: `subset_font [OPTIONS] IN OUT INDEX GID[,GID..]`.
 #![tactic(auto)]
 
-mod carrying;
-mod emitting;
+mod asked;
+mod carried;
+mod face;
 mod failure;
-mod late;
-mod making;
-mod running;
-mod words;
+mod help;
+mod hint;
+mod output;
+mod run;
+mod streams;
+mod subset;
+mod task;
 
-pub use carrying::carry_out;
-pub use emitting::emit;
+pub use asked::{Picked, pick};
+pub use carried::carry_out;
 pub use failure::{Failure, Told, status_of_run};
-pub use late::LateFile;
-pub use making::{make, make_in_room, make_widths, make_widths_in_room};
-pub use words::{Job, read_words};
+pub use help::{HELP, VERSION, VERSION_LINE};
+pub use hint::{Hint, find_hint};
+pub use output::emit;
+pub use subset::{Made, make_of};
+pub use task::{Asked, Form, Task};
 
 #[cfg(test)]
 mod tests;
 
-use running::Ended;
+use run::Ended;
 
 fn main(rt: HostRuntime) -> Ended {
-    running::run(&rt)
+    run::run(&rt)
 }

@@ -6,6 +6,8 @@ pub mod Counted
 pub mod Closure
 pub mod KeptList
 pub mod Woven
+mod BareRows
+pub mod Bare
 pub mod Kept
 pub mod Fault
 pub mod Parts
@@ -13,3 +15,4 @@ pub mod Renumbering
 pub mod Unfold
 pub mod Found
 pub mod Taken
+pub mod NoInstructions

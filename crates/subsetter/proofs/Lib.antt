@@ -1,4 +1,3 @@
-pub mod SfntLaws
 pub mod HeadLaws
 pub mod GlyfLaws
 pub mod HmtxLaws
@@ -11,3 +10,4 @@ pub mod CffLaws
 pub mod Headline
 pub mod TwoLimits
 pub mod NoAnswer
+pub mod NoInstructions

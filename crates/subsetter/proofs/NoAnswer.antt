@@ -4,14 +4,14 @@ use Rattle.std.specs.Prelude.{codes, IsSome}
 use Rattle.subsetter_base.specs.declared.error.Error.{Error}
 use Rattle.subsetter_base.specs.declared.error.Error.TheVariants.{MalformedFont, OutOfMemory}
 use Rattle.subsetter_base.proofs.Results.{named_ok}
-use Rattle.subsetter.specs.declared.sfnt.flavor.FontFlavor.TheVariants.{Cff}
+use Rattle.subsetter_sfnt.specs.declared.flavor.FontFlavor.TheVariants.{Cff}
 use Rattle.subsetter.specs.Answer.{HasNoAnswer}
 use Rattle.subsetter.specs.Fault as faults
 use Rattle.subsetter.specs.Fault.{HasFault}
 use Rattle.subsetter.specs.Glyf.Closure.{Finds}
 use Rattle.subsetter.specs.Glyf.Read.{Outlines, outlines}
-use Rattle.subsetter.specs.Sfnt.Fault.{HasOpeningFault}
-use Rattle.subsetter.specs.Sfnt.Read.{Font, table, flavor}
+use Rattle.subsetter_sfnt.specs.Fault.{HasOpeningFault}
+use Rattle.subsetter_sfnt.specs.Read.{Font, table, flavor}
 use Rattle.subsetter.specs.Truetype.Answered.{IsRefused, no_memory, unread, unclosed, unmade, unlaid}
 use Rattle.subsetter.proofs.CffLaws.Order.{no_glyf, no_outlines}
 use Rattle.subsetter.proofs.GlyfLaws.Fault.{tables_refused, closure_refused, order_in}
@@ -27,7 +27,7 @@ module _ (tokens depth : ℕ) (font : Font) (glyphs : List ℕ) where
   for_found : (e : Error) (t : Outlines) (order : List ℕ) → outlines font ≡ Some t → Finds t order glyphs [] glyphs → HasFault tokens depth font glyphs order e → HasNoAnswer tokens depth font glyphs
   for_found e t order read found f out a = a.clean e (subst (λ (l : List ℕ). HasFault tokens depth font glyphs l e) (same_found t order a.subset.keeps.order glyphs [] glyphs found (a.found t read)) f)
 
-  pub no_truetype : (e : Error) → IsSome (table font (codes "glyf")) → IsRefused (table font) glyphs e → (e ≡ OutOfMemory) ⊎ HasNoAnswer tokens depth font glyphs
+  pub no_truetype : (e : Error) → IsSome (table font (codes "glyf")) → IsRefused font.extras.hinting (table font) glyphs e → (e ≡ OutOfMemory) ⊎ HasNoAnswer tokens depth font glyphs
   no_truetype e there no_memory = inl refl
   no_truetype e there (unread h) = inr (λ out a. a.clean e (faults.in_outlines (tables_refused font glyphs e there h)))
   no_truetype e there (unclosed t h stops) =

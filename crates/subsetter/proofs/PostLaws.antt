@@ -7,3 +7,4 @@ pub mod Answer
 pub mod Fault
 pub mod Clean
 pub mod Kept
+pub mod WithoutNames

@@ -6,9 +6,9 @@ use Rattle.std.proofs.lemmas.List.{append-nil, get_or_append_left, get_or_at, ge
 use Rattle.subsetter_base.specs.Places.{place, IsWithoutRepeats}
 use Rattle.subsetter_base.proofs.Options.{just_is, some_not_none}
 use Rattle.subsetter_base.proofs.Results.{done_is}
-use Rattle.subsetter.specs.declared.sfnt.flavor.FontFlavor.{FontFlavor}
-use Rattle.subsetter.specs.Sfnt.Read.{Font, table}
-use Rattle.subsetter.specs.Sfnt.Written.{Table, file, kind_word}
+use Rattle.subsetter_sfnt.specs.declared.flavor.FontFlavor.{FontFlavor}
+use Rattle.subsetter_sfnt.specs.Read.{Font, table}
+use Rattle.subsetter_sfnt.specs.Written.{Table, file, kind_word}
 use Rattle.subsetter.specs.Glyf.Read.{Outlines, outlines, outline, outline_in}
 use Rattle.subsetter.specs.Glyf.Reach.{IsReachable, IsGlyphOrder, given, step}
 use Rattle.subsetter.specs.Truetype.Plain.{truetype_tables}

@@ -3,16 +3,16 @@ use Rattle.std.specs.Prelude.{◌≡◌, ◌≤◌, ◌^◌, ℕ, List, codes, l
 use Rattle.subsetter_base.specs.declared.error.Error.{Error}
 use Rattle.subsetter_base.specs.declared.error.Error.TheVariants.{OverflowError}
 use Rattle.subsetter_cff.specs.CffFault.{HasCffFault}
-use Rattle.subsetter.specs.declared.sfnt.flavor.FontFlavor.{FontFlavor}
-use Rattle.subsetter.specs.declared.sfnt.flavor.FontFlavor.TheVariants.{Cff}
-use Rattle.subsetter.specs.Sfnt.Read.{Font, flavor, table}
+use Rattle.subsetter_sfnt.specs.declared.flavor.FontFlavor.{FontFlavor}
+use Rattle.subsetter_sfnt.specs.declared.flavor.FontFlavor.TheVariants.{Cff}
+use Rattle.subsetter_sfnt.specs.Read.{Font, flavor, table}
 use Rattle.subsetter.specs.Glyf.Read.{Outlines, outlines}
 use Rattle.subsetter.specs.Post.Fault.{HasGlyphNameFault}
-use Rattle.subsetter.specs.Sfnt.Written.{Table, fits, start_of}
+use Rattle.subsetter_sfnt.specs.Written.{Table, fits, start_of}
 use Rattle.subsetter.specs.Maxp.Read.{HasMaxProfileFault}
 use Rattle.subsetter.specs.Hmtx.Read.{HasMetricsFault}
 use Rattle.subsetter.specs.Name.Fault.{HasNameFault}
-use Rattle.subsetter.specs.Sfnt.Fault.{HasOpeningFault}
+use Rattle.subsetter_sfnt.specs.Fault.{HasOpeningFault}
 use Rattle.subsetter.specs.Glyf.Fault.{HasOutlineFault}
 use Rattle.subsetter.specs.Laid.{AreMade}
 use Rattle.subsetter.specs.Glyf.Plain.{kept_all}

@@ -1,6 +1,8 @@
 -- Outlines: `glyf` and `loca`.
 pub mod Read
 pub mod Parts
+pub mod Bare
+pub mod Instructions
 pub mod Reach
 pub mod Unfold
 pub mod Written

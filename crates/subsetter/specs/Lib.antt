@@ -1,5 +1,4 @@
-pub mod Optional
-pub mod Sfnt
+pub mod TableView
 pub mod Glyf
 pub mod Head
 pub mod Hmtx

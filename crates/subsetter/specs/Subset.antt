@@ -1,11 +1,11 @@
 -- What a subset of a font is.
 use Rattle.std.specs.Prelude.{◌≡◌, ℕ, ◌<◌, ◌^◌, List, length, codes, Some, IsSome}
-use Rattle.subsetter.specs.declared.sfnt.flavor.FontFlavor.{FontFlavor}
-use Rattle.subsetter.specs.declared.sfnt.flavor.FontFlavor.TheVariants.{TrueType, Cff}
-use Rattle.subsetter.specs.Sfnt.Read.{Font, as_font, table, flavor}
-use Rattle.subsetter.specs.Sfnt.Container.{IsSoundContainer}
-use Rattle.subsetter.specs.Sfnt.Rows.{tags_of}
-use Rattle.subsetter.specs.Sfnt.Written.{kind_word}
+use Rattle.subsetter_sfnt.specs.declared.flavor.FontFlavor.{FontFlavor}
+use Rattle.subsetter_sfnt.specs.declared.flavor.FontFlavor.TheVariants.{TrueType, Cff}
+use Rattle.subsetter_sfnt.specs.Read.{Font, as_font, table, flavor}
+use Rattle.subsetter_sfnt.specs.Container.{IsSoundContainer}
+use Rattle.subsetter_sfnt.specs.Rows.{tags_of}
+use Rattle.subsetter_sfnt.specs.Written.{kind_word}
 use Rattle.subsetter.specs.Glyf.Reach.{IsGlyphOrder}
 use Rattle.subsetter.specs.Head.Read.{KeepsHead}
 use Rattle.subsetter.specs.Hmtx.Read.{KeepsMetrics}

@@ -5,18 +5,20 @@
 
 ghost use Rattle.std.specs.Prelude.{◌≡◌};
 ghost use Rattle.subsetter_base.specs.Gives.{Gives};
-ghost use Rattle.subsetter.specs.Sfnt.Read.{table_in};
-ghost use Rattle.subsetter.specs.Sfnt.View.{font_seen};
+ghost use Rattle.subsetter_sfnt.specs.Read.{table_in};
+ghost use Rattle.subsetter_sfnt.specs.Extras.{asked};
+ghost use Rattle.subsetter.specs.TableView.{font_seen};
 ghost use Rattle.subsetter.specs.Cff.Plain.{made_of, font_of};
 ghost use Rattle.subsetter.specs.Cff.View.{made_seen};
 
-use crate::sfnt::face::Face;
-use crate::sfnt::flavor::FontFlavor;
-use crate::sfnt::tables::{FontTables, TableData};
 use crate::shared::{self, SharedTables};
+use crate::tables::TableData;
 use std::alloc::Global;
 use subsetter_base::{Error, GlyphRemapper};
 use subsetter_cff::NewCffTable;
+use subsetter_sfnt::face::Face;
+use subsetter_sfnt::flavor::FontFlavor;
+use subsetter_sfnt::tables::FontTables;
 use subsetter_type2::limits::Limits;
 
 /// What is made for the new font.
@@ -37,7 +39,7 @@ pub fn make<'a>(
     limits: Limits,
     mapper: &GlyphRemapper,
 ) -> Result<Made<'a>, Error>
-    ensures { Gives made_seen result (made_of (table_in face.now.«data».now face.now.records.now) source.now limits.tokens limits.depth mapper.now) }
+    ensures { Gives made_seen result (made_of (asked face.now.extras (table_in face.now.«data».now face.now.records.now)) source.now limits.tokens limits.depth mapper.now) }
 {
     let table = subsetter_cff::subset(alloc, source, mapper, limits)?;
     let shared = shared::make(alloc, face, FontFlavor::Cff, false, mapper)?;
@@ -45,7 +47,7 @@ pub fn make<'a>(
 }
 
 /// All tables of the new font.
-pub fn font_tables<'b, 'a>(made: &'b Made<'a>) -> FontTables<'b, 'a>
+pub fn font_tables<'b, 'a>(made: &'b Made<'a>) -> FontTables<TableData<'b, 'a>>
     ensures { font_seen result ≡ font_of (made_seen made.now) }
 {
     let mut tables = shared::font_tables(&made.shared);

@@ -9,7 +9,8 @@ ghost use Rattle.std.specs.Option.{option_copied};
 ghost use Rattle.subsetter_base.specs.Gives.{Gives, Fails};
 ghost use Rattle.subsetter_base.specs.Places.{IsWithoutRepeats};
 ghost use Rattle.subsetter.specs.Glyf.Closure.{first_byte_in, AreFound, EndsWith, IsTaken, components_in, others_in, lacks_head, LacksParts, IsFaulty, IsFull, IsVisited, StopsClosure, Finds};
-ghost use Rattle.subsetter.specs.Sfnt.Read.{table_in};
+ghost use Rattle.subsetter_sfnt.specs.Read.{table_in};
+ghost use Rattle.subsetter_sfnt.specs.Extras.{asked};
 ghost use Rattle.subsetter.specs.Glyf.Read.{offset, outline_in};
 ghost use Rattle.subsetter.specs.Glyf.View.{seen};
 ghost use Rattle.subsetter.specs.Glyf.Plain.{outlines_read, kept_outlines, with_outlines};
@@ -25,10 +26,10 @@ mod tests;
 use crate::glyf::component::{Components, is_composite};
 use crate::glyf::outlines::OutlineList;
 use crate::head::loca_format;
-use crate::sfnt::face::Face;
 use std::alloc::Global;
 use subsetter_base::read::Reader;
 use subsetter_base::{Error, GlyphRemapper, Tag};
+use subsetter_sfnt::face::Face;
 
 /// The tables that outlines are read from.
 #[derive(Clone, Copy)]
@@ -37,14 +38,16 @@ pub struct OutlineTables<'a> {
     pub glyf: &'a [u8],
     pub head: &'a [u8],
     pub long: bool,
+    /// Whether instructions are asked for.
+    pub hinting: bool,
 }
 
 impl<'a> OutlineTables<'a> {
     /// The tables of a font. `MalformedFont` where one is missing, or `head` has fewer than 52 bytes.
     #[tactic(auto, unfolding(crate::specs::Glyf::Read::outlines_in))]
     pub fn new(face: &Face<'a>) -> Result<Self, Error>
-        ensures ok { IfOk result (λ t. outlines_read (table_in face.now.«data».now face.now.records.now) ≡ Ok (seen t)) }
-        ensures err { IfErr result (λ e. outlines_read (table_in face.now.«data».now face.now.records.now) ≡ Err e) }
+        ensures ok { IfOk result (λ t. outlines_read face.now.extras.hinting (asked face.now.extras (table_in face.now.«data».now face.now.records.now)) ≡ Ok (seen t)) }
+        ensures err { IfErr result (λ e. outlines_read face.now.extras.hinting (asked face.now.extras (table_in face.now.«data».now face.now.records.now)) ≡ Err e) }
         ensures head { IfOk result (λ t. 52 ≤ length t.head.now) }
     {
         let loca = face.table(Tag::LOCA).ok_or(Error::MalformedFont)?;
@@ -56,6 +59,7 @@ impl<'a> OutlineTables<'a> {
             glyf,
             head,
             long: format != 0,
+            hinting: face.extras.hinting,
         })
     }
 
@@ -115,47 +119,55 @@ fn find_outlines<'a>(
     Ok(outlines)
 }
 
-/// Puts outlines last, each with its components under their new numbers. `heads` is room for their first bytes.
+/// Puts outlines last, each with its components under their new numbers, and with its instructions if they are asked for. `heads` is room for their first bytes.
 /// `MalformedFont` where one isn't there, has one byte or is a composite that is cut.
 fn keep_block<'a>(
     list: &mut OutlineList<'a>,
     heads: &mut Vec<u8>,
     block: &[Option<&'a [u8]>],
     order: &GlyphRemapper,
+    hinting: bool,
 ) -> Result<(), Error>
-    ensures ok { OnOk result (with_outlines list.old (kept_outlines order.now (map option_copied block.now)) ≡ Ok list.new) }
-    ensures err { IfErr result (λ e. Fails e (with_outlines list.old (kept_outlines order.now (map option_copied block.now)))) }
+    ensures ok { OnOk result (with_outlines list.old (kept_outlines hinting order.now (map option_copied block.now)) ≡ Ok list.new) }
+    ensures err { IfErr result (λ e. Fails e (with_outlines list.old (kept_outlines hinting order.now (map option_copied block.now)))) }
 {
     read_first_bytes(heads, block)?;
     let mut place: usize = 0;
     for outline in block {
         let outline = outline.ok_or(Error::MalformedFont)?;
         if is_composite(heads[place]) {
-            list.push_composite(outline, order)?;
+            list.push_composite(outline, order, hinting)?;
         } else {
-            list.push_kept(outline)?;
+            list.push_simple(outline, hinting)?;
         }
         place += 1;
     }
     Ok(())
 }
 
-/// Outlines that were looked up, each as it stands in the new `glyf` but for its padding.
+/// Outlines that were looked up, each as it stands in the new `glyf` but for its padding, with instructions if they are asked for.
 ///
 /// Each block of them is begun before one of it is looked at, so that many are fetched from memory at a time.
 pub fn subset<'a>(
     alloc: Global,
     found: Vec<Option<&'a [u8]>>,
     order: &GlyphRemapper,
+    hinting: bool,
 ) -> Result<OutlineList<'a>, Error>
-    ensures { Gives (λ list. list) result (kept_outlines order.now (map option_copied found.entry.items)) }
+    ensures { Gives (λ list. list) result (kept_outlines hinting order.now (map option_copied found.entry.items)) }
 {
     let mut list = OutlineList::with_capacity(alloc, found.len())?;
     let mut heads = Vec::with_capacity(alloc, found.len().min(BLOCK))?;
     let mut at: usize = 0;
     while at < found.len() {
         let count = (found.len() - at).min(BLOCK);
-        keep_block(&mut list, &mut heads, &found[at..at + count], order)?;
+        keep_block(
+            &mut list,
+            &mut heads,
+            &found[at..at + count],
+            order,
+            hinting,
+        )?;
         at += count;
     }
     list.shrink_to_fit();

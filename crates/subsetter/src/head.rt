@@ -9,10 +9,10 @@ ghost use Rattle.subsetter_base.specs.Bytes.{number};
 ghost use Rattle.subsetter_base.specs.Gives.{Gives};
 ghost use Rattle.subsetter.specs.Head.Written.{format_bytes, head_in};
 
-use crate::sfnt::room::put;
 use std::marker::Model;
 use subsetter_base::Error;
 use subsetter_base::read::Reader;
+use subsetter_sfnt::room::put;
 
 /// Where indexToLocFormat begins, two bytes.
 const FORMAT_START: usize = 50;

@@ -11,11 +11,11 @@ ghost use Rattle.subsetter_base.specs.Gives.{Gives};
 ghost use Rattle.subsetter.specs.Hmtx.Read.{metric_at, metric_in};
 ghost use Rattle.subsetter.specs.Hmtx.Written.{least_count, pair_bytes, bearing_bytes, metrics_all, source_count, tables_of, metrics_in};
 
-use crate::sfnt::room::put;
 use std::alloc::Global;
 use std::marker::Model;
 use subsetter_base::read::Reader;
 use subsetter_base::{Error, GlyphRemapper};
+use subsetter_sfnt::room::put;
 
 /// The horizontal metric of a glyph, in font design units.
 #[derive(Clone, Copy, PartialEq, Eq)]

@@ -10,10 +10,10 @@ ghost use Rattle.subsetter_base.specs.Gives.{Gives};
 ghost use Rattle.subsetter.specs.Maxp.Read.{version_of, further_fields};
 ghost use Rattle.subsetter.specs.Maxp.Written.{maxp_in};
 
-use crate::sfnt::flavor::FontFlavor;
-use crate::sfnt::room::put;
 use std::marker::Model;
 use subsetter_base::Error;
+use subsetter_sfnt::flavor::FontFlavor;
+use subsetter_sfnt::room::put;
 
 /// Version 1.0 for TrueType outlines, 0.5 for CFF ones.
 fn version(flavor: FontFlavor) -> u32

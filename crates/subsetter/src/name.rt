@@ -17,13 +17,13 @@ ghost use Rattle.subsetter.specs.Name.View.{nows, seen_parts, seen_table, name_s
 mod text;
 
 use crate::name::text::Text;
-use crate::sfnt::room::put;
 use std::alloc::Global;
 use std::collections::HashMap;
 use std::marker::Model;
 use subsetter_base::Error;
 use subsetter_base::read::{LazyArray16, Readable, Reader, u16_at};
 use subsetter_base::write::{Writeable, Writer};
+use subsetter_sfnt::room::put;
 
 /// A record of `name`: the string of a name, by its length and its offset in the storage, in bytes.
 #[derive(Clone, Copy, Debug)]
@@ -244,13 +244,13 @@ impl<'a> Strings<'a> {
 
 /// The records of a table of version 0 as they stand in its bytes, and the bytes that hold their strings.
 #[derive(Drop)]
-pub struct NameTable<'a> {
+pub struct Table<'a> {
     pub records: LazyArray16<'a, NameRecord>,
     pub storage: &'a [u8],
 }
 
 /// The parts of a table of version 0, if its header, its records and the start of its storage are there.
-fn parse_parts(data: &[u8]) -> Option<NameTable<'_>>
+fn parse_parts(data: &[u8]) -> Option<Table<'_>>
     ensures parts { option_map seen_parts result ≡ name_parts «data».now }
     ensures whole { IfSome result (λ t. length t.records.bytes ≡ t.records.count * 12) }
 {
@@ -259,10 +259,10 @@ fn parse_parts(data: &[u8]) -> Option<NameTable<'_>>
     let offset = r.read::<u16>()?;
     let records = r.read_array16::<NameRecord>(count)?;
     let storage = Reader::new_at(data, offset as usize).tail()?;
-    Some(NameTable { records, storage })
+    Some(Table { records, storage })
 }
 
-impl<'a> NameTable<'a> {
+impl<'a> Table<'a> {
     /// Parses a table of version 0, whose version the caller has read, if its header, its records and the start of its storage are there.
     pub fn parse(data: &'a [u8]) -> Option<Self>
         ensures { option_map seen_table result ≡ name_parts «data».now }
@@ -272,7 +272,7 @@ impl<'a> NameTable<'a> {
 }
 
 /// The low 16 bits of how many records a table has.
-fn count_records(table: &NameTable<'_>) -> u16
+fn count_records(table: &Table<'_>) -> u16
     ensures { result ≡ length (seen_table table.now).records % 65536 }
 {
     let mut count: u16 = 0;
@@ -283,7 +283,7 @@ fn count_records(table: &NameTable<'_>) -> u16
 }
 
 /// Writes the records of a table.
-fn write_records(w: &mut Writer, table: &NameTable<'_>) -> Result<(), Error>
+fn write_records(w: &mut Writer, table: &Table<'_>) -> Result<(), Error>
     ensures ok { OnOk result (w.new ≡ w.old ++ flat_map name_record_bytes (seen_table table.now).records) }
     ensures err { IfErr result (λ e. e ≡ OutOfMemory) }
 {
@@ -294,7 +294,7 @@ fn write_records(w: &mut Writer, table: &NameTable<'_>) -> Result<(), Error>
 }
 
 /// A table as it stands, its storage right behind its records.
-impl Writeable for NameTable<'_> {
+impl Writeable for Table<'_> {
     ghost use Rattle.subsetter.specs.Name.Read.{name_bytes};
     ghost use Rattle.subsetter.specs.Name.View.{seen_table};
 
@@ -382,7 +382,7 @@ fn write_header(out: &mut Vec<u8>, count: usize)
 
 /// Writes the records that a subset keeps behind others, and takes their strings, each once in the order of first use.
 fn collect_names<'a>(
-    table: &NameTable<'a>,
+    table: &Table<'a>,
     records: Writer,
     strings: Strings<'a>,
 ) -> Result<Collected<'a>, Error>
@@ -428,7 +428,7 @@ fn few_names<'a>(collected: Collected<'a>) -> Result<NewNames<'a>, Error>
 }
 
 /// The records that a subset keeps, with room for as many as are usual taken at once.
-fn laid_names<'a>(alloc: Global, table: &NameTable<'a>) -> Result<NewNames<'a>, Error>
+fn laid_names<'a>(alloc: Global, table: &Table<'a>) -> Result<NewNames<'a>, Error>
     ensures { Gives (λ names. names) result (laid_bytes (seen_table table.now)) }
 {
     let count = usize::from(table.records.len()).min(NEAR);
@@ -439,7 +439,7 @@ fn laid_names<'a>(alloc: Global, table: &NameTable<'a>) -> Result<NewNames<'a>, 
 }
 
 /// The records that a subset keeps, and their strings, each once in the order of first use. `SubsetError` where a string is not inside the storage or begins past 65535 in the new one, and for more than 5460 records.
-pub fn kept_names<'a>(alloc: Global, table: &NameTable<'a>) -> Result<NewNames<'a>, Error>
+pub fn subset_table<'a>(alloc: Global, table: &Table<'a>) -> Result<NewNames<'a>, Error>
     ensures { Gives (λ names. names) result (kept_bytes (seen_table table.now)) }
 {
     laid_names(alloc, table)
@@ -454,7 +454,7 @@ pub enum NewName<'a> {
     Kept(NewNames<'a>),
 }
 
-/// The names of a subset. A table of another version than 0 is copied whole; `MalformedFont` where the version, the header, a record or the start of the storage is cut, and the errors of `kept_names`.
+/// The names of a subset. A table of another version than 0 is copied whole; `MalformedFont` where the version, the header, a record or the start of the storage is cut, and the errors of `subset_table`.
 #[tactic(auto, unfolding(crate::specs::Name::Plain::new_name, crate::specs::Name::Plain::name_of_table))]
 pub fn subset<'a>(alloc: Global, name: Option<&'a [u8]>) -> Result<Option<NewName<'a>>, Error>
     ensures { Gives (option_map name_seen) result (new_name (option_copied name.entry)) }
@@ -468,6 +468,6 @@ pub fn subset<'a>(alloc: Global, name: Option<&'a [u8]>) -> Result<Option<NewNam
     if version != 0 {
         return Ok(Some(NewName::Copied(bytes)));
     }
-    let table = NameTable::parse(bytes).ok_or(Error::MalformedFont)?;
-    Ok(Some(NewName::Kept(kept_names(alloc, &table)?)))
+    let table = Table::parse(bytes).ok_or(Error::MalformedFont)?;
+    Ok(Some(NewName::Kept(subset_table(alloc, &table)?)))
 }

@@ -11,6 +11,7 @@ ghost use Rattle.std.specs.Iterator.{YieldsFirstRef, item_count};
 ghost use Rattle.subsetter_base.specs.Gives.{Gives};
 ghost use Rattle.subsetter_base.specs.declared.error.Error.TheVariants.{OutOfMemory};
 ghost use Rattle.subsetter.specs.Post.Read.{names_in, post_table, pascal_bytes};
+ghost use Rattle.subsetter_sfnt.specs.Extras.{without_glyph_names};
 ghost use Rattle.subsetter.specs.Post.Plain.{seen_post, indexes_of, custom_count, new_indexes, entry_of, post_of_indexes, subset_glyph_names, new_post};
 
 use std::alloc::Global;
@@ -359,6 +360,35 @@ pub fn subset<'a>(
     let names = NameList::new(alloc, table.names_data, own_limit(&indexes))?;
     let new = write_table(alloc, &table, mapper.num_gids(), &indexes, &names)?;
     Ok(Some(CowSlice::Owned(new)))
+}
+
+/// A header of 32 bytes under version 3.0.
+fn header_alone(alloc: Global, bytes: &[u8]) -> Result<Vec<u8>, Error>
+    requires { 32 ≤ length bytes.now }
+    ensures ok { IfOk result (λ v. v.items ≡ without_glyph_names bytes.now) }
+    ensures err { IfErr result (λ e. e ≡ OutOfMemory) }
+{
+    let mut w = Writer::with_capacity(alloc, 32)?;
+    w.write(&0x0003_0000u32)?;
+    w.extend(&bytes[4..32])?;
+    Ok(w.finish())
+}
+
+/// `post` without the names of glyphs: a table of version 3.0. One that is shorter than its header is taken as it is.
+pub fn subset_without_names<'a>(
+    alloc: Global,
+    post: Option<&'a [u8]>,
+    mapper: &GlyphRemapper,
+) -> Result<Option<CowSlice<'a, u8>>, Error>
+    ensures { Gives (option_map cow_slice_items) result (new_post (option_map without_glyph_names (option_copied post.entry)) mapper.now) }
+{
+    let Some(bytes) = post else {
+        return subset(alloc, post, mapper);
+    };
+    if bytes.len() < 32 {
+        return subset(alloc, post, mapper);
+    }
+    Ok(Some(CowSlice::Owned(header_alone(alloc, bytes)?)))
 }
 
 #[cfg(test)]

@@ -4,9 +4,11 @@ ghost use Rattle.std.specs.Prelude.{◌≡◌};
 ghost use Rattle.std.specs.Cow.{cow_slice_items};
 ghost use Rattle.std.specs.Option.{option_map};
 ghost use Rattle.subsetter_base.specs.Gives.{Gives};
-ghost use Rattle.subsetter.specs.Sfnt.Read.{table_in};
-ghost use Rattle.subsetter.specs.Sfnt.View.{table_bytes, font_seen};
+ghost use Rattle.subsetter_sfnt.specs.Read.{table_in};
+ghost use Rattle.subsetter_sfnt.specs.Extras.{asked};
+ghost use Rattle.subsetter.specs.TableView.{table_bytes, font_seen};
 ghost use Rattle.subsetter.specs.Name.View.{name_seen};
+ghost use Rattle.subsetter.specs.Post.Plain.{post_of};
 ghost use Rattle.subsetter.specs.Shared.Plain.{shared_of, with_shared};
 ghost use Rattle.subsetter.specs.Shared.View.{shared_seen};
 
@@ -14,13 +16,14 @@ use crate::head::NewHead;
 use crate::hmtx::NewMetrics;
 use crate::maxp::NewMaxp;
 use crate::name::NewName;
-use crate::sfnt::face::Face;
-use crate::sfnt::flavor::FontFlavor;
-use crate::sfnt::tables::{FontTables, TableData};
+use crate::tables::TableData;
 use crate::{head, hmtx, maxp, name, post};
 use std::alloc::Global;
 use std::borrow::CowSlice;
 use subsetter_base::{Error, GlyphRemapper, Tag};
+use subsetter_sfnt::face::Face;
+use subsetter_sfnt::flavor::FontFlavor;
+use subsetter_sfnt::tables::FontTables;
 
 /// The shared tables of a new font, each where the source has it.
 #[derive(Drop)]
@@ -32,6 +35,22 @@ pub struct SharedTables<'a> {
     pub post: Option<CowSlice<'a, u8>>,
 }
 
+/// `post`, with the names of glyphs where these are asked for.
+fn glyph_names<'a>(
+    alloc: Global,
+    face: &Face<'a>,
+    order: &GlyphRemapper,
+) -> Result<Option<CowSlice<'a, u8>>, Error>
+    ensures { Gives (option_map cow_slice_items) result (post_of (asked face.now.extras (table_in face.now.«data».now face.now.records.now)) order.now) }
+{
+    let post = face.stored(Tag::POST);
+    if face.extras.glyph_names {
+        post::subset(alloc, post, order)
+    } else {
+        post::subset_without_names(alloc, post, order)
+    }
+}
+
 /// Makes the shared tables for an order of the glyphs. `long` says whether `loca` has the long format.
 #[tactic(auto, unfolding(crate::specs::Shared::Plain::shared_of))]
 pub fn make<'a>(
@@ -41,14 +60,14 @@ pub fn make<'a>(
     long: bool,
     order: &GlyphRemapper,
 ) -> Result<SharedTables<'a>, Error>
-    ensures { Gives shared_seen result (shared_of (table_in face.now.«data».now face.now.records.now) flavor long order.now) }
+    ensures { Gives shared_seen result (shared_of (asked face.now.extras (table_in face.now.«data».now face.now.records.now)) flavor long order.now) }
 {
     let head = head::subset(face.table(Tag::HEAD), long)?;
     let metrics = hmtx::subset(alloc, face.table(Tag::HHEA), face.table(Tag::HMTX), order)?;
     let count = order.num_gids();
     let maxp = maxp::subset(face.table(Tag::MAXP), flavor, count)?;
     let name = name::subset(alloc, face.table(Tag::NAME))?;
-    let post = post::subset(alloc, face.table(Tag::POST), order)?;
+    let post = glyph_names(alloc, face, order)?;
     Ok(SharedTables {
         head,
         metrics,
@@ -116,7 +135,7 @@ fn post_data<'b, 'a>(post: &'b Option<CowSlice<'a, u8>>) -> Option<TableData<'b,
 }
 
 /// A font with these tables and none of outlines.
-pub fn font_tables<'b, 'a>(shared: &'b SharedTables<'a>) -> FontTables<'b, 'a>
+pub fn font_tables<'b, 'a>(shared: &'b SharedTables<'a>) -> FontTables<TableData<'b, 'a>>
     ensures { font_seen result ≡ with_shared (shared_seen shared.now) }
 {
     let (hhea, hmtx) = metrics_data(&shared.metrics);

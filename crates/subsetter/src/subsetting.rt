@@ -1,34 +1,39 @@
 //! Subsetting a font.
 
-ghost use Rattle.std.specs.Prelude.{◌≡◌, ◌≢◌, ◌⊎◌, ℕ, List, IfOk, IfErr, Err};
+ghost use Rattle.std.specs.Prelude.{◌≡◌, ◌≢◌, ◌⊎◌, ℕ, List, IfOk, IfErr, OnOk, Err};
+ghost use Rattle.std.specs.Bool.{OnFalse};
 ghost use Rattle.subsetter_base.specs.declared.error.Error.TheVariants.{OutOfMemory};
 ghost use Rattle.subsetter_base.specs.declared.error.Error.{Error as SpecError};
 ghost use Rattle.subsetter_base.specs.Gives.{Gives};
 ghost use Rattle.subsetter.specs.Cff.Plain.{cff_file};
-ghost use Rattle.subsetter.specs.Sfnt.Read.{table_in};
+ghost use Rattle.subsetter_sfnt.specs.Read.{as_font, table_in};
+ghost use Rattle.subsetter_sfnt.specs.Extras.{all_extras, asked};
+ghost use Rattle.subsetter.specs.Glyf.Instructions.{HasNoInstructions};
 ghost use Rattle.subsetter.specs.Truetype.Answered.{IsAnswered, IsRefused};
 ghost use Rattle.subsetter.specs.Fault.{HasFault};
-ghost use Rattle.subsetter.specs.Sfnt.Fault.{HasOpeningFault};
+ghost use Rattle.subsetter_sfnt.specs.Fault.{HasOpeningFault};
 ghost use Rattle.subsetter.specs.Limits.{token_limit, depth_limit};
 ghost use Rattle.subsetter.specs.Subset.{IsSubset};
 ghost use Rattle.subsetter.specs.Answer.{IsAnswer, HasNoAnswer, IsTheAnswer};
 
 use crate::cff;
+use crate::choice::Options;
 use crate::glyf::{self, OutlineTables, Reached};
-use crate::sfnt::construct::finish;
-use crate::sfnt::face::Face;
-use crate::sfnt::flavor::{FontFlavor, flavor};
-use crate::sfnt::parse::parse;
-use crate::sfnt::tables::in_order;
 use crate::truetype::{font_tables, make};
 use std::alloc::Global;
 use subsetter_base::{Error, GlyphRemapper, Tag};
+use subsetter_sfnt::construct::finish;
+use subsetter_sfnt::extras::Extras;
+use subsetter_sfnt::face::Face;
+use subsetter_sfnt::flavor::{FontFlavor, flavor};
+use subsetter_sfnt::parse::parse;
+use subsetter_sfnt::tables::in_order;
 use subsetter_type2::limits::Limits;
 
 /// A subset of a TrueType font.
 fn truetype(alloc: Global, face: &Face<'_>, mapper: &GlyphRemapper) -> Result<Vec<u8>, Error>
-    ensures ok { IfOk result (λ v. IsAnswered (table_in face.now.«data».now face.now.records.now) mapper.now v.items) }
-    ensures err { IfErr result (λ e. IsRefused (table_in face.now.«data».now face.now.records.now) mapper.now e) }
+    ensures ok { IfOk result (λ v. IsAnswered face.now.extras.hinting (asked face.now.extras (table_in face.now.«data».now face.now.records.now)) mapper.now v.items) }
+    ensures err { IfErr result (λ e. IsRefused face.now.extras.hinting (asked face.now.extras (table_in face.now.«data».now face.now.records.now)) mapper.now e) }
 {
     let table = OutlineTables::new(face)?;
     let reached = glyf::closure(alloc, &table, mapper)?;
@@ -50,7 +55,7 @@ fn charstrings(
     limits: Limits,
     mapper: &GlyphRemapper,
 ) -> Result<Vec<u8>, Error>
-    ensures { Gives (λ v. v.items) result (cff_file (table_in face.now.«data».now face.now.records.now) limits.tokens limits.depth mapper.now) }
+    ensures { Gives (λ v. v.items) result (cff_file (asked face.now.extras (table_in face.now.«data».now face.now.records.now)) limits.tokens limits.depth mapper.now) }
 {
     let source = face.table(Tag::CFF).ok_or(Error::MalformedFont)?;
     let made = cff::make(alloc, face, source, limits, mapper)?;
@@ -123,18 +128,18 @@ pub fn subset(
     mapper: &GlyphRemapper,
 ) -> Result<Vec<u8>, Error>
     // What is answered is a subset of the font.
-    ensures ok { IfOk result (λ out. IsSubset token_limit depth_limit (record { bytes = «data».now; index = index }) mapper.now out.items) }
+    ensures ok { IfOk result (λ out. IsSubset token_limit depth_limit (record { bytes = «data».now; index = index; extras = all_extras }) mapper.now out.items) }
     // And then no fault stands in the source, the size limits being judged for the answer's order of glyphs.
-    ensures clean { IfOk result (λ out. (s : IsSubset token_limit depth_limit (record { bytes = «data».now; index = index }) mapper.now out.items) × ((e : SpecError) → ¬ (HasFault token_limit depth_limit (record { bytes = «data».now; index = index }) mapper.now s.keeps.order e))) }
+    ensures clean { IfOk result (λ out. (s : IsSubset token_limit depth_limit (record { bytes = «data».now; index = index; extras = all_extras }) mapper.now out.items) × ((e : SpecError) → ¬ (HasFault token_limit depth_limit (record { bytes = «data».now; index = index; extras = all_extras }) mapper.now s.keeps.order e))) }
     // Its glyphs stand in the order in which they are found, so that there is one answer.
-    ensures exact { IfOk result (λ out. IsAnswer token_limit depth_limit (record { bytes = «data».now; index = index }) mapper.now out.items) }
-    ensures same { IfOk result (λ out. IsTheAnswer (record { bytes = «data».now; index = index }) mapper.now out.items) }
+    ensures exact { IfOk result (λ out. IsAnswer token_limit depth_limit (record { bytes = «data».now; index = index; extras = all_extras }) mapper.now out.items) }
+    ensures same { IfOk result (λ out. IsTheAnswer (record { bytes = «data».now; index = index; extras = all_extras }) mapper.now out.items) }
     // What is refused has a fault of that name.
-    ensures err { IfErr result (λ e. (e ≡ OutOfMemory) ⊎ ((order : List ℕ) × HasFault token_limit depth_limit (record { bytes = «data».now; index = index }) mapper.now order e)) }
+    ensures err { IfErr result (λ e. (e ≡ OutOfMemory) ⊎ ((order : List ℕ) × HasFault token_limit depth_limit (record { bytes = «data».now; index = index; extras = all_extras }) mapper.now order e)) }
     // And, but for want of memory, it has no answer: no call answers it within these limits.
-    ensures no_answer { IfErr result (λ e. (e ≡ OutOfMemory) ⊎ HasNoAnswer token_limit depth_limit (record { bytes = «data».now; index = index }) mapper.now) }
+    ensures no_answer { IfErr result (λ e. (e ≡ OutOfMemory) ⊎ HasNoAnswer token_limit depth_limit (record { bytes = «data».now; index = index; extras = all_extras }) mapper.now) }
     // Where a fault stands that is found before memory is taken, the answer isn't want of memory.
-    ensures before_memory { (e : SpecError) → HasOpeningFault (record { bytes = «data».now; index = index }) e → result ≢ Err OutOfMemory }
+    ensures before_memory { (e : SpecError) → HasOpeningFault (record { bytes = «data».now; index = index; extras = all_extras }) e → result ≢ Err OutOfMemory }
 {
     subset_with_limits(alloc, data, index, mapper, &Limits::default())
 }
@@ -156,26 +161,87 @@ pub fn subset_with_limits(
     limits: &Limits,
 ) -> Result<Vec<u8>, Error>
     // What is answered is a subset of the font.
-    ensures ok { IfOk result (λ out. IsSubset limits.now.tokens limits.now.depth (record { bytes = «data».now; index = index }) mapper.now out.items) }
+    ensures ok { IfOk result (λ out. IsSubset limits.now.tokens limits.now.depth (record { bytes = «data».now; index = index; extras = all_extras }) mapper.now out.items) }
     // And then no fault stands in the source, the size limits being judged for the answer's order of glyphs.
-    ensures clean { IfOk result (λ out. (s : IsSubset limits.now.tokens limits.now.depth (record { bytes = «data».now; index = index }) mapper.now out.items) × ((e : SpecError) → ¬ (HasFault limits.now.tokens limits.now.depth (record { bytes = «data».now; index = index }) mapper.now s.keeps.order e))) }
+    ensures clean { IfOk result (λ out. (s : IsSubset limits.now.tokens limits.now.depth (record { bytes = «data».now; index = index; extras = all_extras }) mapper.now out.items) × ((e : SpecError) → ¬ (HasFault limits.now.tokens limits.now.depth (record { bytes = «data».now; index = index; extras = all_extras }) mapper.now s.keeps.order e))) }
     // Its glyphs stand in the order in which they are found, so that there is one answer, whatever the limits.
-    ensures exact { IfOk result (λ out. IsAnswer limits.now.tokens limits.now.depth (record { bytes = «data».now; index = index }) mapper.now out.items) }
-    ensures same { IfOk result (λ out. IsTheAnswer (record { bytes = «data».now; index = index }) mapper.now out.items) }
+    ensures exact { IfOk result (λ out. IsAnswer limits.now.tokens limits.now.depth (record { bytes = «data».now; index = index; extras = all_extras }) mapper.now out.items) }
+    ensures same { IfOk result (λ out. IsTheAnswer (record { bytes = «data».now; index = index; extras = all_extras }) mapper.now out.items) }
     // What is refused has a fault of that name.
-    ensures err { IfErr result (λ e. (e ≡ OutOfMemory) ⊎ ((order : List ℕ) × HasFault limits.now.tokens limits.now.depth (record { bytes = «data».now; index = index }) mapper.now order e)) }
+    ensures err { IfErr result (λ e. (e ≡ OutOfMemory) ⊎ ((order : List ℕ) × HasFault limits.now.tokens limits.now.depth (record { bytes = «data».now; index = index; extras = all_extras }) mapper.now order e)) }
     // And, but for want of memory, it has no answer: no call answers it within these limits.
-    ensures no_answer { IfErr result (λ e. (e ≡ OutOfMemory) ⊎ HasNoAnswer limits.now.tokens limits.now.depth (record { bytes = «data».now; index = index }) mapper.now) }
+    ensures no_answer { IfErr result (λ e. (e ≡ OutOfMemory) ⊎ HasNoAnswer limits.now.tokens limits.now.depth (record { bytes = «data».now; index = index; extras = all_extras }) mapper.now) }
     // Where a fault stands that is found before memory is taken, the answer isn't want of memory.
-    ensures before_memory { (e : SpecError) → HasOpeningFault (record { bytes = «data».now; index = index }) e → result ≢ Err OutOfMemory }
+    ensures before_memory { (e : SpecError) → HasOpeningFault (record { bytes = «data».now; index = index; extras = all_extras }) e → result ≢ Err OutOfMemory }
+{
+    let options = Options {
+        limits: *limits,
+        extras: Extras::ALL,
+    };
+    subset_with_options(alloc, data, index, mapper, &options)
+}
+
+/// As `subset_with_limits`, where the new font has only those of its extras that are asked for.
+///
+/// - Without `hinting` it has no `cvt `, `fpgm` and `prep`, and no outline in `glyf` has instructions. An outline whose
+///   instructions are cut stays as it is. `maxp` stays but for the count of the glyphs, and the hints of charstrings stay.
+///   A font whose instructions draw, as some old fonts for Chinese do, comes to wrong shapes without them.
+/// - Without `names` it has no `name`.
+/// - Without `glyph_names` its `post` has version 3.0, which names no glyph.
+///
+/// # Errors
+///
+/// Those of `subset_with_limits`, but for what is said of a table that isn't asked for: of `name` without `names`, and of
+/// what stands behind the header of 32 bytes in `post` without `glyph_names`.
+pub fn subset_with_options(
+    alloc: Global,
+    data: &[u8],
+    index: u32,
+    mapper: &GlyphRemapper,
+    options: &Options,
+) -> Result<Vec<u8>, Error>
+    // What is answered is a subset of the font.
+    ensures ok { IfOk result (λ out. IsSubset options.now.limits.tokens options.now.limits.depth (record { bytes = «data».now; index = index; extras = options.now.extras }) mapper.now out.items) }
+    // And then no fault stands in the source, the size limits being judged for the answer's order of glyphs.
+    ensures clean { IfOk result (λ out. (s : IsSubset options.now.limits.tokens options.now.limits.depth (record { bytes = «data».now; index = index; extras = options.now.extras }) mapper.now out.items) × ((e : SpecError) → ¬ (HasFault options.now.limits.tokens options.now.limits.depth (record { bytes = «data».now; index = index; extras = options.now.extras }) mapper.now s.keeps.order e))) }
+    // Its glyphs stand in the order in which they are found, so that there is one answer, whatever the limits.
+    ensures exact { IfOk result (λ out. IsAnswer options.now.limits.tokens options.now.limits.depth (record { bytes = «data».now; index = index; extras = options.now.extras }) mapper.now out.items) }
+    ensures same { IfOk result (λ out. IsTheAnswer (record { bytes = «data».now; index = index; extras = options.now.extras }) mapper.now out.items) }
+    // What is refused has a fault of that name.
+    ensures err { IfErr result (λ e. (e ≡ OutOfMemory) ⊎ ((order : List ℕ) × HasFault options.now.limits.tokens options.now.limits.depth (record { bytes = «data».now; index = index; extras = options.now.extras }) mapper.now order e)) }
+    // And, but for want of memory, it has no answer: no call answers it within these limits.
+    ensures no_answer { IfErr result (λ e. (e ≡ OutOfMemory) ⊎ HasNoAnswer options.now.limits.tokens options.now.limits.depth (record { bytes = «data».now; index = index; extras = options.now.extras }) mapper.now) }
+    // Where a fault stands that is found before memory is taken, the answer isn't want of memory.
+    ensures before_memory { (e : SpecError) → HasOpeningFault (record { bytes = «data».now; index = index; extras = options.now.extras }) e → result ≢ Err OutOfMemory }
+    // Without hinting the new font has no instructions, read afresh.
+    ensures bare { IfOk result (λ out. OnFalse options.now.extras.hinting (HasNoInstructions (as_font out.items))) }
 {
     // What `num_gids` says of the mapper, that glyph 0 comes first, is a premise of the proof.
     let _count = mapper.num_gids();
     // So is what `depth` says of the limits, that a glyph's own charstring is within them.
-    let _depth = limits.depth();
-    let face = parse(data, index)?;
+    let _depth = options.limits.depth();
+    let face = parse(data, index, options.extras)?;
     match flavor(&face)? {
         FontFlavor::TrueType => truetype(alloc, &face, mapper),
-        FontFlavor::Cff => charstrings(alloc, &face, *limits, mapper),
+        FontFlavor::Cff => charstrings(alloc, &face, options.limits, mapper),
     }
+}
+
+/// Whether a font can be opened: what `subset` looks at before it takes memory. This takes none.
+///
+/// # Errors
+///
+/// - `UnknownKind`: the file doesn't begin with a known kind of font, or has none of `glyf`, `CFF ` and `CFF2`.
+/// - `MalformedFont`: the collection has no entry for `index`, that entry doesn't lead to the header of a single font, or
+///   the header or a record of the directory is cut.
+/// - `Unimplemented`: the outlines are those of `CFF2`.
+pub fn check_opening(data: &[u8], index: u32, extras: Extras) -> Result<(), Error>
+    // In a font that can be opened no such fault stands.
+    ensures ok { OnOk result ((e : SpecError) → ¬ (HasOpeningFault (record { bytes = «data».now; index = index; extras = extras }) e)) }
+    // What can't be opened has a fault of that name.
+    ensures err { IfErr result (λ e. HasOpeningFault (record { bytes = «data».now; index = index; extras = extras }) e) }
+{
+    let face = parse(data, index, extras)?;
+    flavor(&face)?;
+    Ok(())
 }

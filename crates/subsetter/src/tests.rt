@@ -3,6 +3,7 @@
 mod cff;
 mod composites;
 mod containers;
+mod extras;
 mod faults;
 mod fonts;
 mod hostile;

@@ -1,12 +1,12 @@
 -- A subset by its kind of outlines.
 use Rattle.std.proofs.Common.{◌≡◌, ℕ, ◌^◌, ◌<◌, true, List, length, Some, Ok, refl}
 use Rattle.std.specs.Prelude.{codes}
-use Rattle.subsetter.specs.declared.sfnt.flavor.FontFlavor.{FontFlavor}
-use Rattle.subsetter.specs.declared.sfnt.flavor.FontFlavor.TheVariants.{TrueType, Cff}
-use Rattle.subsetter.specs.Sfnt.Container.{IsSoundContainer}
-use Rattle.subsetter.specs.Sfnt.Read.{Font, as_font, table, flavor}
-use Rattle.subsetter.specs.Sfnt.Rows.{tags_of}
-use Rattle.subsetter.specs.Sfnt.Written.{Table, fits, file, start_of, kind_word}
+use Rattle.subsetter_sfnt.specs.declared.flavor.FontFlavor.{FontFlavor}
+use Rattle.subsetter_sfnt.specs.declared.flavor.FontFlavor.TheVariants.{TrueType, Cff}
+use Rattle.subsetter_sfnt.specs.Container.{IsSoundContainer}
+use Rattle.subsetter_sfnt.specs.Read.{Font, as_font, table, flavor}
+use Rattle.subsetter_sfnt.specs.Rows.{tags_of}
+use Rattle.subsetter_sfnt.specs.Written.{Table, fits, file, start_of, kind_word}
 use Rattle.subsetter.specs.Glyf.Read.{Outlines, outlines}
 use Rattle.subsetter.specs.Glyf.Reach.{IsGlyphOrder}
 use Rattle.subsetter.specs.Truetype.Plain.{truetype_tables}

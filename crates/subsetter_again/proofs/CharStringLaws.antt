@@ -1,5 +1,5 @@
 -- A subset with a CFF table of a subset: the laws that the joined ones call.
-use Rattle.std.proofs.Common.{◌≡◌, ℕ, ◌≤◌, ◌<◌, ◌^◌, false, cond, List, length, Option, Some, Result, Ok, Err, refl, sym, ap, subst, ◌∙◌, arith}
+use Rattle.std.proofs.Common.{◌≡◌, ℕ, ◌≤◌, ◌<◌, ◌^◌, Bool, true, false, cond, List, length, Option, Some, Result, Ok, Err, refl, sym, ap, subst, ◌∙◌, arith}
 use Rattle.std.specs.Prelude.{codes, Contains}
 use Rattle.std.specs.Option.{ok_or}
 use Rattle.subsetter_base.specs.Bytes.{IsBytes, ◌>>=◌}
@@ -11,12 +11,12 @@ use Rattle.subsetter_cff.specs.Headline.{IsSubsetTable}
 use Rattle.subsetter_cff.specs.Again.{composed, AreGlyphs, AreAll, HaveSameCharStrings}
 use Rattle.subsetter_cff.proofs.AgainLaws.Faults.{unknown_is_fault}
 use Rattle.subsetter_cff.proofs.AgainLaws.ThreeTables.{tables_compose, tables_keep_char_strings}
-use Rattle.subsetter.specs.declared.sfnt.flavor.FontFlavor.TheVariants.{Cff}
-use Rattle.subsetter.specs.Sfnt.Container.{IsSoundContainer}
-use Rattle.subsetter.specs.Sfnt.Plain.{file_of}
-use Rattle.subsetter.specs.Sfnt.Read.{Font, as_font, table, flavor}
-use Rattle.subsetter.specs.Sfnt.Rows.{tags_of}
-use Rattle.subsetter.specs.Sfnt.Written.{file, kind_word}
+use Rattle.subsetter_sfnt.specs.declared.flavor.FontFlavor.TheVariants.{Cff}
+use Rattle.subsetter_sfnt.specs.Container.{IsSoundContainer}
+use Rattle.subsetter_sfnt.specs.Plain.{file_of}
+use Rattle.subsetter_sfnt.specs.Read.{Font, as_font, table, flavor}
+use Rattle.subsetter_sfnt.specs.Rows.{tags_of}
+use Rattle.subsetter_sfnt.specs.Written.{file, kind_word}
 use Rattle.subsetter.specs.Shared.Plain.{shared_of}
 use Rattle.subsetter.specs.Cff.Plain.{Made, made_of, laid, cff_tables, cff_file}
 use Rattle.subsetter.specs.Cff.Read.{KeepsCharStrings}
@@ -28,12 +28,14 @@ use Rattle.subsetter.specs.Subset.{KeepsShared, KeepsFont, by_charstrings, IsSub
 use Rattle.subsetter.proofs.SharedLaws.Kept.{keeps_shared}
 use Rattle.subsetter.proofs.SharedLaws.Steps.{shared_steps}
 use Rattle.subsetter.proofs.CffLaws.Fault.{is_cff_subset}
+use Rattle.subsetter_again.specs.Again.{asked_less}
 use Rattle.subsetter_again.specs.CidKeyed.{IsCidKeyed}
 use Rattle.subsetter_again.proofs.Basics.{one_found}
 use Rattle.subsetter_again.proofs.ByKind.{IsCharStringSubset}
 use Rattle.subsetter_again.proofs.CharStrings as laid_out
 use Rattle.subsetter_again.proofs.CharStringTables.{at, tags_same, shared_same, tables_same}
 use Rattle.subsetter_again.proofs.GivenOrder.{only_given, all_of, composed_once, composed_order}
+use Rattle.subsetter_again.proofs.Less.{other_table, flavor_less}
 use Rattle.subsetter_again.proofs.OneOrder.{each, all_once}
 use Rattle.subsetter_again.proofs.Opening.{no_opening}
 use Rattle.subsetter_again.proofs.Places.{AreAt, all_places, same_lists}
@@ -48,70 +50,83 @@ unknown_charstring tokens depth font glyphs out more order g x among past =
     let d = x.drawn in
     faults.in_cff d.copy (charstring_flavor tokens depth font glyphs out x) d.copy_is (in_glyph d.kept.copy g d.kept.copy_is among (unknown_is_fault d.kept.source d.kept.copy tokens depth g x.order d.kept.kept past))
 
-module _ (tokens depth : ℕ) (font : Font) (glyphs out more again : List ℕ) (first : IsCharStringSubset tokens depth font glyphs out) (second : IsCharStringSubset tokens depth (as_font out) more again) where
+module _ (n g : Bool) (tokens depth : ℕ) (font : Font) (glyphs out more again : List ℕ) (first : IsCharStringSubset tokens depth font glyphs out) (second : IsCharStringSubset tokens depth (asked_less n g (as_font out)) more again) where
   -- the second source is the first copy
   same_copy : IsSubsetTable first.drawn.copy tokens depth second.order second.drawn.copy
   same_copy =
-      subst (λ b. IsSubsetTable b tokens depth second.order second.drawn.copy) (one_found (table (as_font out) (codes "CFF ")) second.drawn.source first.drawn.copy second.drawn.source_is first.drawn.copy_is) second.drawn.kept
+      subst (λ b. IsSubsetTable b tokens depth second.order second.drawn.copy)
+      (one_found (table (as_font out) (codes "CFF ")) second.drawn.source first.drawn.copy (sym (other_table n g (as_font out) (codes "CFF ") refl refl) ∙ second.drawn.source_is) first.drawn.copy_is) second.drawn.kept
 
-  drawn : AreGlyphs first.order second.order × KeepsCharStrings tokens depth font (composed first.order second.order) (as_font again)
+  drawn : AreGlyphs first.order second.order × KeepsCharStrings tokens depth (asked_less n g font) (composed first.order second.order) (as_font again)
   drawn =
       let k = tables_compose first.drawn.source first.drawn.copy second.drawn.copy tokens depth first.order second.order first.drawn.kept same_copy in
-      (k.0, record { source = first.drawn.source; source_is = first.drawn.source_is; copy = second.drawn.copy; copy_is = second.drawn.copy_is; kept = k.1 })
+      (k.0, record { source = first.drawn.source; source_is = other_table n g font (codes "CFF ") refl refl ∙ first.drawn.source_is; copy = second.drawn.copy; copy_is = second.drawn.copy_is; kept = k.1 })
 
   given : second.order ≡ more
-  given = only_given (as_font out) more second.order second.kind_is second.is_order
+  given = only_given (asked_less n g (as_font out)) more second.order second.kind_is second.is_order
 
   -- all glyphs in order keep their charstrings
   same_char_strings : AreAll (length first.order) more → HaveSameCharStrings first.drawn.copy second.drawn.copy
   same_char_strings a = tables_keep_char_strings first.drawn.source first.drawn.copy second.drawn.copy tokens depth first.order second.order first.drawn.kept (subst (AreAll (length first.order)) (sym given) a) same_copy
 
 pub charstrings_same : (tokens depth : ℕ) (font : Font) (glyphs out all again : List ℕ) (x : IsCharStringSubset tokens depth font glyphs out) → AreAll (length x.order) all → (y : IsCharStringSubset tokens depth (as_font out) all again) → HaveSameCharStrings x.drawn.copy y.drawn.copy
-charstrings_same tokens depth font glyphs out all again x a y = same_char_strings tokens depth font glyphs out all again x y a
+charstrings_same tokens depth font glyphs out all again x a y = same_char_strings true true tokens depth font glyphs out all again x y a
 
--- ---- a subset of a subset is a subset of the first font
+-- ---- a subset of a subset is a subset of the first font, also where less is asked for
 
-module _ (tokens depth : ℕ) (font : Font) (glyphs out more again : List ℕ) (bytes : IsBytes font.bytes) (deep : 1 ≤ depth) (first : IsCharStringSubset tokens depth font glyphs out) (second : IsCharStringSubset tokens depth (as_font out) more again) (some : 1 ≤ length more) where
+module _ (n g : Bool) (tokens depth : ℕ) (font : Font) (glyphs out more again : List ℕ) (bytes : IsBytes font.bytes) (deep : 1 ≤ depth) (first : IsCharStringSubset tokens depth font glyphs out) (second : IsCharStringSubset tokens depth (asked_less n g (as_font out)) more again) (some : 1 ≤ length more) where
   abbrev order : List ℕ
   order = composed first.order second.order
 
+  abbrev source : Font
+  source = asked_less n g font
+
+  abbrev middle : Font
+  middle = asked_less n g (as_font out)
+
+  kind_is : flavor source ≡ Some Cff
+  kind_is = flavor_less n g font ∙ first.kind_is
+
+  source_is : table source (codes "CFF ") ≡ Some first.source
+  source_is = other_table n g font (codes "CFF ") refl refl ∙ first.source_is
+
   inside : AreGlyphs first.order second.order
-  inside = (drawn tokens depth font glyphs out more again first second).0
+  inside = (drawn n g tokens depth font glyphs out more again first second).0
 
   no_others : second.order ≡ more
-  no_others = given tokens depth font glyphs out more again first second
+  no_others = given n g tokens depth font glyphs out more again first second
 
   places : AreAt first.order second.order order
   places = at tokens depth font glyphs out bytes first second.order inside
 
-  is_order : IsGlyphOrder font (composed first.order more) order
-  is_order = composed_order font first.order more second.order first.kind_is (composed_once first.order second.order order first.is_order.once second.is_order.once places) no_others
+  is_order : IsGlyphOrder source (composed first.order more) order
+  is_order = composed_order source first.order more second.order kind_is (composed_once first.order second.order order first.is_order.once second.is_order.once places) no_others
 
   few : length order < 2 ^ 16
   few = omega (arith, places.size, second.few)
 
-  container : IsSoundContainer again (kind_word Cff) (tags_of Cff (table font))
-  container = subst (λ (l : List (List ℕ)). IsSoundContainer again (kind_word Cff) l) (tags_same tokens depth font glyphs out bytes first) second.container
+  container : IsSoundContainer again (kind_word Cff) (tags_of Cff (table source))
+  container = subst (λ (l : List (List ℕ)). IsSoundContainer again (kind_word Cff) l) (tags_same tokens depth font glyphs out bytes first n g) second.container
 
-  shared : KeepsShared font Cff order (as_font again)
+  shared : KeepsShared source Cff order (as_font again)
   shared =
-      let made = laid_out.m tokens depth (as_font out) more again second in
-      let answered : shared_of (table font) Cff false order ≡ Ok made.shared = sym (shared_same tokens depth font glyphs out bytes first second.order inside) ∙ laid_out.shared_is tokens depth (as_font out) more again second in
-      keeps_shared font (as_font again) Cff false order made.shared (laid_out.word tokens depth (as_font out) more again second) (shared_steps (table font) Cff false order made.shared answered) (laid_out.shared_back tokens depth (as_font out) more again second) bytes
+      let made = laid_out.m tokens depth middle more again second in
+      let answered : shared_of (table source) Cff false order ≡ Ok made.shared = sym (shared_same tokens depth font glyphs out bytes first second.order inside n g) ∙ laid_out.shared_is tokens depth middle more again second in
+      keeps_shared source (as_font again) Cff false order made.shared (laid_out.word tokens depth middle more again second) (shared_steps (table source) Cff false order made.shared answered) (laid_out.shared_back tokens depth middle more again second) bytes
       (omega (arith, some, places.size, ap length no_others)) few
 
   -- read afresh
-  pub charstrings_kept : (third : KeepsFont tokens depth font (composed first.order more) again) × (third.order ≡ order)
+  pub charstrings_kept : (third : KeepsFont tokens depth source (composed first.order more) again) × (third.order ≡ order)
   charstrings_kept = (
     record {
       order = order;
       is_order = is_order;
       few = few;
       kind = Cff;
-      kind_is = first.kind_is;
+      kind_is = kind_is;
       container = container;
       shared = shared;
-      drawing = by_charstrings (drawn tokens depth font glyphs out more again first second).1;
+      drawing = by_charstrings (drawn n g tokens depth font glyphs out more again first second).1;
     },
     refl,
   )
@@ -121,12 +136,13 @@ module _ (tokens depth : ℕ) (font : Font) (glyphs out more again : List ℕ) (
   some_first : 1 ≤ length first.order
   some_first = let lt = places.within 0 (omega (arith, some, ap length no_others)) in omega (arith, lt)
 
-  tables_are : IsCidKeyed font → cff_tables (table font) first.source tokens depth order ≡ Ok second.tables
+  tables_are : IsCidKeyed font → cff_tables (table source) first.source tokens depth order ≡ Ok second.tables
   tables_are keyed =
-      let source = one_found (table (as_font out) (codes "CFF ")) second.source (laid_out.m tokens depth font glyphs out first).cff second.source_is (laid_out.cff_back tokens depth font glyphs out first) in
-      sym (tables_same tokens depth font glyphs out bytes first second.order inside deep some_first keyed) ∙ ap (λ b. cff_tables (table (as_font out)) b tokens depth second.order) (sym source) ∙ second.tables_are
+      let same =
+      one_found (table (as_font out) (codes "CFF ")) second.source (laid_out.m tokens depth font glyphs out first).cff (sym (other_table n g (as_font out) (codes "CFF ") refl refl) ∙ second.source_is) (laid_out.cff_back tokens depth font glyphs out first) in
+      sym (tables_same tokens depth font glyphs out bytes first second.order inside n g deep some_first keyed) ∙ ap (λ b. cff_tables (table middle) b tokens depth second.order) (sym same) ∙ second.tables_are
 
-  pub charstrings_composed : IsCidKeyed font → (third : IsSubset tokens depth font (composed first.order more) again) × (third.keeps.order ≡ order)
+  pub charstrings_composed : IsCidKeyed font → (third : IsSubset tokens depth source (composed first.order more) again) × (third.keeps.order ≡ order)
   charstrings_composed keyed = (
     record {
       keeps = record {
@@ -134,12 +150,12 @@ module _ (tokens depth : ℕ) (font : Font) (glyphs out more again : List ℕ) (
         is_order = is_order;
         few = few;
         kind = Cff;
-        kind_is = first.kind_is;
+        kind_is = kind_is;
         container = container;
         shared = shared;
-        drawing = by_charstrings (drawn tokens depth font glyphs out more again first second).1;
+        drawing = by_charstrings (drawn n g tokens depth font glyphs out more again first second).1;
       };
-      layout = record { tables = second.tables; made = of_charstrings first.source first.kind_is first.source_is (tables_are keyed); bytes = second.bytes; room = second.room };
+      layout = record { tables = second.tables; made = of_charstrings first.source kind_is source_is (tables_are keyed); bytes = second.bytes; room = second.room };
     },
     refl,
   )
@@ -160,7 +176,7 @@ module _ (tokens depth : ℕ) (font : Font) (glyphs out : List ℕ) (bytes : IsB
 
   -- the tables are the same
   tables_again : cff_tables (table (as_font out)) (laid_out.m tokens depth font glyphs out first).cff tokens depth all ≡ Ok first.tables
-  tables_again = tables_same tokens depth font glyphs out bytes first all all_inside deep (omega (arith, some, a.count)) keyed ∙ ap (cff_tables (table font) first.source tokens depth) same_order ∙ first.tables_are
+  tables_again = tables_same tokens depth font glyphs out bytes first all all_inside true true deep (omega (arith, some, a.count)) keyed ∙ ap (cff_tables (table font) first.source tokens depth) same_order ∙ first.tables_are
 
   pub charstrings_canonical : (again : List ℕ) → IsCharStringSubset tokens depth (as_font out) all again → again ≡ out
   charstrings_canonical again second =

@@ -6,13 +6,13 @@ use Rattle.subsetter_base.specs.Bytes.{◌>>=◌}
 use Rattle.subsetter_base.specs.declared.error.Error.{Error}
 use Rattle.subsetter_base.proofs.Results.{done_is, bind_ok}
 use Rattle.subsetter_cff.specs.Plain.{cff_subset}
-use Rattle.subsetter.specs.declared.sfnt.flavor.FontFlavor.TheVariants.{TrueType, Cff}
-use Rattle.subsetter.specs.Sfnt.Read.{Font, as_font, table, flavor}
-use Rattle.subsetter.specs.Sfnt.Rows.{bytes_of, rows}
-use Rattle.subsetter.specs.Sfnt.Written.{Table, fits, file, start_of, kind_word}
+use Rattle.subsetter_sfnt.specs.declared.flavor.FontFlavor.TheVariants.{TrueType, Cff}
+use Rattle.subsetter_sfnt.specs.Read.{Font, as_font, table, flavor}
+use Rattle.subsetter_sfnt.specs.Rows.{bytes_of, rows}
+use Rattle.subsetter_sfnt.specs.Written.{Table, fits, file, start_of, kind_word}
 use Rattle.subsetter.specs.Shared.Plain.{SharedTables, shared_of}
 use Rattle.subsetter.specs.Cff.Plain.{Made, made_of, font_of, laid, cff_tables}
-use Rattle.subsetter.proofs.SfntLaws.Back.{word_of}
+use Rattle.subsetter_sfnt.proofs.Laws.Back.{word_of}
 use Rattle.subsetter.proofs.SharedLaws.Kept.{AreBack}
 use Rattle.subsetter.proofs.CffLaws.Steps.{MadeSteps, made_steps}
 use Rattle.subsetter.proofs.CffLaws.Subset as landed

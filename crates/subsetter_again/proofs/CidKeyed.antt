@@ -7,7 +7,7 @@ use Rattle.subsetter_cff.specs.Cff.{Cff, is_cid_keyed}
 use Rattle.subsetter_cff.specs.Keying.{Keying, keying, keying_by}
 use Rattle.subsetter_cff.specs.Lookup.{last_of}
 use Rattle.subsetter_cff.specs.Operators.{registry_operator}
-use Rattle.subsetter.specs.Sfnt.Read.{Font, as_font}
+use Rattle.subsetter_sfnt.specs.Read.{Font, as_font}
 use Rattle.subsetter_again.specs.CidKeyed.{IsCidKeyed}
 use Rattle.subsetter_again.proofs.ByKind.{IsCharStringSubset}
 

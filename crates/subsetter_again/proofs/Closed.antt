@@ -6,9 +6,10 @@ use Rattle.subsetter_again.proofs.ByKind.{IsOutlineSubset}
 use Rattle.subsetter_again.proofs.Basics.{one_found, has_parts}
 use Rattle.subsetter_again.proofs.OneOrder.{own_order, one_order, all_once, among_all, below_all}
 use Rattle.subsetter_again.proofs.PartNumbers.{part_numbers, each_among}
-use Rattle.subsetter.specs.Sfnt.Read.{Font, as_font}
+use Rattle.subsetter_sfnt.specs.Read.{Font, as_font}
 use Rattle.subsetter.specs.Glyf.Read.{outline}
-use Rattle.subsetter.specs.Glyf.Parts.{component_numbers, Component, Parts, Empty, Simple, Composite, outline_parts, glyph_parts}
+use Rattle.subsetter.specs.Glyf.Parts.{component_numbers, Component, Parts, Empty, Simple, Composite, outline_parts}
+use Rattle.subsetter.specs.Glyf.Bare.{glyph_parts}
 use Rattle.subsetter.specs.Glyf.Reach.{IsReachable, given, step, IsGlyphOrder}
 use Rattle.subsetter.specs.Glyf.Unfold.{SameComponents, SameParts, UnfoldAlike}
 use Rattle.subsetter_base.proofs.Options.{bind_some}

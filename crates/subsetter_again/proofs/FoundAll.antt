@@ -3,7 +3,7 @@ use Rattle.std.proofs.Common.{◌≡◌, ℕ, suc, Bool, cond, List, [], ◌∷�
 use Rattle.std.specs.Prelude.{Contains, not}
 use Rattle.std.proofs.lemmas.List.{append-nil}
 use Rattle.subsetter_base.proofs.GlyphLemmas.{Contains-place}
-use Rattle.subsetter.specs.Sfnt.Read.{Font, as_font}
+use Rattle.subsetter_sfnt.specs.Read.{Font, as_font}
 use Rattle.subsetter.specs.Glyf.Closure.{components_in, others_in, Finds, all_found, follows}
 use Rattle.subsetter.specs.Glyf.Read.{Outlines, outlines, outline_in}
 use Rattle.subsetter.proofs.GlyfLaws.Unfold.{outline_is}

@@ -5,8 +5,8 @@ use Rattle.std.specs.List.{AllByRecursion}
 use Rattle.subsetter_base.specs.Places.{IsWithoutRepeats}
 use Rattle.subsetter_base.proofs.Options.{some_not_none}
 use Rattle.subsetter_cff.specs.Again.{composed}
-use Rattle.subsetter.specs.declared.sfnt.flavor.FontFlavor.TheVariants.{Cff}
-use Rattle.subsetter.specs.Sfnt.Read.{Font, table, flavor}
+use Rattle.subsetter_sfnt.specs.declared.flavor.FontFlavor.TheVariants.{Cff}
+use Rattle.subsetter_sfnt.specs.Read.{Font, table, flavor}
 use Rattle.subsetter.specs.Glyf.Read.{outline}
 use Rattle.subsetter.specs.Glyf.Reach.{IsReachable, given, step, IsGlyphOrder}
 use Rattle.subsetter.proofs.CffLaws.Order.{no_glyf, no_outline, given_order}

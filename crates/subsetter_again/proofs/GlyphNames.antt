@@ -1,14 +1,17 @@
 -- `post` of a subset is answered as that of the first font.
-use Rattle.std.proofs.Common.{◌≡◌, ℕ, suc, ◌+◌, ◌*◌, ◌<◌, ◌≤◌, Bool, true, false, cond, eqb, leb, List, [], ◌∷◌, length, get_or, take, drop, Option, Some, None, Ok, Err, refl, sym, ap, subst, ◌∙◌, arith}
+use Rattle.std.proofs.Common.{◌≡◌, ℕ, suc, ◌+◌, ◌*◌, ◌<◌, ◌≤◌, Bool, true, false, cond, eqb, leb, List, [], ◌∷◌, ◌++◌, length, get_or, take, drop, Option, Some, None, Ok, Err, refl, sym, ap, subst, ◌∙◌, inl, inr, arith}
 use Rattle.std.specs.Prelude.{codes, map, flat_map}
-use Rattle.std.specs.Option.{option_and_then, ok_or}
+use Rattle.std.specs.Option.{option_and_then, option_map, ok_or}
 use Rattle.std.specs.List.{AllByRecursion}
-use Rattle.std.proofs.lemmas.Bool.{leb-true}
-use Rattle.std.proofs.lemmas.List.{length-map, get_or-map}
+use Rattle.std.specs.Int.{w32, to_be_bytes}
+use Rattle.std.proofs.lemmas.Bool.{leb-true, le-leb, lt-leb, cases_lt}
+use Rattle.std.proofs.lemmas.List.{length-map, get_or-map, drop-take}
 use Rattle.subsetter_base.specs.Bytes.{IsBytes, be, range, number, ◌>>=◌}
 use Rattle.subsetter_base.specs.declared.error.Error.TheVariants.{MalformedFont, OverflowError}
+use Rattle.subsetter_base.proofs.ByteLemmas.{range-fits, range-take_drop}
 use Rattle.subsetter_base.proofs.Options.{just, just_is, bind_some}
 use Rattle.subsetter_base.proofs.Results.{named_ok, done_is, bind_ok}
+use Rattle.subsetter_sfnt.specs.Extras.{without_glyph_names}
 use Rattle.subsetter.specs.Name.Read.{bytes_from}
 use Rattle.subsetter.specs.Post.Read.{GlyphName, Standard, PostTable, names_in, post_parts, post_table, glyph_index, name_of_index, index_bytes, entry_bytes, post_bytes}
 use Rattle.subsetter.specs.Post.Plain.{indexes_of, custom_count, post_of_indexes, subset_glyph_names, post_of_table, new_post, post_of}
@@ -16,6 +19,7 @@ use Rattle.subsetter.proofs.NameLaws.Back.{AllBytes, all_bytes, all_drop}
 use Rattle.subsetter.proofs.PostLaws.Indexes.{customs}
 use Rattle.subsetter.proofs.PostLaws.Own.{customs_counted}
 use Rattle.subsetter.proofs.PostLaws.Kept.{IsNamed, new_index, named_back, customs_back, all_short, all_named, indexes_are, nth_of_map, post_back, headed, post_read, post_unread, glyph_back}
+use Rattle.subsetter.proofs.PostLaws.WithoutNames.{header_kept}
 use Rattle.subsetter_again.proofs.Basics.{one_found}
 use Rattle.subsetter_again.proofs.Places.{AreAt, same_lists}
 
@@ -171,3 +175,53 @@ post_of_again find copy L M order middle fit few at h is = ap (λ (o : Option (L
     by (Some source) there k =
         let a = bind_ok (post_of_table source L) (λ x. Ok (Some x)) middle k in
         ap (λ (o : Option (List ℕ)). new_post o M) (sym (done_is (Some a.0) middle a.2)) ∙ ap (λ r. r >>= λ x. Ok (Some x)) (table_again L M order few at source a.0 (fit source there) (post_is source L a.0 a.1))
+
+-- ---- without the names of glyphs
+
+-- a header of 32 bytes, under version 3.0
+bare_long : (bytes : List ℕ) → 32 ≤ length bytes → without_glyph_names bytes ≡ to_be_bytes w32 0x00030000 ++ take 28 (drop 4 bytes)
+bare_long bytes le = ap (λ b. cond b (to_be_bytes w32 0x00030000 ++ take 28 (drop 4 bytes)) bytes) (le-leb 32 (length bytes) le)
+
+-- what is taken of a table stands in its first 32 bytes
+in_header : (bytes header : List ℕ) → range bytes 0 32 ≡ Some header → (32 ≤ length bytes) × (take 28 (drop 4 bytes) ≡ drop 4 header)
+in_header bytes header h =
+    let long = range-fits bytes header 0 32 h in
+    let is : header ≡ take 32 bytes = just_is header (take 32 bytes) (sym h ∙ range-take_drop bytes 0 32 long) in
+    (long, sym (drop-take 4 28 bytes) ∙ ap (drop 4) (sym is))
+
+same_header : (source copy header : List ℕ) → range source 0 32 ≡ Some header → range copy 0 32 ≡ Some header → without_glyph_names copy ≡ without_glyph_names source
+same_header source copy header h k =
+    let a = in_header source header h in
+    let b = in_header copy header k in
+    bare_long copy b.0 ∙ ap (λ (l : List ℕ). to_be_bytes w32 0x00030000 ++ l) (b.1 ∙ sym a.1) ∙ sym (bare_long source a.0)
+
+-- a table of another version than 2.0 is answered alike, whatever the glyphs
+copied_bare : (M order source : List ℕ) (version : ℕ) → number source 0 4 ≡ Some version → eqb version 0x00020000 ≡ false → new_post (Some (without_glyph_names source)) M ≡ new_post (Some (without_glyph_names source)) order
+unfolding new_post
+copied_bare M order source version v e = elim (cases_lt (length source) 32) [
+  | inl lt ↦
+      let as_is : without_glyph_names source ≡ source = ap (λ b. cond b (to_be_bytes w32 0x00030000 ++ take 28 (drop 4 source)) source) (lt-leb 32 (length source) lt) in
+      ap (λ (l : List ℕ). post_of_table l M >>= λ new. Ok (Some new)) as_is ∙ ap (λ r. r >>= λ new. Ok (Some new)) (copied_as M source version v e ∙ sym (copied_as order source version v e)) ∙ ap (λ (l : List ℕ). post_of_table l order >>= λ new. Ok (Some new)) (sym as_is)
+  | inr le ↦ header_kept source M le ∙ sym (header_kept source order le)
+]
+
+bare_table : (L M order source middle : List ℕ) → length L < 65536 → PostIs source L middle → new_post (Some (without_glyph_names middle)) M ≡ new_post (Some (without_glyph_names source)) order
+bare_table L M order source middle few (is_rewritten t is read indexes own a) =
+    let ns = map (name_of_index (names_in t.names_data)) is in
+    let head = headed source t (post_unread source t read).1 in
+    let count : length ns < 65536 = omega (arith, length-map is (name_of_index (names_in t.names_data)), (indexes_are t L is indexes).count, few) in
+    let back = post_back t.header ns head.long count in
+    let there : range middle 0 32 ≡ Some t.header = ap (λ (l : List ℕ). range l 0 32) a ∙ back.header_is in
+    header_kept middle M (in_header middle t.header there).0 ∙ ap (λ (l : List ℕ). Ok (Some l)) (same_header source middle t.header head.header there) ∙ sym (header_kept source order (in_header source t.header head.header).0)
+bare_table L M order source middle few (is_copied version v e a) = ap (λ (l : List ℕ). new_post (Some (without_glyph_names l)) M) a ∙ copied_bare M order source version v e
+
+pub bare_post_again : (find copy : List ℕ → Option (List ℕ)) (L M order : List ℕ) (middle : Option (List ℕ)) → length L < 65536 → post_of find L ≡ Ok middle → copy (codes "post") ≡ middle
+    → new_post (option_map without_glyph_names (copy (codes "post"))) M ≡ new_post (option_map without_glyph_names (find (codes "post"))) order
+unfolding new_post
+bare_post_again find copy L M order middle few h is = ap (λ (o : Option (List ℕ)). new_post (option_map without_glyph_names o) M) is ∙ by (find (codes "post")) h
+  where
+    by : (o : Option (List ℕ)) → new_post o L ≡ Ok middle → new_post (option_map without_glyph_names middle) M ≡ new_post (option_map without_glyph_names o) order
+    by None k = ap (λ (o : Option (List ℕ)). new_post (option_map without_glyph_names o) M) (sym (done_is None middle k))
+    by (Some source) k =
+        let a = bind_ok (post_of_table source L) (λ x. Ok (Some x)) middle k in
+        ap (λ (o : Option (List ℕ)). new_post (option_map without_glyph_names o) M) (sym (done_is (Some a.0) middle a.2)) ∙ bare_table L M order source a.0 few (post_is source L a.0 a.1)

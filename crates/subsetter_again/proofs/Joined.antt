@@ -1,19 +1,20 @@
 -- The laws of a subset of a subset, of either kind of outlines.
-use Rattle.std.proofs.Common.{◌≡◌, ℕ, ◌≤◌, List, length, Some, sym, subst, inl, inr}
+use Rattle.std.proofs.Common.{◌≡◌, ℕ, ◌≤◌, Bool, true, List, length, Some, sym, subst, ◌∙◌, inl, inr}
 use Rattle.subsetter_base.specs.Bytes.{IsBytes}
 use Rattle.subsetter_base.specs.declared.error.Error.{Error}
 use Rattle.subsetter_base.specs.declared.error.Error.TheVariants.{MalformedFont}
 use Rattle.subsetter_cff.specs.Again.{AreAll}
-use Rattle.subsetter.specs.declared.sfnt.flavor.FontFlavor.{FontFlavor}
-use Rattle.subsetter.specs.declared.sfnt.flavor.FontFlavor.TheVariants.{TrueType, Cff}
+use Rattle.subsetter_sfnt.specs.declared.flavor.FontFlavor.{FontFlavor}
+use Rattle.subsetter_sfnt.specs.declared.flavor.FontFlavor.TheVariants.{TrueType, Cff}
 use Rattle.subsetter.specs.Fault.{HasFault}
-use Rattle.subsetter.specs.Sfnt.Read.{Font, as_font, flavor}
-use Rattle.subsetter_again.specs.Again.{IsTrueTypeOrCidKeyed, KeepsFirst, IsSubsetOfFirst, KeepsCffTable, ComposesAfresh, IsComposed, IsKeyedByCids, IsCanonical, KeepsAllCharStrings, HasNoFaultAgain, UnknownIsFault}
+use Rattle.subsetter_sfnt.specs.Read.{Font, as_font, flavor}
+use Rattle.subsetter_again.specs.Again.{IsTrueTypeOrCidKeyed, KeepsFirst, IsSubsetOfFirst, KeepsCffTable, asked_less, ComposesAfresh, IsComposed, ComposesLessAfresh, IsComposedOfLess, IsKeyedByCids, IsCanonical, KeepsAllCharStrings, HasNoFaultAgain, UnknownIsFault}
 use Rattle.subsetter_again.specs.CidKeyed.{IsCidKeyed}
 use Rattle.subsetter_again.proofs.Basics.{one_found}
-use Rattle.subsetter_again.proofs.ByKind.{ByKind, with_outlines, with_charstrings, by_kind}
+use Rattle.subsetter_again.proofs.ByKind.{IsOutlineSubset, IsCharStringSubset, ByKind, with_outlines, with_charstrings, by_kind}
 use Rattle.subsetter_again.proofs.CidKeyed.{subset_keyed}
 use Rattle.subsetter_again.proofs.CharStringLaws.{charstring_flavor, charstrings_kept, charstrings_composed, charstrings_canonical, charstrings_same, charstrings_sound, unknown_charstring}
+use Rattle.subsetter_again.proofs.Less.{flavor_less}
 use Rattle.subsetter_again.proofs.Truetype.{outline_flavor, outlines_composed, outlines_canonical, outlines_sound}
 use Rattle.subsetter_again.proofs.Unknown.{unknown_outline}
 
@@ -32,34 +33,53 @@ of_first tokens depth font L N M O more again a b x = subst (λ l. IsSubsetOfFir
 keeps_first : (tokens depth : ℕ) (font : Font) (L N M O more again : List ℕ) → L ≡ N → M ≡ O → KeepsFirst tokens depth font L more M again → KeepsFirst tokens depth font N more O again
 keeps_first tokens depth font L N M O more again a b x = subst (λ l. KeepsFirst tokens depth font l more O again) a (subst (λ l. KeepsFirst tokens depth font L more l again) b x)
 
-module _ (tokens depth : ℕ) (font : Font) (glyphs out more again : List ℕ) (bytes : IsBytes font.bytes) (deep : 1 ≤ depth) (some : 1 ≤ length more) (L M : List ℕ) (kind last : FontFlavor) where
-  whole : IsTrueTypeOrCidKeyed font → ByKind tokens depth font glyphs out L kind → ByKind tokens depth (as_font out) more again M last → IsSubsetOfFirst tokens depth font L more M again
+module _ (n g : Bool) (tokens depth : ℕ) (font : Font) (glyphs out more again : List ℕ) (bytes : IsBytes font.bytes) (deep : 1 ≤ depth) (some : 1 ≤ length more) (L M : List ℕ) (kind last : FontFlavor) where
+  abbrev source : Font
+  source = asked_less n g font
+
+  abbrev middle : Font
+  middle = asked_less n g (as_font out)
+
+  kind_of_outlines : IsOutlineSubset font glyphs out → flavor middle ≡ Some TrueType
+  kind_of_outlines x = flavor_less n g (as_font out) ∙ outline_flavor font glyphs out x
+
+  kind_of_charstrings : IsCharStringSubset tokens depth font glyphs out → flavor middle ≡ Some Cff
+  kind_of_charstrings x = flavor_less n g (as_font out) ∙ charstring_flavor tokens depth font glyphs out x
+
+  whole : IsTrueTypeOrCidKeyed font → ByKind tokens depth font glyphs out L kind → ByKind tokens depth middle more again M last → IsSubsetOfFirst tokens depth source L more M again
   whole settled (with_outlines x a p) (with_outlines y b q) =
-      let z = outlines_composed tokens depth font glyphs out more again bytes x y some in
-      of_first tokens depth font x.order L y.order M more again a b (record { subset = z.0; order = z.1 })
+      let z = outlines_composed n g tokens depth font glyphs out more again bytes x y some in
+      of_first tokens depth source x.order L y.order M more again a b (record { subset = z.0; order = z.1 })
   whole settled (with_charstrings x a p) (with_charstrings y b q) =
-      let z = charstrings_composed tokens depth font glyphs out more again bytes deep x y some (keyed font settled x.kind_is) in
-      of_first tokens depth font x.order L y.order M more again a b (record { subset = z.0; order = z.1 })
-  whole settled (with_outlines x a p) (with_charstrings y b q) = two_kinds (as_font out) (outline_flavor font glyphs out x) y.kind_is
-  whole settled (with_charstrings x a p) (with_outlines y b q) = two_kinds (as_font out) y.kind_is (charstring_flavor tokens depth font glyphs out x)
+      let z = charstrings_composed n g tokens depth font glyphs out more again bytes deep x y some (keyed font settled x.kind_is) in
+      of_first tokens depth source x.order L y.order M more again a b (record { subset = z.0; order = z.1 })
+  whole settled (with_outlines x a p) (with_charstrings y b q) = two_kinds middle (kind_of_outlines x) y.kind_is
+  whole settled (with_charstrings x a p) (with_outlines y b q) = two_kinds middle y.kind_is (kind_of_charstrings x)
 
-  afresh : ByKind tokens depth font glyphs out L kind → ByKind tokens depth (as_font out) more again M last → KeepsFirst tokens depth font L more M again
+  afresh : ByKind tokens depth font glyphs out L kind → ByKind tokens depth middle more again M last → KeepsFirst tokens depth source L more M again
   afresh (with_outlines x a p) (with_outlines y b q) =
-      let z = outlines_composed tokens depth font glyphs out more again bytes x y some in
-      keeps_first tokens depth font x.order L y.order M more again a b (record { keeps = z.0.keeps; order = z.1 })
+      let z = outlines_composed n g tokens depth font glyphs out more again bytes x y some in
+      keeps_first tokens depth source x.order L y.order M more again a b (record { keeps = z.0.keeps; order = z.1 })
   afresh (with_charstrings x a p) (with_charstrings y b q) =
-      let z = charstrings_kept tokens depth font glyphs out more again bytes deep x y some in
-      keeps_first tokens depth font x.order L y.order M more again a b (record { keeps = z.0; order = z.1 })
-  afresh (with_outlines x a p) (with_charstrings y b q) = two_kinds (as_font out) (outline_flavor font glyphs out x) y.kind_is
-  afresh (with_charstrings x a p) (with_outlines y b q) = two_kinds (as_font out) y.kind_is (charstring_flavor tokens depth font glyphs out x)
+      let z = charstrings_kept n g tokens depth font glyphs out more again bytes deep x y some in
+      keeps_first tokens depth source x.order L y.order M more again a b (record { keeps = z.0; order = z.1 })
+  afresh (with_outlines x a p) (with_charstrings y b q) = two_kinds middle (kind_of_outlines x) y.kind_is
+  afresh (with_charstrings x a p) (with_outlines y b q) = two_kinds middle y.kind_is (kind_of_charstrings x)
 
+pub is_composed_of_less : IsComposedOfLess
+is_composed_of_less n g tokens depth font glyphs out more again bytes deep some settled first second =
+    whole n g tokens depth font glyphs out more again bytes deep some first.keeps.order second.keeps.order first.keeps.kind second.keeps.kind settled (by_kind tokens depth font glyphs out first) (by_kind tokens depth (asked_less n g (as_font out)) more again second)
+
+pub composes_less_afresh : ComposesLessAfresh
+composes_less_afresh n g tokens depth font glyphs out more again bytes deep some first second =
+    afresh n g tokens depth font glyphs out more again bytes deep some first.keeps.order second.keeps.order first.keeps.kind second.keeps.kind (by_kind tokens depth font glyphs out first) (by_kind tokens depth (asked_less n g (as_font out)) more again second)
+
+-- all that the subset has is asked for
 pub is_composed : IsComposed
-is_composed tokens depth font glyphs out more again bytes deep some settled first second =
-    whole tokens depth font glyphs out more again bytes deep some first.keeps.order second.keeps.order first.keeps.kind second.keeps.kind settled (by_kind tokens depth font glyphs out first) (by_kind tokens depth (as_font out) more again second)
+is_composed tokens depth font glyphs out more again bytes deep some settled first second = is_composed_of_less true true tokens depth font glyphs out more again bytes deep some settled first second
 
 pub composes_afresh : ComposesAfresh
-composes_afresh tokens depth font glyphs out more again bytes deep some first second =
-    afresh tokens depth font glyphs out more again bytes deep some first.keeps.order second.keeps.order first.keeps.kind second.keeps.kind (by_kind tokens depth font glyphs out first) (by_kind tokens depth (as_font out) more again second)
+composes_afresh tokens depth font glyphs out more again bytes deep some first second = composes_less_afresh true true tokens depth font glyphs out more again bytes deep some first second
 
 pub is_keyed_by_cids : IsKeyedByCids
 is_keyed_by_cids tokens depth font glyphs out first = by (by_kind tokens depth font glyphs out first)

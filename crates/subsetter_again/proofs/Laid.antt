@@ -2,9 +2,10 @@
 use Rattle.std.proofs.Common.{◌≡◌, ℕ, ◌<◌, Bool, true, List, [], length, get_or, Option, Some, Ok, refl, sym, ap, subst, ◌∙◌, arith}
 use Rattle.std.specs.Prelude.{codes}
 use Rattle.subsetter_base.specs.Bytes.{IsBytes}
-use Rattle.subsetter.specs.declared.sfnt.flavor.FontFlavor.TheVariants.{TrueType}
-use Rattle.subsetter.specs.Sfnt.Read.{Font, as_font, table}
-use Rattle.subsetter.specs.Sfnt.Written.{Table, with_adjustment, fits, file, start_of, kind_word}
+use Rattle.subsetter_sfnt.specs.declared.flavor.FontFlavor.TheVariants.{TrueType}
+use Rattle.subsetter_sfnt.specs.Read.{Font, as_font, table}
+use Rattle.subsetter_sfnt.specs.Written.{Table, with_adjustment, fits, file, start_of, kind_word}
+use Rattle.subsetter.specs.Glyf.Bare.{parts_asked}
 use Rattle.subsetter.specs.Glyf.Parts.{Parts, outline_parts, parts_bytes}
 use Rattle.subsetter.specs.Glyf.Plain.{renumbered}
 use Rattle.subsetter.specs.Glyf.Read.{Outlines, outlines, outline_in}
@@ -16,8 +17,8 @@ use Rattle.subsetter.proofs.GlyfLaws.Back.{AreWritten, read_back}
 use Rattle.subsetter.proofs.GlyfLaws.Fault.{has_tables}
 use Rattle.subsetter.proofs.GlyfLaws.Kept.{kept_at, length-kept_all}
 use Rattle.subsetter.proofs.GlyfLaws.Unfold.{padded_parts, parts_back, outline_bytes, small_numbers}
-use Rattle.subsetter.proofs.SfntLaws.Back.{word_of}
-use Rattle.subsetter.proofs.SfntLaws.TableBytes.{table_bytes}
+use Rattle.subsetter_sfnt.proofs.Laws.Back.{word_of}
+use Rattle.subsetter_sfnt.proofs.Laws.TableBytes.{table_bytes}
 use Rattle.subsetter.proofs.SharedLaws.Kept.{AreBack}
 use Rattle.subsetter.proofs.TruetypeLaws.Steps.{MadeSteps, made_steps, tables_steps}
 use Rattle.subsetter.proofs.TruetypeLaws.Subset as landed
@@ -28,7 +29,7 @@ pub record IsGlyph (t u : Outlines) (order : List ℕ) (i : ℕ) (b : List ℕ) 
   pub bytes : List ℕ
   pub there : outline_in t (get_or order i 0) ≡ Some bytes
   pub parts : Parts
-  pub parts_are : outline_parts bytes ≡ Some parts
+  pub parts_are : parts_asked t.hinting (outline_parts bytes) ≡ Some parts
   pub fit : IsBytes bytes
   pub written : parts_bytes (renumbered order parts) ≡ b
   pub copy_is : outline_in u i ≡ Some (padded u.long b)
@@ -71,7 +72,7 @@ module _ (font : Font) (glyphs out : List ℕ) (sub : IsOutlineSubset font glyph
 
   -- the tables of outlines, read afresh
   abbrev pub afresh : Outlines
-  afresh = record { loca = m.loca; glyf = glyf_bytes long m.outlines; head = with_adjustment word (head_bytes long t.head); long = long }
+  afresh = record { loca = m.loca; glyf = glyf_bytes long m.outlines; head = with_adjustment word (head_bytes long t.head); long = long; hinting = true }
 
   pub read_afresh : outlines (as_font out) ≡ Some afresh
   read_afresh = ap (λ (f : List ℕ). outlines (as_font f)) out_is ∙ landed.outlines_back font t order m sub.read s fit
@@ -84,7 +85,7 @@ module _ (font : Font) (glyphs out : List ℕ) (sub : IsOutlineSubset font glyph
   glyph_is bytes i lt =
       let k = kept_at t order order m.outlines i s.kept lt in
       let size = length-kept_all t order order m.outlines s.kept in
-      let fit_bytes = outline_bytes t (get_or order i 0) k.bytes (table_bytes font (codes "glyf") t.glyf bytes (has_tables find t sub.read).glyf_is) k.there in
+      let fit_bytes = outline_bytes t (get_or order i 0) k.bytes (table_bytes font (codes "glyf") t.glyf bytes (has_tables font.extras.hinting find t sub.read).glyf_is) k.there in
       record {
         bytes = k.bytes;
         there = k.there;
@@ -93,5 +94,5 @@ module _ (font : Font) (glyphs out : List ℕ) (sub : IsOutlineSubset font glyph
         fit = fit_bytes;
         written = k.written;
         copy_is = read_back m.outlines afresh i written (omega (arith, lt, size));
-        copy_parts = ap (λ (x : List ℕ). outline_parts (padded long x)) (sym k.written) ∙ parts_back long order k.bytes k.parts (small_numbers order sub.few) fit_bytes k.parts_are;
+        copy_parts = ap (λ (x : List ℕ). outline_parts (padded long x)) (sym k.written) ∙ parts_back t.hinting long order k.bytes k.parts (small_numbers order sub.few) fit_bytes k.parts_are;
       }

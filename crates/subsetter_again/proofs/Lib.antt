@@ -5,6 +5,7 @@ pub mod SmallTables
 pub mod Metrics
 pub mod Names
 pub mod GlyphNames
+pub mod Less
 pub mod Shared
 pub mod ByKind
 pub mod PartNumbers

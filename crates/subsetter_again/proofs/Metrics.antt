@@ -8,7 +8,7 @@ use Rattle.std.proofs.lemmas.List.{length-map, get_or-map}
 use Rattle.subsetter_base.specs.Bytes.{be, number, IsBytes, ◌>>=◌}
 use Rattle.subsetter_base.specs.declared.error.Error.{Error}
 use Rattle.subsetter_base.specs.declared.error.Error.TheVariants.{MalformedFont, OverflowError}
-use Rattle.subsetter_base.proofs.ByteLemmas.{range-take_drop}
+use Rattle.subsetter_base.proofs.ByteLemmas.{range-take_drop, number-fits}
 use Rattle.subsetter_base.proofs.Options.{just}
 use Rattle.subsetter.specs.declared.hmtx.Metric.{Metric}
 use Rattle.subsetter.specs.Hmtx.Read.{number_of_metrics, metric_in}
@@ -16,7 +16,6 @@ use Rattle.subsetter.specs.Hmtx.Written.{MetricBytes, least_count, hmtx_bytes, h
 use Rattle.subsetter.proofs.HmtxLaws.Back.{metric_small, metric_back, length-hmtx, count_back, header_before, header_after}
 use Rattle.subsetter.proofs.HmtxLaws.Kept.{Steps, steps, no_metrics}
 use Rattle.subsetter.proofs.HmtxLaws.Written.{metrics-length, metrics_at, least_count-le, least_count_pos, advances_agree}
-use Rattle.subsetter_again.proofs.Basics.{number_fits}
 use Rattle.subsetter_again.proofs.Places.{AreAt}
 
 abbrev zeros : Metric
@@ -70,7 +69,7 @@ module _ (find : List ℕ → Option (List ℕ)) (L M order : List ℕ) (t : Met
   at_most = least_count-le s.metrics
 
   long : 36 ≤ length s.hhea
-  long = number_fits s.hhea 34 2 s.count s.pairs.count_is
+  long = number-fits s.hhea 34 2 s.count s.pairs.count_is
 
   -- the metric at a place of the table that was written
   metric_at_place : (i : ℕ) → i < length L → metric_in hmtx n i ≡ Some (get_or s.metrics i zeros)

@@ -3,7 +3,7 @@ use Rattle.std.proofs.Common.{◌≡◌, ℕ, ◌+◌, ◌-◌, ◌<◌, List, [
 use Rattle.std.specs.Prelude.{Contains}
 use Rattle.std.proofs.lemmas.List.{append-nil, length-append, get_or_default, get_or_append_left, get_or-append_right}
 use Rattle.subsetter_base.specs.Places.{place, IsWithoutRepeats}
-use Rattle.subsetter.specs.Sfnt.Read.{Font}
+use Rattle.subsetter_sfnt.specs.Read.{Font}
 use Rattle.subsetter.specs.Glyf.Reach.{IsReachable, given, IsGlyphOrder}
 use Rattle.subsetter_cff.specs.Again.{AreAll}
 use Rattle.subsetter_again.proofs.Basics.{one_found}

@@ -4,13 +4,13 @@ use Rattle.std.specs.Prelude.{codes, is_some}
 use Rattle.std.specs.Option.{option_and_then}
 use Rattle.subsetter_base.specs.declared.error.Error.{Error}
 use Rattle.subsetter_base.proofs.Options.{some_not_none, map_some}
-use Rattle.subsetter.specs.declared.sfnt.face.FontKind.TheVariants.{Single}
-use Rattle.subsetter.specs.declared.sfnt.flavor.FontFlavor.{FontFlavor}
-use Rattle.subsetter.specs.declared.sfnt.flavor.FontFlavor.TheVariants.{TrueType, Cff}
-use Rattle.subsetter.specs.Sfnt.Container.{IsSoundContainer}
-use Rattle.subsetter.specs.Sfnt.Fault.{HasOpeningFault, no_kind, no_entry, entry_outside, no_face, nested, cut_directory, no_outlines, lone_cff2}
-use Rattle.subsetter.specs.Sfnt.Read.{as_font, table, flavor, kind_of, kind_at, records, records_at, directory_records}
-use Rattle.subsetter.specs.Sfnt.Written.{kind_word}
+use Rattle.subsetter_sfnt.specs.declared.face.FontKind.TheVariants.{Single}
+use Rattle.subsetter_sfnt.specs.declared.flavor.FontFlavor.{FontFlavor}
+use Rattle.subsetter_sfnt.specs.declared.flavor.FontFlavor.TheVariants.{TrueType, Cff}
+use Rattle.subsetter_sfnt.specs.Container.{IsSoundContainer}
+use Rattle.subsetter_sfnt.specs.Fault.{HasOpeningFault, no_kind, no_entry, entry_outside, no_face, nested, cut_directory, no_outlines, lone_cff2}
+use Rattle.subsetter_sfnt.specs.Read.{as_font, table, flavor, kind_of, kind_at, records, records_at, directory_records}
+use Rattle.subsetter_sfnt.specs.Written.{kind_word}
 
 is_single : (kind : FontFlavor) → kind_of (kind_word kind) ≡ Some Single
 is_single TrueType = refl

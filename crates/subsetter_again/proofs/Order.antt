@@ -5,20 +5,21 @@ use Rattle.std.specs.Option.{unwrap_or}
 use Rattle.std.proofs.lemmas.List.{length-map, get_or-map, get_or_default, map-append}
 use Rattle.subsetter_base.specs.Bytes.{IsBytes}
 use Rattle.subsetter_base.specs.Places.{place}
-use Rattle.subsetter.specs.Sfnt.Read.{Font, as_font}
+use Rattle.subsetter_sfnt.specs.Read.{Font, as_font}
 use Rattle.subsetter.specs.Glyf.Read.{Outlines, outline}
+use Rattle.subsetter.specs.Glyf.Bare.{parts_asked}
 use Rattle.subsetter.specs.Glyf.Parts.{component_numbers, outline_parts}
 use Rattle.subsetter.specs.Glyf.Plain.{new_number, renumbered}
 use Rattle.subsetter.specs.Glyf.Reach.{IsReachable, given, step, IsGlyphOrder}
 use Rattle.subsetter.specs.Glyf.Unfold.{padded}
-use Rattle.subsetter.proofs.GlyfLaws.Unfold.{EachGlyph, each_weaker, padded_parts, components_of, are_numbered, outline_is, has_number}
+use Rattle.subsetter.proofs.GlyfLaws.Unfold.{EachGlyph, each_weaker, padded_parts, components_of, are_numbered, asked_numbered, outline_is, has_number}
 use Rattle.subsetter_again.proofs.Basics.{one_found}
 use Rattle.subsetter_again.proofs.ByKind.{IsOutlineSubset}
 use Rattle.subsetter_again.proofs.Distinct.{AreApart, apart, place_at, without_repeats}
 use Rattle.subsetter_again.proofs.Laid
 use Rattle.subsetter_again.proofs.Laid.{IsGlyph}
 use Rattle.subsetter_again.proofs.Numbered.{from_copy, to_copy, each_both}
-use Rattle.subsetter_again.proofs.PartNumbers.{part_numbers, each_among}
+use Rattle.subsetter_again.proofs.PartNumbers.{part_numbers, asked_part_numbers, each_among}
 use Rattle.subsetter_again.proofs.Places.{AreAt, picked_at}
 
 -- a subset, and an order of some of its glyphs that is closed under components
@@ -92,7 +93,7 @@ module _ (font : Font) (glyphs out : List ℕ) (bytes : IsBytes font.bytes) (fir
       (are_numbered b (padded_parts u.long (renumbered L k.parts)) k.copy_parts) in
       each_weaker (λ g. Contains (component_numbers k.bytes) g × Contains M (new_number L g)) IsComposed (components_of k.parts)
       (λ g both. (both.1.0, both.1.1, get_or_default M both.1.0 0 (new_number L g) both.1.1 ∙ both.1.2, (numbered g (component_reached j (inside i lt) g both.0)).1))
-      (each_both (λ g. Contains (component_numbers k.bytes) g) (λ g. Contains M (new_number L g)) (components_of k.parts) (are_numbered k.bytes k.parts k.parts_are) (from_copy (λ h. Contains M h) u.long L k.parts copies))
+      (each_both (λ g. Contains (component_numbers k.bytes) g) (λ g. Contains M (new_number L g)) (components_of k.parts) (asked_numbered t.hinting k.bytes k.parts k.parts_are) (from_copy (λ h. Contains M h) u.long L k.parts copies))
 
   -- its number by both orders is its number by the composed one
   pub number_composed : (g : ℕ) → IsComposed g → new_number M (new_number L g) ≡ new_number order g
@@ -120,7 +121,7 @@ module _ (font : Font) (glyphs out : List ℕ) (bytes : IsBytes font.bytes) (fir
       let q = padded_parts u.long (renumbered L k.parts) in
       let numbers = part_numbers b q (ap outline_parts same ∙ k.copy_parts) in
       let each = each_weaker (λ g. Contains (component_numbers k.bytes) g) (λ g. IsForth (new_number L g)) (components_of k.parts)
-      (λ g d. let n = numbered g (component_reached j before.0 g d) in (n.0, subst (IsReachable font (map origin more)) (sym n.1) (step (origin j) g k.bytes before.1 (source_outline j before.0) d))) (are_numbered k.bytes k.parts k.parts_are) in
+      (λ g d. let n = numbered g (component_reached j before.0 g d) in (n.0, subst (IsReachable font (map origin more)) (sym n.1) (step (origin j) g k.bytes before.1 (source_outline j before.0) d))) (asked_numbered t.hinting k.bytes k.parts k.parts_are) in
       each_among IsForth (components_of q) h (to_copy IsForth u.long L k.parts each) (subst (λ (l : List ℕ). Contains l h) numbers c)
 
   back : (g : ℕ) → IsReachable font (map origin more) g → (k : ℕ) × (k < length M) × (origin (get_or M k 0) ≡ g)
@@ -135,7 +136,7 @@ module _ (font : Font) (glyphs out : List ℕ) (bytes : IsBytes font.bytes) (fir
       let j = get_or M before.0 0 in
       let k = glyph j (inside before.0 before.1) in
       let same : b ≡ k.bytes = one_found (outline font f) b k.bytes o (ap (outline font) (sym before.2) ∙ source_outline j (inside before.0 before.1)) in
-      let numbers = part_numbers b k.parts (ap outline_parts same ∙ k.parts_are) in
+      let numbers = asked_part_numbers t.hinting b k.parts (ap (λ (l : List ℕ). parts_asked t.hinting (outline_parts l)) same ∙ k.parts_are) in
       let x = each_among IsComposed (components_of k.parts) g (each_composed before.0 before.1) (subst (λ (l : List ℕ). Contains l g) numbers c) in
       (x.0, x.1, ap origin x.2 ∙ x.3)
 

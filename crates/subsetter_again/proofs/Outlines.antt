@@ -9,6 +9,7 @@ use Rattle.subsetter_base.specs.Bytes.{aligned, IsBytes, ◌>>=◌}
 use Rattle.subsetter_base.specs.declared.error.Error.TheVariants.{MalformedFont, OverflowError}
 use Rattle.subsetter_base.proofs.ByteLemmas.{IsBytes-drop}
 use Rattle.subsetter_base.proofs.Results.{bind_ok, done_is}
+use Rattle.subsetter.specs.Glyf.Bare.{parts_asked}
 use Rattle.subsetter.specs.Glyf.Parts.{Component, Parts, Empty, Simple, Composite, outline_parts, parts_bytes, spelled, Chain}
 use Rattle.subsetter.specs.Glyf.Plain.{new_number, renumbered_component, renumbered, rewritten, kept, kept_all}
 use Rattle.subsetter.specs.Glyf.Read.{Outlines, outline_in}
@@ -17,7 +18,7 @@ use Rattle.subsetter.specs.Glyf.Written.{even_size, is_long, glyf_bytes, offset_
 use Rattle.subsetter.specs.Truetype.Plain.{located}
 use Rattle.subsetter.proofs.GlyfLaws.Back.{length-even}
 use Rattle.subsetter.proofs.GlyfLaws.Parts.{padded-append, padded-nil, chain_is, chain-even, length-spelled}
-use Rattle.subsetter.proofs.GlyfLaws.Unfold.{EachGlyph, PartsAre, is_empty, is_simple, is_composite, IsComposite, parts_are, padded_parts, components_of}
+use Rattle.subsetter.proofs.GlyfLaws.Unfold.{EachGlyph, CanBeWritten, can_empty, can_simple, can_composite, asked_can, padded_parts, components_of}
 use Rattle.subsetter_again.proofs.Basics.{padded_twice}
 
 -- ---- lists of outlines
@@ -40,10 +41,10 @@ all_there t order (g ∷ gs) h =
     let rest = all_there t order gs (λ i lt. h (suc i) (omega arith)) in
     (first.0 ∷ rest.0, ap (λ r. r >>= λ x. kept_all t order gs >>= λ y. Ok (x ∷ y)) first.1 ∙ ap (λ r. r >>= λ y. Ok (first.0 ∷ y)) rest.1)
 
-pub kept_is : (t : Outlines) (order : List ℕ) (g : ℕ) (bytes : List ℕ) (p : Parts) → outline_in t g ≡ Some bytes → outline_parts bytes ≡ Some p → kept t order g ≡ Ok (parts_bytes (renumbered order p))
+pub kept_is : (t : Outlines) (order : List ℕ) (g : ℕ) (bytes : List ℕ) (p : Parts) → outline_in t g ≡ Some bytes → parts_asked t.hinting (outline_parts bytes) ≡ Some p → kept t order g ≡ Ok (parts_bytes (renumbered order p))
 unfolding kept rewritten
 kept_is t order g bytes p there parts =
-    ap (λ (o : Option (List ℕ)). ok_or o MalformedFont >>= rewritten order) there ∙ ap (λ (o : Option Parts). ok_or (option_map (λ q. parts_bytes (renumbered order q)) o) MalformedFont) parts
+    ap (λ (o : Option (List ℕ)). ok_or o MalformedFont >>= rewritten t.hinting order) there ∙ ap (λ (o : Option Parts). ok_or (option_map (λ q. parts_bytes (renumbered order q)) o) MalformedFont) parts
 
 -- outlines that are kept, one by one
 pub all_kept : (t : Outlines) (order gs : List ℕ) (bs : List (List ℕ)) → length bs ≡ length gs → ((i : ℕ) → i < length gs → kept t order (get_or gs i 0) ≡ Ok (get_or bs i [])) → kept_all t order gs ≡ Ok bs
@@ -81,20 +82,16 @@ length-renumbered a b (Composite head chain) =
 
 -- ---- padding stands behind the parts
 
-pub padded_bytes : (long : Bool) (order bytes : List ℕ) (p : Parts) → ((g : ℕ) → new_number order g < 2 ^ 16) → IsBytes bytes → outline_parts bytes ≡ Some p → parts_bytes (padded_parts long (renumbered order p)) ≡ padded long (parts_bytes (renumbered order p))
-padded_bytes long order bytes p small fit h = by (parts_are bytes p h)
+pub padded_bytes : (hint long : Bool) (order bytes : List ℕ) (p : Parts) → ((g : ℕ) → new_number order g < 2 ^ 16) → IsBytes bytes → parts_asked hint (outline_parts bytes) ≡ Some p → parts_bytes (padded_parts long (renumbered order p)) ≡ padded long (parts_bytes (renumbered order p))
+padded_bytes hint long order bytes p small fit h = by p (asked_can hint bytes p fit h)
   where
-    composite : (head : List ℕ) (chain : Chain) → IsComposite bytes head chain → parts_bytes (padded_parts long (renumbered order (Composite head chain))) ≡ padded long (parts_bytes (renumbered order (Composite head chain)))
-    composite H chain is =
+    by : (q : Parts) → CanBeWritten q → parts_bytes (padded_parts long (renumbered order q)) ≡ padded long (parts_bytes (renumbered order q))
+    by Empty can_empty = sym (padded-nil long)
+    by (Simple _) (can_simple a b rest whole e t) = refl
+    by (Composite _ _) (can_composite H chain size high good) =
         let C = flat_map spelled (map (renumbered_component order) chain.components) in
-        let good = chain_is (length bytes) (drop 10 bytes) chain (IsBytes-drop 10 bytes fit) is.chain_read in
-        let even : length (H ++ C) % 2 ≡ 0 = omega (arith, length-append H C, is.size, chain-even order small chain.tail chain.components good) in
+        let even : length (H ++ C) % 2 ≡ 0 = omega (arith, length-append H C, size, chain-even order small chain.tail chain.components good) in
         sym (padded-append long (H ++ C) chain.tail even)
-
-    by : PartsAre bytes p → parts_bytes (padded_parts long (renumbered order p)) ≡ padded long (parts_bytes (renumbered order p))
-    by (is_empty e q) = subst (λ (r : Parts). parts_bytes (padded_parts long (renumbered order r)) ≡ padded long (parts_bytes (renumbered order r))) (sym q) (sym (padded-nil long))
-    by (is_simple a b rest e t q) = subst (λ (r : Parts). parts_bytes (padded_parts long (renumbered order r)) ≡ padded long (parts_bytes (renumbered order r))) (sym q) refl
-    by (is_composite head chain is q) = subst (λ (r : Parts). parts_bytes (padded_parts long (renumbered order r)) ≡ padded long (parts_bytes (renumbered order r))) (sym q) (composite head chain is)
 
 -- ---- tables of padded outlines
 

@@ -1,10 +1,11 @@
 -- Where an outline has parts, the lenient reading is the strict one.
 use Rattle.std.proofs.Common.{◌≡◌, ℕ, zero, suc, ◌+◌, ltb, Bool, true, false, cond, List, [], ◌∷◌, length, drop, Option, Some, None, refl, sym, ap, subst, ◌∙◌, arith}
 use Rattle.std.specs.Prelude.{map, Contains}
-use Rattle.std.specs.Option.{option_and_then}
+use Rattle.std.specs.Option.{option_and_then, option_map}
 use Rattle.std.proofs.lemmas.List.{length-drop}
 use Rattle.subsetter_base.proofs.Options.{just, just_is}
-use Rattle.subsetter.specs.Glyf.Parts.{Component, Chain, Parts, rest_size, has_more, component_at, with_component, last_component, chain_at, numbers_at, component_numbers, outline_parts}
+use Rattle.subsetter.specs.Glyf.Bare.{component_asked, bare, parts_asked}
+use Rattle.subsetter.specs.Glyf.Parts.{Component, Chain, Parts, Empty, Simple, Composite, rest_size, has_more, component_at, with_component, last_component, chain_at, numbers_at, component_numbers, outline_parts}
 use Rattle.subsetter_base.proofs.Options.{bind_some}
 use Rattle.subsetter.proofs.GlyfLaws.Chains.{IsComponent, is_component, chain_none, chain_more}
 use Rattle.subsetter.proofs.GlyfLaws.Components.{numbers_more, numbers_enough, components_composite}
@@ -59,6 +60,24 @@ part_numbers bytes p h = by (parts_are bytes p h)
         let rest = drop 10 bytes in
         let numbers : numbers_at (length bytes) rest ≡ component_numbers bytes = numbers_enough (length bytes) (length rest) rest (omega (arith, length-drop 10 bytes)) (omega arith) ∙ sym (components_composite bytes is.long is.high) in
         sym numbers ∙ chain_numbers (length bytes) rest chain is.chain_read ∙ ap (λ (r : Parts). numbers_of (components_of r)) (sym q)
+
+bare_numbers : (cs : List Component) → numbers_of cs ≡ numbers_of (map (component_asked false) cs)
+bare_numbers [] = refl
+bare_numbers (c ∷ cs) = ap (λ (l : List ℕ). c.glyph ∷ l) (bare_numbers cs)
+
+bare_part_numbers : (p : Parts) → numbers_of (components_of p) ≡ numbers_of (components_of (bare p))
+bare_part_numbers Empty = refl
+bare_part_numbers (Simple bytes) = refl
+bare_part_numbers (Composite head chain) = bare_numbers chain.components
+
+-- also where instructions aren't asked for
+pub asked_part_numbers : (hint : Bool) (bytes : List ℕ) (p : Parts) → parts_asked hint (outline_parts bytes) ≡ Some p → component_numbers bytes ≡ numbers_of (components_of p)
+asked_part_numbers true bytes p h = part_numbers bytes p h
+asked_part_numbers false bytes p h = by (outline_parts bytes) refl h
+  where
+    by : (o : Option Parts) → outline_parts bytes ≡ o → option_map bare o ≡ Some p → component_numbers bytes ≡ numbers_of (components_of p)
+    by None e k = absurd cc
+    by (Some q) e k = part_numbers bytes q e ∙ bare_part_numbers q ∙ ap (λ (r : Parts). numbers_of (components_of r)) (just_is (bare q) p k)
 
 pub each_among : (P : ℕ → Type 0) (cs : List Component) (h : ℕ) → EachGlyph P cs → Contains (numbers_of cs) h → P h
 each_among P [] h all (k, lt, is) = absurd (omega arith)

@@ -1,21 +1,25 @@
 -- The tables that both kinds of outlines share are answered of a subset as of the first font.
-use Rattle.std.proofs.Common.{◌≡◌, ℕ, ◌^◌, ◌<◌, Bool, List, length, Option, Result, Ok, refl, sym, ap, ◌∙◌, arith}
+use Rattle.std.proofs.Common.{◌≡◌, ℕ, ◌^◌, ◌<◌, Bool, cond, List, length, Option, None, Result, Ok, refl, sym, ap, ◌∙◌, arith}
 use Rattle.std.specs.Prelude.{codes, IsSome}
+use Rattle.std.specs.Option.{option_map}
 use Rattle.subsetter_base.specs.Bytes.{IsBytes, ◌>>=◌}
 use Rattle.subsetter_base.specs.declared.error.Error.{Error}
-use Rattle.subsetter.specs.declared.sfnt.flavor.FontFlavor.{FontFlavor}
-use Rattle.subsetter.specs.Sfnt.Read.{Font, table}
+use Rattle.subsetter_sfnt.specs.declared.flavor.FontFlavor.{FontFlavor}
+use Rattle.subsetter_sfnt.specs.Read.{Font, table}
 use Rattle.subsetter.specs.Head.Written.{head_of}
-use Rattle.subsetter.specs.Hmtx.Written.{MetricBytes, metrics_of}
+use Rattle.subsetter_sfnt.specs.Extras.{without_glyph_names}
+use Rattle.subsetter.specs.Hmtx.Written.{MetricBytes, metrics_in, metrics_of}
 use Rattle.subsetter.specs.Maxp.Written.{maxp_in, maxp_of}
 use Rattle.subsetter.specs.Name.Plain.{name_of}
-use Rattle.subsetter.specs.Post.Plain.{post_of}
+use Rattle.subsetter.specs.Post.Plain.{new_post, post_of}
 use Rattle.subsetter.specs.Head.Written.{head_in}
 use Rattle.subsetter.specs.Shared.Plain.{SharedTables, shared_of}
-use Rattle.subsetter.proofs.SfntLaws.TableBytes.{table_bytes}
+use Rattle.subsetter_sfnt.proofs.Laws.TableBytes.{table_bytes}
 use Rattle.subsetter.proofs.SharedLaws.Kept.{AreBack}
 use Rattle.subsetter.proofs.SharedLaws.Steps.{SharedSteps, metrics_there}
-use Rattle.subsetter_again.proofs.GlyphNames.{post_of_again}
+use Rattle.subsetter_again.specs.Again.{asked_less}
+use Rattle.subsetter_again.proofs.GlyphNames.{post_of_again, bare_post_again}
+use Rattle.subsetter_again.proofs.Less.{other_table, name_less, post_less}
 use Rattle.subsetter_again.proofs.Metrics.{metrics_again}
 use Rattle.subsetter_again.proofs.Names.{name_of_again}
 use Rattle.subsetter_again.proofs.Places.{AreAt}
@@ -30,17 +34,52 @@ unfolding shared_of shared_by
 by_parts find kind long order = refl
 
 module _ (font out : Font) (bytes : IsBytes font.bytes) (kind : FontFlavor) (long : Bool) (L M order : List ℕ) (word : ℕ) (s : SharedTables) (steps : SharedSteps (table font) kind long L s) (back : AreBack out word s) (some : IsSome (table font (codes "hmtx")) → 0 < length L) (few : length L < 2 ^ 16) (at : AreAt L M order) where
-  pub shared_again : (last : Bool) → shared_of (table out) kind last M ≡ shared_of (table font) kind last order
-  shared_again last =
-      let head = ap (λ (o : Option (List ℕ)). head_in o last) back.head ∙ head_again word long last (table font (codes "head")) s.head steps.head_is in
-      let metrics = metrics_again (table font) (table out) L M order s.metrics (λ x is. table_bytes font (codes "hmtx") x bytes is) (λ there. some (sym (metrics_there (table font) L s.metrics steps.metrics_are) ∙ there)) few at steps.metrics_are back.hhea back.hmtx in
-      let maxp = ap (λ (o : Option (List ℕ)). maxp_in o kind (length M)) back.maxp ∙ maxp_again kind (length L) (length M) (table font (codes "maxp")) s.maxp steps.maxp_is ∙ ap (maxp_of (table font) kind) (sym at.size) in
-      let name = name_of_again (table font) (table out) s.name (λ x is. table_bytes font (codes "name") x bytes is) steps.name_is back.name in
-      let post = post_of_again (table font) (table out) L M order s.post (λ x is. table_bytes font (codes "post") x bytes is) (omega (arith, few)) at steps.post_is back.post in
-      by_parts (table out) kind last M
-      ∙ ap (λ r. shared_by r (metrics_of (table out) M) (maxp_of (table out) kind (length M)) (name_of (table out)) (post_of (table out) M)) head
-      ∙ ap (λ r. shared_by (head_of (table font) last) r (maxp_of (table out) kind (length M)) (name_of (table out)) (post_of (table out) M)) metrics
-      ∙ ap (λ r. shared_by (head_of (table font) last) (metrics_of (table font) order) r (name_of (table out)) (post_of (table out) M)) maxp
-      ∙ ap (λ r. shared_by (head_of (table font) last) (metrics_of (table font) order) (maxp_of (table font) kind (length order)) r (post_of (table out) M)) name
-      ∙ ap (λ r. shared_by (head_of (table font) last) (metrics_of (table font) order) (maxp_of (table font) kind (length order)) (name_of (table font)) r) post
-      ∙ sym (by_parts (table font) kind last order)
+  head : (last : Bool) → head_of (table out) last ≡ head_of (table font) last
+  head last = ap (λ (o : Option (List ℕ)). head_in o last) back.head ∙ head_again word long last (table font (codes "head")) s.head steps.head_is
+
+  metrics : metrics_of (table out) M ≡ metrics_of (table font) order
+  metrics = metrics_again (table font) (table out) L M order s.metrics (λ x is. table_bytes font (codes "hmtx") x bytes is) (λ there. some (sym (metrics_there (table font) L s.metrics steps.metrics_are) ∙ there)) few at steps.metrics_are back.hhea back.hmtx
+
+  maxp : maxp_of (table out) kind (length M) ≡ maxp_of (table font) kind (length order)
+  maxp = ap (λ (o : Option (List ℕ)). maxp_in o kind (length M)) back.maxp ∙ maxp_again kind (length L) (length M) (table font (codes "maxp")) s.maxp steps.maxp_is ∙ ap (maxp_of (table font) kind) (sym at.size)
+
+  name : name_of (table out) ≡ name_of (table font)
+  name = name_of_again (table font) (table out) s.name (λ x is. table_bytes font (codes "name") x bytes is) steps.name_is back.name
+
+  post : post_of (table out) M ≡ post_of (table font) order
+  post = post_of_again (table font) (table out) L M order s.post (λ x is. table_bytes font (codes "post") x bytes is) (omega (arith, few)) at steps.post_is back.post
+
+  -- also where less is asked for
+  module _ (n g : Bool) where
+    head_less : (last : Bool) → head_of (table (asked_less n g out)) last ≡ head_of (table (asked_less n g font)) last
+    head_less last = ap (λ (o : Option (List ℕ)). head_in o last) (other_table n g out (codes "head") refl refl) ∙ head last ∙ ap (λ (o : Option (List ℕ)). head_in o last) (sym (other_table n g font (codes "head") refl refl))
+
+    metrics_by : (f : Font) (glyphs : List ℕ) → metrics_of (table (asked_less n g f)) glyphs ≡ metrics_of (table f) glyphs
+    metrics_by f glyphs =
+        ap (λ (o : Option (List ℕ)). metrics_in o (table (asked_less n g f) (codes "hmtx")) glyphs) (other_table n g f (codes "hhea") refl refl) ∙ ap (λ (o : Option (List ℕ)). metrics_in (table f (codes "hhea")) o glyphs) (other_table n g f (codes "hmtx") refl refl)
+
+    metrics_less : metrics_of (table (asked_less n g out)) M ≡ metrics_of (table (asked_less n g font)) order
+    metrics_less = metrics_by out M ∙ metrics ∙ sym (metrics_by font order)
+
+    maxp_less : maxp_of (table (asked_less n g out)) kind (length M) ≡ maxp_of (table (asked_less n g font)) kind (length order)
+    maxp_less = ap (λ (o : Option (List ℕ)). maxp_in o kind (length M)) (other_table n g out (codes "maxp") refl refl) ∙ maxp ∙ ap (λ (o : Option (List ℕ)). maxp_in o kind (length order)) (sym (other_table n g font (codes "maxp") refl refl))
+
+    names_less : name_of (table (asked_less n g out)) ≡ name_of (table (asked_less n g font))
+    names_less = name_less n g out ∙ ap (λ (r : Result (Option (List ℕ)) Error). cond n r (Ok None)) name ∙ sym (name_less n g font)
+
+    posts_less : post_of (table (asked_less n g out)) M ≡ post_of (table (asked_less n g font)) order
+    posts_less =
+        let bare = bare_post_again (table font) (table out) L M order s.post (omega (arith, few)) steps.post_is back.post in
+        post_less n g out M ∙ ap (λ (r : Result (Option (List ℕ)) Error). cond g r (new_post (option_map without_glyph_names (table out (codes "post"))) M)) post ∙ ap (λ (r : Result (Option (List ℕ)) Error). cond g (post_of (table font) order) r) bare ∙ sym (post_less n g font order)
+
+    pub shared_again : (last : Bool) → shared_of (table (asked_less n g out)) kind last M ≡ shared_of (table (asked_less n g font)) kind last order
+    shared_again last =
+        let new = table (asked_less n g out) in
+        let old = table (asked_less n g font) in
+        by_parts new kind last M
+        ∙ ap (λ r. shared_by r (metrics_of new M) (maxp_of new kind (length M)) (name_of new) (post_of new M)) (head_less last)
+        ∙ ap (λ r. shared_by (head_of old last) r (maxp_of new kind (length M)) (name_of new) (post_of new M)) metrics_less
+        ∙ ap (λ r. shared_by (head_of old last) (metrics_of old order) r (name_of new) (post_of new M)) maxp_less
+        ∙ ap (λ r. shared_by (head_of old last) (metrics_of old order) (maxp_of old kind (length order)) r (post_of new M)) names_less
+        ∙ ap (λ r. shared_by (head_of old last) (metrics_of old order) (maxp_of old kind (length order)) (name_of old) r) posts_less
+        ∙ sym (by_parts old kind last order)

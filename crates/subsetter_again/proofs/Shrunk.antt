@@ -2,7 +2,7 @@
 use Rattle.std.proofs.Common.{ℕ, ◌≤◌, List, length, lit≤}
 use Rattle.subsetter_base.specs.Bytes.{IsBytes}
 use Rattle.subsetter.specs.Limits.{token_limit, depth_limit}
-use Rattle.subsetter.specs.Sfnt.Read.{as_font}
+use Rattle.subsetter_sfnt.specs.Read.{as_font}
 use Rattle.subsetter.specs.Subset.{IsSubset}
 use Rattle.subsetter_again.specs.Shrink.{IsShrunk, IsGivenBack, HasNoFaultForAll, HasFaultForUnknown}
 use Rattle.subsetter_again.proofs.Joined as joined

@@ -1,15 +1,16 @@
 -- The tables of a subset with outlines in `glyf` are answered as those of the first font.
-use Rattle.std.proofs.Common.{◌≡◌, ℕ, ◌+◌, ◌%◌, ◌^◌, ◌<◌, ◌≤◌, Bool, true, List, [], length, get_or, Option, Some, Result, Ok, Err, refl, sym, ap, ◌∙◌, arith}
+use Rattle.std.proofs.Common.{◌≡◌, ℕ, ◌+◌, ◌%◌, ◌^◌, ◌<◌, ◌≤◌, Bool, true, false, List, [], length, get_or, Option, Some, Result, Ok, Err, refl, sym, ap, ◌∙◌, arith}
 use Rattle.std.specs.Prelude.{codes, IsSome}
+use Rattle.std.specs.Str.{bytes_eq}
 use Rattle.std.proofs.lemmas.Bool.{lt-ltb, ltb-true}
 use Rattle.std.proofs.lemmas.List.{length-map}
 use Rattle.subsetter_base.specs.Bytes.{IsBytes, ◌>>=◌}
 use Rattle.subsetter_base.specs.declared.error.Error.{Error}
 use Rattle.subsetter_base.proofs.Results.{done_is}
-use Rattle.subsetter.specs.declared.sfnt.flavor.FontFlavor.TheVariants.{TrueType}
-use Rattle.subsetter.specs.Sfnt.Read.{Font, as_font, table}
-use Rattle.subsetter.specs.Sfnt.Rows.{rows, present}
-use Rattle.subsetter.specs.Sfnt.Written.{Table}
+use Rattle.subsetter_sfnt.specs.declared.flavor.FontFlavor.TheVariants.{TrueType}
+use Rattle.subsetter_sfnt.specs.Read.{Font, as_font, table}
+use Rattle.subsetter_sfnt.specs.Rows.{rows, present}
+use Rattle.subsetter_sfnt.specs.Written.{Table}
 use Rattle.subsetter.specs.Glyf.Parts.{parts_bytes}
 use Rattle.subsetter.specs.Glyf.Plain.{new_number, renumbered, kept, kept_all}
 use Rattle.subsetter.specs.Glyf.Reach.{IsGlyphOrder}
@@ -20,9 +21,11 @@ use Rattle.subsetter.specs.Shared.Plain.{SharedTables, shared_of, with_shared}
 use Rattle.subsetter.specs.Truetype.Plain.{Made, located, made_of, laid, truetype_tables}
 use Rattle.subsetter.proofs.GlyfLaws.Kept.{length-kept_all}
 use Rattle.subsetter.proofs.GlyfLaws.Unfold.{each_weaker, padded_parts, components_of, small_numbers}
+use Rattle.subsetter_again.specs.Again.{asked_less}
 use Rattle.subsetter_again.proofs.ByKind.{IsOutlineSubset}
 use Rattle.subsetter_again.proofs.Distinct.{apart, sum_some, no_more}
 use Rattle.subsetter_again.proofs.Laid
+use Rattle.subsetter_again.proofs.Less.{other_table}
 use Rattle.subsetter_again.proofs.Order as places
 use Rattle.subsetter_again.proofs.Outlines.{padded_all, padded_bytes, long_again, nth_padded, kept_each, all_there, all_kept, kept_is, parts_composed, length-renumbered, glyf_less, located_less}
 use Rattle.subsetter_again.proofs.Places.{AreAt}
@@ -100,7 +103,7 @@ module _ (font : Font) (glyphs out : List ℕ) (bytes : IsBytes font.bytes) (fir
       let each = each_weaker (places.IsComposed font glyphs out bytes first more M second inside) (λ g. new_number M (new_number L g) ≡ new_number order g) (components_of k.parts) (λ g c. places.number_composed font glyphs out bytes first more M second inside g c)
       (places.each_composed font glyphs out bytes first more M second inside i lt) in
       kept_is u M j b q k.copy_is k.copy_parts
-      ∙ ap (λ p. Ok (parts_bytes p)) (parts_composed u.long L M order k.parts each) ∙ ap (λ (l : List ℕ). Ok l) (padded_bytes u.long order k.bytes k.parts (small_numbers order few_order) k.fit k.parts_are)
+      ∙ ap (λ p. Ok (parts_bytes p)) (parts_composed u.long L M order k.parts each) ∙ ap (λ (l : List ℕ). Ok l) (padded_bytes t.hinting u.long order k.bytes k.parts (small_numbers order few_order) k.fit k.parts_are)
 
   kept_again : kept_all u M M ≡ Ok (padded_all u.long cs)
   kept_again =
@@ -122,43 +125,50 @@ module _ (font : Font) (glyphs out : List ℕ) (bytes : IsBytes font.bytes) (fir
   long_both : is_long cs ≡ true → u.long ≡ true
   long_both h = lt-ltb _ _ (omega (arith, ltb-true _ _ h, smaller))
 
-  -- ---- the tables
+  -- ---- the tables, also where less is asked for
 
   some : IsSome (table font (codes "hmtx")) → 0 < length L
   some there = let k = first.shared.metrics there in omega (arith, k.at_least, k.at_most)
 
-  shared_same : (last : Bool) → shared_of (table (as_font out)) TrueType last M ≡ shared_of (table font) TrueType last order
-  shared_same = shared_again font (as_font out) bytes TrueType (Laid.long font glyphs out first) L M order (Laid.word font glyphs out first) m.shared (Laid.s font glyphs out first).shared (Laid.shared_back font glyphs out first) some first.few at
+  module _ (n g : Bool) where
+    abbrev back : List ℕ → Option (List ℕ)
+    back = table (asked_less n g (as_font out))
 
-  -- what is made with padded outlines is laid out alike
-  laid_same : (loca : List ℕ) (s : SharedTables) → laid (table (as_font out)) (record { outlines = padded_all u.long cs; loca = loca; shared = s }) ≡ laid (table font) (record { outlines = cs; loca = loca; shared = s })
-  laid_same loca s =
-      let p = first.drawn.programs in
-      let ds = padded_all u.long cs in
-      let whole : Option (List ℕ) → Option (List ℕ) → List ℕ → Option (List ℕ) → List Table = λ cvt fpgm glyf prep. present (rows (record (with_shared s) { cvt = cvt; fpgm = fpgm; glyf = Some glyf; loca = Some loca; prep = prep })) in
-      let back = table (as_font out) in
-      let find = table font in
-      let glyf : glyf_bytes (is_long ds) ds ≡ glyf_bytes (is_long cs) cs = ap (λ l. glyf_bytes l ds) (long_again u.long cs) ∙ glyf_less u.long (is_long cs) long_both cs in
-      laid_by back (record { outlines = ds; loca = loca; shared = s })
-      ∙ ap (λ x. whole x (back (codes "fpgm")) (glyf_bytes (is_long ds) ds) (back (codes "prep"))) p.control_values
-      ∙ ap (λ x. whole (find (codes "cvt ")) x (glyf_bytes (is_long ds) ds) (back (codes "prep"))) p.font_program
-      ∙ ap (λ x. whole (find (codes "cvt ")) (find (codes "fpgm")) x (back (codes "prep"))) glyf
-      ∙ ap (λ x. whole (find (codes "cvt ")) (find (codes "fpgm")) (glyf_bytes (is_long cs) cs) x) p.control_program
-      ∙ sym (laid_by find (record { outlines = cs; loca = loca; shared = s }))
+    abbrev find : List ℕ → Option (List ℕ)
+    find = table (asked_less n g font)
 
-  laid_both : (r : Result (List ℕ) Error) (s : Result SharedTables Error) → ((r >>= λ loca. s >>= λ x. Ok (record { outlines = padded_all u.long cs; loca = loca; shared = x })) >>= λ m. Ok (laid (table (as_font out)) m)) ≡ ((r >>= λ loca. s >>= λ x. Ok (record { outlines = cs; loca = loca; shared = x })) >>= λ m. Ok (laid (table font) m))
-  laid_both (Err e) s = refl
-  laid_both (Ok loca) (Err e) = refl
-  laid_both (Ok loca) (Ok x) = ap (λ (ts : List Table). Ok ts) (laid_same loca x)
+    shared_same : (last : Bool) → shared_of back TrueType last M ≡ shared_of find TrueType last order
+    shared_same = shared_again font (as_font out) bytes TrueType (Laid.long font glyphs out first) L M order (Laid.word font glyphs out first) m.shared (Laid.s font glyphs out first).shared (Laid.shared_back font glyphs out first) some first.few at n g
 
-  pub tables_same : truetype_tables (table (as_font out)) u M ≡ truetype_tables (table font) t order
-  unfolding by_parts
-  tables_same =
-      let back = table (as_font out) in
-      let ds = padded_all u.long cs in
-      tables_by back u M
-      ∙ ap (λ o. by_parts back o (λ bs. shared_of back TrueType (is_long bs) M)) kept_again
-      ∙ ap (λ (r : Result (List ℕ) Error). (r >>= λ loca. shared_of back TrueType (is_long ds) M >>= λ s. Ok (record { outlines = ds; loca = loca; shared = s })) >>= λ x. Ok (laid back x)) (located_less u.long cs long_both)
-      ∙ ap (λ (r : Result SharedTables Error). (located cs >>= λ loca. r >>= λ s. Ok (record { outlines = ds; loca = loca; shared = s })) >>= λ x. Ok (laid back x)) (shared_same (is_long ds) ∙ ap (λ l. shared_of (table font) TrueType l order) (long_again u.long cs))
-      ∙ laid_both (located cs) (shared_of (table font) TrueType (is_long cs) order)
-      ∙ sym (tables_by (table font) t order ∙ ap (λ o. by_parts (table font) o (λ bs. shared_of (table font) TrueType (is_long bs) order)) found.1)
+    program : (tag : List ℕ) → bytes_eq tag (codes "name") ≡ false → bytes_eq tag (codes "post") ≡ false → table (as_font out) tag ≡ table font tag → back tag ≡ find tag
+    program tag h k same = other_table n g (as_font out) tag h k ∙ same ∙ sym (other_table n g font tag h k)
+
+    -- what is made with padded outlines is laid out alike
+    laid_same : (loca : List ℕ) (s : SharedTables) → laid back (record { outlines = padded_all u.long cs; loca = loca; shared = s }) ≡ laid find (record { outlines = cs; loca = loca; shared = s })
+    laid_same loca s =
+        let p = first.drawn.programs in
+        let ds = padded_all u.long cs in
+        let whole : Option (List ℕ) → Option (List ℕ) → List ℕ → Option (List ℕ) → List Table = λ cvt fpgm glyf prep. present (rows (record (with_shared s) { cvt = cvt; fpgm = fpgm; glyf = Some glyf; loca = Some loca; prep = prep })) in
+        let glyf : glyf_bytes (is_long ds) ds ≡ glyf_bytes (is_long cs) cs = ap (λ l. glyf_bytes l ds) (long_again u.long cs) ∙ glyf_less u.long (is_long cs) long_both cs in
+        laid_by back (record { outlines = ds; loca = loca; shared = s })
+        ∙ ap (λ x. whole x (back (codes "fpgm")) (glyf_bytes (is_long ds) ds) (back (codes "prep"))) (program (codes "cvt ") refl refl p.control_values)
+        ∙ ap (λ x. whole (find (codes "cvt ")) x (glyf_bytes (is_long ds) ds) (back (codes "prep"))) (program (codes "fpgm") refl refl p.font_program)
+        ∙ ap (λ x. whole (find (codes "cvt ")) (find (codes "fpgm")) x (back (codes "prep"))) glyf
+        ∙ ap (λ x. whole (find (codes "cvt ")) (find (codes "fpgm")) (glyf_bytes (is_long cs) cs) x) (program (codes "prep") refl refl p.control_program)
+        ∙ sym (laid_by find (record { outlines = cs; loca = loca; shared = s }))
+
+    laid_both : (r : Result (List ℕ) Error) (s : Result SharedTables Error) → ((r >>= λ loca. s >>= λ x. Ok (record { outlines = padded_all u.long cs; loca = loca; shared = x })) >>= λ m. Ok (laid back m)) ≡ ((r >>= λ loca. s >>= λ x. Ok (record { outlines = cs; loca = loca; shared = x })) >>= λ m. Ok (laid find m))
+    laid_both (Err e) s = refl
+    laid_both (Ok loca) (Err e) = refl
+    laid_both (Ok loca) (Ok x) = ap (λ (ts : List Table). Ok ts) (laid_same loca x)
+
+    pub tables_same : truetype_tables back u M ≡ truetype_tables find t order
+    unfolding by_parts
+    tables_same =
+        let ds = padded_all u.long cs in
+        tables_by back u M
+        ∙ ap (λ o. by_parts back o (λ bs. shared_of back TrueType (is_long bs) M)) kept_again
+        ∙ ap (λ (r : Result (List ℕ) Error). (r >>= λ loca. shared_of back TrueType (is_long ds) M >>= λ s. Ok (record { outlines = ds; loca = loca; shared = s })) >>= λ x. Ok (laid back x)) (located_less u.long cs long_both)
+        ∙ ap (λ (r : Result SharedTables Error). (located cs >>= λ loca. r >>= λ s. Ok (record { outlines = ds; loca = loca; shared = s })) >>= λ x. Ok (laid back x)) (shared_same (is_long ds) ∙ ap (λ l. shared_of find TrueType l order) (long_again u.long cs))
+        ∙ laid_both (located cs) (shared_of find TrueType (is_long cs) order)
+        ∙ sym (tables_by find t order ∙ ap (λ o. by_parts find o (λ bs. shared_of find TrueType (is_long bs) order)) found.1)

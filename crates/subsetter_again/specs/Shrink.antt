@@ -4,10 +4,10 @@ use Rattle.subsetter_base.specs.Bytes.{IsBytes}
 use Rattle.subsetter_base.specs.declared.error.Error.{Error}
 use Rattle.subsetter_base.specs.declared.error.Error.TheVariants.{MalformedFont}
 use Rattle.subsetter_cff.specs.Again.{AreAll}
-use Rattle.subsetter.specs.declared.sfnt.flavor.FontFlavor.TheVariants.{Cff}
+use Rattle.subsetter_sfnt.specs.declared.flavor.FontFlavor.TheVariants.{Cff}
 use Rattle.subsetter.specs.Fault.{HasFault}
 use Rattle.subsetter.specs.Limits.{token_limit, depth_limit}
-use Rattle.subsetter.specs.Sfnt.Read.{Font, as_font, flavor}
+use Rattle.subsetter_sfnt.specs.Read.{Font, as_font, flavor}
 use Rattle.subsetter.specs.Subset.{IsSubset}
 use Rattle.subsetter_again.specs.Again.{IsTrueTypeOrCidKeyed, KeepsFirst, IsSubsetOfFirst, KeepsCffTable}
 

@@ -1,7 +1,7 @@
 //! The laws of a subset of a subset, which name no code. The second subset's glyphs are named by their places in the
 //! first one's order.
 
-ghost use Rattle.subsetter_again.specs.Again.{ComposesAfresh, HasNoFaultAgain, IsCanonical, IsComposed, IsKeyedByCids, KeepsAllCharStrings, UnknownIsFault};
+ghost use Rattle.subsetter_again.specs.Again.{ComposesAfresh, ComposesLessAfresh, HasNoFaultAgain, IsCanonical, IsComposed, IsComposedOfLess, IsKeyedByCids, KeepsAllCharStrings, UnknownIsFault};
 
 /// A subset of a subset keeps what a subset of the first font keeps, read afresh.
 pub fn composes_afresh()
@@ -11,6 +11,16 @@ pub fn composes_afresh()
 /// A subset of a subset is a subset of the first font, where that is TrueType or CID-keyed.
 pub fn is_composed()
     ensures { IsComposed }
+{}
+
+/// What a subset of a subset leaves out of names and glyph names is left out of what it keeps of the first font, read afresh.
+pub fn composes_less_afresh()
+    ensures { ComposesLessAfresh }
+{}
+
+/// A subset of a subset that leaves out more names is a subset of the first font that leaves these out too.
+pub fn is_composed_of_less()
+    ensures { IsComposedOfLess }
 {}
 
 /// Every subset is TrueType or CID-keyed.

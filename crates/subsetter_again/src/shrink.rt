@@ -6,8 +6,8 @@ ghost use Rattle.subsetter_base.specs.declared.error.Error.TheVariants.{OutOfMem
 ghost use Rattle.subsetter.specs.Answer.{IsAnswer, HasNoAnswer, IsTheAnswer};
 ghost use Rattle.subsetter.specs.Fault.{HasFault};
 ghost use Rattle.subsetter.specs.Limits.{token_limit, depth_limit};
-ghost use Rattle.subsetter.specs.Sfnt.Fault.{HasOpeningFault};
-ghost use Rattle.subsetter.specs.Sfnt.Read.{as_font};
+ghost use Rattle.subsetter_sfnt.specs.Fault.{HasOpeningFault};
+ghost use Rattle.subsetter_sfnt.specs.Read.{as_font};
 ghost use Rattle.subsetter_again.specs.Again.{IsTrueTypeOrCidKeyed};
 ghost use Rattle.subsetter_again.specs.Shrink.{OfEachSource, IsShrunk, IsGivenBack, HasNoFaultForAll, HasFaultForUnknown};
 ghost use Rattle.subsetter_cff.specs.Again.{AreAll};

@@ -1,17 +1,18 @@
 -- What is said of bytes that are handed over, in other words.
-use Rattle.std.proofs.Common.{◌≡◌, ℕ, ◌<◌, ◌≤◌, true, false, List, length, refl, sym, ap, subst, ◌⊎◌, inl, inr, arith, Vec, Global, Result, Ok, Err}
+use Rattle.std.proofs.Common.{◌≡◌, ℕ, ◌<◌, ◌≤◌, true, false, List, [], length, refl, ap, subst, ◌⊎◌, inl, inr, arith, Vec, Global, Result, Ok, Err}
 use Rattle.std.specs.Prelude.{IfOk, IfErr, leb}
 use Rattle.std.proofs.lemmas.Bool.Decides.{leb_tells}
 use Rattle.std.proofs.lemmas.List.{length-append}
 use Rattle.subsetter_base.specs.Places.{HasAllAboveZero}
 use Rattle.subsetter_base.proofs.GlyphLemmas.{room_left_for_zero}
 use Rattle.subsetter_base.specs.declared.error.Error.{Error}
-use Rattle.subsetter_base.specs.declared.error.Error.TheVariants.{OutOfMemory, OverflowError}
-use Rattle.subsetter.specs.Sfnt.Read.{Font}
+use Rattle.subsetter_base.specs.declared.error.Error.TheVariants.{OutOfMemory}
+use Rattle.subsetter_sfnt.specs.Read.{Font}
 use Rattle.subsetter.specs.Answer.{IsAnswer, HasNoAnswer, IsTheAnswer}
-use Rattle.subsetter.specs.Fault.{HasFault}
-use Rattle.cid_embed.specs.Embed.{numbering}
-use Rattle.subsetter_c.specs.Handed.{begun_with, IsHandedOver, whole, short, refused, IsAnswered, IsSoundSubset, IsRefusal, HasCallFault, in_numbering, in_subset}
+use Rattle.subsetter_sfnt.specs.Fault.{HasOpeningFault}
+use Rattle.subsetter.specs.Fault.{HasFault, in_opening}
+use Rattle.cid_embed.specs.Embed.{numbering, HasMapperFault, all_asked, unopened}
+use Rattle.subsetter_c.specs.Handed.{begun_with, IsHandedOver, whole, short, refused, IsAnswered, IsSoundSubset, IsWantOfMemory, IsRefusal, in_numbering, in_subset}
 use Rattle.subsetter_c.specs.Status.{too_small}
 
 -- bytes are there as a whole, or they are longer than the buffer
@@ -34,6 +35,13 @@ answer_handed Said Named answer before after told status ok err = said_as (IsAns
     (λ bytes a. subst Said a.2 (subst (λ (r : Result (Vec ℕ Global) Error). IfOk r (λ v. Said v.items)) a.1 ok))
     (λ e is. subst (λ (r : Result (Vec ℕ Global) Error). IfErr r Named) is err)
 
+abbrev failed : {X : Type 0} → Error → Result X Error
+failed e = Err e
+
+-- want of memory, where no fault stands that is found before memory is taken
+pub wanting : {X : Type 0} (font : Font) (e : Error) → e ≡ OutOfMemory → ((why : Error) → HasOpeningFault font why → failed {X = X} e ≡ Err OutOfMemory → ⊥) → IsWantOfMemory font e
+wanting {X = X} font e memory before = record { is = memory; opens = λ why fault. before why fault (ap (failed {X = X}) memory) }
+
 module _ (tokens depth : ℕ) (font : Font) (glyphs : List ℕ) where
   -- a subset has fewer than 65536 glyphs
   no_room : HasAllAboveZero glyphs → HasNoAnswer tokens depth font (numbering glyphs)
@@ -42,15 +50,16 @@ module _ (tokens depth : ℕ) (font : Font) (glyphs : List ℕ) where
       let o = a.subset.keeps.is_order in
       room_left_for_zero glyphs (omega (arith, a.subset.keeps.few, ap length o.begins, length-append (numbering glyphs) o.others)) all
 
-  pub mapper_refused : (e : Error) → (e ≡ OutOfMemory) ⊎ ((e ≡ OverflowError) × HasAllAboveZero glyphs) → IsRefusal tokens depth font glyphs e
-  mapper_refused e (inl memory) = inl memory
-  mapper_refused e (inr full) = inr (subst (HasCallFault tokens depth font glyphs) (sym full.0) (in_numbering full.1), no_room full.1)
+  pub mapper_refused : {X : Type 0} (e : Error) → (e ≡ OutOfMemory) ⊎ HasMapperFault font glyphs e → ((why : Error) → HasOpeningFault font why → failed {X = X} e ≡ Err OutOfMemory → ⊥) → IsRefusal tokens depth font glyphs e
+  mapper_refused e (inl memory) before = inl (wanting font e memory before)
+  mapper_refused e (inr (all_asked all)) before = inr (in_numbering all, no_room all)
+  mapper_refused e (inr (unopened fault)) before = inr (in_subset [] (in_opening fault), λ out a. a.clean e (in_opening fault))
 
-  pub subset_refused : (mapper : List ℕ) (r : Result (Vec ℕ Global) Error) → mapper ≡ numbering glyphs → IfErr r (λ e. (e ≡ OutOfMemory) ⊎ ((order : List ℕ) × HasFault tokens depth font mapper order e)) → IfErr r (λ e. (e ≡ OutOfMemory) ⊎ HasNoAnswer tokens depth font mapper) → IfErr r (IsRefusal tokens depth font glyphs)
-  subset_refused mapper (Ok v) m h none = h
-  subset_refused mapper (Err e) m (inl memory) none = inl memory
-  subset_refused mapper (Err e) m (inr fault) (inl memory) = inl memory
-  subset_refused mapper (Err e) m (inr fault) (inr none) =
+  pub subset_refused : (mapper : List ℕ) (r : Result (Vec ℕ Global) Error) → mapper ≡ numbering glyphs → IfErr r (λ e. (e ≡ OutOfMemory) ⊎ ((order : List ℕ) × HasFault tokens depth font mapper order e)) → IfErr r (λ e. (e ≡ OutOfMemory) ⊎ HasNoAnswer tokens depth font mapper) → ((why : Error) → HasOpeningFault font why → r ≡ Err OutOfMemory → ⊥) → IfErr r (IsRefusal tokens depth font glyphs)
+  subset_refused mapper (Ok v) m h none before = h
+  subset_refused mapper (Err e) m (inl memory) none before = inl (wanting font e memory before)
+  subset_refused mapper (Err e) m (inr fault) (inl memory) before = inl (wanting font e memory before)
+  subset_refused mapper (Err e) m (inr fault) (inr none) before =
       inr (in_subset fault.0 (subst (λ (l : List ℕ). HasFault tokens depth font l fault.0 e) m fault.1), subst (HasNoAnswer tokens depth font) m none)
 
   pub subset_sound : (mapper : List ℕ) (r : Result (Vec ℕ Global) Error) → mapper ≡ numbering glyphs → IfOk r (λ v. IsAnswer tokens depth font mapper v.items) → IfOk r (λ v. IsTheAnswer font mapper v.items) → IfOk r (λ v. IsSoundSubset tokens depth font glyphs v.items)

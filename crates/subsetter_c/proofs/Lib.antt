@@ -1,2 +1,4 @@
+mod Asked
 mod Bytes
 mod Lists
+mod Made

@@ -4,12 +4,14 @@ use Rattle.std.specs.Prelude.{IfOk, IfErr}
 use Rattle.subsetter_base.specs.declared.error.Error.{Error}
 use Rattle.subsetter_base.specs.declared.error.Error.TheVariants.{OutOfMemory}
 use Rattle.cid_embed.specs.declared.embedding.Embedded.{Embedded}
-use Rattle.subsetter.specs.Sfnt.Read.{Font}
+use Rattle.subsetter_sfnt.specs.Read.{Font}
+use Rattle.subsetter_sfnt.specs.Fault.{HasOpeningFault}
 use Rattle.subsetter.specs.Answer.{IsAnswer, IsTheAnswer}
 use Rattle.cid_embed.specs.Embed.{numbering, IsEmbedded, HasEmbedFault, IsEmbeddingAnswer, HasNoEmbedding}
 use Rattle.subsetter_c.specs.Embedding.{AreHandedOver, whole, short, refused, Buffers, all_begun, lists_of, IsSoundEmbedding, IsEmbeddingRefusal}
 use Rattle.subsetter_c.specs.Handed.{begun_with}
 use Rattle.subsetter_c.specs.declared.handing.Sizes.{Sizes}
+use Rattle.subsetter_c.proofs.Bytes.{wanting}
 
 -- an answer is handed over: then what is known of it
 pub answer_handed : (Said : Embedded → Type 0) (Named : Error → Type 0) (answer : Result Embedded Error) (before after : Buffers) (told : Sizes) (status : ℕ) → IfOk answer Said → IfErr answer Named → AreHandedOver (λ e. answer ≡ Ok e) (λ e. answer ≡ Err e) before after told status → AreHandedOver Said Named before after told status
@@ -55,8 +57,8 @@ module _ (tokens depth : ℕ) (font : Font) (glyphs : List ℕ) where
   }
   embedding_sound (Err why) clean exact same = clean
 
-  pub embedding_refused : (r : Result Embedded Error) → IfErr r (λ why. (why ≡ OutOfMemory) ⊎ ((order : List ℕ) × HasEmbedFault tokens depth font glyphs order why)) → IfErr r (λ why. (why ≡ OutOfMemory) ⊎ HasNoEmbedding tokens depth font glyphs) → IfErr r (IsEmbeddingRefusal tokens depth font glyphs)
-  embedding_refused (Ok e) fault none = fault
-  embedding_refused (Err why) (inl memory) none = inl memory
-  embedding_refused (Err why) (inr fault) (inl memory) = inl memory
-  embedding_refused (Err why) (inr fault) (inr none) = inr (fault, none)
+  pub embedding_refused : (r : Result Embedded Error) → IfErr r (λ why. (why ≡ OutOfMemory) ⊎ ((order : List ℕ) × HasEmbedFault tokens depth font glyphs order why)) → IfErr r (λ why. (why ≡ OutOfMemory) ⊎ HasNoEmbedding tokens depth font glyphs) → ((e : Error) → HasOpeningFault font e → r ≡ Err OutOfMemory → ⊥) → IfErr r (IsEmbeddingRefusal tokens depth font glyphs)
+  embedding_refused (Ok e) fault none before = fault
+  embedding_refused (Err why) (inl memory) none before = inl (wanting font why memory before)
+  embedding_refused (Err why) (inr fault) (inl memory) before = inl (wanting font why memory before)
+  embedding_refused (Err why) (inr fault) (inr none) before = inr (fault, none)

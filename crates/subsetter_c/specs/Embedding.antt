@@ -1,11 +1,10 @@
 -- How a subset with its CIDs and widths is handed to C: in three buffers of the caller, by sizes and a status.
 use Rattle.std.specs.Prelude.{◌≡◌, ◌⊎◌, ◌≤◌, ℕ, List, length}
 use Rattle.subsetter_base.specs.declared.error.Error.{Error}
-use Rattle.subsetter_base.specs.declared.error.Error.TheVariants.{OutOfMemory}
-use Rattle.subsetter.specs.Sfnt.Read.{Font}
+use Rattle.subsetter_sfnt.specs.Read.{Font}
 use Rattle.cid_embed.specs.Embed.{HasEmbedFault, IsEmbeddingAnswer, HasNoEmbedding}
 use Rattle.cid_embed.specs.declared.embedding.Embedded.{Embedded}
-use Rattle.subsetter_c.specs.Handed.{begun_with}
+use Rattle.subsetter_c.specs.Handed.{begun_with, IsWantOfMemory}
 use Rattle.subsetter_c.specs.Status.{status_of, too_small}
 use Rattle.subsetter_c.specs.declared.handing.Sizes.{Sizes}
 
@@ -50,7 +49,13 @@ pub record IsSoundEmbedding (tokens depth : ℕ) (font : Font) (glyphs : List �
 
 -- why nothing is answered: memory ran out, or a fault stands, and then no call answers anything
 abbrev pub IsEmbeddingRefusal : ℕ → ℕ → Font → List ℕ → Error → Type 0
-IsEmbeddingRefusal tokens depth font glyphs why = (why ≡ OutOfMemory) ⊎ (((order : List ℕ) × HasEmbedFault tokens depth font glyphs order why) × HasNoEmbedding tokens depth font glyphs)
+IsEmbeddingRefusal tokens depth font glyphs why = IsWantOfMemory font why ⊎ (((order : List ℕ) × HasEmbedFault tokens depth font glyphs order why) × HasNoEmbedding tokens depth font glyphs)
+
+-- nothing is handed over, for the reason of a status
+pub record AreNoneHanded (why : ℕ) (before after : Buffers) (told : Sizes) (status : ℕ) : Type 0 where
+  pub unchanged : after ≡ before
+  pub none : told ≡ no_sizes
+  pub status_is : status ≡ why
 
 -- a subset with its CIDs and widths is handed over
 abbrev pub IsEmbeddingHanded : ℕ → ℕ → Font → List ℕ → Buffers → Buffers → Sizes → ℕ → Type 0

@@ -4,11 +4,12 @@ use Rattle.std.specs.Global.{Global}
 use Rattle.subsetter_base.specs.Places.{HasAllAboveZero}
 use Rattle.subsetter_base.specs.declared.error.Error.{Error}
 use Rattle.subsetter_base.specs.declared.error.Error.TheVariants.{OutOfMemory, OverflowError}
-use Rattle.subsetter.specs.Sfnt.Read.{Font}
+use Rattle.subsetter_sfnt.specs.Read.{Font}
 use Rattle.subsetter.specs.Answer.{IsAnswer, HasNoAnswer, IsTheAnswer}
 use Rattle.subsetter.specs.Fault.{HasFault}
+use Rattle.subsetter_sfnt.specs.Fault.{HasOpeningFault}
 use Rattle.cid_embed.specs.Embed.{numbering}
-use Rattle.subsetter_c.specs.Status.{status_of, too_small, no_depth}
+use Rattle.subsetter_c.specs.Status.{status_of, too_small}
 
 -- a buffer that begins with these items, and is unchanged behind them
 abbrev pub begun_with : {A : Type 0} → List A → List A → List A
@@ -29,11 +30,11 @@ pub data IsHandedOver (Is : List ℕ → Type 0) (Why : Error → Type 0) (befor
 abbrev pub IsAnswered : Result (Vec ℕ Global) Error → List ℕ → Type 0
 IsAnswered answer bytes = (v : Vec ℕ Global) × (answer ≡ Ok v) × (v.items ≡ bytes)
 
--- nothing is handed over, as the limit of the depth is 0
-pub record IsNothingHanded (before after : List ℕ) (told status : ℕ) : Type 0 where
+-- nothing is handed over, for the reason of a status
+pub record IsNothingHanded (why : ℕ) (before after : List ℕ) (told status : ℕ) : Type 0 where
   pub unchanged : after ≡ before
   pub none : told ≡ 0
-  pub status_is : status ≡ no_depth
+  pub status_is : status ≡ why
 
 -- ---- a subset
 
@@ -50,9 +51,14 @@ pub data HasCallFault (tokens depth : ℕ) (font : Font) (glyphs : List ℕ) : E
   in_numbering : HasAllAboveZero glyphs → HasCallFault tokens depth font glyphs OverflowError
   in_subset : {e : Error} → (order : List ℕ) → HasFault tokens depth font (numbering glyphs) order e → HasCallFault tokens depth font glyphs e
 
+-- memory ran out, and no fault stands that is found before memory is taken
+pub record IsWantOfMemory (font : Font) (e : Error) : Type 0 where
+  pub is : e ≡ OutOfMemory
+  pub opens : (why : Error) → ¬ (HasOpeningFault font why)
+
 -- why no subset is answered: memory ran out, or a fault stands, and then no call answers one
 abbrev pub IsRefusal : ℕ → ℕ → Font → List ℕ → Error → Type 0
-IsRefusal tokens depth font glyphs e = (e ≡ OutOfMemory) ⊎ (HasCallFault tokens depth font glyphs e × HasNoAnswer tokens depth font (numbering glyphs))
+IsRefusal tokens depth font glyphs e = IsWantOfMemory font e ⊎ (HasCallFault tokens depth font glyphs e × HasNoAnswer tokens depth font (numbering glyphs))
 
 -- a subset is handed over
 abbrev pub IsSubsetHanded : ℕ → ℕ → Font → List ℕ → List ℕ → List ℕ → ℕ → ℕ → Type 0

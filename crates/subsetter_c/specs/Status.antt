@@ -22,6 +22,10 @@ too_small = 8
 abbrev pub no_depth : ℕ
 no_depth = 9
 
+-- the options have a size, a depth or a bit that isn't known
+abbrev pub unknown_option : ℕ
+unknown_option = 10
+
 -- what a status says
 unfoldable pub status_text : ℕ → List ℕ
 status_text status =
@@ -35,4 +39,5 @@ status_text status =
     else if status == 7 then error_text OutOfMemory
     else if status == too_small then codes "a buffer is too small"
     else if status == no_depth then codes "the limit of the depth is 0"
+    else if status == unknown_option then codes "unknown option"
     else codes "unknown status"

@@ -21,6 +21,15 @@ pub struct Sizes {
     pub widths: usize,
 }
 
+impl Sizes {
+    /// Of nothing.
+    pub const NONE: Sizes = Sizes {
+        font: 0,
+        cids: 0,
+        widths: 0,
+    };
+}
+
 /// Puts items at the front of a buffer, in which they fit.
 fn begin_with<T: Copy>(buffer: &mut [T], items: &[T])
     requires { length items.now ≤ length buffer.old }
@@ -80,11 +89,7 @@ pub fn hand_embedded(
     let embedded = match answer {
         Ok(embedded) => embedded,
         Err(error) => {
-            *told = Sizes {
-                font: 0,
-                cids: 0,
-                widths: 0,
-            };
+            *told = Sizes::NONE;
             return status_of(error);
         }
     };

@@ -12,6 +12,9 @@ pub const TOO_SMALL: u32 = 8;
 /// The limit of the depth is 0, at which no charstring can run.
 pub const NO_DEPTH: u32 = 9;
 
+/// The options have a size, a depth or a bit that isn't known.
+pub const UNKNOWN_OPTION: u32 = 10;
+
 /// The number of an error: from 1 on, in the order of the names in `Error`.
 pub fn status_of(error: Error) -> u32
     ensures { result ≡ status_of error }
@@ -43,6 +46,7 @@ pub fn status_text(status: u32) -> &'static [u8]
         7 => b"out of memory",
         8 => b"a buffer is too small",
         9 => b"the limit of the depth is 0",
+        10 => b"unknown option",
         _ => b"unknown status",
     }
 }

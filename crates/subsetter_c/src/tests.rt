@@ -1,5 +1,6 @@
 use crate::calls::*;
 use crate::handing::Sizes;
+use crate::making;
 use std::test::*;
 
 /// A font of 55 bytes whose only table is `CFF `: one glyph, whose charstring is `endchar` alone.
@@ -54,10 +55,61 @@ fn each_call_answers_its_status(rt: HostRuntime) -> Result<(), Fail> {
         (status, sizes.font, sizes.cids, sizes.widths),
         (2, 0, 0, 0)
     );
-    let status = subsetter_error_text(status, &mut out, &mut length);
+    let status = subsetter_embed_by_words(
+        alloc,
+        &CFF_FONT,
+        0,
+        &[],
+        &[20],
+        &mut out,
+        &mut [],
+        &mut [],
+        &mut sizes,
+    );
+    assert_eq!(rt; status, 10);
+    let status = subsetter_error_text(2, &mut out, &mut length);
     assert_eq!(rt;
         (status, out.get(..length)),
         (0, Some(b"malformed font".as_slice()))
     );
+    Ok(())
+}
+
+#[test]
+fn options_are_words(rt: HostRuntime) -> Result<(), Fail> {
+    let alloc = rt.alloc();
+    // The size in bytes, tokens, depth and what is dropped: 10 for words that aren't known, 6 where the tokens don't suffice.
+    let rows: [(&[u32], u32); 8] = [
+        (&[], 0),
+        (&[4], 0),
+        (&[16, 1, 1, 7], 0),
+        (&[8, 0], 0),
+        (&[16, 0, 256, 0], 10),
+        (&[16, 0, 0, 8], 10),
+        (&[20, 0, 0, 0, 0], 10),
+        (&[4, 0], 10),
+    ];
+    for (words, want) in rows {
+        let mut out = [7; 165];
+        let mut length = 7;
+        let status = subsetter_subset_by_words(
+            alloc,
+            &CFF_FONT,
+            0,
+            &[],
+            words,
+            &mut out,
+            &mut length,
+        );
+        assert_eq!(rt; status, want);
+        let mut made = making::nothing();
+        let status = subsetter_make_subset_by_words(alloc, &CFF_FONT, 0, &[], words, &mut made);
+        assert_eq!(rt; (status, made.font.len()), (want, length));
+        assert_eq!(rt; Some(made.font), out.get(..length));
+    }
+    let mut made = making::nothing();
+    let status = subsetter_make_embedded_by_words(alloc, &CFF_FONT, 0, &[], &[], &mut made);
+    assert_eq!(rt; (status, made.widths.len()), (2, 0));
+    assert_eq!(rt; subsetter_version(), 0x0002_0601);
     Ok(())
 }

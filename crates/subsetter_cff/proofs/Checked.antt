@@ -75,7 +75,7 @@ entries_checked front es = by_refused (list_any is_refused es) front _ ∙ ap (�
 pub index_kept : (items : List (List ℕ)) → FitIndex items → limit (has_index items) ≡ Ok tt
 index_kept items fits = rw (lt-ltb (length items) 65536 fits.count, lt-ltb (length (concat items) + 1) (2 ^ 32) fits.size) refl
 
-no_index : (items : List (List ℕ)) → (FitIndex items → ⊥) → limit (has_index items) ≡ Err OverflowError
+pub no_index : (items : List (List ℕ)) → (FitIndex items → ⊥) → limit (has_index items) ≡ Err OverflowError
 no_index items not =
     elim (cases_lt (length items) 65536) [
       | inl few ↦ elim (cases_lt (length (concat items) + 1) (2 ^ 32)) [

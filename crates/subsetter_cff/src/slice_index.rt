@@ -1,10 +1,11 @@
 //! Writing an INDEX of slices (Technical Note 5176, section 5 "INDEX Data").
 
-ghost use Rattle.std.specs.Prelude.{◌≡◌, ◌≤◌, ◌<◌, ◌+◌, ◌^◌, ◌++◌, length, OnOk, IfErr, SomeIff};
+ghost use Rattle.std.specs.Prelude.{◌≡◌, ◌≤◌, ◌<◌, ◌+◌, ◌^◌, ◌++◌, length, OnOk, IfOk, IfErr, SomeIff};
 ghost use Rattle.std.specs.List.{concat};
 ghost use Rattle.subsetter_base.specs.Gives.{Gives};
-ghost use Rattle.subsetter_base.specs.declared.error.Error.TheVariants.{OutOfMemory};
+ghost use Rattle.subsetter_base.specs.declared.error.Error.TheVariants.{OutOfMemory, OverflowError};
 ghost use Rattle.subsetter_cffdata.specs.Index.{header, index, numbers, offsets};
+ghost use Rattle.subsetter_cffdata.specs.Owned.{FitIndex};
 ghost use Rattle.subsetter_cff.specs.SidRemapping.{views};
 ghost use Rattle.subsetter_cff.specs.TableLimits.{limit, has_index};
 
@@ -22,6 +23,32 @@ fn total(items: &[&[u8]]) -> Option<u32>
         sum = sum.checked_add(len)?;
     }
     Some(sum)
+}
+
+// How many items there are, and the length of all together with one.
+#[derive(Drop)]
+struct Counts {
+    items: u16,
+    total: u32,
+}
+
+// Data of 4 GiB, or 65536 items, are `OverflowError`. It takes no memory.
+fn counts_of(items: &[&[u8]]) -> Result<Counts, Error>
+    ensures items { IfOk result (λ c. c.items ≡ length items.now) }
+    ensures total { IfOk result (λ c. c.total ≡ length (concat (views items.now)) + 1) }
+    ensures fits { OnOk result (FitIndex (views items.now)) }
+    ensures err { IfErr result (λ e. (e ≡ OverflowError) × (FitIndex (views items.now) → ⊥)) }
+{
+    let Ok(count) = u16::try_from(items.len()) else {
+        return Err(Error::OverflowError);
+    };
+    let Some(total) = total(items) else {
+        return Err(Error::OverflowError);
+    };
+    Ok(Counts {
+        items: count,
+        total,
+    })
 }
 
 // Writes the offset behind each item.
@@ -66,20 +93,15 @@ fn put_header(items: &[&[u8]], count: u16, total: u32, w: &mut Writer) -> Result
 }
 
 /// Writes the INDEX of items. Data of 4 GiB, or 65536 items, are `OverflowError`.
-#[tactic(auto, unfolding(subsetter_cffdata::specs::Index::index))]
+#[tactic(auto, using(crate::proofs::Checked::index_kept, crate::proofs::Checked::no_index), unfolding(subsetter_cffdata::specs::Index::index))]
 pub fn write_index(items: &[&[u8]], w: &mut Writer) -> Result<(), Error>
     ensures ok { OnOk result (w.new ≡ w.old ++ index (views items.now)) }
     ensures checked { Gives (λ _. tt) result (limit (has_index (views items.now))) }
 {
-    let Ok(count) = u16::try_from(items.len()) else {
-        return Err(Error::OverflowError);
-    };
-    let Some(total) = total(items) else {
-        return Err(Error::OverflowError);
-    };
-    if count == 0 {
+    let counts = counts_of(items)?;
+    if counts.items == 0 {
         return w.extend(&[0, 0]);
     }
-    put_header(items, count, total, w)?;
+    put_header(items, counts.items, counts.total, w)?;
     put_items(items, w)
 }

@@ -1,6 +1,7 @@
 //! The entries of a DICT, one after the other (Technical Note 5176, section 4 "DICT Data").
 
-ghost use Rattle.std.specs.Prelude.{◌<◌, ◌≤◌, length};
+ghost use Rattle.std.specs.Prelude.{◌≡◌, ◌<◌, ◌≤◌, [], ◌∷◌, length, map};
+ghost use Rattle.subsetter_cffdata.specs.Views.{operator_of};
 
 use crate::number::{Number, StringId};
 use crate::operands::{four_of, offset_of, range_of, six_of, string_of};
@@ -214,4 +215,10 @@ pub mod operators {
     pub const FD_SELECT: Operator = Operator(TwoByteOperator([TWO_BYTE_OPERATOR_MARK, 37]));
     /// The name of a Font DICT.
     pub const FONT_NAME: Operator = Operator(TwoByteOperator([TWO_BYTE_OPERATOR_MARK, 38]));
+
+    /// The codes of the tables.
+    pub fn codes()
+        ensures one_byte { map operator_of (NOTICE ∷ FONT_BBOX ∷ CHARSET ∷ ENCODING ∷ CHAR_STRINGS ∷ PRIVATE ∷ SUBRS ∷ []) ≡ (1 ∷ []) ∷ (5 ∷ []) ∷ (15 ∷ []) ∷ (16 ∷ []) ∷ (17 ∷ []) ∷ (18 ∷ []) ∷ (19 ∷ []) ∷ [] }
+        ensures two_byte { map operator_of (COPYRIGHT ∷ FONT_MATRIX ∷ ROS ∷ CID_COUNT ∷ FD_ARRAY ∷ FD_SELECT ∷ FONT_NAME ∷ []) ≡ (12 ∷ 0 ∷ []) ∷ (12 ∷ 7 ∷ []) ∷ (12 ∷ 30 ∷ []) ∷ (12 ∷ 34 ∷ []) ∷ (12 ∷ 36 ∷ []) ∷ (12 ∷ 37 ∷ []) ∷ (12 ∷ 38 ∷ []) ∷ [] }
+    {}
 }

@@ -1,6 +1,6 @@
 //! Writing an INDEX (Technical Note 5176, section 5 "INDEX Data").
 
-ghost use Rattle.std.specs.Prelude.{◌≡◌, ◌≢◌, ◌+◌, ◌-◌, ◌<◌, ◌≤◌, ◌^◌, ◌∷◌, ◌++◌, [], ◌⊎◌, length, OnOk, IfOk, IfErr, SomeIff};
+ghost use Rattle.std.specs.Prelude.{◌≡◌, ◌≢◌, ◌+◌, ◌-◌, ◌*◌, ◌<◌, ◌≤◌, ◌^◌, ◌∷◌, ◌++◌, [], ◌⊎◌, length, OnOk, IfOk, IfErr, SomeIff};
 ghost use Rattle.std.specs.Int.{bytes_high_first};
 ghost use Rattle.std.specs.List.{concat};
 ghost use Rattle.subsetter_base.specs.declared.error.Error.TheVariants.{OverflowError, OutOfMemory};
@@ -82,6 +82,40 @@ fn total(items: &[Vec<u8>]) -> Option<u32>
     Some(sum)
 }
 
+// How many items there are, and the length of all together with one.
+#[derive(Drop)]
+struct Counts {
+    items: u16,
+    total: u32,
+}
+
+// Data of 4 GiB, or 65536 items, are `OverflowError`. It takes no memory.
+fn counts_of(items: &[Vec<u8>]) -> Result<Counts, Error>
+    ensures items { IfOk result (λ c. c.items ≡ length items.now) }
+    ensures total { IfOk result (λ c. c.total ≡ length (concat (views items.now)) + 1) }
+    ensures fits { OnOk result (FitIndex (views items.now)) }
+    ensures err { IfErr result (λ e. (e ≡ OverflowError) × (FitIndex (views items.now) → ⊥)) }
+{
+    let Ok(count) = u16::try_from(items.len()) else {
+        return Err(Error::OverflowError);
+    };
+    let Some(total) = total(items) else {
+        return Err(Error::OverflowError);
+    };
+    Ok(Counts {
+        items: count,
+        total,
+    })
+}
+
+// How many bytes the INDEX has.
+fn index_room(counts: &Counts) -> usize
+    ensures { result ≡ 3 + offset_size counts.now.total * (counts.now.items + 1) + counts.now.total }
+{
+    let width = usize::from(size_of_offset(counts.total));
+    3 + width * (usize::from(counts.items) + 1) + counts.total as usize
+}
+
 // Writes the offset behind each item.
 fn put_offsets(w: &mut Vec<u8>, size: u8, items: &[Vec<u8>]) -> Result<(), AllocError>
     requires small { size ≤ 4 }
@@ -128,19 +162,12 @@ pub fn create_index(alloc: Global, items: &[Vec<u8>]) -> Result<OwnedIndex, Erro
     ensures header { IfOk result (λ x. x.header_size ≡ length (index (views items.now)) - length (concat (views items.now))) }
     ensures err { IfErr result (λ e. (e ≡ OutOfMemory) ⊎ ((e ≡ OverflowError) × (FitIndex (views items.now) → ⊥))) }
 {
-    let Ok(count) = u16::try_from(items.len()) else {
-        return Err(Error::OverflowError);
-    };
-    let Some(total) = total(items) else {
-        return Err(Error::OverflowError);
-    };
-    if count == 0 {
+    let counts = counts_of(items)?;
+    if counts.items == 0 {
         return OwnedIndex::default(alloc);
     }
-    let width = usize::from(size_of_offset(total));
-    let room = 3 + width * (items.len() + 1) + total as usize;
-    let mut data = Vec::with_capacity(alloc, room)?;
-    put_header(&mut data, items, count, total)?;
+    let mut data = Vec::with_capacity(alloc, index_room(&counts))?;
+    put_header(&mut data, items, counts.items, counts.total)?;
     let header_size = data.len();
     put_items(&mut data, items)?;
     Ok(OwnedIndex { data, header_size })

@@ -34,3 +34,11 @@ pub record Comes (text : List ℕ) (mask_len : ℕ) (bytes : List ℕ) (settled 
 -- a stretch that goes further
 pub record Extends (text : List ℕ) (mask_len : ℕ) (s longer : Stretch) : Type 0 where
   pub step : (bytes : List ℕ) (settled : ℕ) (w : Written) → Comes text mask_len bytes settled w s → Comes text mask_len bytes settled w longer
+
+-- one token longer, with so many tokens at most
+pub record IsLonger (text : List ℕ) (most mask_len : ℕ) (s longer : Stretch) : Type 0 where
+  pub sound : IsSound longer
+  pub extends : Extends text mask_len s longer
+  pub more : s.len < longer.len
+  pub inside : longer.len ≤ length text
+  pub few : longer.tokens ≤ most

@@ -1,5 +1,8 @@
 //! The operators of a charstring (Technical Note 5177, appendix A "Type 2 Charstring Command Codes").
 
+ghost use Rattle.std.specs.Prelude.{◌≡◌, [], ◌∷◌, map};
+ghost use Rattle.subsetter_type2.specs.Token.{one_byte, two_byte};
+
 use subsetter_cffdata::operator::OperatorType::{OneByteOperator, TwoByteOperator};
 use subsetter_cffdata::operator::{Operator, TWO_BYTE_OPERATOR_MARK};
 
@@ -89,3 +92,9 @@ pub const FLEX1: Operator = Operator(TwoByteOperator([TWO_BYTE_OPERATOR_MARK, 37
 
 /// No operator (255): a number of 65536ths follows, of four bytes.
 pub const FIXED_16_16: Operator = Operator(OneByteOperator([255]));
+
+/// The codes of the appendix.
+pub fn codes()
+    ensures one_byte { HORIZONTAL_STEM ∷ VERTICAL_STEM ∷ VERTICAL_MOVE_TO ∷ LINE_TO ∷ HORIZONTAL_LINE_TO ∷ VERTICAL_LINE_TO ∷ CURVE_TO ∷ CALL_LOCAL_SUBROUTINE ∷ RETURN ∷ ENDCHAR ∷ HORIZONTAL_STEM_HINT_MASK ∷ HINT_MASK ∷ COUNTER_MASK ∷ MOVE_TO ∷ HORIZONTAL_MOVE_TO ∷ VERTICAL_STEM_HINT_MASK ∷ CURVE_LINE ∷ LINE_CURVE ∷ VV_CURVE_TO ∷ HH_CURVE_TO ∷ SHORT_INT ∷ CALL_GLOBAL_SUBROUTINE ∷ VH_CURVE_TO ∷ HV_CURVE_TO ∷ FIXED_16_16 ∷ [] ≡ map one_byte (1 ∷ 3 ∷ 4 ∷ 5 ∷ 6 ∷ 7 ∷ 8 ∷ 10 ∷ 11 ∷ 14 ∷ 18 ∷ 19 ∷ 20 ∷ 21 ∷ 22 ∷ 23 ∷ 24 ∷ 25 ∷ 26 ∷ 27 ∷ 28 ∷ 29 ∷ 30 ∷ 31 ∷ 255 ∷ []) }
+    ensures two_byte { HFLEX ∷ FLEX ∷ HFLEX1 ∷ FLEX1 ∷ [] ≡ map two_byte (34 ∷ 35 ∷ 36 ∷ 37 ∷ []) }
+{}

@@ -56,10 +56,8 @@ impl<'a> Program<'a> {
         ensures err { IfErr result (λ e. e ≡ OutOfMemory) }
         ensures unchanged { OnErr result (self.new ≡ self.old) }
     {
-        match self.instructions.push(instruction) {
-            Ok(()) => Ok(()),
-            Err(_failed) => Err(Error::OutOfMemory),
-        }
+        self.instructions.push(instruction)?;
+        Ok(())
     }
 
     /// Takes the last instruction.

@@ -3,7 +3,7 @@
 ghost use Rattle.std.specs.Prelude.{◌≡◌, ◌≤◌, ◌<◌, length, IfSome, ℕ, List};
 ghost use Rattle.subsetter_type2.specs.Output.{Written};
 ghost use Rattle.subsetter_type2.specs.OutputView.{Stands};
-ghost use Rattle.subsetter_type2.specs.Stretch.{Comes, Extends, IsSound};
+ghost use Rattle.subsetter_type2.specs.Stretch.{Comes, IsSound, IsLonger};
 
 use crate::argstack::MAX_OPERANDS;
 use crate::plain::{begins_plain, is_mask, is_shortest, plain_size};
@@ -15,11 +15,7 @@ fn longer_by_short(stretch: Stretch, text: &[u8], most: usize, mask_len: u16) ->
     requires here { stretch.len < most }
     requires most { most ≤ length text.now }
     requires sound { IsSound stretch }
-    ensures sound { IfSome result (λ longer. IsSound longer) }
-    ensures extends { IfSome result (λ longer. Extends text.now mask_len stretch longer) }
-    ensures more { IfSome result (λ longer. stretch.len < longer.len) }
-    ensures inside { IfSome result (λ longer. longer.len ≤ length text.now) }
-    ensures few { IfSome result (λ longer. longer.tokens ≤ most) }
+    ensures { IfSome result (IsLonger text.now most mask_len stretch) }
 {
     if text[stretch.len] != 28 {
         return None;
@@ -42,11 +38,7 @@ fn longer_by_mask(stretch: Stretch, text: &[u8], most: usize, mask_len: u16) -> 
     requires here { stretch.len < most }
     requires most { most ≤ length text.now }
     requires sound { IsSound stretch }
-    ensures sound { IfSome result (λ longer. IsSound longer) }
-    ensures extends { IfSome result (λ longer. Extends text.now mask_len stretch longer) }
-    ensures more { IfSome result (λ longer. stretch.len < longer.len) }
-    ensures inside { IfSome result (λ longer. longer.len ≤ length text.now) }
-    ensures few { IfSome result (λ longer. longer.tokens ≤ most) }
+    ensures { IfSome result (IsLonger text.now most mask_len stretch) }
 {
     if !is_mask(text[stretch.len]) {
         return None;
@@ -67,11 +59,7 @@ fn longer_by_rare(stretch: Stretch, text: &[u8], most: usize, mask_len: u16) -> 
     requires here { stretch.len < most }
     requires most { most ≤ length text.now }
     requires sound { IsSound stretch }
-    ensures sound { IfSome result (λ longer. IsSound longer) }
-    ensures extends { IfSome result (λ longer. Extends text.now mask_len stretch longer) }
-    ensures more { IfSome result (λ longer. stretch.len < longer.len) }
-    ensures inside { IfSome result (λ longer. longer.len ≤ length text.now) }
-    ensures few { IfSome result (λ longer. longer.tokens ≤ most) }
+    ensures { IfSome result (IsLonger text.now most mask_len stretch) }
 {
     if text[stretch.len] == 28 {
         return longer_by_short(stretch, text, most, mask_len);
@@ -84,11 +72,7 @@ fn longer_by_rare(stretch: Stretch, text: &[u8], most: usize, mask_len: u16) -> 
 fn longer(stretch: Stretch, text: &[u8], most: usize, mask_len: u16) -> Option<Stretch>
     requires most { most ≤ length text.now }
     requires sound { IsSound stretch }
-    ensures sound { IfSome result (λ longer. IsSound longer) }
-    ensures extends { IfSome result (λ longer. Extends text.now mask_len stretch longer) }
-    ensures more { IfSome result (λ longer. stretch.len < longer.len) }
-    ensures inside { IfSome result (λ longer. longer.len ≤ length text.now) }
-    ensures few { IfSome result (λ longer. longer.tokens ≤ most) }
+    ensures { IfSome result (IsLonger text.now most mask_len stretch) }
 {
     if stretch.len >= most {
         return None;

@@ -6,7 +6,6 @@ use crate::limits::Limits;
 use crate::subroutines::{
     SubroutineCollection, SubroutineContainer, SubroutineHandler, unapply_bias,
 };
-use crate::token::{Effect, find_effect};
 use std::alloc::Global;
 use std::process::Abort;
 use std::test::*;
@@ -575,41 +574,4 @@ fn programs_are_compiled(rt: HostRuntime) -> Result<(), Fail> {
         [140, 255, 0, 1, 0, 0, 18, 19, 128, 12, 37].as_slice()
     );
     Ok(())
-}
-
-#[test]
-fn operators_have_their_effects(rt: HostRuntime) {
-    for (operator, effect) in [
-        (operators::HORIZONTAL_STEM, Effect::CountsStems),
-        (operators::VERTICAL_STEM, Effect::CountsStems),
-        (operators::HORIZONTAL_STEM_HINT_MASK, Effect::CountsStems),
-        (operators::VERTICAL_STEM_HINT_MASK, Effect::CountsStems),
-        (operators::VERTICAL_MOVE_TO, Effect::Draws),
-        (operators::LINE_TO, Effect::Draws),
-        (operators::HORIZONTAL_LINE_TO, Effect::Draws),
-        (operators::VERTICAL_LINE_TO, Effect::Draws),
-        (operators::CURVE_TO, Effect::Draws),
-        (operators::MOVE_TO, Effect::Draws),
-        (operators::HORIZONTAL_MOVE_TO, Effect::Draws),
-        (operators::CURVE_LINE, Effect::Draws),
-        (operators::LINE_CURVE, Effect::Draws),
-        (operators::VV_CURVE_TO, Effect::Draws),
-        (operators::HH_CURVE_TO, Effect::Draws),
-        (operators::VH_CURVE_TO, Effect::Draws),
-        (operators::HV_CURVE_TO, Effect::Draws),
-        (operators::HFLEX, Effect::Draws),
-        (operators::FLEX, Effect::Draws),
-        (operators::HFLEX1, Effect::Draws),
-        (operators::FLEX1, Effect::Draws),
-        (operators::HINT_MASK, Effect::Masks),
-        (operators::COUNTER_MASK, Effect::Masks),
-        (operators::CALL_LOCAL_SUBROUTINE, Effect::CallsLocal),
-        (operators::CALL_GLOBAL_SUBROUTINE, Effect::CallsGlobal),
-        (operators::RETURN, Effect::Returns),
-        (operators::ENDCHAR, Effect::Ends),
-    ] {
-        assert!(rt; find_effect(operator) == Some(effect));
-    }
-    assert!(rt; find_effect(operators::SHORT_INT).is_none());
-    assert!(rt; find_effect(operators::FIXED_16_16).is_none());
 }

@@ -1,9 +1,10 @@
-//! Hostile directories and outlines, from the words to the status.
+//! Hostile directories and outlines, from the list of glyphs to the status.
 
-use super::{three_glyphs, told, two_glyphs};
+use super::{task_of, three_glyphs, told, two_glyphs};
 use crate::*;
 use std::alloc::Global;
 use std::test::*;
+use subset_args::{GlyphList, read_list};
 
 /// How a job ended: what is told, and what it wrote.
 #[derive(Drop)]
@@ -13,17 +14,26 @@ struct Ended {
     lines: Vec<u8>,
 }
 
-/// Does the job of keeping these glyphs of a font, for which so much room is taken at once.
+/// Keeps the glyphs of a list of a font, for which so much room is taken at once.
 fn keep(alloc: Global, font: &[u8], room: usize, glyphs: &str) -> Result<Ended, Fail> {
-    let mut words = Vec::new(alloc);
-    for word in ["in", "out", "0", glyphs] {
-        words.push(String::from_str(alloc, word)?)?;
-    }
-    let job = read_words(alloc, &words).ok().ok_or("a job")?;
+    let list = read_list(alloc, glyphs.as_bytes()).ok().ok_or("a list")?;
+    let task = match &list {
+        GlyphList::These(given) => task_of(given),
+        GlyphList::Every => task_of(&[]),
+    };
     let mut reader = font;
+    let mut source = Vec::new(alloc);
     let mut font = Vec::new(alloc);
     let mut lines = Vec::new(alloc);
-    let ended = carry_out(alloc, &job, &mut reader, room, &mut font, &mut lines);
+    let ended = carry_out(
+        alloc,
+        &task,
+        &mut reader,
+        room,
+        &mut source,
+        &mut font,
+        &mut lines,
+    );
     let (status, text) = told(alloc, ended)?;
     let text = format!(in alloc; "{status} {text}")?;
     Ok(Ended { text, font, lines })

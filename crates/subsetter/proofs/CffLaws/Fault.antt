@@ -10,11 +10,11 @@ use Rattle.subsetter_base.proofs.Results.{done_is}
 use Rattle.subsetter_cff.specs.CffFault.{HasCffFault}
 use Rattle.subsetter_cff.proofs.CffFaults.{refused_stands}
 use Rattle.subsetter_cff.proofs.Excluded.{answered_excludes}
-use Rattle.subsetter.specs.declared.sfnt.flavor.FontFlavor.TheVariants.{Cff}
-use Rattle.subsetter.specs.Sfnt.Read.{Font, table, flavor}
-use Rattle.subsetter.specs.Sfnt.Fault.{HasOpeningFault}
-use Rattle.subsetter.specs.Sfnt.Plain.{file_of}
-use Rattle.subsetter.specs.Sfnt.Written.{Table, fits, file, start_of, kind_word}
+use Rattle.subsetter_sfnt.specs.declared.flavor.FontFlavor.TheVariants.{Cff}
+use Rattle.subsetter_sfnt.specs.Read.{Font, table, flavor}
+use Rattle.subsetter_sfnt.specs.Fault.{HasOpeningFault}
+use Rattle.subsetter_sfnt.specs.Plain.{file_of}
+use Rattle.subsetter_sfnt.specs.Written.{Table, fits, file, start_of, kind_word}
 use Rattle.subsetter.specs.Glyf.Fault as outline_faults
 use Rattle.subsetter.specs.Glyf.Fault.{HasOutlineFault}
 use Rattle.subsetter.specs.Glyf.Read.{outlines, outline}

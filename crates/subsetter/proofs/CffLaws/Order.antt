@@ -1,13 +1,13 @@
 -- The glyphs of a subset with a CFF table: the given ones.
-use Rattle.std.proofs.Common.{◌≡◌, ℕ, cond, List, [], Option, Some, None, refl, sym, ap}
+use Rattle.std.proofs.Common.{◌≡◌, ℕ, Bool, cond, List, [], Option, Some, None, refl, sym, ap}
 use Rattle.std.specs.Prelude.{codes, is_some, Contains, not, ◌==◌}
 use Rattle.std.proofs.lemmas.List.{append-nil}
 use Rattle.subsetter_base.specs.Bytes.{number}
 use Rattle.subsetter_base.specs.Places.{IsWithoutRepeats}
 use Rattle.subsetter_base.proofs.Options.{some_not_none}
-use Rattle.subsetter.specs.Optional.{◌>>=◌}
-use Rattle.subsetter.specs.declared.sfnt.flavor.FontFlavor.TheVariants.{TrueType, Cff}
-use Rattle.subsetter.specs.Sfnt.Read.{Font, table, flavor}
+use Rattle.subsetter_sfnt.specs.Optional.{◌>>=◌}
+use Rattle.subsetter_sfnt.specs.declared.flavor.FontFlavor.TheVariants.{TrueType, Cff}
+use Rattle.subsetter_sfnt.specs.Read.{Font, table, flavor}
 use Rattle.subsetter.specs.Glyf.Read.{Outlines, outlines_in, outlines, outline, outline_in}
 use Rattle.subsetter.specs.Glyf.Reach.{IsReachable, IsGlyphOrder, given, step}
 use Rattle.std.specs.Option.{option_and_then}
@@ -20,19 +20,19 @@ pub no_glyf : (font : Font) → flavor font ≡ Some Cff → table font (codes "
 no_glyf font h = without_glyf (table font (codes "glyf")) (table font (codes "CFF ")) h
 
 -- the tables of outlines, of which loca, glyf and head are found
-abbrev outlines_by : Option (List ℕ) → Option (List ℕ) → Option (List ℕ) → Option Outlines
-outlines_by l g h = do
+abbrev outlines_by : Bool → Option (List ℕ) → Option (List ℕ) → Option (List ℕ) → Option Outlines
+outlines_by hinting l g h = do
   loca ← l
   glyf ← g
   head ← h
   format ← number head 50 2
-  Some (record { loca = loca; glyf = glyf; head = head; long = not (format == 0) })
+  Some (record { loca = loca; glyf = glyf; head = head; long = not (format == 0); hinting = hinting })
 
 pub no_outlines : (font : Font) → table font (codes "glyf") ≡ None → outlines font ≡ None
 unfolding outlines_in
 no_outlines font h = by (table font (codes "loca")) (table font (codes "glyf")) (table font (codes "head")) h
   where
-    by : (l g head : Option (List ℕ)) → g ≡ None → outlines_by l g head ≡ None
+    by : (l g head : Option (List ℕ)) → g ≡ None → outlines_by font.extras.hinting l g head ≡ None
     by None g head h = refl
     by (Some loca) None head h = refl
     by (Some loca) (Some glyf) head h = absurd cc

@@ -9,14 +9,15 @@ use Rattle.subsetter_base.specs.declared.error.Error.{Error}
 use Rattle.subsetter_base.specs.declared.error.Error.TheVariants.{MalformedFont}
 use Rattle.subsetter_base.proofs.Results.{done_is, bind_ok, bind_err, named_ok, named_err}
 use Rattle.subsetter_cff.specs.Plain.{cff_subset}
-use Rattle.subsetter.specs.declared.sfnt.flavor.FontFlavor.TheVariants.{Cff}
-use Rattle.subsetter.specs.declared.sfnt.tables.NewTable.{NewTable}
-use Rattle.subsetter.specs.Sfnt.View.{view, views}
-use Rattle.subsetter.specs.Sfnt.Written.{Table, IsTable, fits, file, start_of, kind_word}
-use Rattle.subsetter.specs.Sfnt.Plain.{file_of}
+use Rattle.subsetter_sfnt.specs.declared.flavor.FontFlavor.TheVariants.{Cff}
+use Rattle.subsetter_sfnt.specs.declared.tables.NewTable.{NewTable}
+use Rattle.subsetter.specs.declared.tables.TableData.{TableData}
+use Rattle.subsetter.specs.TableView.{view, views}
+use Rattle.subsetter_sfnt.specs.Written.{Table, IsTable, fits, file, start_of, kind_word}
+use Rattle.subsetter_sfnt.specs.Plain.{file_of}
 use Rattle.subsetter.specs.Shared.Plain.{SharedTables, shared_of}
 use Rattle.subsetter.specs.Cff.Plain.{Made, made_of, font_of, laid, cff_tables, cff_file}
-use Rattle.subsetter.proofs.SfntLaws.Rows.{rows_few, rows_tables}
+use Rattle.subsetter_sfnt.proofs.Laws.Rows.{rows_few, rows_tables}
 use Rattle.subsetter.proofs.SharedLaws.Kept.{shared_room}
 use Rattle.subsetter.proofs.SharedLaws.Steps.{SharedSteps, shared_steps}
 use Rattle.subsetter.proofs.TruetypeLaws.Steps.{file_steps}
@@ -104,7 +105,7 @@ module _ (find : List ℕ → Option (List ℕ)) (tokens depth : ℕ) (glyphs : 
 
 -- ---- the code's list of tables
 
-module _ (m : Made) (ts : List NewTable) (there : views ts ≡ laid m) where
+module _ (m : Made) (ts : List (NewTable TableData)) (there : views ts ≡ laid m) where
   pub few_tables : length ts < 16
   few_tables = omega (arith, length-map ts view, ap length there, rows_few (font_of m))
 

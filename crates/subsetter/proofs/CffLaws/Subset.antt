@@ -8,11 +8,11 @@ use Rattle.subsetter_base.specs.Places.{IsWithoutRepeats}
 use Rattle.subsetter_base.specs.declared.error.Error.{Error}
 use Rattle.subsetter_base.proofs.Options.{some_not_none}
 use Rattle.subsetter_cff.proofs.Headline.{answered_is_subset}
-use Rattle.subsetter.specs.declared.sfnt.flavor.FontFlavor.TheVariants.{Cff}
-use Rattle.subsetter.specs.Sfnt.Container.{IsSoundContainer}
-use Rattle.subsetter.specs.Sfnt.Read.{Font, as_font, table, flavor}
-use Rattle.subsetter.specs.Sfnt.Rows.{bytes_of, rows, called_for, tags_of}
-use Rattle.subsetter.specs.Sfnt.Written.{fits, file, start_of, kind_word}
+use Rattle.subsetter_sfnt.specs.declared.flavor.FontFlavor.TheVariants.{Cff}
+use Rattle.subsetter_sfnt.specs.Container.{IsSoundContainer}
+use Rattle.subsetter_sfnt.specs.Read.{Font, as_font, table, flavor}
+use Rattle.subsetter_sfnt.specs.Rows.{bytes_of, rows, called_for, tags_of}
+use Rattle.subsetter_sfnt.specs.Written.{fits, file, start_of, kind_word}
 use Rattle.subsetter.specs.Glyf.Read.{outlines}
 use Rattle.subsetter.specs.Hmtx.Written.{MetricBytes}
 use Rattle.subsetter.specs.Cff.Plain.{Made, font_of, laid}
@@ -21,9 +21,9 @@ use Rattle.subsetter.specs.Fault.{HasFault}
 use Rattle.subsetter.specs.Laid.{of_charstrings}
 use Rattle.subsetter.specs.Subset.{by_charstrings, IsSubset}
 use Rattle.subsetter.specs.Answer.{IsAnswer}
-use Rattle.subsetter.proofs.SfntLaws.Back.{word_of}
-use Rattle.subsetter.proofs.SfntLaws.Laid.{row_back, head_row_back, rows_sound}
-use Rattle.subsetter.proofs.SfntLaws.Rows.{HasRoom, AreAlike, lookup_row, some_table}
+use Rattle.subsetter_sfnt.proofs.Laws.Back.{word_of}
+use Rattle.subsetter_sfnt.proofs.Laws.Laid.{row_back, head_row_back, rows_sound}
+use Rattle.subsetter_sfnt.proofs.Laws.Rows.{HasRoom, AreAlike, lookup_row, some_table}
 use Rattle.subsetter.proofs.SharedLaws.Steps.{head_there, maxp_there, metrics_there, name_there, post_there}
 use Rattle.subsetter.proofs.SharedLaws.Kept.{shared_room, AreBack, keeps_shared}
 use Rattle.subsetter.proofs.CffLaws.Order.{no_glyf, no_outlines, given_order}

@@ -14,8 +14,8 @@ use Rattle.subsetter_cff.specs.GlyphTrace.{library}
 use Rattle.subsetter_cff.specs.Layout.{Parts, cff_table}
 use Rattle.subsetter_cff.specs.Opened.{opened}
 use Rattle.subsetter_cff.specs.Plain.{KeptGlyph, source_number, kept_glyph, kept_glyphs, counted_parts, limited, parts_of, cff_subset}
-use Rattle.subsetter.specs.declared.sfnt.flavor.FontFlavor.TheVariants.{Cff as CffKind}
-use Rattle.subsetter.specs.Sfnt.Written.{Table}
+use Rattle.subsetter_sfnt.specs.declared.flavor.FontFlavor.TheVariants.{Cff as CffKind}
+use Rattle.subsetter_sfnt.specs.Written.{Table}
 use Rattle.subsetter.specs.Shared.Plain.{shared_of}
 use Rattle.subsetter.specs.Cff.Plain.{Made, made_of, laid, cff_tables}
 

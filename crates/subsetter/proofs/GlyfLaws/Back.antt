@@ -1,5 +1,5 @@
 -- Outlines that were written are read back.
-use Rattle.std.proofs.Common.{◌≡◌, ℕ, zero, suc, ◌+◌, ◌-◌, ◌*◌, ◌/◌, ◌%◌, ◌^◌, ◌<◌, ◌≤◌, Bool, true, false, cond, leb, List, [], ◌∷◌, ◌++◌, length, get_or, take, drop, Some, None, refl, sym, ap, ◌∙◌, append_assoc, add-one, zero-add, arith}
+use Rattle.std.proofs.Common.{◌≡◌, ℕ, zero, suc, ◌+◌, ◌-◌, ◌*◌, ◌/◌, ◌%◌, ◌^◌, ◌<◌, ◌≤◌, Bool, true, false, cond, leb, List, [], ◌∷◌, ◌++◌, length, get_or, take, drop, Option, Some, None, refl, sym, ap, ◌∙◌, append_assoc, add-one, zero-add, arith}
 use Rattle.std.specs.Option.{option_and_then, option_map}
 use Rattle.std.specs.Int.{w16, w32, to_be_bytes}
 use Rattle.std.proofs.lemmas.Bool.{le-leb, ltb-false}
@@ -8,7 +8,8 @@ use Rattle.std.proofs.lemmas.List.Sums.{sum_by-cons}
 use Rattle.std.proofs.lemmas.List.Concat.{flat_map-cons}
 use Rattle.std.specs.Prelude.{replicate}
 use Rattle.subsetter_base.specs.Bytes.{be, range, number, aligned}
-use Rattle.subsetter_base.proofs.ByteLemmas.{be-u16, be-u32, range-middle}
+use Rattle.subsetter_base.proofs.ByteLemmas.{be-u16, be-u32, range-middle, number-fits}
+use Rattle.subsetter_base.proofs.Options.{bind_some}
 use Rattle.subsetter.specs.Glyf.Read.{Outlines, entry_size, offset, between, outline_in}
 use Rattle.subsetter.specs.Glyf.Unfold.{padded}
 use Rattle.subsetter.specs.Glyf.Written.{even_size, is_long, glyf_bytes, offset_bytes, loca_bytes}
@@ -124,3 +125,20 @@ length-loca false at (b ∷ bs) = omega (arith, length-append (offset_bytes fals
 -- loca has one entry more than there are outlines
 pub entry_count : (bs : List (List ℕ)) (t : Outlines) → AreWritten bs t → length t.loca ≡ entry_size t.long * (length bs + 1)
 entry_count bs t w = ap length w.loca_is ∙ length-loca (is_long bs) 0 bs ∙ ap (λ b. entry_size b * (length bs + 1)) (sym w.long_is)
+
+-- ---- a glyph that has an outline is one of those that loca counts
+
+within_entries : (long : Bool) (loca : List ℕ) (n g to : ℕ) → length loca ≡ entry_size long * (n + 1) → cond long (number loca (4 * (g + 1)) 4) (option_map (λ half. 2 * half) (number loca (2 * (g + 1)) 2)) ≡ Some to → g < n
+within_entries true loca n g to len h = omega (arith, len, number-fits loca (4 * (g + 1)) 4 to h)
+within_entries false loca n g to len h = by (number loca (2 * (g + 1)) 2) refl h
+  where
+    by : (o : Option ℕ) → number loca (2 * (g + 1)) 2 ≡ o → option_map (λ half. 2 * half) o ≡ Some to → g < n
+    by None r k = absurd cc
+    by (Some half) r k = omega (arith, len, number-fits loca (2 * (g + 1)) 2 half r)
+
+pub has_entry : (t : Outlines) (n g : ℕ) (bytes : List ℕ) → length t.loca ≡ entry_size t.long * (n + 1) → outline_in t g ≡ Some bytes → g < n
+unfolding outline_in
+has_entry t n g bytes len h =
+    let a = bind_some (offset t g) (λ from. option_and_then (λ to. between t.glyf from to) (offset t (g + 1))) bytes h in
+    let b = bind_some (offset t (g + 1)) (λ to. between t.glyf a.0 to) bytes a.2 in
+    within_entries t.long t.loca n g b.0 len b.1

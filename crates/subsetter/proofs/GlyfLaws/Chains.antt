@@ -1,5 +1,6 @@
 -- The components of a composite, read in full and written under new numbers.
 use Rattle.std.proofs.Common.{◌≡◌, ℕ, zero, suc, ◌+◌, ◌-◌, ◌<◌, ◌≤◌, Bool, true, false, cond, leb, List, [], ◌∷◌, ◌++◌, length, get_or, take, drop, Option, Some, None, Ok, Err, refl, sym, ap, ◌∙◌, append_assoc, arith}
+use Rattle.std.specs.Prelude.{map}
 use Rattle.std.specs.Option.{option_and_then, option_map, ok_or}
 use Rattle.std.specs.List.{flat_map}
 use Rattle.std.proofs.lemmas.Bool.{le-leb, lt-leb, leb-true, le-ltb, lt-ltb}
@@ -7,7 +8,8 @@ use Rattle.std.proofs.lemmas.List.{append-nil, length-drop, length-take}
 use Rattle.subsetter_base.specs.Bytes.{range, number}
 use Rattle.subsetter_base.specs.declared.error.Error.TheVariants.{MalformedFont}
 use Rattle.subsetter_base.proofs.Options.{bind_some}
-use Rattle.subsetter.specs.Glyf.Parts.{Component, Chain, Composite, Simple, rest_size, has_more, has_instructions, component_at, with_component, last_component, chain_at, composite_parts, outline_parts, spelled, parts_bytes}
+use Rattle.subsetter.specs.Glyf.Bare.{component_asked, tail_asked, parts_asked, bare_simple, simple_asked}
+use Rattle.subsetter.specs.Glyf.Parts.{Component, Chain, Parts, Composite, Simple, rest_size, has_more, has_instructions, component_at, with_component, last_component, chain_at, composite_parts, outline_parts, spelled, parts_bytes}
 use Rattle.subsetter.specs.Glyf.Closure.{first_byte_in}
 use Rattle.subsetter.specs.Glyf.Plain.{renumbered_component, renumbered_chain, renumbered, written_behind, rewritten_composite, rewritten}
 
@@ -80,104 +82,139 @@ chain_enough (suc n) (suc m) (x ∷ bytes) a b = by (λ l p q. chain_enough n m 
 abbrev pub with_front : List ℕ → Option (List ℕ) → Option (List ℕ)
 with_front front o = option_map (λ text. front ++ text) o
 
-abbrev pub chain_bytes : List ℕ → Chain → List ℕ
-chain_bytes order chain = flat_map spelled (renumbered_chain order chain).components ++ chain.tail
+-- a component as it is written
+abbrev pub written : Bool → List ℕ → Component → Component
+written hint order c = renumbered_component order (component_asked hint c)
+
+-- what is kept of the bytes behind the last component
+abbrev pub kept_after : Bool → Component → List ℕ → List ℕ
+kept_after hint c after = tail_asked hint (cond (has_instructions c.flags) after [])
+
+abbrev pub chain_bytes : Bool → List ℕ → Chain → List ℕ
+chain_bytes hint order chain = flat_map spelled (map (written hint order) chain.components) ++ tail_asked hint chain.tail
 
 -- what is written of the components at the front
-abbrev pub chain_text : List ℕ → List ℕ → Option (List ℕ)
-chain_text order bytes = option_map (chain_bytes order) (chain_at (length bytes) bytes)
+abbrev pub chain_text : Bool → List ℕ → List ℕ → Option (List ℕ)
+chain_text hint order bytes = option_map (chain_bytes hint order) (chain_at (length bytes) bytes)
 
-later_text : (order : List ℕ) (c : Component) (o : Option Chain) → option_map (chain_bytes order) (option_and_then (λ chain. Some (with_component c chain)) o) ≡ with_front (spelled (renumbered_component order c)) (option_map (chain_bytes order) o)
-later_text order c None = refl
-later_text order c (Some chain) = ap Some (append_assoc (spelled (renumbered_component order c)) (flat_map spelled (renumbered_chain order chain).components) chain.tail)
+later_text : (hint : Bool) (order : List ℕ) (c : Component) (o : Option Chain) → option_map (chain_bytes hint order) (option_and_then (λ chain. Some (with_component c chain)) o) ≡ with_front (spelled (written hint order c)) (option_map (chain_bytes hint order) o)
+later_text hint order c None = refl
+later_text hint order c (Some chain) = ap Some (append_assoc (spelled (written hint order c)) (flat_map spelled (map (written hint order) chain.components)) (tail_asked hint chain.tail))
 
-step_by : (order : List ℕ) (c : Component) (o : Option Chain) (after : List ℕ) (b : Bool) → option_map (chain_bytes order) (cond b (option_and_then (λ chain. Some (with_component c chain)) o) (Some (last_component c after)))
-    ≡ cond b (with_front (spelled (renumbered_component order c)) (option_map (chain_bytes order) o)) (Some (spelled (renumbered_component order c) ++ cond (has_instructions c.flags) after []))
-step_by order c o after true = later_text order c o
-step_by order c o after false = ap (λ (l : List ℕ). Some (l ++ cond (has_instructions c.flags) after [])) (append-nil (spelled (renumbered_component order c)))
+step_by : (hint : Bool) (order : List ℕ) (c : Component) (o : Option Chain) (after : List ℕ) (b : Bool) → option_map (chain_bytes hint order) (cond b (option_and_then (λ chain. Some (with_component c chain)) o) (Some (last_component c after)))
+    ≡ cond b (with_front (spelled (written hint order c)) (option_map (chain_bytes hint order) o)) (Some (spelled (written hint order c) ++ kept_after hint c after))
+step_by hint order c o after true = later_text hint order c o
+step_by hint order c o after false = ap (λ (l : List ℕ). Some (l ++ kept_after hint c after)) (append-nil (spelled (written hint order c)))
 
-pub text_step : (order bytes : List ℕ) (c : Component) → component_at bytes ≡ Some c → chain_text order bytes
-    ≡ cond (has_more c.flags) (with_front (spelled (renumbered_component order c)) (chain_text order (drop (4 + rest_size c.flags) bytes))) (Some (spelled (renumbered_component order c) ++ cond (has_instructions c.flags) (drop (4 + rest_size c.flags) bytes) []))
-text_step order [] c h = absurd (let k = is_component [] c h in omega (arith, k.within))
-text_step order (x ∷ bytes) c h =
+pub text_step : (hint : Bool) (order bytes : List ℕ) (c : Component) → component_at bytes ≡ Some c → chain_text hint order bytes
+    ≡ cond (has_more c.flags) (with_front (spelled (written hint order c)) (chain_text hint order (drop (4 + rest_size c.flags) bytes))) (Some (spelled (written hint order c) ++ kept_after hint c (drop (4 + rest_size c.flags) bytes)))
+text_step hint order [] c h = absurd (let k = is_component [] c h in omega (arith, k.within))
+text_step hint order (x ∷ bytes) c h =
     let after = drop (4 + rest_size c.flags) (x ∷ bytes) in
     let len : length after ≡ length (x ∷ bytes) - (4 + rest_size c.flags) = length-drop (4 + rest_size c.flags) (x ∷ bytes) in
     let same = chain_enough (length bytes) (length after) after (omega arith) (omega arith) in
-    ap (option_map (chain_bytes order)) (chain_more (length bytes) (x ∷ bytes) c h) ∙ step_by order c (chain_at (length bytes) after) after (has_more c.flags)
-    ∙ ap (λ (o : Option Chain). cond (has_more c.flags) (with_front (spelled (renumbered_component order c)) (option_map (chain_bytes order) o)) (Some (spelled (renumbered_component order c) ++ cond (has_instructions c.flags) after []))) same
+    ap (option_map (chain_bytes hint order)) (chain_more (length bytes) (x ∷ bytes) c h) ∙ step_by hint order c (chain_at (length bytes) after) after (has_more c.flags)
+    ∙ ap (λ (o : Option Chain). cond (has_more c.flags) (with_front (spelled (written hint order c)) (option_map (chain_bytes hint order) o)) (Some (spelled (written hint order c) ++ kept_after hint c after))) same
 
 regroup : (a b : List ℕ) (o : Option (List ℕ)) → with_front a (with_front b o) ≡ with_front (a ++ b) o
 regroup a b None = refl
 regroup a b (Some text) = ap Some (sym (append_assoc a b text))
 
-pub text_goes_on : (order w rest : List ℕ) (c : Component) (w1 after : List ℕ) (total : Option (List ℕ)) → component_at rest ≡ Some c → has_more c.flags ≡ true → w1 ≡ w ++ spelled (renumbered_component order c) → after ≡ drop (4 + rest_size c.flags) rest
-    → with_front w (chain_text order rest) ≡ total → with_front w1 (chain_text order after) ≡ total
-text_goes_on order w rest c w1 after total h more e1 e2 so_far =
-    let s = spelled (renumbered_component order c) in
+pub text_goes_on : (hint : Bool) (order w rest : List ℕ) (c : Component) (w1 after : List ℕ) (total : Option (List ℕ)) → component_at rest ≡ Some c → has_more c.flags ≡ true → w1 ≡ w ++ spelled (written hint order c) → after ≡ drop (4 + rest_size c.flags) rest
+    → with_front w (chain_text hint order rest) ≡ total → with_front w1 (chain_text hint order after) ≡ total
+text_goes_on hint order w rest c w1 after total h more e1 e2 so_far =
+    let s = spelled (written hint order c) in
     let all = drop (4 + rest_size c.flags) rest in
-    let now : chain_text order rest ≡ with_front s (chain_text order all) = text_step order rest c h ∙ ap (λ b. cond b (with_front s (chain_text order all)) (Some (s ++ cond (has_instructions c.flags) all []))) more in
-    ap (λ (l : List ℕ). with_front l (chain_text order after)) e1 ∙ ap (λ (l : List ℕ). with_front (w ++ s) (chain_text order l)) e2 ∙ sym (regroup w s (chain_text order all)) ∙ ap (with_front w) (sym now) ∙ so_far
+    let now : chain_text hint order rest ≡ with_front s (chain_text hint order all) = text_step hint order rest c h ∙ ap (λ b. cond b (with_front s (chain_text hint order all)) (Some (s ++ kept_after hint c all))) more in
+    ap (λ (l : List ℕ). with_front l (chain_text hint order after)) e1 ∙ ap (λ (l : List ℕ). with_front (w ++ s) (chain_text hint order l)) e2 ∙ sym (regroup w s (chain_text hint order all)) ∙ ap (with_front w) (sym now) ∙ so_far
 
-pub text_ends : (order w rest : List ℕ) (c : Component) (w1 w2 after : List ℕ) (total : Option (List ℕ)) → component_at rest ≡ Some c → has_more c.flags ≡ false → w1 ≡ w ++ spelled (renumbered_component order c) → after ≡ drop (4 + rest_size c.flags) rest
-    → w2 ≡ w1 ++ cond (has_instructions c.flags) after [] → with_front w (chain_text order rest) ≡ total → total ≡ Some w2
-text_ends order w rest c w1 w2 after total h last e1 e2 e3 so_far =
-    let s = spelled (renumbered_component order c) in
+pub text_ends : (hint : Bool) (order w rest : List ℕ) (c : Component) (w1 w2 after : List ℕ) (total : Option (List ℕ)) → component_at rest ≡ Some c → has_more c.flags ≡ false → w1 ≡ w ++ spelled (written hint order c) → after ≡ drop (4 + rest_size c.flags) rest
+    → w2 ≡ w1 ++ kept_after hint c after → with_front w (chain_text hint order rest) ≡ total → total ≡ Some w2
+text_ends hint order w rest c w1 w2 after total h last e1 e2 e3 so_far =
+    let s = spelled (written hint order c) in
     let all = drop (4 + rest_size c.flags) rest in
-    let tail = cond (has_instructions c.flags) all [] in
-    let now : chain_text order rest ≡ Some (s ++ tail) = text_step order rest c h ∙ ap (λ b. cond b (with_front s (chain_text order all)) (Some (s ++ tail))) last in
-    let whole : w2 ≡ w ++ (s ++ tail) = e3 ∙ ap (λ (l : List ℕ). l ++ cond (has_instructions c.flags) after []) e1 ∙ ap (λ (l : List ℕ). (w ++ s) ++ cond (has_instructions c.flags) l []) e2 ∙ append_assoc w s tail in
+    let tail = kept_after hint c all in
+    let now : chain_text hint order rest ≡ Some (s ++ tail) = text_step hint order rest c h ∙ ap (λ b. cond b (with_front s (chain_text hint order all)) (Some (s ++ tail))) last in
+    let whole : w2 ≡ w ++ (s ++ tail) = e3 ∙ ap (λ (l : List ℕ). l ++ kept_after hint c after) e1 ∙ ap (λ (l : List ℕ). (w ++ s) ++ kept_after hint c l) e2 ∙ append_assoc w s tail in
     sym so_far ∙ ap (with_front w) now ∙ ap Some (sym whole)
 
-pub text_fails : (order w rest : List ℕ) (total : Option (List ℕ)) → component_at rest ≡ None → with_front w (chain_text order rest) ≡ total → total ≡ None
-text_fails order w rest total h so_far = sym so_far ∙ ap (λ (o : Option Chain). with_front w (option_map (chain_bytes order) o)) (chain_none (length rest) rest h)
+pub text_fails : (hint : Bool) (order w rest : List ℕ) (total : Option (List ℕ)) → component_at rest ≡ None → with_front w (chain_text hint order rest) ≡ total → total ≡ None
+text_fails hint order w rest total h so_far = sym so_far ∙ ap (λ (o : Option Chain). with_front w (option_map (chain_bytes hint order) o)) (chain_none (length rest) rest h)
 
 -- ---- the whole composite
 
-composite_by : (order head : List ℕ) (o : Option Chain) → option_map (λ p. parts_bytes (renumbered order p)) (option_and_then (λ chain. Some (Composite head chain)) o) ≡ with_front head (option_map (chain_bytes order) o)
-composite_by order head None = refl
-composite_by order head (Some chain) = ap Some (append_assoc head (flat_map spelled (renumbered_chain order chain).components) chain.tail)
+-- new numbers, and flags
+two_maps : (order : List ℕ) (cs : List Component) → map (renumbered_component order) (map (component_asked false) cs) ≡ map (written false order) cs
+two_maps order [] = refl
+two_maps order (c ∷ cs) = ap (λ (l : List Component). written false order c ∷ l) (two_maps order cs)
 
-pub composite_short : (order bytes : List ℕ) → length bytes < 10 → rewritten_composite order bytes ≡ Err MalformedFont
-unfolding rewritten_composite
-composite_short order bytes lt =
-    ap (λ b. ok_or (option_map (λ p. parts_bytes (renumbered order p)) (option_and_then (λ head. option_and_then (λ chain. Some (Composite head chain)) (chain_at (length bytes) (drop 10 bytes))) (cond b (Some (take 10 (drop 0 bytes))) None))) MalformedFont) (lt-leb 10 (length bytes) lt)
+none_asked : (hint : Bool) → parts_asked hint None ≡ None
+none_asked true = refl
+none_asked false = refl
 
-pub composite_is : (order bytes : List ℕ) → 10 ≤ length bytes → rewritten_composite order bytes ≡ ok_or (with_front (take 10 bytes) (chain_text order (drop 10 bytes))) MalformedFont
+composite_by : (hint : Bool) (order head : List ℕ) (o : Option Chain) → option_map (λ p. parts_bytes (renumbered order p)) (parts_asked hint (option_and_then (λ chain. Some (Composite head chain)) o)) ≡ with_front head (option_map (chain_bytes hint order) o)
+composite_by true order head None = refl
+composite_by false order head None = refl
+composite_by true order head (Some chain) = ap Some (append_assoc head (flat_map spelled (renumbered_chain order chain).components) chain.tail)
+composite_by false order head (Some chain) =
+    ap Some (append_assoc head (flat_map spelled (map (renumbered_component order) (map (component_asked false) chain.components))) []) ∙ ap (λ (l : List Component). Some (head ++ (flat_map spelled l ++ []))) (two_maps order chain.components)
+
+pub composite_short : (hint : Bool) (order bytes : List ℕ) → length bytes < 10 → rewritten_composite hint order bytes ≡ Err MalformedFont
 unfolding rewritten_composite
-composite_is order bytes le =
+composite_short hint order bytes lt =
+    ap (λ b. ok_or (option_map (λ p. parts_bytes (renumbered order p)) (parts_asked hint (option_and_then (λ head. option_and_then (λ chain. Some (Composite head chain)) (chain_at (length bytes) (drop 10 bytes))) (cond b (Some (take 10 (drop 0 bytes))) None)))) MalformedFont) (lt-leb 10 (length bytes) lt)
+    ∙ ap (λ (o : Option Parts). ok_or (option_map (λ p. parts_bytes (renumbered order p)) o) MalformedFont) (none_asked hint)
+
+pub composite_is : (hint : Bool) (order bytes : List ℕ) → 10 ≤ length bytes → rewritten_composite hint order bytes ≡ ok_or (with_front (take 10 bytes) (chain_text hint order (drop 10 bytes))) MalformedFont
+unfolding rewritten_composite
+composite_is hint order bytes le =
     let rest = drop 10 bytes in
     let len : length rest ≡ length bytes - 10 = length-drop 10 bytes in
     let same = chain_enough (length bytes) (length rest) rest (omega arith) (omega arith) in
-    ap (λ b. ok_or (option_map (λ p. parts_bytes (renumbered order p)) (option_and_then (λ head. option_and_then (λ chain. Some (Composite head chain)) (chain_at (length bytes) rest)) (cond b (Some (take 10 (drop 0 bytes))) None))) MalformedFont) (le-leb 10 (length bytes) le)
-    ∙ ap (λ (o : Option (List ℕ)). ok_or o MalformedFont) (composite_by order (take 10 bytes) (chain_at (length bytes) rest) ∙ ap (λ (o : Option Chain). with_front (take 10 bytes) (option_map (chain_bytes order) o)) same)
+    ap (λ b. ok_or (option_map (λ p. parts_bytes (renumbered order p)) (parts_asked hint (option_and_then (λ head. option_and_then (λ chain. Some (Composite head chain)) (chain_at (length bytes) rest)) (cond b (Some (take 10 (drop 0 bytes))) None)))) MalformedFont) (le-leb 10 (length bytes) le)
+    ∙ ap (λ (o : Option (List ℕ)). ok_or o MalformedFont) (composite_by hint order (take 10 bytes) (chain_at (length bytes) rest) ∙ ap (λ (o : Option Chain). with_front (take 10 bytes) (option_map (chain_bytes hint order) o)) same)
 
 -- the same behind other bytes
-pub composite_behind : (before order bytes : List ℕ) → 10 ≤ length bytes → written_behind before (rewritten_composite order bytes) ≡ ok_or (with_front (before ++ take 10 bytes) (chain_text order (drop 10 bytes))) MalformedFont
-composite_behind before order bytes le = ap (written_behind before) (composite_is order bytes le) ∙ by (chain_text order (drop 10 bytes))
+pub composite_behind : (hint : Bool) (before order bytes : List ℕ) → 10 ≤ length bytes → written_behind before (rewritten_composite hint order bytes) ≡ ok_or (with_front (before ++ take 10 bytes) (chain_text hint order (drop 10 bytes))) MalformedFont
+composite_behind hint before order bytes le = ap (written_behind before) (composite_is hint order bytes le) ∙ by (chain_text hint order (drop 10 bytes))
   where
     by : (o : Option (List ℕ)) → written_behind before (ok_or (with_front (take 10 bytes) o) MalformedFont) ≡ ok_or (with_front (before ++ take 10 bytes) o) MalformedFont
     by None = refl
     by (Some text) = ap Ok (sym (append_assoc before (take 10 bytes) text))
 
 -- an outline that is a composite
-pub rewritten_high : (order bytes : List ℕ) → 2 ≤ length bytes → 128 ≤ get_or bytes 0 0 → rewritten order bytes ≡ rewritten_composite order bytes
+pub rewritten_high : (hint : Bool) (order bytes : List ℕ) → 2 ≤ length bytes → 128 ≤ get_or bytes 0 0 → rewritten hint order bytes ≡ rewritten_composite hint order bytes
 unfolding rewritten rewritten_composite outline_parts
-rewritten_high order [] le high = absurd (omega arith)
-rewritten_high order (a ∷ []) le high = absurd (omega arith)
-rewritten_high order (a ∷ b ∷ bytes) le high = ap (λ q. ok_or (option_map (λ p. parts_bytes (renumbered order p)) (cond q (Some (Simple (a ∷ b ∷ bytes))) (composite_parts (a ∷ b ∷ bytes)))) MalformedFont) (le-ltb a 128 high)
+rewritten_high hint order [] le high = absurd (omega arith)
+rewritten_high hint order (a ∷ []) le high = absurd (omega arith)
+rewritten_high hint order (a ∷ b ∷ bytes) le high = ap (λ q. ok_or (option_map (λ p. parts_bytes (renumbered order p)) (parts_asked hint (cond q (Some (Simple (a ∷ b ∷ bytes))) (composite_parts (a ∷ b ∷ bytes))))) MalformedFont) (le-ltb a 128 high)
 
 -- an outline that begins as a composite does, or has one byte
-pub rewritten_begun : (order bytes : List ℕ) (first : ℕ) → first ≡ first_byte_in (Some bytes) → 128 ≤ first → rewritten order bytes ≡ rewritten_composite order bytes
+pub rewritten_begun : (hint : Bool) (order bytes : List ℕ) (first : ℕ) → first ≡ first_byte_in (Some bytes) → 128 ≤ first → rewritten hint order bytes ≡ rewritten_composite hint order bytes
 unfolding rewritten outline_parts
-rewritten_begun order [] first is high = absurd (omega arith)
-rewritten_begun order (a ∷ []) first is high = sym (composite_short order (a ∷ []) (omega arith))
-rewritten_begun order (a ∷ b ∷ bytes) first is high = rewritten_high order (a ∷ b ∷ bytes) (omega arith) (omega arith)
+rewritten_begun hint order [] first is high = absurd (omega arith)
+rewritten_begun hint order (a ∷ []) first is high = ap (λ (o : Option Parts). ok_or (option_map (λ p. parts_bytes (renumbered order p)) o) MalformedFont) (none_asked hint) ∙ sym (composite_short hint order (a ∷ []) (omega arith))
+rewritten_begun hint order (a ∷ b ∷ bytes) first is high = rewritten_high hint order (a ∷ b ∷ bytes) (omega arith) (omega arith)
 
--- another
-pub rewritten_simple : (order bytes : List ℕ) (first : ℕ) → first ≡ first_byte_in (Some bytes) → first < 128 → rewritten order bytes ≡ Ok bytes
+-- another, with its instructions
+simple_kept : (order bytes : List ℕ) (first : ℕ) → first ≡ first_byte_in (Some bytes) → first < 128 → rewritten true order bytes ≡ Ok bytes
 unfolding rewritten outline_parts
-rewritten_simple order [] first is low = refl
-rewritten_simple order (a ∷ []) first is low = absurd (omega arith)
-rewritten_simple order (a ∷ b ∷ bytes) first is low =
+simple_kept order [] first is low = refl
+simple_kept order (a ∷ []) first is low = absurd (omega arith)
+simple_kept order (a ∷ b ∷ bytes) first is low =
     let lt : a < 128 = omega arith in
     ap (λ q. ok_or (option_map (λ p. parts_bytes (renumbered order p)) (cond q (Some (Simple (a ∷ b ∷ bytes))) (composite_parts (a ∷ b ∷ bytes)))) MalformedFont) (lt-ltb a 128 lt)
+
+-- and without instructions
+simple_bare : (order bytes : List ℕ) (first : ℕ) → first ≡ first_byte_in (Some bytes) → first < 128 → rewritten false order bytes ≡ Ok (bare_simple bytes)
+unfolding rewritten outline_parts bare_simple
+simple_bare order [] first is low = refl
+simple_bare order (a ∷ []) first is low = absurd (omega arith)
+simple_bare order (a ∷ b ∷ bytes) first is low =
+    let lt : a < 128 = omega arith in
+    ap (λ q. ok_or (option_map (λ p. parts_bytes (renumbered order p)) (parts_asked false (cond q (Some (Simple (a ∷ b ∷ bytes))) (composite_parts (a ∷ b ∷ bytes))))) MalformedFont) (lt-ltb a 128 lt)
+
+-- as far as they are asked for
+pub rewritten_simple : (hint : Bool) (order bytes : List ℕ) (first : ℕ) → first ≡ first_byte_in (Some bytes) → first < 128 → rewritten hint order bytes ≡ Ok (simple_asked hint bytes)
+rewritten_simple true order bytes first is low = simple_kept order bytes first is low
+rewritten_simple false order bytes first is low = simple_bare order bytes first is low

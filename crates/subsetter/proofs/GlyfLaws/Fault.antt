@@ -12,7 +12,7 @@ use Rattle.subsetter_base.specs.declared.error.Error.TheVariants.{MalformedFont,
 use Rattle.subsetter_base.proofs.ByteLemmas.{range-fits}
 use Rattle.subsetter_base.proofs.Results.{named_err}
 use Rattle.subsetter_base.proofs.Options.{some_not_none, just_is, bind_some}
-use Rattle.subsetter.specs.Sfnt.Read.{Font, table}
+use Rattle.subsetter_sfnt.specs.Read.{Font, table}
 use Rattle.subsetter.specs.Glyf.Read.{Outlines, outlines_in, outlines, outline_in, outline}
 use Rattle.subsetter.specs.Glyf.Parts.{Parts, outline_parts}
 use Rattle.subsetter.specs.Glyf.Reach.{IsReachableBy, IsReachable, IsGlyphOrderBy, IsGlyphOrder}
@@ -20,17 +20,18 @@ use Rattle.subsetter.specs.Glyf.Closure.{StopsClosure, no_memory, faulty_glyph, 
 use Rattle.subsetter.specs.Glyf.Plain.{outlines_read, kept_all}
 use Rattle.subsetter.specs.Glyf.Fault as faults
 use Rattle.subsetter.specs.Glyf.Fault.{HasOutlineFault}
-use Rattle.subsetter.proofs.GlyfLaws.Kept.{not_kept, first_not_kept, kept_at}
+use Rattle.subsetter.proofs.GlyfLaws.Kept.{some_before, not_kept, first_not_kept, kept_at}
 use Rattle.subsetter.proofs.GlyfLaws.Unfold.{outline_is}
 
 -- ---- the tables
 
 -- what stands where the tables of the outlines can be read
-pub record HasTables (find : List ℕ → Option (List ℕ)) (t : Outlines) : Type 0 where
+pub record HasTables (hinting : Bool) (find : List ℕ → Option (List ℕ)) (t : Outlines) : Type 0 where
   pub loca_is : find (codes "loca") ≡ Some t.loca
   pub glyf_is : find (codes "glyf") ≡ Some t.glyf
   pub head_is : find (codes "head") ≡ Some t.head
   pub head_len : 52 ≤ length t.head
+  pub asks : t.hinting ≡ hinting
 
 format_there : (head : List ℕ) (n : ℕ) → number head 50 2 ≡ Some n → 52 ≤ length head
 format_there head n h = by (range head 50 2) refl h
@@ -39,22 +40,23 @@ format_there head n h = by (range head 50 2) refl h
     by None r e = absurd cc
     by (Some part) r e = range-fits head part 50 2 r
 
-abbrev tables_of : List ℕ → List ℕ → List ℕ → ℕ → Option Outlines
-tables_of loca glyf head format = Some (record { loca = loca; glyf = glyf; head = head; long = not (eqb format 0) })
+abbrev tables_of : Bool → List ℕ → List ℕ → List ℕ → ℕ → Option Outlines
+tables_of hinting loca glyf head format = Some (record { loca = loca; glyf = glyf; head = head; long = not (eqb format 0); hinting = hinting })
 
-pub has_tables : (find : List ℕ → Option (List ℕ)) (t : Outlines) → outlines_in find ≡ Some t → HasTables find t
+pub has_tables : (hinting : Bool) (find : List ℕ → Option (List ℕ)) (t : Outlines) → outlines_in hinting find ≡ Some t → HasTables hinting find t
 unfolding outlines_in
-has_tables find t h =
-    let a = bind_some (find (codes "loca")) (λ loca. option_and_then (λ glyf. option_and_then (λ head. option_and_then (λ format. tables_of loca glyf head format) (number head 50 2)) (find (codes "head"))) (find (codes "glyf"))) t h in
-    let b = bind_some (find (codes "glyf")) (λ glyf. option_and_then (λ head. option_and_then (λ format. tables_of a.0 glyf head format) (number head 50 2)) (find (codes "head"))) t a.2 in
-    let c = bind_some (find (codes "head")) (λ head. option_and_then (λ format. tables_of a.0 b.0 head format) (number head 50 2)) t b.2 in
-    let d = bind_some (number c.0 50 2) (λ format. tables_of a.0 b.0 c.0 format) t c.2 in
-    let same : record { loca = a.0; glyf = b.0; head = c.0; long = not (eqb d.0 0) } ≡ t = just_is (record { loca = a.0; glyf = b.0; head = c.0; long = not (eqb d.0 0) }) t d.2 in
+has_tables hinting find t h =
+    let a = bind_some (find (codes "loca")) (λ loca. option_and_then (λ glyf. option_and_then (λ head. option_and_then (λ format. tables_of hinting loca glyf head format) (number head 50 2)) (find (codes "head"))) (find (codes "glyf"))) t h in
+    let b = bind_some (find (codes "glyf")) (λ glyf. option_and_then (λ head. option_and_then (λ format. tables_of hinting a.0 glyf head format) (number head 50 2)) (find (codes "head"))) t a.2 in
+    let c = bind_some (find (codes "head")) (λ head. option_and_then (λ format. tables_of hinting a.0 b.0 head format) (number head 50 2)) t b.2 in
+    let d = bind_some (number c.0 50 2) (λ format. tables_of hinting a.0 b.0 c.0 format) t c.2 in
+    let same : record { loca = a.0; glyf = b.0; head = c.0; long = not (eqb d.0 0); hinting = hinting } ≡ t = just_is (record { loca = a.0; glyf = b.0; head = c.0; long = not (eqb d.0 0); hinting = hinting }) t d.2 in
     record {
       loca_is = a.1 ∙ ap (λ (o : Outlines). Some o.loca) same;
       glyf_is = b.1 ∙ ap (λ (o : Outlines). Some o.glyf) same;
       head_is = c.1 ∙ ap (λ (o : Outlines). Some o.head) same;
       head_len = subst (λ (o : Outlines). 52 ≤ length o.head) same (format_there c.0 d.0 d.1);
+      asks = sym (ap (λ (o : Outlines). o.hinting) same);
     }
 
 -- ---- what is refused has a fault
@@ -67,13 +69,13 @@ no_format head h = by (leb 52 (length head)) refl h
     by false t e = leb-false 52 (length head) t
 
 missing : (font : Font) (glyphs : List ℕ) (o1 o2 o3 : Option (List ℕ)) → table font (codes "loca") ≡ o1 → table font (codes "glyf") ≡ o2 → table font (codes "head") ≡ o3 → IsSome (table font (codes "glyf"))
-    → option_and_then (λ loca. option_and_then (λ glyf. option_and_then (λ head. option_and_then (λ format. tables_of loca glyf head format) (number head 50 2)) o3) o2) o1 ≡ None → HasOutlineFault font glyphs MalformedFont
+    → option_and_then (λ loca. option_and_then (λ glyf. option_and_then (λ head. option_and_then (λ format. tables_of font.extras.hinting loca glyf head format) (number head 50 2)) o3) o2) o1 ≡ None → HasOutlineFault font glyphs MalformedFont
 missing font glyphs None o2 o3 a b c there h = faults.no_loca there a
 missing font glyphs (Some l) None o3 a b c there h = absurd (false≢true (ap (λ (o : Option (List ℕ)). is_some o) (sym b) ∙ there))
 missing font glyphs (Some l) (Some g) None a b c there h = faults.no_head there c
 missing font glyphs (Some l) (Some g) (Some head) a b c there h = by (number head 50 2) refl h
   where
-    by : (o : Option ℕ) → number head 50 2 ≡ o → option_and_then (λ format. tables_of l g head format) o ≡ None → HasOutlineFault font glyphs MalformedFont
+    by : (o : Option ℕ) → number head 50 2 ≡ o → option_and_then (λ format. tables_of font.extras.hinting l g head format) o ≡ None → HasOutlineFault font glyphs MalformedFont
     by None e k = faults.short_head head c (no_format head e)
     by (Some n) e k = absurd cc
 
@@ -82,7 +84,7 @@ unfolding outlines_in
 no_outlines font glyphs there h = missing font glyphs (table font (codes "loca")) (table font (codes "glyf")) (table font (codes "head")) refl refl refl there h
 
 -- the tables were refused
-pub tables_refused : (font : Font) (glyphs : List ℕ) (e : Error) → IsSome (table font (codes "glyf")) → outlines_read (table font) ≡ Err e → HasOutlineFault font glyphs e
+pub tables_refused : (font : Font) (glyphs : List ℕ) (e : Error) → IsSome (table font (codes "glyf")) → outlines_read font.extras.hinting (table font) ≡ Err e → HasOutlineFault font glyphs e
 tables_refused font glyphs e there h =
     let u = named_err (outlines font) MalformedFont e h in
     subst (HasOutlineFault font glyphs) u.1 (no_outlines font glyphs there u.0)
@@ -95,7 +97,7 @@ no_parts font glyphs g (b ∷ []) r there h = faults.one_byte g b r there
 no_parts font glyphs g (a ∷ b ∷ bytes) r there h = faults.cut_composite g (a ∷ b ∷ bytes) r there (omega arith) h
 
 glyf_there : (font : Font) (t : Outlines) → outlines font ≡ Some t → IsSome (table font (codes "glyf"))
-glyf_there font t read = ap (λ (o : Option (List ℕ)). is_some o) (has_tables (table font) t read).glyf_is
+glyf_there font t read = ap (λ (o : Option (List ℕ)). is_some o) (has_tables font.extras.hinting (table font) t read).glyf_is
 
 -- reached by the outlines of the tables, reached in the font
 pub reached_in : (font : Font) (glyphs : List ℕ) (t : Outlines) (g : ℕ) → outlines font ≡ Some t → IsReachableBy (outline_in t) glyphs g → IsReachable font glyphs g
@@ -144,7 +146,7 @@ module _ (font : Font) (glyphs order : List ℕ) (t : Outlines) (bs : List (List
       let at = (closed.members g).1 r in
       let k = kept_at t order order bs at.0 keeps at.1 in
       let is_g : get_or order at.0 0 ≡ g = get_or_default order at.0 0 g at.1 ∙ at.2 in
-      (k.bytes, outline_is font t g read ∙ ap (outline_in t) (sym is_g) ∙ k.there, (k.parts, k.parts_are))
+      (k.bytes, outline_is font t g read ∙ ap (outline_in t) (sym is_g) ∙ k.there, some_before t.hinting (outline_parts k.bytes) k.parts k.parts_are)
 
   without_parts : (g : ℕ) (bytes : List ℕ) → IsReachable font glyphs g → outline font g ≡ Some bytes → outline_parts bytes ≡ None → ⊥
   without_parts g bytes r there none =
@@ -153,10 +155,10 @@ module _ (font : Font) (glyphs order : List ℕ) (t : Outlines) (bs : List (List
       some_not_none (outline_parts k.0) k.2.0 k.2.1 (ap outline_parts same ∙ none)
 
   pub no_outline_fault : (e : Error) → HasOutlineFault font glyphs e → ⊥
-  no_outline_fault e (faults.no_loca a b) = let h = has_tables (table font) t read in some_not_none (table font (codes "loca")) t.loca h.loca_is b
-  no_outline_fault e (faults.no_head a b) = let h = has_tables (table font) t read in some_not_none (table font (codes "head")) t.head h.head_is b
+  no_outline_fault e (faults.no_loca a b) = let h = has_tables font.extras.hinting (table font) t read in some_not_none (table font (codes "loca")) t.loca h.loca_is b
+  no_outline_fault e (faults.no_head a b) = let h = has_tables font.extras.hinting (table font) t read in some_not_none (table font (codes "head")) t.head h.head_is b
   no_outline_fault e (faults.short_head head a b) =
-      let h = has_tables (table font) t read in
+      let h = has_tables font.extras.hinting (table font) t read in
       let same : t.head ≡ head = just_is t.head head (sym h.head_is ∙ a) in
       omega (arith, ap length same, h.head_len, b)
   no_outline_fault e (faults.no_outline g a r none) = let k = has_parts g r in some_not_none (outline font g) k.0 k.1 none

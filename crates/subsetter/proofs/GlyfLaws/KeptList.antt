@@ -1,5 +1,5 @@
 -- Outlines of a list of glyphs, read in turn.
-use Rattle.std.proofs.Common.{◌≡◌, ℕ, ◌+◌, ◌-◌, ◌<◌, ◌≤◌, List, [], ◌∷◌, ◌++◌, length, get_or, take, drop, Option, Some, None, Result, Ok, Err, refl, sym, ap, subst, ◌∙◌, append_assoc}
+use Rattle.std.proofs.Common.{◌≡◌, ℕ, ◌+◌, ◌-◌, ◌<◌, ◌≤◌, Bool, List, [], ◌∷◌, ◌++◌, length, get_or, take, drop, Option, Some, None, Result, Ok, Err, refl, sym, ap, subst, ◌∙◌, append_assoc}
 use Rattle.std.specs.Prelude.{map}
 use Rattle.std.specs.Borrow.{Bor}
 use Rattle.std.specs.Option.{option_copied, ok_or}
@@ -11,6 +11,7 @@ use Rattle.subsetter_base.specs.declared.error.Error.TheVariants as errors
 use Rattle.subsetter_base.proofs.Lists.{rest_of}
 use Rattle.subsetter_base.proofs.Results.{with_front, bind_ok, done_is, named_err}
 use Rattle.subsetter.specs.Glyf.Read.{Outlines, outline_in}
+use Rattle.subsetter.specs.Glyf.Bare.{simple_asked}
 use Rattle.subsetter.specs.Glyf.Plain.{kept, kept_outline, kept_outlines, kept_all, with_last, with_outlines, written_behind, rewritten_composite}
 use Rattle.subsetter.specs.Glyf.Closure.{first_byte_in}
 use Rattle.subsetter.proofs.GlyfLaws.Chains.{rewritten_begun, rewritten_simple}
@@ -32,22 +33,22 @@ ends errors.OverflowError t order front g gs total h so_far = sym so_far ∙ rw 
 ends errors.CFFError t order front g gs total h so_far = sym so_far ∙ rw h refl
 
 -- the same of outlines that were looked up
-outlines_on : (order : List ℕ) (front : List (List ℕ)) (o : Option (List ℕ)) (os : List (Option (List ℕ))) (b : List ℕ) (total : Result (List (List ℕ)) Error) → kept_outline order o ≡ Ok b → with_outlines front (kept_outlines order (o ∷ os)) ≡ total → with_outlines (front ++ b ∷ []) (kept_outlines order os) ≡ total
-outlines_on order front o os b total h so_far = sym (regroup front b (kept_outlines order os)) ∙ rw h at so_far
+outlines_on : (hint : Bool) (order : List ℕ) (front : List (List ℕ)) (o : Option (List ℕ)) (os : List (Option (List ℕ))) (b : List ℕ) (total : Result (List (List ℕ)) Error) → kept_outline hint order o ≡ Ok b → with_outlines front (kept_outlines hint order (o ∷ os)) ≡ total → with_outlines (front ++ b ∷ []) (kept_outlines hint order os) ≡ total
+outlines_on hint order front o os b total h so_far = sym (regroup front b (kept_outlines hint order os)) ∙ rw h at so_far
 
-pub outlines_next : (order : List ℕ) (front after : List (List ℕ)) (o : Option (List ℕ)) (os : List (Option (List ℕ))) (total : Result (List (List ℕ)) Error) → with_last front (kept_outline order o) ≡ Ok after → with_outlines front (kept_outlines order (o ∷ os)) ≡ total → with_outlines after (kept_outlines order os) ≡ total
-outlines_next order front after o os total h so_far =
-    let k = bind_ok (kept_outline order o) (λ b. Ok (front ++ b ∷ [])) after h in
+pub outlines_next : (hint : Bool) (order : List ℕ) (front after : List (List ℕ)) (o : Option (List ℕ)) (os : List (Option (List ℕ))) (total : Result (List (List ℕ)) Error) → with_last front (kept_outline hint order o) ≡ Ok after → with_outlines front (kept_outlines hint order (o ∷ os)) ≡ total → with_outlines after (kept_outlines hint order os) ≡ total
+outlines_next hint order front after o os total h so_far =
+    let k = bind_ok (kept_outline hint order o) (λ b. Ok (front ++ b ∷ [])) after h in
     let same : front ++ k.0 ∷ [] ≡ after = done_is (front ++ k.0 ∷ []) after k.2 in
-    ap (λ (l : List (List ℕ)). with_outlines l (kept_outlines order os)) (sym same) ∙ outlines_on order front o os k.0 total k.1 so_far
+    ap (λ (l : List (List ℕ)). with_outlines l (kept_outlines hint order os)) (sym same) ∙ outlines_on hint order front o os k.0 total k.1 so_far
 
 -- some outlines and then others
-pub outlines_apart : (order : List ℕ) (front : List (List ℕ)) (os rest : List (Option (List ℕ))) → with_outlines front (kept_outlines order (os ++ rest)) ≡ (with_outlines front (kept_outlines order os) >>= λ more. with_outlines more (kept_outlines order rest))
-outlines_apart order front [] rest = ap (λ (l : List (List ℕ)). with_outlines l (kept_outlines order rest)) (sym (append-nil front))
-outlines_apart order front (o ∷ os) rest = by (λ b. outlines_apart order (front ++ b ∷ []) os rest) (kept_outline order o) refl
+pub outlines_apart : (hint : Bool) (order : List ℕ) (front : List (List ℕ)) (os rest : List (Option (List ℕ))) → with_outlines front (kept_outlines hint order (os ++ rest)) ≡ (with_outlines front (kept_outlines hint order os) >>= λ more. with_outlines more (kept_outlines hint order rest))
+outlines_apart hint order front [] rest = ap (λ (l : List (List ℕ)). with_outlines l (kept_outlines hint order rest)) (sym (append-nil front))
+outlines_apart hint order front (o ∷ os) rest = by (λ b. outlines_apart hint order (front ++ b ∷ []) os rest) (kept_outline hint order o) refl
   where
-    by : ((b : List ℕ) → with_outlines (front ++ b ∷ []) (kept_outlines order (os ++ rest)) ≡ (with_outlines (front ++ b ∷ []) (kept_outlines order os) >>= λ more. with_outlines more (kept_outlines order rest))) → (r : Result (List ℕ) Error) → kept_outline order o ≡ r → with_outlines front (kept_outlines order (o ∷ os ++ rest)) ≡ (with_outlines front (kept_outlines order (o ∷ os)) >>= λ more. with_outlines more (kept_outlines order rest))
-    by again (Ok b) h = sym (outlines_on order front o (os ++ rest) b _ h refl) ∙ again b ∙ ap (λ (r : Result (List (List ℕ)) Error). r >>= λ more. with_outlines more (kept_outlines order rest)) (outlines_on order front o os b _ h refl)
+    by : ((b : List ℕ) → with_outlines (front ++ b ∷ []) (kept_outlines hint order (os ++ rest)) ≡ (with_outlines (front ++ b ∷ []) (kept_outlines hint order os) >>= λ more. with_outlines more (kept_outlines hint order rest))) → (r : Result (List ℕ) Error) → kept_outline hint order o ≡ r → with_outlines front (kept_outlines hint order (o ∷ os ++ rest)) ≡ (with_outlines front (kept_outlines hint order (o ∷ os)) >>= λ more. with_outlines more (kept_outlines hint order rest))
+    by again (Ok b) h = sym (outlines_on hint order front o (os ++ rest) b _ h refl) ∙ again b ∙ ap (λ (r : Result (List (List ℕ)) Error). r >>= λ more. with_outlines more (kept_outlines hint order rest)) (outlines_on hint order front o os b _ h refl)
     by again (Err e) h = rw h refl
 
 last_failed : (e : Error) (front : List (List ℕ)) (r : Result (List ℕ) Error) → with_last front r ≡ Err e → r ≡ Err e
@@ -55,33 +56,33 @@ last_failed e front (Ok b) h = absurd cc
 last_failed e front (Err d) h = cc
 
 -- where one fails, all do
-pub outlines_ends : (e : Error) (order : List ℕ) (front : List (List ℕ)) (o : Option (List ℕ)) (os : List (Option (List ℕ))) (total : Result (List (List ℕ)) Error) → Fails e (with_last front (kept_outline order o)) → with_outlines front (kept_outlines order (o ∷ os)) ≡ total → Fails e total
-outlines_ends errors.OutOfMemory order front o os total h so_far = tt
-outlines_ends errors.UnknownKind order front o os total h so_far = sym so_far ∙ rw (last_failed errors.UnknownKind front (kept_outline order o) h) refl
-outlines_ends errors.MalformedFont order front o os total h so_far = sym so_far ∙ rw (last_failed errors.MalformedFont front (kept_outline order o) h) refl
-outlines_ends errors.Unimplemented order front o os total h so_far = sym so_far ∙ rw (last_failed errors.Unimplemented front (kept_outline order o) h) refl
-outlines_ends errors.SubsetError order front o os total h so_far = sym so_far ∙ rw (last_failed errors.SubsetError front (kept_outline order o) h) refl
-outlines_ends errors.OverflowError order front o os total h so_far = sym so_far ∙ rw (last_failed errors.OverflowError front (kept_outline order o) h) refl
-outlines_ends errors.CFFError order front o os total h so_far = sym so_far ∙ rw (last_failed errors.CFFError front (kept_outline order o) h) refl
+pub outlines_ends : (e : Error) (hint : Bool) (order : List ℕ) (front : List (List ℕ)) (o : Option (List ℕ)) (os : List (Option (List ℕ))) (total : Result (List (List ℕ)) Error) → Fails e (with_last front (kept_outline hint order o)) → with_outlines front (kept_outlines hint order (o ∷ os)) ≡ total → Fails e total
+outlines_ends errors.OutOfMemory hint order front o os total h so_far = tt
+outlines_ends errors.UnknownKind hint order front o os total h so_far = sym so_far ∙ rw (last_failed errors.UnknownKind front (kept_outline hint order o) h) refl
+outlines_ends errors.MalformedFont hint order front o os total h so_far = sym so_far ∙ rw (last_failed errors.MalformedFont front (kept_outline hint order o) h) refl
+outlines_ends errors.Unimplemented hint order front o os total h so_far = sym so_far ∙ rw (last_failed errors.Unimplemented front (kept_outline hint order o) h) refl
+outlines_ends errors.SubsetError hint order front o os total h so_far = sym so_far ∙ rw (last_failed errors.SubsetError front (kept_outline hint order o) h) refl
+outlines_ends errors.OverflowError hint order front o os total h so_far = sym so_far ∙ rw (last_failed errors.OverflowError front (kept_outline hint order o) h) refl
+outlines_ends errors.CFFError hint order front o os total h so_far = sym so_far ∙ rw (last_failed errors.CFFError front (kept_outline hint order o) h) refl
 
 -- where a block is put last, the others follow
-pub outlines_block : (order : List ℕ) (front after : List (List ℕ)) (os rest : List (Option (List ℕ))) (total : Result (List (List ℕ)) Error) → with_outlines front (kept_outlines order os) ≡ Ok after → with_outlines front (kept_outlines order (os ++ rest)) ≡ total → with_outlines after (kept_outlines order rest) ≡ total
-outlines_block order front after os rest total h so_far = sym (ap (λ (r : Result (List (List ℕ)) Error). r >>= λ more. with_outlines more (kept_outlines order rest)) h) ∙ sym (outlines_apart order front os rest) ∙ so_far
+pub outlines_block : (hint : Bool) (order : List ℕ) (front after : List (List ℕ)) (os rest : List (Option (List ℕ))) (total : Result (List (List ℕ)) Error) → with_outlines front (kept_outlines hint order os) ≡ Ok after → with_outlines front (kept_outlines hint order (os ++ rest)) ≡ total → with_outlines after (kept_outlines hint order rest) ≡ total
+outlines_block hint order front after os rest total h so_far = sym (ap (λ (r : Result (List (List ℕ)) Error). r >>= λ more. with_outlines more (kept_outlines hint order rest)) h) ∙ sym (outlines_apart hint order front os rest) ∙ so_far
 
 -- or it fails, and so do all
-pub outlines_fail : (e : Error) (order : List ℕ) (front : List (List ℕ)) (os rest : List (Option (List ℕ))) (total : Result (List (List ℕ)) Error) → Fails e (with_outlines front (kept_outlines order os)) → with_outlines front (kept_outlines order (os ++ rest)) ≡ total → Fails e total
-outlines_fail errors.OutOfMemory order front os rest total h so_far = tt
-outlines_fail errors.UnknownKind order front os rest total h so_far = sym so_far ∙ outlines_apart order front os rest ∙ rw h refl
-outlines_fail errors.MalformedFont order front os rest total h so_far = sym so_far ∙ outlines_apart order front os rest ∙ rw h refl
-outlines_fail errors.Unimplemented order front os rest total h so_far = sym so_far ∙ outlines_apart order front os rest ∙ rw h refl
-outlines_fail errors.SubsetError order front os rest total h so_far = sym so_far ∙ outlines_apart order front os rest ∙ rw h refl
-outlines_fail errors.OverflowError order front os rest total h so_far = sym so_far ∙ outlines_apart order front os rest ∙ rw h refl
-outlines_fail errors.CFFError order front os rest total h so_far = sym so_far ∙ outlines_apart order front os rest ∙ rw h refl
+pub outlines_fail : (e : Error) (hint : Bool) (order : List ℕ) (front : List (List ℕ)) (os rest : List (Option (List ℕ))) (total : Result (List (List ℕ)) Error) → Fails e (with_outlines front (kept_outlines hint order os)) → with_outlines front (kept_outlines hint order (os ++ rest)) ≡ total → Fails e total
+outlines_fail errors.OutOfMemory hint order front os rest total h so_far = tt
+outlines_fail errors.UnknownKind hint order front os rest total h so_far = sym so_far ∙ outlines_apart hint order front os rest ∙ rw h refl
+outlines_fail errors.MalformedFont hint order front os rest total h so_far = sym so_far ∙ outlines_apart hint order front os rest ∙ rw h refl
+outlines_fail errors.Unimplemented hint order front os rest total h so_far = sym so_far ∙ outlines_apart hint order front os rest ∙ rw h refl
+outlines_fail errors.SubsetError hint order front os rest total h so_far = sym so_far ∙ outlines_apart hint order front os rest ∙ rw h refl
+outlines_fail errors.OverflowError hint order front os rest total h so_far = sym so_far ∙ outlines_apart hint order front os rest ∙ rw h refl
+outlines_fail errors.CFFError hint order front os rest total h so_far = sym so_far ∙ outlines_apart hint order front os rest ∙ rw h refl
 
 -- the outline at an index, and those behind it
-pub outline_at : (order : List ℕ) (front : List (List ℕ)) (block : List (Option (Bor (List ℕ)))) (i : ℕ) (d : Option (Bor (List ℕ))) (total : Result (List (List ℕ)) Error) → i < length block → with_outlines front (kept_outlines order (map option_copied (drop i block))) ≡ total
-    → with_outlines front (kept_outlines order (option_copied (get_or block i d) ∷ map option_copied (drop (i + 1) block))) ≡ total
-outline_at order front block i d total lt so_far = ap (λ (l : List (Option (Bor (List ℕ)))). with_outlines front (kept_outlines order (map option_copied l))) (sym (drop_more block i d lt)) ∙ so_far
+pub outline_at : (hint : Bool) (order : List ℕ) (front : List (List ℕ)) (block : List (Option (Bor (List ℕ)))) (i : ℕ) (d : Option (Bor (List ℕ))) (total : Result (List (List ℕ)) Error) → i < length block → with_outlines front (kept_outlines hint order (map option_copied (drop i block))) ≡ total
+    → with_outlines front (kept_outlines hint order (option_copied (get_or block i d) ∷ map option_copied (drop (i + 1) block))) ≡ total
+outline_at hint order front block i d total lt so_far = ap (λ (l : List (Option (Bor (List ℕ)))). with_outlines front (kept_outlines hint order (map option_copied l))) (sym (drop_more block i d lt)) ∙ so_far
 
 -- a block of outlines, and those behind it
 pub block_of : (items slice : List (Option (Bor (List ℕ)))) (at count n : ℕ) → slice ≡ items → n ≡ count → map option_copied (take n (drop at slice)) ++ map option_copied (drop (at + count) items) ≡ map option_copied (drop at items)
@@ -100,7 +101,7 @@ none_before (Ok xs) = refl
 none_before (Err e) = refl
 
 -- the outlines of glyphs, each looked up
-pub all_by_outlines : (t : Outlines) (order gs : List ℕ) → kept_all t order gs ≡ kept_outlines order (map (outline_in t) gs)
+pub all_by_outlines : (t : Outlines) (order gs : List ℕ) → kept_all t order gs ≡ kept_outlines t.hinting order (map (outline_in t) gs)
 unfolding kept kept_outline
 all_by_outlines t order [] = refl
 all_by_outlines t order (g ∷ gs) = ap (λ r. kept t order g >>= λ first. r >>= λ rest. Ok (first ∷ rest)) (all_by_outlines t order gs)
@@ -127,23 +128,23 @@ pub head_at : (block : List (Option (Bor (List ℕ)))) (heads : List ℕ) (i : �
 head_at block heads i d e is lt = ap (λ (l : List ℕ). get_or l i e) is ∙ get_or-map (λ o. first_byte_in (option_copied o)) block i d e lt
 
 -- a composite is written anew
-pub kept_composite : (order : List ℕ) (o : Option (Bor (List ℕ))) (b : Bor (List ℕ)) (first : ℕ) → o ≡ Some b → first ≡ first_byte_in (option_copied o) → 128 ≤ first → kept_outline order (option_copied o) ≡ rewritten_composite order b.now
+pub kept_composite : (hint : Bool) (order : List ℕ) (o : Option (Bor (List ℕ))) (b : Bor (List ℕ)) (first : ℕ) → o ≡ Some b → first ≡ first_byte_in (option_copied o) → 128 ≤ first → kept_outline hint order (option_copied o) ≡ rewritten_composite hint order b.now
 unfolding kept_outline
-kept_composite order o b first is head high =
+kept_composite hint order o b first is head high =
     let here : first ≡ first_byte_in (Some b.now) = head ∙ ap (λ (p : Option (Bor (List ℕ))). first_byte_in (option_copied p)) is in
-    ap (λ (p : Option (Bor (List ℕ))). kept_outline order (option_copied p)) is ∙ rewritten_begun order b.now first here high
+    ap (λ (p : Option (Bor (List ℕ))). kept_outline hint order (option_copied p)) is ∙ rewritten_begun hint order b.now first here high
 
--- another stays as it is
-pub kept_simple : (order : List ℕ) (o : Option (Bor (List ℕ))) (b : Bor (List ℕ)) (first : ℕ) → o ≡ Some b → first ≡ first_byte_in (option_copied o) → first < 128 → kept_outline order (option_copied o) ≡ Ok b.now
+-- another stays as it is, or loses its instructions
+pub kept_simple : (hint : Bool) (order : List ℕ) (o : Option (Bor (List ℕ))) (b : Bor (List ℕ)) (first : ℕ) → o ≡ Some b → first ≡ first_byte_in (option_copied o) → first < 128 → kept_outline hint order (option_copied o) ≡ Ok (simple_asked hint b.now)
 unfolding kept_outline
-kept_simple order o b first is head low =
+kept_simple hint order o b first is head low =
     let here : first ≡ first_byte_in (Some b.now) = head ∙ ap (λ (p : Option (Bor (List ℕ))). first_byte_in (option_copied p)) is in
-    ap (λ (p : Option (Bor (List ℕ))). kept_outline order (option_copied p)) is ∙ rewritten_simple order b.now first here low
+    ap (λ (p : Option (Bor (List ℕ))). kept_outline hint order (option_copied p)) is ∙ rewritten_simple hint order b.now first here low
 
 -- one that isn't there is missed
-pub kept_none : (order : List ℕ) (front : List (List ℕ)) (o : Option (Bor (List ℕ))) (e : Error) → ok_or o errors.MalformedFont ≡ Err e → Fails e (with_last front (kept_outline order (option_copied o)))
+pub kept_none : (hint : Bool) (order : List ℕ) (front : List (List ℕ)) (o : Option (Bor (List ℕ))) (e : Error) → ok_or o errors.MalformedFont ≡ Err e → Fails e (with_last front (kept_outline hint order (option_copied o)))
 unfolding kept_outline
-kept_none order front None e is =
+kept_none hint order front None e is =
     let named = named_err None errors.MalformedFont e is in
-    subst (λ d. Fails d (with_last front (kept_outline order None))) named.1 refl
-kept_none order front (Some b) e is = absurd cc
+    subst (λ d. Fails d (with_last front (kept_outline hint order None))) named.1 refl
+kept_none hint order front (Some b) e is = absurd cc

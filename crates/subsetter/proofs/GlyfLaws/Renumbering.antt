@@ -1,39 +1,40 @@
 -- A composite that was copied, while its components get their new numbers.
-use Rattle.std.proofs.Common.{◌≡◌, ℕ, ◌+◌, ◌-◌, ◌≤◌, Bool, true, false, cond, List, [], ◌++◌, length, take, drop, Option, Some, refl, sym, ap, ◌∙◌, append_assoc, arith}
+use Rattle.std.proofs.Common.{◌≡◌, ℕ, ◌+◌, ◌-◌, ◌≤◌, Bool, true, false, ◌&&◌, cond, List, [], ◌++◌, length, take, drop, Option, Some, refl, sym, ap, ◌∙◌, append_assoc, arith}
 use Rattle.std.specs.Int.{w16, to_be_bytes}
 use Rattle.std.proofs.lemmas.List.{append-nil, length-append, length-drop, length-take-le, take-append-drop, take-append-le, take-take, drop-drop, take_at, drop_at}
 use Rattle.subsetter_base.proofs.ByteLemmas.{range-take_drop}
+use Rattle.subsetter.specs.Glyf.Bare.{flags_asked, tail_asked}
 use Rattle.subsetter.specs.Glyf.Parts.{Component, rest_size, has_more, has_instructions, component_at, spelled}
-use Rattle.subsetter.specs.Glyf.Plain.{new_number, renumbered_component}
-use Rattle.subsetter.proofs.GlyfLaws.Chains.{with_front, chain_text, is_component, text_goes_on, text_ends}
+use Rattle.subsetter.specs.Glyf.Plain.{new_number}
+use Rattle.subsetter.proofs.GlyfLaws.Chains.{with_front, written, chain_text, is_component, text_goes_on, text_ends}
 
 -- the last bytes are the components that have their old numbers; what stands before them and what these are to become is the whole
-pub record IsUnderway (order out rest : List ℕ) (total : Option (List ℕ)) : Type 0 where
+pub record IsUnderway (hint : Bool) (order out rest : List ℕ) (total : Option (List ℕ)) : Type 0 where
   pub fits : length rest ≤ length out
   pub behind : drop (length out - length rest) out ≡ rest
-  pub whole : with_front (take (length out - length rest) out) (chain_text order rest) ≡ total
+  pub whole : with_front (take (length out - length rest) out) (chain_text hint order rest) ≡ total
 
 -- a component has its new number, and others stand behind it
-pub record IsRenumbered (order out : List ℕ) (at : ℕ) (c : Component) (after_out after : List ℕ) : Type 0 where
+pub record IsRenumbered (hint : Bool) (order out : List ℕ) (at : ℕ) (c : Component) (after_out after : List ℕ) : Type 0 where
   pub fits : length after ≤ length after_out
-  pub front : take (length after_out - length after) after_out ≡ take at out ++ spelled (renumbered_component order c)
+  pub front : take (length after_out - length after) after_out ≡ take at out ++ spelled (written hint order c)
   pub behind : drop (length after_out - length after) after_out ≡ after
 
-abbrev patched : List ℕ → List ℕ → ℕ → Component → List ℕ
-patched order out at c = take at out ++ to_be_bytes w16 c.flags ++ to_be_bytes w16 (new_number order c.glyph) ++ drop (at + 4) out
+abbrev patched : Bool → List ℕ → List ℕ → ℕ → Component → List ℕ
+patched hint order out at c = take at out ++ to_be_bytes w16 (flags_asked hint c.flags) ++ to_be_bytes w16 (new_number order c.glyph) ++ drop (at + 4) out
 
-pub is_renumbered : (order out rest : List ℕ) (at : ℕ) (c : Component) (after_out after : List ℕ) (total : Option (List ℕ)) → IsUnderway order out rest total → at ≡ length out - length rest → component_at rest ≡ Some c → after_out ≡ patched order out at c → after ≡ drop (4 + rest_size c.flags) rest → IsRenumbered order out at c after_out after
-is_renumbered order out rest at c after_out after total u place h is e =
+pub is_renumbered : (hint : Bool) (order out rest : List ℕ) (at : ℕ) (c : Component) (after_out after : List ℕ) (total : Option (List ℕ)) → IsUnderway hint order out rest total → at ≡ length out - length rest → component_at rest ≡ Some c → after_out ≡ patched hint order out at c → after ≡ drop (4 + rest_size c.flags) rest → IsRenumbered hint order out at c after_out after
+is_renumbered hint order out rest at c after_out after total u place h is e =
     let k = is_component rest c h in
     let size = rest_size c.flags in
-    let F = to_be_bytes w16 c.flags in
+    let F = to_be_bytes w16 (flags_asked hint c.flags) in
     let N = to_be_bytes w16 (new_number order c.glyph) in
     let R = c.rest in
     let some : Some (take size (drop 4 rest)) ≡ Some R = sym (range-take_drop rest 4 size k.within) ∙ k.rest_is in
     let part : take size (drop 4 rest) ≡ R = cc in
     let here : drop at out ≡ rest = ap (λ n. drop n out) place ∙ u.behind in
     let left : drop (at + 4) out ≡ R ++ after = sym (drop-drop 4 at out) ∙ ap (drop 4) here ∙ sym (take-append-drop size (drop 4 rest)) ∙ ap (λ (l : List ℕ). l ++ drop size (drop 4 rest)) part ∙ ap (λ (l : List ℕ). R ++ l) (drop-drop size 4 rest ∙ sym e) in
-    let front = take at out ++ spelled (renumbered_component order c) in
+    let front = take at out ++ spelled (written hint order c) in
     let whole : after_out ≡ front ++ after = is ∙ ap (λ (l : List ℕ). take at out ++ F ++ N ++ l) left ∙ sym (simp append_assoc) in
     let at_most : at ≤ length out = omega arith in
     let two_f : length F ≡ 2 = refl in
@@ -47,24 +48,30 @@ is_renumbered order out rest at c after_out after total u place h is e =
       behind = ap (drop (length after_out - length after)) whole ∙ drop_at front after (length after_out - length after) cut;
     }
 
-pub underway_next : (order out rest : List ℕ) (at : ℕ) (c : Component) (after_out after : List ℕ) (total : Option (List ℕ)) → IsUnderway order out rest total → at ≡ length out - length rest → component_at rest ≡ Some c → after_out ≡ patched order out at c → after ≡ drop (4 + rest_size c.flags) rest → has_more c.flags ≡ true → IsUnderway order after_out after total
-underway_next order out rest at c after_out after total u place h is e more =
-    let r = is_renumbered order out rest at c after_out after total u place h is e in
+pub underway_next : (hint : Bool) (order out rest : List ℕ) (at : ℕ) (c : Component) (after_out after : List ℕ) (total : Option (List ℕ)) → IsUnderway hint order out rest total → at ≡ length out - length rest → component_at rest ≡ Some c → after_out ≡ patched hint order out at c → after ≡ drop (4 + rest_size c.flags) rest → has_more c.flags ≡ true → IsUnderway hint order after_out after total
+underway_next hint order out rest at c after_out after total u place h is e more =
+    let r = is_renumbered hint order out rest at c after_out after total u place h is e in
     record {
       fits = r.fits;
       behind = r.behind;
-      whole = text_goes_on order (take at out) rest c (take (length after_out - length after) after_out) after total h more r.front e (ap (λ n. with_front (take n out) (chain_text order rest)) place ∙ u.whole);
+      whole = text_goes_on hint order (take at out) rest c (take (length after_out - length after) after_out) after total h more r.front e (ap (λ n. with_front (take n out) (chain_text hint order rest)) place ∙ u.whole);
     }
 
-pub underway_ends : (order out rest : List ℕ) (at : ℕ) (c : Component) (after_out after cut : List ℕ) (total : Option (List ℕ)) → IsUnderway order out rest total → at ≡ length out - length rest → component_at rest ≡ Some c → after_out ≡ patched order out at c → after ≡ drop (4 + rest_size c.flags) rest → has_more c.flags ≡ false → cut ≡ cond (has_instructions c.flags) after_out (take (length after_out - length after) after_out) → total ≡ Some cut
-underway_ends order out rest at c after_out after cut total u place h is e last tail =
-    let r = is_renumbered order out rest at c after_out after total u place h is e in
-    let n = length after_out - length after in
-    let by : (b : Bool) → cond b after_out (take n after_out) ≡ take n after_out ++ cond b after [] = λ b. elim b as (λ q. cond q after_out (take n after_out) ≡ take n after_out ++ cond q after []) [ true ↦ sym (take-append-drop n after_out) ∙ ap (λ (l : List ℕ). take n after_out ++ l) r.behind | false ↦ sym (append-nil (take n after_out)) ] in
-    text_ends order (take at out) rest c (take n after_out) cut after total h last r.front e (tail ∙ by (has_instructions c.flags)) (ap (λ k. with_front (take k out) (chain_text order rest)) place ∙ u.whole)
+tail_kept : (hint b : Bool) (whole front after : List ℕ) → whole ≡ front ++ after → cond (hint && b) whole front ≡ front ++ tail_asked hint (cond b after [])
+tail_kept true true whole front after h = h
+tail_kept true false whole front after h = sym (append-nil front)
+tail_kept false true whole front after h = sym (append-nil front)
+tail_kept false false whole front after h = sym (append-nil front)
 
-pub underway_starts : (order before outline out rest : List ℕ) → 10 ≤ length outline → out ≡ before ++ outline → rest ≡ drop 10 outline → IsUnderway order out rest (with_front (before ++ take 10 outline) (chain_text order (drop 10 outline)))
-underway_starts order before outline out rest le is e =
+pub underway_ends : (hint : Bool) (order out rest : List ℕ) (at : ℕ) (c : Component) (after_out after cut : List ℕ) (total : Option (List ℕ)) → IsUnderway hint order out rest total → at ≡ length out - length rest → component_at rest ≡ Some c → after_out ≡ patched hint order out at c → after ≡ drop (4 + rest_size c.flags) rest → has_more c.flags ≡ false → cut ≡ cond (hint && has_instructions c.flags) after_out (take (length after_out - length after) after_out) → total ≡ Some cut
+underway_ends hint order out rest at c after_out after cut total u place h is e last tail =
+    let r = is_renumbered hint order out rest at c after_out after total u place h is e in
+    let n = length after_out - length after in
+    let split : after_out ≡ take n after_out ++ after = sym (take-append-drop n after_out) ∙ ap (λ (l : List ℕ). take n after_out ++ l) r.behind in
+    text_ends hint order (take at out) rest c (take n after_out) cut after total h last r.front e (tail ∙ tail_kept hint (has_instructions c.flags) after_out (take n after_out) after split) (ap (λ k. with_front (take k out) (chain_text hint order rest)) place ∙ u.whole)
+
+pub underway_starts : (hint : Bool) (order before outline out rest : List ℕ) → 10 ≤ length outline → out ≡ before ++ outline → rest ≡ drop 10 outline → IsUnderway hint order out rest (with_front (before ++ take 10 outline) (chain_text hint order (drop 10 outline)))
+underway_starts hint order before outline out rest le is e =
     let head = take 10 outline in
     let front = before ++ head in
     let whole : out ≡ front ++ rest = is ∙ ap (λ (l : List ℕ). before ++ l) (sym (take-append-drop 10 outline)) ∙ sym (append_assoc before head (drop 10 outline)) ∙ ap (λ (l : List ℕ). front ++ l) (sym e) in
@@ -73,7 +80,7 @@ underway_starts order before outline out rest le is e =
     record {
       fits = omega arith;
       behind = ap (drop (length out - length rest)) whole ∙ drop_at front rest (length out - length rest) cut;
-      whole = ap (λ (l : List ℕ). with_front l (chain_text order rest)) (ap (take (length out - length rest)) whole ∙ take_at front rest (length out - length rest) cut) ∙ ap (λ (l : List ℕ). with_front front (chain_text order l)) e;
+      whole = ap (λ (l : List ℕ). with_front l (chain_text hint order rest)) (ap (take (length out - length rest)) whole ∙ take_at front rest (length out - length rest) cut) ∙ ap (λ (l : List ℕ). with_front front (chain_text hint order l)) e;
     }
 
 -- what stood there before stays
@@ -87,10 +94,10 @@ behind_starts before outline out rest is e = record {
   front = ap (take (length before)) is ∙ take_at before outline (length before) refl;
 }
 
-pub behind_next : (before order out rest : List ℕ) (at : ℕ) (c : Component) (after_out after : List ℕ) → IsBehind before out rest → at ≡ length out - length rest → component_at rest ≡ Some c → after_out ≡ patched order out at c → after ≡ drop (4 + rest_size c.flags) rest → IsBehind before after_out after
-behind_next before order out rest at c after_out after b place h is e =
+pub behind_next : (hint : Bool) (before order out rest : List ℕ) (at : ℕ) (c : Component) (after_out after : List ℕ) → IsBehind before out rest → at ≡ length out - length rest → component_at rest ≡ Some c → after_out ≡ patched hint order out at c → after ≡ drop (4 + rest_size c.flags) rest → IsBehind before after_out after
+behind_next hint before order out rest at c after_out after b place h is e =
     let k = is_component rest c h in
-    let F = to_be_bytes w16 c.flags in
+    let F = to_be_bytes w16 (flags_asked hint c.flags) in
     let N = to_be_bytes w16 (new_number order c.glyph) in
     let behind = drop (at + 4) out in
     let room = b.room in

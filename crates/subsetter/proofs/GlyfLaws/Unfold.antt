@@ -1,25 +1,27 @@
 -- Each glyph of a subset unfolds as its source does, to every depth.
-use Rattle.std.proofs.Common.{◌≡◌, ℕ, zero, suc, ◌+◌, ◌-◌, ◌%◌, ◌^◌, ◌<◌, ◌≤◌, Bool, true, false, cond, leb, ltb, List, [], ◌∷◌, ◌++◌, length, get_or, take, drop, Option, Some, None, Ok, refl, sym, ap, subst, ◌∙◌, append_assoc, arith}
+use Rattle.std.proofs.Common.{◌≡◌, ℕ, zero, suc, ◌+◌, ◌-◌, ◌*◌, ◌%◌, ◌^◌, ◌<◌, ◌≤◌, Bool, true, false, cond, leb, ltb, List, [], ◌∷◌, ◌++◌, length, get_or, take, drop, Option, Some, None, Ok, refl, sym, ap, subst, ◌∙◌, append_assoc, arith}
 use Rattle.std.specs.Prelude.{map, Contains}
-use Rattle.std.specs.Option.{option_and_then, unwrap_or}
+use Rattle.std.specs.Option.{option_and_then, option_map, unwrap_or}
 use Rattle.std.specs.List.{flat_map}
 use Rattle.std.proofs.lemmas.Bool.{le-ltb, ltb-false}
 use Rattle.std.proofs.lemmas.List.{get_or-take, get_or_append_left, get_or_default, length-append, length-drop, drop_at}
-use Rattle.subsetter_base.specs.Bytes.{range, IsBytes}
+use Rattle.subsetter_base.specs.Bytes.{range, number, IsBytes}
 use Rattle.subsetter_base.specs.Places.{place}
 use Rattle.subsetter_base.proofs.ByteLemmas.{range-middle, range-fits, range-length, range-take_drop, IsBytes-drop, IsBytes-range}
 use Rattle.subsetter_base.proofs.GlyphLemmas.{place-finds, Contains-place}
 use Rattle.subsetter_base.proofs.Options.{just, just_is, some_of, bind_some}
 use Rattle.subsetter_base.proofs.Lists.{Contains-later}
-use Rattle.subsetter.specs.Sfnt.Read.{Font}
+use Rattle.subsetter_sfnt.specs.Read.{Font}
 use Rattle.subsetter.specs.Glyf.Read.{Outlines, outlines, outline_in, outline, between, offset}
 use Rattle.subsetter.specs.Glyf.Unfold.{padded, SameComponents, SameParts, HaveSameParts, UnfoldAlike}
+use Rattle.subsetter.specs.Name.Read.{bytes_from}
+use Rattle.subsetter.specs.Glyf.Bare.{bare_at, bare_found, bare_simple, component_asked, chain_asked, bare, parts_asked}
 use Rattle.subsetter.specs.Glyf.Parts.{Component, Chain, Parts, Empty, Simple, Composite, rest_size, has_more, component_at, with_component, last_component, chain_at, numbers_at, component_numbers, composite_parts, outline_parts, spelled, parts_bytes}
 use Rattle.subsetter.specs.Glyf.Plain.{new_number, renumbered_component, renumbered, kept_all}
 use Rattle.subsetter.specs.Glyf.Reach.{IsGlyphOrder, step}
 use Rattle.subsetter.proofs.GlyfLaws.Components.{numbers_more, numbers_enough, components_composite}
 use Rattle.subsetter.proofs.GlyfLaws.Chains.{IsComponent, is_component, chain_none, chain_more}
-use Rattle.subsetter.proofs.GlyfLaws.Parts.{padded-append, padded-nil, chain_is, chain_back, chain-even, chain-length}
+use Rattle.subsetter.proofs.GlyfLaws.Parts.{padded-append, padded-nil, IsChain, chain_is, bare_is, chain_back, chain-even, chain-length}
 use Rattle.subsetter.proofs.GlyfLaws.Back.{AreWritten, read_back}
 use Rattle.subsetter.proofs.GlyfLaws.Kept.{kept_at, length-kept_all}
 
@@ -122,36 +124,83 @@ no_parts : outline_parts [] ≡ Some Empty
 unfolding outline_parts
 no_parts = refl
 
--- an outline that was written under new numbers has the same parts, under new numbers and with its padding
-pub parts_back : (long : Bool) (order bytes : List ℕ) (p : Parts) → ((g : ℕ) → new_number order g < 2 ^ 16) → IsBytes bytes → outline_parts bytes ≡ Some p
-    → outline_parts (padded long (parts_bytes (renumbered order p))) ≡ Some (padded_parts long (renumbered order p))
-parts_back long order bytes p small fit h = by (parts_are bytes p h)
-  where
-    composite : (head : List ℕ) (chain : Chain) → IsComposite bytes head chain → outline_parts (padded long (parts_bytes (renumbered order (Composite head chain)))) ≡ Some (padded_parts long (renumbered order (Composite head chain)))
-    composite H chain is =
-        let cs = map (renumbered_component order) chain.components in
-        let C = flat_map spelled cs in
-        let T = padded long chain.tail in
-        let W = padded long ((H ++ C) ++ chain.tail) in
-        let good = chain_is (length bytes) (drop 10 bytes) chain (IsBytes-drop 10 bytes fit) is.chain_read in
-        let even : length (H ++ C) % 2 ≡ 0 = omega (arith, length-append H C, is.size, chain-even order small chain.tail chain.components good) in
-        let whole : W ≡ H ++ (C ++ T) = padded-append long (H ++ C) chain.tail even ∙ append_assoc H C T in
-        let len : length W ≡ 10 + (length C + length T) = omega (arith, ap length whole, length-append H (C ++ T), length-append C T, is.size) in
-        let first : get_or W 0 0 ≡ get_or bytes 0 0 = ap (λ (l : List ℕ). get_or l 0 0) whole ∙ get_or_append_left H (C ++ T) 0 0 (omega (arith, is.size)) ∙ ap (λ (l : List ℕ). get_or l 0 0) is.head_is ∙ get_or-take 10 bytes 0 0 (omega arith) in
-        let front : range W 0 10 ≡ Some H = range-middle W [] H (C ++ T) 0 10 whole refl (sym is.size) in
-        let rest : drop 10 W ≡ C ++ T = ap (drop 10) whole ∙ drop_at H (C ++ T) 10 is.size in
-        let read = chain_back order small (length W) long chain.tail chain.components good (omega (arith, len, chain-length order small chain.tail chain.components good)) in
-        high_parts W (omega (arith, len)) (omega (arith, first, is.high))
-        ∙ ap (λ (o : Option (List ℕ)). option_and_then (λ head. option_and_then (λ c. parts_there (Composite head c)) (chain_at (length W) (drop 10 W))) o) front
-        ∙ ap (λ (l : List ℕ). option_and_then (λ c. parts_there (Composite H c)) (chain_at (length W) l)) rest
-        ∙ ap (λ (o : Option Chain). option_and_then (λ c. parts_there (Composite H c)) o) read
+-- parts that can be written and read again
+pub data CanBeWritten : Parts → Type 0 where
+  can_empty : CanBeWritten Empty
+  can_simple : (a b : ℕ) (rest bytes : List ℕ) → bytes ≡ a ∷ b ∷ rest → ltb a 128 ≡ true → CanBeWritten (Simple bytes)
+  can_composite : (head : List ℕ) (chain : Chain) → length head ≡ 10 → 128 ≤ get_or head 0 0 → IsChain chain.tail chain.components → CanBeWritten (Composite head chain)
 
-    by : PartsAre bytes p → outline_parts (padded long (parts_bytes (renumbered order p))) ≡ Some (padded_parts long (renumbered order p))
-    by (is_empty e q) = subst (λ (r : Parts). outline_parts (padded long (parts_bytes (renumbered order r))) ≡ Some (padded_parts long (renumbered order r))) (sym q) (ap outline_parts (padded-nil long) ∙ no_parts)
-    by (is_simple a b rest e t q) =
-        subst (λ (r : Parts). outline_parts (padded long (parts_bytes (renumbered order r))) ≡ Some (padded_parts long (renumbered order r))) (sym q)
-        (subst (λ (l : List ℕ). outline_parts (padded long l) ≡ Some (Simple (padded long l))) (sym e) (low_parts long a b rest t))
-    by (is_composite head chain is q) = subst (λ (r : Parts). outline_parts (padded long (parts_bytes (renumbered order r))) ≡ Some (padded_parts long (renumbered order r))) (sym q) (composite head chain is)
+-- those of an outline can
+pub can_write : (bytes : List ℕ) (p : Parts) → IsBytes bytes → outline_parts bytes ≡ Some p → CanBeWritten p
+can_write bytes p fit h = by (parts_are bytes p h)
+  where
+    by : PartsAre bytes p → CanBeWritten p
+    by (is_empty e q) = subst CanBeWritten (sym q) can_empty
+    by (is_simple a b rest e t q) = subst CanBeWritten (sym q) (can_simple a b rest bytes e t)
+    by (is_composite head chain is q) =
+        let good = chain_is (length bytes) (drop 10 bytes) chain (IsBytes-drop 10 bytes fit) is.chain_read in
+        let first : get_or head 0 0 ≡ get_or bytes 0 0 = ap (λ (l : List ℕ). get_or l 0 0) is.head_is ∙ get_or-take 10 bytes 0 0 (omega arith) in
+        subst CanBeWritten (sym q) (can_composite head chain is.size (omega (arith, first, is.high)) good)
+
+-- so can they without instructions
+bare_begins : (a b : ℕ) (rest : List ℕ) → (more : List ℕ) × (bare_simple (a ∷ b ∷ rest) ≡ a ∷ b ∷ more)
+unfolding bare_simple
+bare_begins a b rest = by (bare_found (a ∷ b ∷ rest)) refl
+  where
+    front : (n : ℕ) → take (10 + 2 * n) (a ∷ b ∷ rest) ≡ a ∷ b ∷ take (8 + 2 * n) rest
+    front n = let long : 10 + 2 * n ≡ suc (suc (8 + 2 * n)) = omega arith in ap (λ (k : ℕ). take k (a ∷ b ∷ rest)) long
+
+    by : (o : Option (List ℕ)) → bare_found (a ∷ b ∷ rest) ≡ o → (more : List ℕ) × (unwrap_or o (a ∷ b ∷ rest) ≡ a ∷ b ∷ more)
+    by None e = (rest, refl)
+    by (Some whole) e =
+        let k = bind_some (number (a ∷ b ∷ rest) 0 2) (λ contours. bare_at (a ∷ b ∷ rest) (10 + 2 * contours)) whole e in
+        let at = 10 + 2 * k.0 in
+        let l = bind_some (number (a ∷ b ∷ rest) at 2) (λ size. option_and_then (λ behind. just (take at (a ∷ b ∷ rest) ++ 0 ∷ 0 ∷ behind)) (bytes_from (a ∷ b ∷ rest) (at + 2 + size))) whole k.2 in
+        let m = bind_some (bytes_from (a ∷ b ∷ rest) (at + 2 + l.0)) (λ behind. just (take at (a ∷ b ∷ rest) ++ 0 ∷ 0 ∷ behind)) whole l.2 in
+        let same : take at (a ∷ b ∷ rest) ++ 0 ∷ 0 ∷ m.0 ≡ whole = just_is (take at (a ∷ b ∷ rest) ++ 0 ∷ 0 ∷ m.0) whole m.2 in
+        (take (8 + 2 * k.0) rest ++ 0 ∷ 0 ∷ m.0, sym same ∙ ap (λ (l : List ℕ). l ++ 0 ∷ 0 ∷ m.0) (front k.0))
+
+bare_can : (p : Parts) → CanBeWritten p → CanBeWritten (bare p)
+bare_can Empty can_empty = can_empty
+bare_can (Simple _) (can_simple a b rest bytes e t) =
+    let k = bare_begins a b rest in
+    can_simple a b k.0 (bare_simple bytes) (ap bare_simple e ∙ k.1) t
+bare_can (Composite _ _) (can_composite head chain size high good) = can_composite head (chain_asked false chain) size high (bare_is chain.tail chain.components good)
+
+pub asked_can : (hint : Bool) (bytes : List ℕ) (p : Parts) → IsBytes bytes → parts_asked hint (outline_parts bytes) ≡ Some p → CanBeWritten p
+asked_can true bytes p fit h = can_write bytes p fit h
+asked_can false bytes p fit h = by (outline_parts bytes) refl h
+  where
+    by : (o : Option Parts) → outline_parts bytes ≡ o → option_map bare o ≡ Some p → CanBeWritten p
+    by None e k = absurd cc
+    by (Some q) e k = subst CanBeWritten (same_parts_are (bare q) p k) (bare_can q (can_write bytes q fit e))
+
+-- parts that were written under new numbers are read again, under new numbers and with their padding
+written_back : (long : Bool) (order : List ℕ) (p : Parts) → ((g : ℕ) → new_number order g < 2 ^ 16) → CanBeWritten p
+    → outline_parts (padded long (parts_bytes (renumbered order p))) ≡ Some (padded_parts long (renumbered order p))
+written_back long order Empty small can_empty = ap outline_parts (padded-nil long) ∙ no_parts
+written_back long order (Simple _) small (can_simple a b rest bytes e t) = subst (λ (l : List ℕ). outline_parts (padded long l) ≡ Some (Simple (padded long l))) (sym e) (low_parts long a b rest t)
+written_back long order (Composite _ _) small (can_composite H chain size high good) =
+    let cs = map (renumbered_component order) chain.components in
+    let C = flat_map spelled cs in
+    let T = padded long chain.tail in
+    let W = padded long ((H ++ C) ++ chain.tail) in
+    let even : length (H ++ C) % 2 ≡ 0 = omega (arith, length-append H C, size, chain-even order small chain.tail chain.components good) in
+    let whole : W ≡ H ++ (C ++ T) = padded-append long (H ++ C) chain.tail even ∙ append_assoc H C T in
+    let len : length W ≡ 10 + (length C + length T) = omega (arith, ap length whole, length-append H (C ++ T), length-append C T, size) in
+    let first : get_or W 0 0 ≡ get_or H 0 0 = ap (λ (l : List ℕ). get_or l 0 0) whole ∙ get_or_append_left H (C ++ T) 0 0 (omega (arith, size)) in
+    let front : range W 0 10 ≡ Some H = range-middle W [] H (C ++ T) 0 10 whole refl (sym size) in
+    let rest : drop 10 W ≡ C ++ T = ap (drop 10) whole ∙ drop_at H (C ++ T) 10 size in
+    let read = chain_back order small (length W) long chain.tail chain.components good (omega (arith, len, chain-length order small chain.tail chain.components good)) in
+    high_parts W (omega (arith, len)) (omega (arith, first, high))
+    ∙ ap (λ (o : Option (List ℕ)). option_and_then (λ head. option_and_then (λ c. parts_there (Composite head c)) (chain_at (length W) (drop 10 W))) o) front
+    ∙ ap (λ (l : List ℕ). option_and_then (λ c. parts_there (Composite H c)) (chain_at (length W) l)) rest
+    ∙ ap (λ (o : Option Chain). option_and_then (λ c. parts_there (Composite H c)) o) read
+
+-- so are those of an outline, as far as they are asked for
+pub parts_back : (hint long : Bool) (order bytes : List ℕ) (p : Parts) → ((g : ℕ) → new_number order g < 2 ^ 16) → IsBytes bytes → parts_asked hint (outline_parts bytes) ≡ Some p
+    → outline_parts (padded long (parts_bytes (renumbered order p))) ≡ Some (padded_parts long (renumbered order p))
+parts_back hint long order bytes p small fit h = written_back long order p small (asked_can hint bytes p fit h)
 
 -- ---- the same parts
 
@@ -181,6 +230,24 @@ are_numbered bytes p h = by (parts_are bytes p h)
         let rest = drop 10 bytes in
         let numbers : numbers_at (length bytes) rest ≡ component_numbers bytes = numbers_enough (length bytes) (length rest) rest (omega (arith, length-drop 10 bytes)) (omega arith) ∙ sym (components_composite bytes is.long is.high) in
         subst (λ (r : Parts). EachGlyph (λ g. Contains (component_numbers bytes) g) (components_of r)) (sym q) (subst (λ (l : List ℕ). EachGlyph (λ g. Contains l g) chain.components) numbers (each_numbered (length bytes) rest chain is.chain_read))
+
+bare_glyphs : (P : ℕ → Type 0) (cs : List Component) → EachGlyph P cs → EachGlyph P (map (component_asked false) cs)
+bare_glyphs P [] h = tt
+bare_glyphs P (c ∷ cs) h = (h.0, bare_glyphs P cs h.1)
+
+bare_numbered : (P : ℕ → Type 0) (p : Parts) → EachGlyph P (components_of p) → EachGlyph P (components_of (bare p))
+bare_numbered P Empty h = tt
+bare_numbered P (Simple bytes) h = tt
+bare_numbered P (Composite head chain) h = bare_glyphs P chain.components h
+
+-- also where instructions aren't asked for
+pub asked_numbered : (hint : Bool) (bytes : List ℕ) (p : Parts) → parts_asked hint (outline_parts bytes) ≡ Some p → EachGlyph (λ g. Contains (component_numbers bytes) g) (components_of p)
+asked_numbered true bytes p h = are_numbered bytes p h
+asked_numbered false bytes p h = by (outline_parts bytes) refl h
+  where
+    by : (o : Option Parts) → outline_parts bytes ≡ o → option_map bare o ≡ Some p → EachGlyph (λ g. Contains (component_numbers bytes) g) (components_of p)
+    by None e k = absurd cc
+    by (Some q) e k = subst (λ (r : Parts). EachGlyph (λ g. Contains (component_numbers bytes) g) (components_of r)) (same_parts_are (bare q) p k) (bare_numbered (λ g. Contains (component_numbers bytes) g) q (are_numbered bytes q e))
 
 -- ---- the bytes of an outline
 
@@ -219,7 +286,7 @@ small_numbers order few g = by (place order g) refl
 
 -- ---- the law
 
-module _ (font out : Font) (glyphs order : List ℕ) (t u : Outlines) (bs : List (List ℕ)) (read : outlines font ≡ Some t) (again : outlines out ≡ Some u) (closed : IsGlyphOrder font glyphs order) (few : length order < 2 ^ 16) (fit : IsBytes t.glyf)
+module _ (font out : Font) (glyphs order : List ℕ) (t u : Outlines) (bs : List (List ℕ)) (read : outlines font ≡ Some t) (asks : t.hinting ≡ font.extras.hinting) (whole : out.extras.hinting ≡ true) (again : outlines out ≡ Some u) (closed : IsGlyphOrder font glyphs order) (few : length order < 2 ^ 16) (fit : IsBytes t.glyf)
     (keeps : kept_all t order order ≡ Ok bs) (written : AreWritten bs u) where
   -- each glyph has the parts of its source, if the glyphs of the order are alike under their new numbers
   parts_alike : (alike : ℕ → ℕ → Type 0) → ((h : ℕ) → Contains order h → alike h (new_number order h)) → (i : ℕ) → i < length order → HaveSameParts font out alike (get_or order i 0) i
@@ -231,14 +298,14 @@ module _ (font out : Font) (glyphs order : List ℕ) (t u : Outlines) (bs : List
       outline_is out u i again ∙ read_back bs u i written (omega (arith, length-kept_all t order order bs keeps)) ∙ ap (λ (l : List ℕ). Some (padded u.long l)) (sym k.written) in
       let each : EachGlyph (λ h. alike h (new_number order h)) (components_of k.parts) =
       each_weaker (λ h. Contains (component_numbers k.bytes) h) (λ h. alike h (new_number order h)) (components_of k.parts)
-      (λ h c. numbered h ((closed.members h).1 (step g h k.bytes ((closed.members g).0 (i, lt, get_or_default order i g 0 lt)) source c))) (are_numbered k.bytes k.parts k.parts_are) in
+      (λ h c. numbered h ((closed.members h).1 (step g h k.bytes ((closed.members g).0 (i, lt, get_or_default order i g 0 lt)) source c))) (asked_numbered t.hinting k.bytes k.parts k.parts_are) in
       record {
         tables = u;
         read = again;
         source = k.parts;
-        source_is = ap (λ (o : Option (List ℕ)). option_and_then outline_parts o) source ∙ k.parts_are;
+        source_is = ap (λ (o : Option (List ℕ)). parts_asked font.extras.hinting (option_and_then outline_parts o)) source ∙ ap (λ (b : Bool). parts_asked b (outline_parts k.bytes)) (sym asks) ∙ k.parts_are;
         copy = padded_parts u.long (renumbered order k.parts);
-        copy_is = ap (λ (o : Option (List ℕ)). option_and_then outline_parts o) copy ∙ parts_back u.long order k.bytes k.parts (small_numbers order few) (outline_bytes t g k.bytes fit k.there) k.parts_are;
+        copy_is = ap (λ (o : Option (List ℕ)). parts_asked out.extras.hinting (option_and_then outline_parts o)) copy ∙ ap (λ (b : Bool). parts_asked b (outline_parts (padded u.long (parts_bytes (renumbered order k.parts))))) whole ∙ parts_back t.hinting u.long order k.bytes k.parts (small_numbers order few) (outline_bytes t g k.bytes fit k.there) k.parts_are;
         same = same_parts u.long alike order k.parts each;
       }
 

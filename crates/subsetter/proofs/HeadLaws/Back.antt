@@ -6,7 +6,7 @@ use Rattle.std.proofs.lemmas.List.{take_at, drop_at, length-append, length-take,
 use Rattle.subsetter_base.specs.Bytes.{be, number}
 use Rattle.subsetter_base.proofs.ByteLemmas.{number_at}
 use Rattle.subsetter.specs.Glyf.Read.{outlines_in}
-use Rattle.subsetter.specs.Sfnt.Written.{with_adjustment}
+use Rattle.subsetter_sfnt.specs.Written.{with_adjustment}
 use Rattle.subsetter.specs.Head.Written.{format_bytes, head_bytes}
 
 module _ (w : ℕ) (long : Bool) (head : List ℕ) (le : 52 ≤ length head) where
@@ -72,21 +72,21 @@ module _ (w : ℕ) (long : Bool) (head : List ℕ) (le : 52 ≤ length head) whe
   pub head_format : number (with_adjustment w (head_bytes long head)) 50 2 ≡ Some (be (format_bytes long))
   head_format = number_at (with_adjustment w (head_bytes long head)) (front ++ word ++ middle) (format_bytes long) end 50 2 (be (format_bytes long)) regrouped (sym length-before) (sym (two_bytes long)) refl
 
-outlines_by : (find : List ℕ → Option (List ℕ)) (loca glyf head : List ℕ) (n : ℕ) → find (codes "loca") ≡ Some loca → find (codes "glyf") ≡ Some glyf → find (codes "head") ≡ Some head → number head 50 2 ≡ Some n
-    → outlines_in find ≡ Some (record { loca = loca; glyf = glyf; head = head; long = not (eqb n 0) })
+outlines_by : (hinting : Bool) (find : List ℕ → Option (List ℕ)) (loca glyf head : List ℕ) (n : ℕ) → find (codes "loca") ≡ Some loca → find (codes "glyf") ≡ Some glyf → find (codes "head") ≡ Some head → number head 50 2 ≡ Some n
+    → outlines_in hinting find ≡ Some (record { loca = loca; glyf = glyf; head = head; long = not (eqb n 0); hinting = hinting })
 unfolding outlines_in
-outlines_by find loca glyf head n a b c d = rw (a, b, c, d) refl
+outlines_by hinting find loca glyf head n a b c d = rw (a, b, c, d) refl
 
 format_back : (long : Bool) → not (eqb (be (format_bytes long)) 0) ≡ long
 format_back true = refl
 format_back false = refl
 
 -- the tables of outlines, with the format that head was given
-pub outlines_afresh : (find : List ℕ → Option (List ℕ)) (loca glyf : List ℕ) (w : ℕ) (long : Bool) (head : List ℕ) → 52 ≤ length head → find (codes "loca") ≡ Some loca → find (codes "glyf") ≡ Some glyf → find (codes "head") ≡ Some (with_adjustment w (head_bytes long head))
-    → outlines_in find ≡ Some (record { loca = loca; glyf = glyf; head = with_adjustment w (head_bytes long head); long = long })
-outlines_afresh find loca glyf w long head le a b c =
-    outlines_by find loca glyf (with_adjustment w (head_bytes long head)) (be (format_bytes long)) a b c (head_format w long head le)
-    ∙ ap (λ (l : Bool). Some (record { loca = loca; glyf = glyf; head = with_adjustment w (head_bytes long head); long = l })) (format_back long)
+pub outlines_afresh : (hinting : Bool) (find : List ℕ → Option (List ℕ)) (loca glyf : List ℕ) (w : ℕ) (long : Bool) (head : List ℕ) → 52 ≤ length head → find (codes "loca") ≡ Some loca → find (codes "glyf") ≡ Some glyf → find (codes "head") ≡ Some (with_adjustment w (head_bytes long head))
+    → outlines_in hinting find ≡ Some (record { loca = loca; glyf = glyf; head = with_adjustment w (head_bytes long head); long = long; hinting = hinting })
+outlines_afresh hinting find loca glyf w long head le a b c =
+    outlines_by hinting find loca glyf (with_adjustment w (head_bytes long head)) (be (format_bytes long)) a b c (head_format w long head le)
+    ∙ ap (λ (l : Bool). Some (record { loca = loca; glyf = glyf; head = with_adjustment w (head_bytes long head); long = l; hinting = hinting })) (format_back long)
 
 -- four parts behind one, grouped
 regroup : (A Z M F E : List ℕ) → A ++ Z ++ (M ++ (F ++ E)) ≡ A ++ Z ++ M ++ F ++ E

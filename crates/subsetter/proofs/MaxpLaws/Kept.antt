@@ -10,8 +10,8 @@ use Rattle.subsetter_base.specs.declared.error.Error.TheVariants.{MalformedFont}
 use Rattle.subsetter_base.proofs.ByteLemmas.{be-u16, be-u32, number_at}
 use Rattle.subsetter_base.proofs.Results.{done_is, failed_is}
 use Rattle.subsetter_base.proofs.Options.{some_not_none, just_is}
-use Rattle.subsetter.specs.declared.sfnt.flavor.FontFlavor.{FontFlavor}
-use Rattle.subsetter.specs.declared.sfnt.flavor.FontFlavor.TheVariants.{TrueType, Cff}
+use Rattle.subsetter_sfnt.specs.declared.flavor.FontFlavor.{FontFlavor}
+use Rattle.subsetter_sfnt.specs.declared.flavor.FontFlavor.TheVariants.{TrueType, Cff}
 use Rattle.subsetter.specs.Maxp.Read.{number_of_glyphs, version_of, further_fields, IsMaxProfile, HasMaxProfileFault, short_maxp}
 use Rattle.subsetter.specs.Maxp.Written.{maxp_bytes, maxp_in, maxp_of}
 

@@ -7,10 +7,10 @@ use Rattle.subsetter_base.specs.Bytes.{◌>>=◌, IsBytes}
 use Rattle.subsetter_base.specs.declared.error.Error.{Error}
 use Rattle.subsetter_base.specs.declared.error.Error.TheVariants.{MalformedFont}
 use Rattle.subsetter_base.proofs.Results.{failed_is, bind_err}
-use Rattle.subsetter.specs.declared.sfnt.flavor.FontFlavor.{FontFlavor}
+use Rattle.subsetter_sfnt.specs.declared.flavor.FontFlavor.{FontFlavor}
 use Rattle.subsetter.specs.Fault as faults
 use Rattle.subsetter.specs.Fault.{HasFault}
-use Rattle.subsetter.specs.Sfnt.Read.{Font, table}
+use Rattle.subsetter_sfnt.specs.Read.{Font, table}
 use Rattle.subsetter.specs.Glyf.Fault as outline_faults
 use Rattle.subsetter.specs.Glyf.Reach.{IsReachable, IsGlyphOrder}
 use Rattle.subsetter.specs.Head.Written.{head_bytes, head_in, head_of}
@@ -30,7 +30,7 @@ use Rattle.subsetter.proofs.NameLaws.Clean.{name_clean}
 use Rattle.subsetter.proofs.NameLaws.Fault.{name_refused}
 use Rattle.subsetter.proofs.PostLaws.Fault.{post_refused}
 use Rattle.subsetter.proofs.PostLaws.Clean.{post_clean}
-use Rattle.subsetter.proofs.SfntLaws.TableBytes.{table_bytes}
+use Rattle.subsetter_sfnt.proofs.Laws.TableBytes.{table_bytes}
 use Rattle.subsetter.proofs.SharedLaws.Steps.{SharedSteps}
 
 -- a test that was passed where it must fail

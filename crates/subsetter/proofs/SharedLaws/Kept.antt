@@ -4,9 +4,9 @@ use Rattle.std.specs.Prelude.{codes, IsSome}
 use Rattle.std.specs.Option.{option_map}
 use Rattle.subsetter_base.specs.Bytes.{IsBytes}
 use Rattle.subsetter_base.proofs.Options.{some_of}
-use Rattle.subsetter.specs.declared.sfnt.flavor.FontFlavor.{FontFlavor}
-use Rattle.subsetter.specs.Sfnt.Read.{Font, table}
-use Rattle.subsetter.specs.Sfnt.Written.{with_adjustment}
+use Rattle.subsetter_sfnt.specs.declared.flavor.FontFlavor.{FontFlavor}
+use Rattle.subsetter_sfnt.specs.Read.{Font, table}
+use Rattle.subsetter_sfnt.specs.Written.{with_adjustment}
 use Rattle.subsetter.specs.Head.Read.{KeepsHead}
 use Rattle.subsetter.specs.Head.Written.{head_bytes}
 use Rattle.subsetter.specs.Hmtx.Read.{KeepsMetrics}
@@ -16,8 +16,8 @@ use Rattle.subsetter.specs.Name.Read.{KeepsNames}
 use Rattle.subsetter.specs.Post.Read.{KeepsGlyphNames}
 use Rattle.subsetter.specs.Shared.Plain.{SharedTables}
 use Rattle.subsetter.specs.Subset.{KeepsTable, KeepsShared}
-use Rattle.subsetter.proofs.SfntLaws.Rows.{HasRoom}
-use Rattle.subsetter.proofs.SfntLaws.TableBytes.{table_bytes}
+use Rattle.subsetter_sfnt.proofs.Laws.Rows.{HasRoom}
+use Rattle.subsetter_sfnt.proofs.Laws.TableBytes.{table_bytes}
 use Rattle.subsetter.proofs.HeadLaws.Back.{head_length, head_front, head_middle, head_end, head_room, head_zeros}
 use Rattle.subsetter.proofs.HmtxLaws.Kept.{keeps_metrics}
 use Rattle.subsetter.proofs.MaxpLaws.Kept.{is_max_profile}

@@ -7,7 +7,7 @@ use Rattle.subsetter_base.specs.declared.error.Error.{Error}
 use Rattle.subsetter_base.specs.declared.error.Error.TheVariants.{MalformedFont}
 use Rattle.subsetter_base.proofs.Options.{just, just_is}
 use Rattle.subsetter_base.proofs.Results.{done_is, bind_ok}
-use Rattle.subsetter.specs.declared.sfnt.flavor.FontFlavor.{FontFlavor}
+use Rattle.subsetter_sfnt.specs.declared.flavor.FontFlavor.{FontFlavor}
 use Rattle.subsetter.specs.Head.Written.{head_bytes, head_in, head_of}
 use Rattle.subsetter.specs.Hmtx.Written.{MetricBytes, metrics_in, metrics_of, tables_of}
 use Rattle.subsetter.specs.Maxp.Written.{maxp_bytes, maxp_in, maxp_of}

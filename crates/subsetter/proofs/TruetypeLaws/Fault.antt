@@ -7,18 +7,18 @@ use Rattle.subsetter_base.specs.declared.error.Error.{Error}
 use Rattle.subsetter_base.specs.declared.error.Error.TheVariants.{MalformedFont, OverflowError, OutOfMemory}
 use Rattle.subsetter_base.proofs.Options.{just_is}
 use Rattle.subsetter_base.proofs.Results.{named_ok, done_is, failed_is, bind_err}
-use Rattle.subsetter.specs.declared.sfnt.flavor.FontFlavor.TheVariants.{TrueType, Cff}
+use Rattle.subsetter_sfnt.specs.declared.flavor.FontFlavor.TheVariants.{TrueType, Cff}
 use Rattle.subsetter.specs.Truetype.Answered.{IsAnswered, IsRefused, no_memory, unread, unclosed, unmade, unlaid}
 use Rattle.subsetter.specs.Fault as faults
 use Rattle.subsetter.specs.Fault.{HasFault}
 use Rattle.subsetter.specs.Laid.{of_outlines, of_charstrings}
-use Rattle.subsetter.specs.Sfnt.Read.{Font, table}
+use Rattle.subsetter_sfnt.specs.Read.{Font, table}
 use Rattle.subsetter.specs.Glyf.Read.{Outlines, outlines}
-use Rattle.subsetter.specs.Sfnt.Written.{Table, fits, file, start_of, kind_word}
-use Rattle.subsetter.specs.Sfnt.Fault.{HasOpeningFault}
+use Rattle.subsetter_sfnt.specs.Written.{Table, fits, file, start_of, kind_word}
+use Rattle.subsetter_sfnt.specs.Fault.{HasOpeningFault}
 use Rattle.subsetter.specs.Shared.Plain.{SharedTables, shared_of}
 use Rattle.subsetter.specs.Truetype.Plain.{Made, located, made_of, laid, truetype_tables}
-use Rattle.subsetter.specs.Sfnt.Plain.{file_of}
+use Rattle.subsetter_sfnt.specs.Plain.{file_of}
 use Rattle.subsetter.specs.Glyf.Plain.{kept_all}
 use Rattle.subsetter.specs.Glyf.Reach.{IsGlyphOrder}
 use Rattle.subsetter.specs.Glyf.Written.{is_long, glyf_bytes, loca_bytes}
@@ -74,7 +74,7 @@ module _ (tokens depth : ℕ) (font : Font) (glyphs order : List ℕ) (t : Outli
       subst (HasFault tokens depth font glyphs order) c.1 (faults.large_file TrueType ts closed (of_outlines t read k) c.0)
 
 -- what is refused has a fault
-pub has_fault : (tokens depth : ℕ) (font : Font) (glyphs : List ℕ) (e : Error) → IsSome (table font (codes "glyf")) → IsRefused (table font) glyphs e → (e ≡ OutOfMemory) ⊎ Stands tokens depth font glyphs e
+pub has_fault : (tokens depth : ℕ) (font : Font) (glyphs : List ℕ) (e : Error) → IsSome (table font (codes "glyf")) → IsRefused font.extras.hinting (table font) glyphs e → (e ≡ OutOfMemory) ⊎ Stands tokens depth font glyphs e
 has_fault tokens depth font glyphs e there no_memory = inl refl
 has_fault tokens depth font glyphs e there (unread h) = inr ([], faults.in_outlines (tables_refused font glyphs e there h))
 has_fault tokens depth font glyphs e there (unclosed t h stops) =
@@ -99,7 +99,7 @@ not_cff : (o p : Option (List ℕ)) → IsSome o → cond (is_some o) (Some True
 not_cff None p h k = absurd cc
 not_cff (Some x) p h k = cc
 
-module _ (tokens depth : ℕ) (font : Font) (glyphs out : List ℕ) (bytes : IsBytes font.bytes) (there : IsSome (table font (codes "glyf"))) (opening : (e : Error) → HasOpeningFault font e → ⊥) (a : IsAnswered (table font) glyphs out) where
+module _ (tokens depth : ℕ) (font : Font) (glyphs out : List ℕ) (bytes : IsBytes font.bytes) (there : IsSome (table font (codes "glyf"))) (opening : (e : Error) → HasOpeningFault font e → ⊥) (a : IsAnswered font.extras.hinting (table font) glyphs out) where
   read : outlines font ≡ Some a.source
   read = named_ok (outlines font) MalformedFont a.source a.read
 

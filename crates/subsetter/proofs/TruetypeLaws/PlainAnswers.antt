@@ -1,5 +1,5 @@
 -- What an answer that gives a plain function's value says.
-use Rattle.std.proofs.Common.{◌≡◌, ℕ, ◌^◌, ◌<◌, List, [], length, Option, Result, Ok, Err, refl, sym, ap, subst, ◌∙◌, ◌⊎◌, inl, inr, arith}
+use Rattle.std.proofs.Common.{◌≡◌, ℕ, ◌^◌, ◌<◌, Bool, List, [], length, Option, Result, Ok, Err, refl, sym, ap, subst, ◌∙◌, ◌⊎◌, inl, inr, arith}
 use Rattle.std.specs.Prelude.{IfOk, IfErr}
 use Rattle.std.specs.List.{AllByRecursion}
 use Rattle.std.proofs.lemmas.List.{length-map}
@@ -7,18 +7,19 @@ use Rattle.subsetter_base.specs.Bytes.{◌>>=◌}
 use Rattle.subsetter_base.specs.Gives.{Fails, Gives}
 use Rattle.subsetter_base.specs.declared.error.Error.{Error}
 use Rattle.subsetter_base.specs.declared.error.Error.TheVariants as errors
-use Rattle.subsetter.specs.declared.sfnt.tables.NewTable.{NewTable}
-use Rattle.subsetter.specs.declared.sfnt.flavor.FontFlavor.TheVariants.{TrueType}
-use Rattle.subsetter.specs.Sfnt.Rows.{rows, present}
+use Rattle.subsetter_sfnt.specs.declared.tables.NewTable.{NewTable}
+use Rattle.subsetter.specs.declared.tables.TableData.{TableData}
+use Rattle.subsetter_sfnt.specs.declared.flavor.FontFlavor.TheVariants.{TrueType}
+use Rattle.subsetter_sfnt.specs.Rows.{rows, present}
 use Rattle.subsetter.specs.Truetype.Answered.{IsAnswered, IsRefused, no_memory, unmade, unlaid}
 use Rattle.subsetter.specs.Glyf.Read.{Outlines, outline_in}
-use Rattle.subsetter.specs.Sfnt.Written.{Table, IsTable, kind_word}
+use Rattle.subsetter_sfnt.specs.Written.{Table, IsTable, kind_word}
 use Rattle.subsetter.specs.Truetype.Plain.{Made, made_of, font_of, laid, truetype_tables}
-use Rattle.subsetter.specs.Sfnt.Plain.{file_of}
+use Rattle.subsetter_sfnt.specs.Plain.{file_of}
 use Rattle.subsetter.specs.Glyf.Plain.{outlines_read}
 use Rattle.subsetter.specs.Glyf.Closure.{Finds}
 use Rattle.subsetter.specs.Glyf.Reach.{IsGlyphOrderBy}
-use Rattle.subsetter.specs.Sfnt.View.{view, views}
+use Rattle.subsetter.specs.TableView.{view, views}
 use Rattle.subsetter.proofs.TruetypeLaws.Steps.{made_steps}
 use Rattle.subsetter.proofs.TruetypeLaws.Subset.{laid_is, laid_few, laid_all}
 
@@ -44,7 +45,7 @@ gave_err view (Err e) read P h m f =
       | inr k ↦ f e k
     ]
 
-module _ (find : List ℕ → Option (List ℕ)) (glyphs order : List ℕ) (t : Outlines) (read : outlines_read find ≡ Ok t) (closed : IsGlyphOrderBy (outline_in t) glyphs order) where
+module _ (hinting : Bool) (find : List ℕ → Option (List ℕ)) (glyphs order : List ℕ) (t : Outlines) (read : outlines_read hinting find ≡ Ok t) (closed : IsGlyphOrderBy (outline_in t) glyphs order) where
   -- what was made is laid out
   made_tables : (m : Made) → made_of find t order ≡ Ok m → truetype_tables find t order ≡ Ok (laid find m)
   unfolding truetype_tables
@@ -54,14 +55,14 @@ module _ (find : List ℕ → Option (List ℕ)) (glyphs order : List ℕ) (t : 
   unfolding truetype_tables
   unmade_tables e h = ap (λ (r : Result Made Error). r >>= λ x. Ok (laid find x)) h
 
-  pub refused_made : (e : Error) → Finds t order glyphs [] glyphs → Fails e (made_of find t order) → IsRefused find glyphs e
+  pub refused_made : (e : Error) → Finds t order glyphs [] glyphs → Fails e (made_of find t order) → IsRefused hinting find glyphs e
   refused_made e found h =
       elim (failing e (made_of find t order) h) [
-        | inl memory ↦ subst (IsRefused find glyphs) (sym memory) no_memory
+        | inl memory ↦ subst (IsRefused hinting find glyphs) (sym memory) no_memory
         | inr k ↦ unmade t order read closed found (unmade_tables e k)
       ]
 
-  module _ (m : Made) (made : made_of find t order ≡ Ok m) (ts : List NewTable) (there : views ts ≡ present (rows (font_of find m))) where
+  module _ (m : Made) (made : made_of find t order ≡ Ok m) (ts : List (NewTable TableData)) (there : views ts ≡ present (rows (font_of find m))) where
     are : views ts ≡ laid find m
     are = there ∙ sym (laid_is find m)
 
@@ -71,7 +72,7 @@ module _ (find : List ℕ → Option (List ℕ)) (glyphs order : List ℕ) (t : 
     pub all_tables : AllByRecursion IsTable (views ts)
     all_tables = subst (λ (l : List Table). AllByRecursion IsTable l) (sym are) (laid_all find t order m (made_steps find t order m made))
 
-    pub answered : (out : List ℕ) → Finds t order glyphs [] glyphs → length order < 2 ^ 16 → file_of (kind_word TrueType) (views ts) ≡ Ok out → IsAnswered find glyphs out
+    pub answered : (out : List ℕ) → Finds t order glyphs [] glyphs → length order < 2 ^ 16 → file_of (kind_word TrueType) (views ts) ≡ Ok out → IsAnswered hinting find glyphs out
     answered out found few h = record {
       source = t;
       read = read;
@@ -84,5 +85,5 @@ module _ (find : List ℕ → Option (List ℕ)) (glyphs order : List ℕ) (t : 
       laid_out = ap (file_of (kind_word TrueType)) (sym are) ∙ h;
     }
 
-    pub refused_file : Finds t order glyphs [] glyphs → (e : Error) → file_of (kind_word TrueType) (views ts) ≡ Err e → IsRefused find glyphs e
+    pub refused_file : Finds t order glyphs [] glyphs → (e : Error) → file_of (kind_word TrueType) (views ts) ≡ Err e → IsRefused hinting find glyphs e
     refused_file found e h = unlaid t order (laid find m) read closed found (made_tables m made) (ap (file_of (kind_word TrueType)) (sym are) ∙ h)

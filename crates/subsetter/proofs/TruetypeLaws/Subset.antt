@@ -1,5 +1,5 @@
 -- What subsetting answers is a subset.
-use Rattle.std.proofs.Common.{◌≡◌, ℕ, ◌+◌, ◌*◌, ◌^◌, ◌<◌, true, false, cond, List, [], ◌++◌, length, Option, Some, None, Ok, refl, sym, ap, subst, ◌∙◌, arith, inl}
+use Rattle.std.proofs.Common.{◌≡◌, ℕ, ◌+◌, ◌*◌, ◌^◌, ◌<◌, Bool, true, false, cond, List, [], ◌++◌, length, Option, Some, None, Ok, refl, sym, ap, subst, ◌∙◌, arith, inl}
 use Rattle.std.specs.Prelude.{codes, is_some}
 use Rattle.std.specs.Option.{option_map}
 use Rattle.std.specs.List.{AllByRecursion}
@@ -10,11 +10,11 @@ use Rattle.subsetter_base.specs.declared.error.Error.{Error}
 use Rattle.subsetter_base.specs.declared.error.Error.TheVariants.{MalformedFont}
 use Rattle.subsetter_base.proofs.Results.{named_ok}
 use Rattle.subsetter_base.proofs.Options.{just_is}
-use Rattle.subsetter.specs.declared.sfnt.flavor.FontFlavor.TheVariants.{TrueType}
-use Rattle.subsetter.specs.Sfnt.Container.{IsSoundContainer, AscendFrom}
-use Rattle.subsetter.specs.Sfnt.Read.{Font, as_font, table, flavor}
-use Rattle.subsetter.specs.Sfnt.Rows.{bytes_of, present, lookup, tags, rows, called_for, tags_of}
-use Rattle.subsetter.specs.Sfnt.Written.{Table, IsTable, with_adjustment, fits, file, start_of, kind_word}
+use Rattle.subsetter_sfnt.specs.declared.flavor.FontFlavor.TheVariants.{TrueType}
+use Rattle.subsetter_sfnt.specs.Container.{IsSoundContainer, AscendFrom}
+use Rattle.subsetter_sfnt.specs.Read.{Font, as_font, table, flavor}
+use Rattle.subsetter_sfnt.specs.Rows.{bytes_of, present, lookup, tags, rows, called_for, tags_of}
+use Rattle.subsetter_sfnt.specs.Written.{Table, IsTable, with_adjustment, fits, file, start_of, kind_word}
 use Rattle.subsetter.specs.Glyf.Read.{Outlines, outlines}
 use Rattle.subsetter.specs.Glyf.Closure.{Finds}
 use Rattle.subsetter.specs.Glyf.Reach.{IsGlyphOrder}
@@ -28,10 +28,10 @@ use Rattle.subsetter.specs.Fault.{HasFault}
 use Rattle.subsetter.specs.Laid.{of_outlines}
 use Rattle.subsetter.specs.Subset.{by_outlines, IsSubset}
 use Rattle.subsetter.specs.Answer.{IsAnswer}
-use Rattle.subsetter.proofs.SfntLaws.Back.{word_of}
-use Rattle.subsetter.proofs.SfntLaws.Container.{sound, table_of, head_of}
-use Rattle.subsetter.proofs.SfntLaws.Rows.{rows_ascend, present_ascends, lookup_row, rows_few, some_table, rows_tables, AreAlike, same_tags}
-use Rattle.subsetter.proofs.SfntLaws.TableBytes.{table_bytes}
+use Rattle.subsetter_sfnt.proofs.Laws.Back.{word_of}
+use Rattle.subsetter_sfnt.proofs.Laws.Container.{sound, table_of, head_of}
+use Rattle.subsetter_sfnt.proofs.Laws.Rows.{rows_ascend, present_ascends, lookup_row, rows_few, some_table, rows_tables, AreAlike, same_tags}
+use Rattle.subsetter_sfnt.proofs.Laws.TableBytes.{table_bytes}
 use Rattle.subsetter.proofs.HeadLaws.Back.{outlines_afresh}
 use Rattle.subsetter.proofs.GlyfLaws.Back.{AreWritten, entry_count}
 use Rattle.subsetter.proofs.GlyfLaws.Fault.{HasTables, has_tables, order_in}
@@ -62,8 +62,8 @@ lookup_laid : (find : List ℕ → Option (List ℕ)) (m : Made) (tag : List ℕ
 lookup_laid find m tag = ap (lookup tag) (laid_is find m) ∙ lookup_row (font_of find m) tag
 
 -- the tables that were laid out are those that the source calls for
-laid_tags : (find : List ℕ → Option (List ℕ)) (t : Outlines) (order : List ℕ) (m : Made) → HasTables find t → MadeSteps find t order m → tags (laid find m) ≡ tags_of TrueType find
-laid_tags find t order m h s =
+laid_tags : (hinting : Bool) (find : List ℕ → Option (List ℕ)) (t : Outlines) (order : List ℕ) (m : Made) → HasTables hinting find t → MadeSteps find t order m → tags (laid find m) ≡ tags_of TrueType find
+laid_tags hinting find t order m h s =
     let metrics = metrics_there find order m.shared.metrics s.shared.metrics_are in
     let alike : AreAlike (font_of find m) (called_for TrueType find) = record {
       cff = refl;
@@ -86,8 +86,8 @@ some_glyph : (glyphs others order : List ℕ) → order ≡ glyphs ++ others →
 some_glyph glyphs others order e lt = omega (arith, ap length e, length-append glyphs others)
 
 -- head was made of the head that the outlines were read with
-made_head : (find : List ℕ → Option (List ℕ)) (t : Outlines) (order : List ℕ) (m : Made) → HasTables find t → MadeSteps find t order m → m.shared.head ≡ Some (head_bytes (is_long m.outlines) t.head)
-made_head find t order m h s = by m.shared.head refl
+made_head : (hinting : Bool) (find : List ℕ → Option (List ℕ)) (t : Outlines) (order : List ℕ) (m : Made) → HasTables hinting find t → MadeSteps find t order m → m.shared.head ≡ Some (head_bytes (is_long m.outlines) t.head)
+made_head hinting find t order m h s = by m.shared.head refl
   where
     by : (o : Option (List ℕ)) → m.shared.head ≡ o → m.shared.head ≡ Some (head_bytes (is_long m.outlines) t.head)
     by None e =
@@ -111,10 +111,10 @@ module _ (font : Font) (t : Outlines) (order : List ℕ) (m : Made) (read : outl
   abbrev out : Font
   out = as_font made_file
 
-  source : HasTables (table font) t
-  source = has_tables (table font) t read
+  pub source : HasTables font.extras.hinting (table font) t
+  source = has_tables font.extras.hinting (table font) t read
 
-  back : (tag : List ℕ) → bytes_eq tag (codes "head") ≡ false → table out tag ≡ bytes_of tag (rows (font_of (table font) m))
+  pub back : (tag : List ℕ) → bytes_eq tag (codes "head") ≡ false → table out tag ≡ bytes_of tag (rows (font_of (table font) m))
   back tag other = table_of (kind_word TrueType) ts (inl refl) (laid_few (table font) m) (laid_all (table font) t order m s) fit tag other ∙ lookup_laid (table font) m tag
 
   pub shared_back : AreBack out word m.shared
@@ -128,22 +128,22 @@ module _ (font : Font) (t : Outlines) (order : List ℕ) (m : Made) (read : outl
   }
 
   head_back : table out (codes "head") ≡ Some (with_adjustment word (head_bytes (is_long m.outlines) t.head))
-  head_back = shared_back.head ∙ ap (option_map (with_adjustment word)) (made_head (table font) t order m source s)
+  head_back = shared_back.head ∙ ap (option_map (with_adjustment word)) (made_head font.extras.hinting (table font) t order m source s)
 
   pub container : IsSoundContainer made_file (kind_word TrueType) (tags_of TrueType (table font))
   container =
       let some = some_table (codes "loca") m.loca ts (lookup_laid (table font) m (codes "loca")) in
       let up = subst (λ (l : List Table). AscendFrom 0 (tags l)) (sym (laid_is (table font) m)) (present_ascends 0 (rows (font_of (table font) m)) (rows_ascend (font_of (table font) m))) in
-      subst (λ (l : List (List ℕ)). IsSoundContainer made_file (kind_word TrueType) l) (laid_tags (table font) t order m source s) (sound (kind_word TrueType) ts (inl refl) some (laid_few (table font) m) (laid_all (table font) t order m s) fit up)
+      subst (λ (l : List (List ℕ)). IsSoundContainer made_file (kind_word TrueType) l) (laid_tags font.extras.hinting (table font) t order m source s) (sound (kind_word TrueType) ts (inl refl) some (laid_few (table font) m) (laid_all (table font) t order m s) fit up)
 
   -- the tables of outlines, read afresh
-  abbrev afresh : Outlines
-  afresh = record { loca = m.loca; glyf = glyf_bytes (is_long m.outlines) m.outlines; head = with_adjustment word (head_bytes (is_long m.outlines) t.head); long = is_long m.outlines }
+  abbrev pub afresh : Outlines
+  afresh = record { loca = m.loca; glyf = glyf_bytes (is_long m.outlines) m.outlines; head = with_adjustment word (head_bytes (is_long m.outlines) t.head); long = is_long m.outlines; hinting = true }
 
   pub outlines_back : outlines out ≡ Some afresh
-  outlines_back = outlines_afresh (table out) m.loca (glyf_bytes (is_long m.outlines) m.outlines) word (is_long m.outlines) t.head source.head_len (back (codes "loca") refl) (back (codes "glyf") refl) head_back
+  outlines_back = outlines_afresh true (table out) m.loca (glyf_bytes (is_long m.outlines) m.outlines) word (is_long m.outlines) t.head source.head_len (back (codes "loca") refl) (back (codes "glyf") refl) head_back
 
-  written : AreWritten m.outlines afresh
+  pub written : AreWritten m.outlines afresh
   written = record { long_is = refl; glyf_is = refl; loca_is = s.loca_is; small = s.small }
 
   count : HasGlyphCount out (length order)
@@ -158,8 +158,8 @@ module _ (font : Font) (t : Outlines) (order : List ℕ) (m : Made) (read : outl
       record {
         has_head = ap (λ (o : Option (List ℕ)). is_some o) source.head_is;
         count = count;
-        drawing = unfolds_alike font out glyphs order t afresh m.outlines read outlines_back closed few glyf s.kept written;
-        numbering = numbered_alike font out glyphs order t afresh m.outlines read outlines_back closed few glyf s.kept written;
+        drawing = unfolds_alike font out glyphs order t afresh m.outlines read source.asks refl outlines_back closed few glyf s.kept written;
+        numbering = numbered_alike font out glyphs order t afresh m.outlines read source.asks refl outlines_back closed few glyf s.kept written;
         programs = programs;
       }
 
@@ -180,7 +180,7 @@ module _ (font : Font) (t : Outlines) (order : List ℕ) (m : Made) (read : outl
   }
 
 -- what is answered is a subset
-pub is_subset : (tokens depth : ℕ) (font : Font) (glyphs out : List ℕ) → IsBytes font.bytes → 0 < length glyphs → flavor font ≡ Some TrueType → (a : IsAnswered (table font) glyphs out) → ((e : Error) → HasFault tokens depth font glyphs a.order e → ⊥) → IsAnswer tokens depth font glyphs out
+pub is_subset : (tokens depth : ℕ) (font : Font) (glyphs out : List ℕ) → IsBytes font.bytes → 0 < length glyphs → flavor font ≡ Some TrueType → (a : IsAnswered font.extras.hinting (table font) glyphs out) → ((e : Error) → HasFault tokens depth font glyphs a.order e → ⊥) → IsAnswer tokens depth font glyphs out
 unfolding made_subset
 is_subset tokens depth font glyphs out bytes some kind a clean =
     let read : outlines font ≡ Some a.source = named_ok (outlines font) MalformedFont a.source a.read in

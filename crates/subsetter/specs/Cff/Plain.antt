@@ -5,10 +5,10 @@ use Rattle.subsetter_base.specs.Bytes.{◌>>=◌}
 use Rattle.subsetter_base.specs.declared.error.Error.{Error}
 use Rattle.subsetter_base.specs.declared.error.Error.TheVariants.{MalformedFont}
 use Rattle.subsetter_cff.specs.Plain.{cff_subset}
-use Rattle.subsetter.specs.declared.sfnt.flavor.FontFlavor.TheVariants.{Cff}
-use Rattle.subsetter.specs.Sfnt.Written.{Table, kind_word}
-use Rattle.subsetter.specs.Sfnt.Plain.{file_of}
-use Rattle.subsetter.specs.Sfnt.Rows.{FontTables, rows, present}
+use Rattle.subsetter_sfnt.specs.declared.flavor.FontFlavor.TheVariants.{Cff}
+use Rattle.subsetter_sfnt.specs.Written.{Table, kind_word}
+use Rattle.subsetter_sfnt.specs.Plain.{file_of}
+use Rattle.subsetter_sfnt.specs.Rows.{FontTables, rows, present}
 use Rattle.subsetter.specs.Shared.Plain.{SharedTables, shared_of, with_shared}
 
 -- what is made for the new font

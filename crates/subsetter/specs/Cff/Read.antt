@@ -1,7 +1,7 @@
 -- What a subset keeps of outlines in a CFF table, read afresh (Technical Notes 5176 and 5177).
 use Rattle.std.specs.Prelude.{◌≡◌, ℕ, List, codes, Some}
 use Rattle.subsetter_cff.specs.Headline.{IsSubsetTable}
-use Rattle.subsetter.specs.Sfnt.Read.{Font, table}
+use Rattle.subsetter_sfnt.specs.Read.{Font, table}
 
 -- both fonts have the table, and one is a subset of the other: each glyph draws as its source within the two limits
 pub record KeepsCharStrings (tokens depth : ℕ) (font : Font) (order : List ℕ) (out : Font) : Type 0 where

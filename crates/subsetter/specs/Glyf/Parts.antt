@@ -3,9 +3,7 @@ use Rattle.std.specs.Prelude.{ℕ, zero, suc, ◌+◌, Bool, not, List, [], ◌�
 use Rattle.std.specs.List.{flat_map}
 use Rattle.std.specs.Int.{w16, to_be_bytes}
 use Rattle.subsetter_base.specs.Bytes.{range, number}
-use Rattle.subsetter.specs.Optional.{◌>>=◌}
-use Rattle.subsetter.specs.Sfnt.Read.{Font}
-use Rattle.subsetter.specs.Glyf.Read.{outline}
+use Rattle.subsetter_sfnt.specs.Optional.{◌>>=◌}
 
 -- a component: its flags, its glyph, and the bytes of its arguments and its transform
 pub record Component : Type 0 where
@@ -73,12 +71,6 @@ unfoldable pub outline_parts : List ℕ → Option Parts
 outline_parts [] = Some Empty
 outline_parts (a ∷ []) = None
 outline_parts (a ∷ b ∷ bytes) = if nat_lt a 128 then Some (Simple (a ∷ b ∷ bytes)) else composite_parts (a ∷ b ∷ bytes)
-
--- the parts of a glyph's outline
-abbrev pub glyph_parts : Font → ℕ → Option Parts
-glyph_parts font g = do
-  bytes ← outline font g
-  outline_parts bytes
 
 -- ---- the lenient reading: a component counts once its flags and its number are there
 

@@ -1,16 +1,17 @@
 -- The plain way to take the outlines of the kept glyphs, with the error that is answered where one can't be taken.
-use Rattle.std.specs.Prelude.{ℕ, List, [], ◌∷◌, ◌++◌, map, Option, Result, Ok}
+use Rattle.std.specs.Prelude.{ℕ, Bool, List, [], ◌∷◌, ◌++◌, map, Option, Result, Ok}
 use Rattle.std.specs.Option.{option_map, unwrap_or, ok_or}
 use Rattle.subsetter_base.specs.Bytes.{◌>>=◌}
 use Rattle.subsetter_base.specs.Places.{place}
 use Rattle.subsetter_base.specs.declared.error.Error.{Error}
 use Rattle.subsetter_base.specs.declared.error.Error.TheVariants.{MalformedFont}
 use Rattle.subsetter.specs.Glyf.Read.{Outlines, outlines_in, outline_in}
+use Rattle.subsetter.specs.Glyf.Bare.{parts_asked}
 use Rattle.subsetter.specs.Glyf.Parts.{Component, Chain, Parts, Empty, Simple, Composite, composite_parts, outline_parts, parts_bytes}
 
 -- the tables of the outlines
-abbrev pub outlines_read : (List ℕ → Option (List ℕ)) → Result Outlines Error
-outlines_read find = ok_or (outlines_in find) MalformedFont
+abbrev pub outlines_read : Bool → (List ℕ → Option (List ℕ)) → Result Outlines Error
+outlines_read hinting find = ok_or (outlines_in hinting find) MalformedFont
 
 -- the new number of a glyph: its place in the order
 abbrev pub new_number : List ℕ → ℕ → ℕ
@@ -30,12 +31,12 @@ renumbered order (Simple bytes) = Simple bytes
 renumbered order (Composite head chain) = Composite head (renumbered_chain order chain)
 
 -- a composite with its components under the new numbers
-unfoldable pub rewritten_composite : List ℕ → List ℕ → Result (List ℕ) Error
-rewritten_composite order bytes = ok_or (option_map (λ p. parts_bytes (renumbered order p)) (composite_parts bytes)) MalformedFont
+unfoldable pub rewritten_composite : Bool → List ℕ → List ℕ → Result (List ℕ) Error
+rewritten_composite hinting order bytes = ok_or (option_map (λ p. parts_bytes (renumbered order p)) (parts_asked hinting (composite_parts bytes))) MalformedFont
 
 -- an outline with its components under the new numbers
-unfoldable pub rewritten : List ℕ → List ℕ → Result (List ℕ) Error
-rewritten order bytes = ok_or (option_map (λ p. parts_bytes (renumbered order p)) (outline_parts bytes)) MalformedFont
+unfoldable pub rewritten : Bool → List ℕ → List ℕ → Result (List ℕ) Error
+rewritten hinting order bytes = ok_or (option_map (λ p. parts_bytes (renumbered order p)) (parts_asked hinting (outline_parts bytes))) MalformedFont
 
 -- bytes that are written behind others
 abbrev pub written_behind : List ℕ → Result (List ℕ) Error → Result (List ℕ) Error
@@ -49,7 +50,7 @@ with_last outlines read = read >>= λ bytes. Ok (outlines ++ bytes ∷ [])
 unfoldable pub kept : Outlines → List ℕ → ℕ → Result (List ℕ) Error
 kept t order g = do
   bytes ← ok_or (outline_in t g) MalformedFont
-  rewritten order bytes
+  rewritten t.hinting order bytes
 
 -- the outlines of a list of glyphs
 abbrev pub kept_all : Outlines → List ℕ → List ℕ → Result (List (List ℕ)) Error
@@ -66,15 +67,15 @@ abbrev pub with_outlines : List (List ℕ) → Result (List (List ℕ)) Error �
 with_outlines outlines read = read >>= λ more. Ok (outlines ++ more)
 
 -- an outline that is kept, if it is there
-unfoldable pub kept_outline : List ℕ → Option (List ℕ) → Result (List ℕ) Error
-kept_outline order found = do
+unfoldable pub kept_outline : Bool → List ℕ → Option (List ℕ) → Result (List ℕ) Error
+kept_outline hinting order found = do
   bytes ← ok_or found MalformedFont
-  rewritten order bytes
+  rewritten hinting order bytes
 
 -- such outlines
-abbrev pub kept_outlines : List ℕ → List (Option (List ℕ)) → Result (List (List ℕ)) Error
-kept_outlines order [] = Ok []
-kept_outlines order (o ∷ os) = do
-  first ← kept_outline order o
-  rest ← kept_outlines order os
+abbrev pub kept_outlines : Bool → List ℕ → List (Option (List ℕ)) → Result (List (List ℕ)) Error
+kept_outlines hinting order [] = Ok []
+kept_outlines hinting order (o ∷ os) = do
+  first ← kept_outline hinting order o
+  rest ← kept_outlines hinting order os
   Ok (first ∷ rest)

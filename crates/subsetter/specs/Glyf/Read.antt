@@ -2,8 +2,8 @@
 use Rattle.std.specs.Prelude.{ℕ, ◌+◌, ◌-◌, ◌*◌, Bool, not, List, codes, Option, Some, None, nat_le, ◌==◌, if◌then◌else◌}
 use Rattle.std.specs.Option.{option_and_then, option_map}
 use Rattle.subsetter_base.specs.Bytes.{range, number}
-use Rattle.subsetter.specs.Optional.{◌>>=◌}
-use Rattle.subsetter.specs.Sfnt.Read.{Font, table}
+use Rattle.subsetter_sfnt.specs.Optional.{◌>>=◌}
+use Rattle.subsetter_sfnt.specs.Read.{Font, table}
 
 -- the tables that outlines are read from
 pub record Outlines : Type 0 where
@@ -11,18 +11,20 @@ pub record Outlines : Type 0 where
   pub glyf : List ℕ
   pub head : List ℕ
   pub long : Bool
+  -- whether instructions are asked for
+  pub hinting : Bool
 
 -- loca is in the long format where the number at byte 50 of head is not 0
-unfoldable pub outlines_in : (List ℕ → Option (List ℕ)) → Option Outlines
-outlines_in find = do
+unfoldable pub outlines_in : Bool → (List ℕ → Option (List ℕ)) → Option Outlines
+outlines_in hinting find = do
   loca ← find (codes "loca")
   glyf ← find (codes "glyf")
   head ← find (codes "head")
   format ← number head 50 2
-  Some (record { loca = loca; glyf = glyf; head = head; long = not (format == 0) })
+  Some (record { loca = loca; glyf = glyf; head = head; long = not (format == 0); hinting = hinting })
 
 abbrev pub outlines : Font → Option Outlines
-outlines font = outlines_in (table font)
+outlines font = outlines_in font.extras.hinting (table font)
 
 -- how many bytes an entry of loca has
 abbrev pub entry_size : Bool → ℕ

@@ -1,9 +1,10 @@
 -- Glyphs of two fonts that draw alike (OpenType, "glyf").
 use Rattle.std.specs.Prelude.{◌≡◌, ℕ, zero, suc, Bool, List, [], ◌∷◌, Some, if◌then◌else◌}
 use Rattle.subsetter_base.specs.Bytes.{aligned}
-use Rattle.subsetter.specs.Sfnt.Read.{Font}
+use Rattle.subsetter_sfnt.specs.Read.{Font}
 use Rattle.subsetter.specs.Glyf.Read.{Outlines, outlines}
-use Rattle.subsetter.specs.Glyf.Parts.{Component, Parts, Empty, Simple, Composite, glyph_parts}
+use Rattle.subsetter.specs.Glyf.Parts.{Component, Parts, Empty, Simple, Composite}
+use Rattle.subsetter.specs.Glyf.Bare.{glyph_parts}
 
 -- in the short format of loca an outline has even length: one zero byte goes behind an odd one
 abbrev pub padded : Bool → List ℕ → List ℕ

@@ -1,6 +1,6 @@
 -- The font header (OpenType, "head").
 use Rattle.std.specs.Prelude.{◌≡◌, List, ℕ, length, take, drop, slice_range, codes, Some}
-use Rattle.subsetter.specs.Sfnt.Read.{Font, table}
+use Rattle.subsetter_sfnt.specs.Read.{Font, table}
 
 -- head is the source's but for checksumAdjustment (bytes 8..12) and indexToLocFormat (bytes 50..52)
 pub record KeepsHead (font out : Font) : Type 0 where

@@ -3,8 +3,8 @@ use Rattle.std.specs.Prelude.{◌≡◌, ℕ, ◌<◌, List, [], length, drop, c
 use Rattle.subsetter_base.specs.Bytes.{number}
 use Rattle.subsetter_base.specs.declared.error.Error.{Error}
 use Rattle.subsetter_base.specs.declared.error.Error.TheVariants.{MalformedFont}
-use Rattle.subsetter.specs.declared.sfnt.flavor.FontFlavor.{FontFlavor}
-use Rattle.subsetter.specs.declared.sfnt.flavor.FontFlavor.TheVariants.{TrueType, Cff}
+use Rattle.subsetter_sfnt.specs.declared.flavor.FontFlavor.{FontFlavor}
+use Rattle.subsetter_sfnt.specs.declared.flavor.FontFlavor.TheVariants.{TrueType, Cff}
 
 -- numGlyphs
 abbrev pub number_of_glyphs : List ℕ → Option ℕ

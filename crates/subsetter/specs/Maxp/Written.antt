@@ -3,7 +3,7 @@ use Rattle.std.specs.Prelude.{ℕ, List, ◌++◌, length, codes, Option, Some, 
 use Rattle.std.specs.Int.{w16, w32, to_be_bytes}
 use Rattle.subsetter_base.specs.declared.error.Error.{Error}
 use Rattle.subsetter_base.specs.declared.error.Error.TheVariants.{MalformedFont}
-use Rattle.subsetter.specs.declared.sfnt.flavor.FontFlavor.{FontFlavor}
+use Rattle.subsetter_sfnt.specs.declared.flavor.FontFlavor.{FontFlavor}
 use Rattle.subsetter.specs.Maxp.Read.{version_of, further_fields}
 
 unfoldable pub maxp_bytes : FontFlavor → ℕ → List ℕ → List ℕ

@@ -4,7 +4,7 @@ use Rattle.std.specs.Option.{option_and_then, option_map}
 use Rattle.std.specs.Str.{bytes_eq}
 use Rattle.std.specs.Int.{w16, to_be_bytes}
 use Rattle.subsetter_base.specs.Bytes.{be, range, number}
-use Rattle.subsetter.specs.Optional.{◌>>=◌}
+use Rattle.subsetter_sfnt.specs.Optional.{◌>>=◌}
 use Rattle.subsetter.specs.declared.name.NameRecord.{NameRecord}
 
 -- ---- read

@@ -2,7 +2,7 @@
 use Rattle.std.specs.Prelude.{ℕ, List, map, Some}
 use Rattle.std.specs.Borrow.{Bor}
 use Rattle.subsetter_base.specs.Items.{values}
-use Rattle.subsetter.specs.declared.name.NameTable.{NameTable as ReadTable}
+use Rattle.subsetter.specs.declared.name.Table.{Table as ReadTable}
 use Rattle.subsetter.specs.declared.name.NewName.{NewName}
 use Rattle.subsetter.specs.declared.name.NewName.TheVariants.{Copied, Kept}
 use Rattle.subsetter.specs.Name.Read.{NameTable, name_record_of, name_records_in}

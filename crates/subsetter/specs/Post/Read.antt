@@ -4,7 +4,7 @@ use Rattle.std.specs.Option.{option_and_then}
 use Rattle.std.specs.Int.{w16, to_be_bytes}
 use Rattle.subsetter_base.specs.Bytes.{be, range, number}
 use Rattle.subsetter_base.specs.Items.{Items, item}
-use Rattle.subsetter.specs.Optional.{◌>>=◌}
+use Rattle.subsetter_sfnt.specs.Optional.{◌>>=◌}
 use Rattle.subsetter.specs.Name.Read.{bytes_from}
 
 -- ---- read

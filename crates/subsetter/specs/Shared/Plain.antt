@@ -3,8 +3,8 @@ use Rattle.std.specs.Prelude.{ℕ, Bool, List, length, Option, None, Result, Ok}
 use Rattle.std.specs.Option.{option_map}
 use Rattle.subsetter_base.specs.Bytes.{◌>>=◌}
 use Rattle.subsetter_base.specs.declared.error.Error.{Error}
-use Rattle.subsetter.specs.declared.sfnt.flavor.FontFlavor.{FontFlavor}
-use Rattle.subsetter.specs.Sfnt.Rows.{FontTables}
+use Rattle.subsetter_sfnt.specs.declared.flavor.FontFlavor.{FontFlavor}
+use Rattle.subsetter_sfnt.specs.Rows.{FontTables}
 use Rattle.subsetter.specs.Head.Written.{head_of}
 use Rattle.subsetter.specs.Hmtx.Written.{MetricBytes, metrics_of}
 use Rattle.subsetter.specs.Maxp.Written.{maxp_of}

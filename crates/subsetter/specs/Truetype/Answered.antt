@@ -1,20 +1,20 @@
 -- What subsetting a TrueType font comes to, step by step: the outlines are read, the order of the glyphs is found, the tables are made, and the file is laid out.
-use Rattle.std.specs.Prelude.{◌≡◌, ◌<◌, ◌^◌, ℕ, List, [], length, Option, Ok, Err}
+use Rattle.std.specs.Prelude.{◌≡◌, ◌<◌, ◌^◌, ℕ, Bool, List, [], length, Option, Ok, Err}
 use Rattle.subsetter_base.specs.declared.error.Error.{Error}
 use Rattle.subsetter_base.specs.declared.error.Error.TheVariants.{OutOfMemory}
-use Rattle.subsetter.specs.declared.sfnt.flavor.FontFlavor.TheVariants.{TrueType}
+use Rattle.subsetter_sfnt.specs.declared.flavor.FontFlavor.TheVariants.{TrueType}
 use Rattle.subsetter.specs.Glyf.Closure.{Finds, StopsClosure}
 use Rattle.subsetter.specs.Glyf.Read.{Outlines, outline_in}
-use Rattle.subsetter.specs.Sfnt.Written.{Table, kind_word}
+use Rattle.subsetter_sfnt.specs.Written.{Table, kind_word}
 use Rattle.subsetter.specs.Truetype.Plain.{truetype_tables}
-use Rattle.subsetter.specs.Sfnt.Plain.{file_of}
+use Rattle.subsetter_sfnt.specs.Plain.{file_of}
 use Rattle.subsetter.specs.Glyf.Plain.{outlines_read}
 use Rattle.subsetter.specs.Glyf.Reach.{IsGlyphOrderBy}
 
 -- the steps to a file
-pub record IsAnswered (find : List ℕ → Option (List ℕ)) (glyphs out : List ℕ) : Type 0 where
+pub record IsAnswered (hinting : Bool) (find : List ℕ → Option (List ℕ)) (glyphs out : List ℕ) : Type 0 where
   pub source : Outlines
-  pub read : outlines_read find ≡ Ok source
+  pub read : outlines_read hinting find ≡ Ok source
   pub order : List ℕ
   pub is_order : IsGlyphOrderBy (outline_in source) glyphs order
   pub found : Finds source order glyphs [] glyphs
@@ -24,9 +24,9 @@ pub record IsAnswered (find : List ℕ → Option (List ℕ)) (glyphs out : List
   pub laid_out : file_of (kind_word TrueType) tables ≡ Ok out
 
 -- the step that fails
-pub data IsRefused (find : List ℕ → Option (List ℕ)) (glyphs : List ℕ) : Error → Type 0 where
-  no_memory : IsRefused find glyphs OutOfMemory
-  unread : {e : Error} → outlines_read find ≡ Err e → IsRefused find glyphs e
-  unclosed : {e : Error} (source : Outlines) → outlines_read find ≡ Ok source → StopsClosure source glyphs e → IsRefused find glyphs e
-  unmade : {e : Error} (source : Outlines) (order : List ℕ) → outlines_read find ≡ Ok source → IsGlyphOrderBy (outline_in source) glyphs order → Finds source order glyphs [] glyphs → truetype_tables find source order ≡ Err e → IsRefused find glyphs e
-  unlaid : {e : Error} (source : Outlines) (order : List ℕ) (tables : List Table) → outlines_read find ≡ Ok source → IsGlyphOrderBy (outline_in source) glyphs order → Finds source order glyphs [] glyphs → truetype_tables find source order ≡ Ok tables → file_of (kind_word TrueType) tables ≡ Err e → IsRefused find glyphs e
+pub data IsRefused (hinting : Bool) (find : List ℕ → Option (List ℕ)) (glyphs : List ℕ) : Error → Type 0 where
+  no_memory : IsRefused hinting find glyphs OutOfMemory
+  unread : {e : Error} → outlines_read hinting find ≡ Err e → IsRefused hinting find glyphs e
+  unclosed : {e : Error} (source : Outlines) → outlines_read hinting find ≡ Ok source → StopsClosure source glyphs e → IsRefused hinting find glyphs e
+  unmade : {e : Error} (source : Outlines) (order : List ℕ) → outlines_read hinting find ≡ Ok source → IsGlyphOrderBy (outline_in source) glyphs order → Finds source order glyphs [] glyphs → truetype_tables find source order ≡ Err e → IsRefused hinting find glyphs e
+  unlaid : {e : Error} (source : Outlines) (order : List ℕ) (tables : List Table) → outlines_read hinting find ≡ Ok source → IsGlyphOrderBy (outline_in source) glyphs order → Finds source order glyphs [] glyphs → truetype_tables find source order ≡ Ok tables → file_of (kind_word TrueType) tables ≡ Err e → IsRefused hinting find glyphs e

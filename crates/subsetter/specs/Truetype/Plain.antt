@@ -3,9 +3,9 @@ use Rattle.std.specs.Prelude.{ℕ, ◌^◌, List, length, codes, Option, Some, R
 use Rattle.subsetter_base.specs.Bytes.{◌>>=◌}
 use Rattle.subsetter_base.specs.declared.error.Error.{Error}
 use Rattle.subsetter_base.specs.declared.error.Error.TheVariants.{OverflowError}
-use Rattle.subsetter.specs.declared.sfnt.flavor.FontFlavor.TheVariants.{TrueType}
-use Rattle.subsetter.specs.Sfnt.Written.{Table}
-use Rattle.subsetter.specs.Sfnt.Rows.{FontTables, rows, present}
+use Rattle.subsetter_sfnt.specs.declared.flavor.FontFlavor.TheVariants.{TrueType}
+use Rattle.subsetter_sfnt.specs.Written.{Table}
+use Rattle.subsetter_sfnt.specs.Rows.{FontTables, rows, present}
 use Rattle.subsetter.specs.Glyf.Read.{Outlines}
 use Rattle.subsetter.specs.Glyf.Written.{is_long, glyf_bytes, loca_bytes}
 use Rattle.subsetter.specs.Glyf.Plain.{kept_all}

@@ -1,7 +1,7 @@
 -- What a subset keeps of outlines in `glyf`, read afresh (OpenType, "glyf", "loca").
 use Rattle.std.specs.Prelude.{◌≡◌, ℕ, ◌+◌, ◌*◌, ◌<◌, List, length, slice_index, codes, Some, IsSome}
 use Rattle.subsetter_base.specs.Places.{place}
-use Rattle.subsetter.specs.Sfnt.Read.{Font, table}
+use Rattle.subsetter_sfnt.specs.Read.{Font, table}
 use Rattle.subsetter.specs.Glyf.Read.{Outlines, outlines, entry_size}
 use Rattle.subsetter.specs.Glyf.Unfold.{HaveSameParts, UnfoldAlike}
 

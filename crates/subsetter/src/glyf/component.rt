@@ -1,11 +1,12 @@
 //! The components of a composite glyph (OpenType, "glyf": composite glyph description).
 
-ghost use Rattle.std.specs.Prelude.{◌≡◌, ◌+◌, ◌-◌, ◌≤◌, [], ◌++◌, length, take, drop, if◌then◌else◌, nat_le, Some, Ok, OnOk, OnErr, IfErr};
+ghost use Rattle.std.specs.Prelude.{◌≡◌, ◌+◌, ◌-◌, ◌≤◌, [], ◌∷◌, ◌++◌, length, take, drop, if◌then◌else◌, ◌&&◌, nat_le, Some, Ok, OnOk, OnErr, IfErr};
 ghost use Rattle.std.specs.Int.{w16, to_be_bytes};
-ghost use Rattle.std.specs.Option.{option_map};
+ghost use Rattle.std.specs.Option.{option_map, unwrap_or};
 ghost use Rattle.subsetter_base.specs.Gives.{Fails};
 ghost use Rattle.subsetter.specs.Glyf.View.{component_seen};
 ghost use Rattle.subsetter.specs.Glyf.Parts.{rest_size, has_more, has_instructions, component_at, numbers_at, component_numbers};
+ghost use Rattle.subsetter.specs.Glyf.Bare.{flags_asked, bare_simple};
 ghost use Rattle.subsetter.specs.Glyf.Plain.{new_number, written_behind, rewritten_composite};
 
 use std::marker::Model;
@@ -186,35 +187,49 @@ fn put_number(out: &mut Vec<u8>, at: usize, number: u16)
     out[at..at + 2].copy_from_slice(&number.to_be_bytes());
 }
 
+/// The flags of a component, without that of instructions where these are not asked for.
+fn flags_asked(hinting: bool, flags: u16) -> u16
+    ensures { result ≡ flags_asked hinting flags }
+{
+    if hinting { flags } else { flags & 0xFEFF }
+}
+
 /// Puts a component's flags and the new number of its glyph in the place of four bytes.
-fn renumber(out: &mut Vec<u8>, at: usize, order: &GlyphRemapper, component: Component<'_>)
+fn renumber(
+    out: &mut Vec<u8>,
+    at: usize,
+    order: &GlyphRemapper,
+    component: Component<'_>,
+    hinting: bool,
+)
     requires { at + 4 ≤ length out.old.items }
-    ensures { out.new.items ≡ take at out.old.items ++ to_be_bytes w16 component.entry.flags ++ to_be_bytes w16 (new_number order.now component.entry.glyph) ++ drop (at + 4) out.old.items }
+    ensures { out.new.items ≡ take at out.old.items ++ to_be_bytes w16 (flags_asked hinting component.entry.flags) ++ to_be_bytes w16 (new_number order.now component.entry.glyph) ++ drop (at + 4) out.old.items }
 {
     let number = order.get(component.glyph).unwrap_or(0);
-    put_number(out, at, component.flags);
+    put_number(out, at, flags_asked(hinting, component.flags));
     put_number(out, at + 2, number);
 }
 
-/// Leaves out as many bytes behind the last component, unless these are its instructions.
-fn cut_tail(out: &mut Vec<u8>, flags: u16, size: usize)
+/// Leaves out as many bytes behind the last component, unless these are its instructions, and asked for.
+fn cut_tail(out: &mut Vec<u8>, flags: u16, size: usize, hinting: bool)
     requires { size ≤ length out.old.items }
-    ensures { out.new.items ≡ (if has_instructions flags then out.old.items else take (length out.old.items - size) out.old.items) }
+    ensures { out.new.items ≡ (if hinting && has_instructions flags then out.old.items else take (length out.old.items - size) out.old.items) }
 {
-    if !has_instructions(flags) {
+    if !(hinting && has_instructions(flags)) {
         out.truncate(out.len() - size);
     }
 }
 
-/// Writes a composite with its components under their new numbers behind other bytes. `MalformedFont` where it is cut.
+/// Writes a composite with its components under their new numbers behind other bytes, and its instructions if they are asked for. `MalformedFont` where it is cut.
 /// It is copied as it is, and then each component gets its new number in its place. Where that fails, nothing is written.
 pub fn rewrite_composite(
     out: &mut Vec<u8>,
     outline: &[u8],
     order: &GlyphRemapper,
+    hinting: bool,
 ) -> Result<(), Error>
-    ensures ok { OnOk result (written_behind out.old.items (rewritten_composite order.now outline.now) ≡ Ok out.new.items) }
-    ensures err { IfErr result (λ e. Fails e (written_behind out.old.items (rewritten_composite order.now outline.now))) }
+    ensures ok { OnOk result (written_behind out.old.items (rewritten_composite hinting order.now outline.now) ≡ Ok out.new.items) }
+    ensures err { IfErr result (λ e. Fails e (written_behind out.old.items (rewritten_composite hinting order.now outline.now))) }
     ensures unchanged { OnErr result (out.new.items ≡ out.old.items) }
 {
     if outline.len() < 10 {
@@ -229,11 +244,44 @@ pub fn rewrite_composite(
             return Err(Error::MalformedFont);
         };
         let at = out.len() - rest.len();
-        renumber(out, at, order, component);
+        renumber(out, at, order, component, hinting);
         rest = behind_component(rest, component);
         if !has_more(component.flags) {
-            cut_tail(out, component.flags, rest.len());
+            cut_tail(out, component.flags, rest.len(), hinting);
             return Ok(());
         }
     }
+}
+
+/// A simple outline in two pieces: what stands before the length of its instructions, and what stands behind them.
+#[derive(Clone, Copy)]
+pub struct Bare<'a> {
+    pub front: &'a [u8],
+    pub behind: &'a [u8],
+}
+
+/// The pieces of a simple outline that has instructions, all of which are there.
+#[tactic(auto, using(crate::proofs::GlyfLaws::Bare::stays_bare), unfolding(crate::specs::Glyf::Bare::bare_simple))]
+pub fn bare_pieces(outline: &[u8]) -> Option<Bare<'_>>
+    ensures { unwrap_or (option_map (λ b. b.front.now ++ 0 ∷ 0 ∷ b.behind.now) result) outline.now ≡ bare_simple outline.now }
+{
+    if outline.len() < 2 {
+        return None;
+    }
+    let at = 10 + 2 * usize::from(u16_at(outline, 0));
+    if outline.len() < at + 2 {
+        return None;
+    }
+    let size = usize::from(u16_at(outline, at));
+    if size == 0 {
+        return None;
+    }
+    let end = at + 2 + size;
+    if outline.len() < end {
+        return None;
+    }
+    Some(Bare {
+        front: &outline[..at],
+        behind: &outline[end..],
+    })
 }

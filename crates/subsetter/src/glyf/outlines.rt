@@ -1,20 +1,21 @@
 //! The outlines of a new `glyf`.
 
-ghost use Rattle.std.specs.Prelude.{◌≡◌, ◌+◌, ◌<◌, ◌≤◌, ◌^◌, ◌++◌, ◌∷◌, [], length, vec_capacity, Ok, OnOk, IfOk, IfErr};
+ghost use Rattle.std.specs.Prelude.{◌≡◌, ◌+◌, ◌<◌, ◌≤◌, ◌^◌, ◌++◌, ◌∷◌, [], length, vec_capacity, Ok, OnOk, OnErr, IfOk, IfErr};
 ghost use Rattle.std.specs.Iterator.{YieldsFirstRef, item_count};
 ghost use Rattle.subsetter_base.specs.Gives.{Fails};
 ghost use Rattle.subsetter_base.specs.declared.error.Error.TheVariants.{OutOfMemory};
+ghost use Rattle.subsetter.specs.Glyf.Bare.{bare_simple, simple_asked};
 ghost use Rattle.subsetter.specs.Glyf.Plain.{rewritten_composite, with_last};
 ghost use Rattle.subsetter.specs.Glyf.Unfold.{padded};
 ghost use Rattle.subsetter.specs.Glyf.Written.{glyf_bytes};
-ghost use Rattle.subsetter.specs.Sfnt.Checksum.{checksum};
+ghost use Rattle.subsetter_sfnt.specs.Checksum.{checksum};
 
-use crate::glyf::component::rewrite_composite;
-use crate::sfnt::checksum::Sum;
-use crate::sfnt::room::put;
+use crate::glyf::component::{Bare, bare_pieces, rewrite_composite};
 use std::alloc::Global;
 use std::marker::Model;
 use subsetter_base::{Error, GlyphRemapper};
+use subsetter_sfnt::checksum::Sum;
+use subsetter_sfnt::room::put;
 
 /// A list of outlines, in less room than a `CowSlice` each: borrowed ones stay in the source, and those that are made
 /// anew stand one after another.
@@ -65,15 +66,21 @@ impl<'a> OutlineList<'a> {
         })
     }
 
-    /// Puts a composite last, with its components under their new numbers. `MalformedFont` where it is cut.
-    pub fn push_composite(&mut self, outline: &[u8], order: &GlyphRemapper) -> Result<(), Error>
-        ensures ok { OnOk result (with_last self.old (rewritten_composite order.now outline.now) ≡ Ok self.new) }
-        ensures err { IfErr result (λ e. Fails e (with_last self.old (rewritten_composite order.now outline.now))) }
+    /// Puts a composite last, with its components under their new numbers, and its instructions if they are asked for.
+    /// `MalformedFont` where it is cut.
+    pub fn push_composite(
+        &mut self,
+        outline: &[u8],
+        order: &GlyphRemapper,
+        hinting: bool,
+    ) -> Result<(), Error>
+        ensures ok { OnOk result (with_last self.old (rewritten_composite hinting order.now outline.now) ≡ Ok self.new) }
+        ensures err { IfErr result (λ e. Fails e (with_last self.old (rewritten_composite hinting order.now outline.now))) }
     {
         self.kept.reserve(1)?;
         self.sizes.reserve(1)?;
         let start = self.made.len();
-        rewrite_composite(&mut self.made, outline, order)?;
+        rewrite_composite(&mut self.made, outline, order, hinting)?;
         let written = &self.made[start..];
         let (long_len, short_len) = (padded_len(written, true), padded_len(written, false));
         self.kept.push(&[]).unwrap();
@@ -83,8 +90,20 @@ impl<'a> OutlineList<'a> {
         Ok(())
     }
 
+    /// Puts a simple outline of the source last, with its instructions if they are asked for.
+    pub fn push_simple(&mut self, outline: &'a [u8], hinting: bool) -> Result<(), Error>
+        ensures ok { OnOk result (self.new ≡ self.old ++ simple_asked hinting outline.now ∷ []) }
+        ensures err { IfErr result (λ e. e ≡ OutOfMemory) }
+    {
+        if hinting {
+            self.push_kept(outline)
+        } else {
+            self.push_bare(outline)
+        }
+    }
+
     /// Puts an outline of the source last.
-    pub fn push_kept(&mut self, outline: &'a [u8]) -> Result<(), Error>
+    fn push_kept(&mut self, outline: &'a [u8]) -> Result<(), Error>
         ensures ok { OnOk result (self.new ≡ self.old ++ outline.now ∷ []) }
         ensures err { IfErr result (λ e. e ≡ OutOfMemory) }
     {
@@ -97,6 +116,35 @@ impl<'a> OutlineList<'a> {
                 Ok(())
             }
         }
+    }
+
+    /// Puts a simple outline of the source last, without its instructions. Where it has none, it is borrowed.
+    fn push_bare(&mut self, outline: &'a [u8]) -> Result<(), Error>
+        ensures ok { OnOk result (self.new ≡ self.old ++ bare_simple outline.now ∷ []) }
+        ensures err { IfErr result (λ e. e ≡ OutOfMemory) }
+    {
+        match bare_pieces(outline) {
+            Some(pieces) => self.push_pieces(pieces),
+            None => self.push_kept(outline),
+        }
+    }
+
+    /// Puts two pieces last, with a length of 0 between them.
+    fn push_pieces(&mut self, pieces: Bare<'_>) -> Result<(), Error>
+        ensures ok { OnOk result (self.new ≡ self.old ++ (pieces.entry.front.now ++ 0 ∷ 0 ∷ pieces.entry.behind.now) ∷ []) }
+        ensures err { IfErr result (λ e. e ≡ OutOfMemory) }
+    {
+        self.kept.reserve(1)?;
+        self.sizes.reserve(1)?;
+        let start = self.made.len();
+        write_pieces(&mut self.made, pieces)?;
+        let written = &self.made[start..];
+        let (long_len, short_len) = (padded_len(written, true), padded_len(written, false));
+        self.kept.push(&[]).unwrap();
+        self.sizes.push(long_len).unwrap();
+        self.size = self.size.saturating_add(long_len);
+        self.even_size = self.even_size.saturating_add(short_len);
+        Ok(())
     }
 
     /// Puts a copy of an outline last.
@@ -140,6 +188,24 @@ impl<'a> OutlineList<'a> {
     {
         self.kept.as_slice().len()
     }
+}
+
+/// Writes two pieces with a length of 0 between them. Where there is no room, nothing is written.
+fn write_pieces(out: &mut Vec<u8>, pieces: Bare<'_>) -> Result<(), Error>
+    ensures ok { OnOk result (out.new.items ≡ out.old.items ++ (pieces.entry.front.now ++ 0 ∷ 0 ∷ pieces.entry.behind.now)) }
+    ensures err { IfErr result (λ e. e ≡ OutOfMemory) }
+    ensures unchanged { OnErr result (out.new.items ≡ out.old.items) }
+{
+    let room = pieces
+        .front
+        .len()
+        .saturating_add(2)
+        .saturating_add(pieces.behind.len());
+    out.reserve(room)?;
+    out.extend_from_slice(pieces.front).unwrap();
+    out.extend_from_slice(&[0, 0]).unwrap();
+    out.extend_from_slice(pieces.behind).unwrap();
+    Ok(())
 }
 
 /// The outlines of a list, in order.

@@ -34,6 +34,7 @@ fn order_of(alloc: Global, loca: &[u8], glyf: &[u8], given: &[u16]) -> Result<Ve
         glyf,
         head: &[0; 54],
         long: false,
+        hinting: true,
     };
     let mapper = GlyphRemapper::new_from_glyphs(alloc, given)?;
     let reached = closure(alloc, &table, &mapper)?;

@@ -1,9 +1,9 @@
 //! Building fonts and looking into them.
 
-use crate::sfnt::parse::parse;
 use crate::{Error, GlyphRemapper, Tag, subset};
 use std::alloc::Global;
 use std::test::*;
+use subsetter_sfnt::parse::parse;
 
 /// A table of a font that a test builds.
 #[derive(Clone, Copy)]
@@ -110,8 +110,10 @@ pub fn refusal(alloc: Global, file: &[u8], index: u32, glyphs: &[u16]) -> Result
 
 /// The table of a file that has it.
 pub fn table<'a>(file: &'a [u8], tag: Tag) -> Result<&'a [u8], Fail> {
-    let face = parse(file, 0).ok().ok_or("a directory")?;
-    Ok(face.table(tag).ok_or("a table")?)
+    let face = parse(file, 0, crate::Extras::ALL)
+        .ok()
+        .ok_or("a directory")?;
+    Ok(face.stored(tag).ok_or("a table")?)
 }
 
 /// `glyf` of 23 zero bytes with the offsets 0, 0, 12 and 23: glyph 0 is empty, 1 and 2 are simple.

@@ -1,10 +1,10 @@
 //! Metrics.
 
 use super::fonts::*;
-use crate::sfnt::parse::parse;
 use crate::{Error, Tag};
 use std::alloc::Global;
 use std::test::*;
+use subsetter_sfnt::parse::parse;
 
 /// `hhea` up to numberOfHMetrics.
 const BEFORE: [u8; 34] = [
@@ -104,7 +104,9 @@ fn a_header_of_metrics_alone_is_dropped(rt: HostRuntime) -> Result<(), Fail> {
     let hhea = header(rt.alloc(), &[0, 2])?;
     let file = three_empty(rt.alloc(), &[part(Tag::HHEA, &hhea)])?;
     let out = subset_of(rt.alloc(), &file, &[])?;
-    let face = parse(&out, 0).ok().ok_or("a directory")?;
+    let face = parse(&out, 0, crate::Extras::ALL)
+        .ok()
+        .ok_or("a directory")?;
     assert!(rt; face.table(Tag::HHEA).is_none());
     Ok(())
 }

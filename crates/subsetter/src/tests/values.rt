@@ -1,11 +1,11 @@
 //! Values that no font of these tests holds.
 
 use crate::glyf::f2dot14::F2Dot14;
-use crate::sfnt::face::TableRecord;
-use crate::sfnt::flavor::FontFlavor;
 use crate::{Tag, maxp};
 use std::test::*;
 use subsetter_base::write::Writer;
+use subsetter_sfnt::face::TableRecord;
+use subsetter_sfnt::flavor::FontFlavor;
 
 #[test]
 fn values_are_laid_out_as_opentype_says(rt: HostRuntime) -> Result<(), Fail> {

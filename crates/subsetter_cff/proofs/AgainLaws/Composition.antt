@@ -1,14 +1,20 @@
 -- A subset of a subset, read afresh.
-use Rattle.std.proofs.Common.{◌≡◌, ℕ, zero, suc, ◌<◌, List, [], ◌∷◌, map, length, Option, Some, refl, ap, arith, ◌∙◌, sym, subst}
+use Rattle.std.proofs.Common.{◌≡◌, ℕ, zero, suc, ◌<◌, List, [], ◌∷◌, map, length, Option, Some, None, refl, ap, arith, ◌∙◌, sym, subst}
 use Rattle.std.specs.Prelude.{slice_get, slice_index, unwrap_or}
 use Rattle.std.specs.List.{AllByRecursion}
-use Rattle.std.proofs.lemmas.Option.{same_Some, slice_get_within}
+use Rattle.std.proofs.lemmas.Option.{none-some, same_Some, slice_get_within}
 use Rattle.std.proofs.lemmas.List.{length-map}
+use Rattle.subsetter_cffdata.specs.Bytes.{◌>>=◌}
+use Rattle.subsetter_cffdata.specs.Decimals.{Decimal}
+use Rattle.subsetter_cffdata.specs.Numbers.{Number}
+use Rattle.subsetter_cffdata.specs.Values.{value}
 use Rattle.subsetter_type2.specs.Flat.{flat}
 use Rattle.subsetter_type2.specs.Machine.{Trace}
 use Rattle.subsetter_type2.specs.Subroutines.{entry_at}
+use Rattle.subsetter_cff.specs.Lookup.{last_of}
+use Rattle.subsetter_cff.specs.Operators.{font_matrix_operator}
 use Rattle.subsetter_cff.specs.Cff.{Cff, char_string, char_strings}
-use Rattle.subsetter_cff.specs.Matrices.{zero_box}
+use Rattle.subsetter_cff.specs.Matrices.{matrix_pair, own_matrix, matrices, stated_matrices, zero_box}
 use Rattle.subsetter_cff.specs.GlyphTrace.{glyph_trace}
 use Rattle.subsetter_cff.specs.Subset.{Keeps, KeepsGlyph, IsCffSubset}
 use Rattle.subsetter_cff.specs.Again.{composed, AreGlyphs, IsComposed, KeepsAllCharStrings}
@@ -16,6 +22,26 @@ use Rattle.subsetter_cff.proofs.Locals.{step}
 
 abbrev keeps_on : {A : Type 0} (a b c : Option A) → Keeps a b → Keeps b c → Keeps a c
 keeps_on a b c k l = record { what = l.what; source_is = k.source_is ∙ sym k.copy_is ∙ l.source_is; copy_is = l.copy_is }
+
+-- matrices that stand in a table are those that its glyph has
+both_stated : (top : List Number) (own : Option (List Number)) (m : List Decimal × List Decimal) → (own >>= λ o. Some (map value top, map value o)) ≡ Some m → matrix_pair (Some top) own ≡ m
+both_stated top None m e = absurd (none-some m e)
+both_stated top (Some o) m e = same_Some _ _ e
+
+matrices_are : (cff : Cff) (glyph : ℕ) (top : List Number) (own : Option (List Number)) (m : List Decimal × List Decimal) → last_of font_matrix_operator cff.top ≡ Some top → own_matrix cff glyph ≡ Some own
+    → (own >>= λ o. Some (map value top, map value o)) ≡ Some m → matrices cff glyph ≡ Some m
+unfolding matrices
+matrices_are cff glyph top own m there own_there e = rw (there, own_there) (ap Some (both_stated top own m e))
+
+matrices_stated : (cff : Cff) (glyph : ℕ) (m : List Decimal × List Decimal) → stated_matrices cff glyph ≡ Some m → matrices cff glyph ≡ Some m
+unfolding stated_matrices
+matrices_stated cff glyph m e =
+    let s = step (last_of font_matrix_operator cff.top) _ m e in
+    let t = step (own_matrix cff glyph) _ m s.1.1 in
+    matrices_are cff glyph s.0 t.0 m s.1.0 t.1.0 t.1.1
+
+stated_on : {source out : Option (List Decimal × List Decimal)} (copy : Cff) (middle : ℕ) → Keeps source (stated_matrices copy middle) → Keeps (matrices copy middle) out → Keeps source out
+stated_on copy middle k l = record { what = l.what; source_is = k.source_is ∙ sym (matrices_stated copy middle k.what k.copy_is) ∙ l.source_is; copy_is = l.copy_is }
 
 glyph_on : (font copy again : Cff) (tokens depth old middle new : ℕ) → KeepsGlyph font copy tokens depth old middle → KeepsGlyph copy again tokens depth middle new → KeepsGlyph font again tokens depth old new
 glyph_on font copy again tokens depth old middle new a b = record {
@@ -26,7 +52,7 @@ glyph_on font copy again tokens depth old middle new a b = record {
   private_dict = b.private_dict;
   private_dict_is = b.private_dict_is;
   no_subroutines = b.no_subroutines;
-  matrices_kept = keeps_on _ _ _ a.matrices_kept b.matrices_kept;
+  matrices_kept = stated_on copy middle a.matrices_kept b.matrices_kept;
   font_dict_name_kept = keeps_on _ _ _ a.font_dict_name_kept b.font_dict_name_kept;
 }
 

@@ -23,6 +23,38 @@ fn strings_are_numbered_in_order_of_first_use(rt: HostRuntime) -> Result<(), Fai
     assert!(rt; remapper.get(there) == Some(StringId(392)));
     assert!(rt; remapper.get_new_sid(StringId(100)) == Some(StringId(100)));
     assert!(rt; remapper.get_new_sid(StringId(400)).is_none());
+    // An old number goes with its string; a standard string keeps its number, and the string is not looked at.
+    assert!(rt;
+        remapper
+            .remap_with_old_sid(StringId(400), there)
+            .ok()
+            .ok_or("memory")?
+            == StringId(392)
+    );
+    assert!(rt;
+        remapper
+            .remap_with_old_sid(StringId(401), b"new")
+            .ok()
+            .ok_or("memory")?
+            == StringId(394)
+    );
+    assert!(rt;
+        remapper
+            .remap_with_old_sid(StringId(400), b"other")
+            .ok()
+            .ok_or("memory")?
+            == StringId(392)
+    );
+    assert!(rt;
+        remapper
+            .remap_with_old_sid(StringId(100), b"other")
+            .ok()
+            .ok_or("memory")?
+            == StringId(100)
+    );
+    assert!(rt; remapper.get_new_sid(StringId(401)) == Some(StringId(394)));
+    assert!(rt; remapper.get(b"new") == Some(StringId(394)));
+    assert!(rt; remapper.sorted_strings().len() == 4);
     Ok(())
 }
 

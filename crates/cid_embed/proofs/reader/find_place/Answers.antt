@@ -1,6 +1,6 @@
 use Rattle.std.proofs.Common.{ℕ, List, Some, ap, sym, ◌∙◌}
 use Rattle.subsetter_base.specs.Bytes.{range}
-use Rattle.subsetter.specs.Sfnt.Read.{record_of}
+use Rattle.subsetter_sfnt.specs.Read.{record_of}
 use Rattle.cid_embed.proofs.Directory.{reads_record, found_here, found_later}
 use Rattle.cid_embed.proofs.reader.find_place.Goals as goal
 

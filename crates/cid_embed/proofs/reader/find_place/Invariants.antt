@@ -1,5 +1,5 @@
 use Rattle.std.proofs.Common.{◌≡◌, ◌-◌, ◌/◌, ◌≤◌, length}
-use Rattle.subsetter.specs.Sfnt.Read.{directory_records}
+use Rattle.subsetter_sfnt.specs.Read.{directory_records}
 use Rattle.cid_embed.proofs.Directory.{records_from, place_among}
 use Rattle.cid_embed.proofs.reader.find_place.Given as goal
 

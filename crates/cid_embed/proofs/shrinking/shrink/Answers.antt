@@ -6,7 +6,7 @@ use Rattle.subsetter_base.specs.declared.error.Error.TheVariants.{OutOfMemory}
 use Rattle.subsetter_cff.specs.Again.{AreAll}
 use Rattle.subsetter.specs.Answer.{IsTheAnswer}
 use Rattle.subsetter.specs.Limits.{token_limit, depth_limit}
-use Rattle.subsetter.specs.Sfnt.Read.{as_font}
+use Rattle.subsetter_sfnt.specs.Read.{as_font}
 use Rattle.subsetter_again.specs.Again.{IsTrueTypeOrCidKeyed}
 use Rattle.subsetter_again.specs.Shrink.{OfEachSource, IsShrunk, IsGivenBack}
 use Rattle.subsetter_again.proofs.Shrunk.{is_shrunk, is_given_back, no_fault_for_all}

@@ -8,7 +8,7 @@ use Rattle.subsetter.proofs.glyf.subset.Goals as goal
 
 pub loop-at-init : goal.loop-at-init
 loop-at-init c =
-    let all = kept_outlines c.args.order.now (map option_copied c.args.found.items) in
+    let all = kept_outlines c.args.hinting c.args.order.now (map option_copied c.args.found.items) in
     ap (λ (l : List (List ℕ)). with_outlines l all) c.in_ok-list.ensures.ok ∙ none_before all
 
 pub returns-in_err-keep_block : goal.returns-in_err-keep_block
@@ -18,12 +18,12 @@ returns-in_err-keep_block c =
     let at = c.loop-at.at in
     let items = c.args.found.items in
     let list = c.loop-at.list in
-    let total = kept_outlines order (map option_copied c.args.found.items) in
+    let total = kept_outlines c.args.hinting order (map option_copied c.args.found.items) in
     let n = at + c.min-count.result - at in
     let os = map option_copied (take n (drop at c.deref.result.now)) in
     let rest = map option_copied (drop (at + c.min-count.result) items) in
     let all = block_of items c.deref.result.now at c.min-count.result n c.deref.ensures.value (omega arith) in
-    rw (p.1, p.2) (outlines_fail c.in_err-keep_block.field-0.0 order list os rest total c.in_err-keep_block.ensures.err (ap (λ l. with_outlines list (kept_outlines order l)) all ∙ c.loop-at.invariant))
+    rw (p.1, p.2) (outlines_fail c.in_err-keep_block.field-0.0 c.args.hinting order list os rest total c.in_err-keep_block.ensures.err (ap (λ l. with_outlines list (kept_outlines c.args.hinting order l)) all ∙ c.loop-at.invariant))
 
 pub loop-at-preserved : goal.loop-at-preserved
 loop-at-preserved c =
@@ -31,9 +31,9 @@ loop-at-preserved c =
     let at = c.loop-at.at in
     let items = c.args.found.items in
     let list = c.loop-at.list in
-    let total = kept_outlines order (map option_copied c.args.found.items) in
+    let total = kept_outlines c.args.hinting order (map option_copied c.args.found.items) in
     let n = at + c.min-count.result - at in
     let os = map option_copied (take n (drop at c.deref.result.now)) in
     let rest = map option_copied (drop (at + c.min-count.result) items) in
     let all = block_of items c.deref.result.now at c.min-count.result n c.deref.ensures.value (omega arith) in
-    outlines_block order list c.keep_block.new.list os rest total c.in_ok-keep_block.ensures.ok (ap (λ l. with_outlines list (kept_outlines order l)) all ∙ c.loop-at.invariant)
+    outlines_block c.args.hinting order list c.keep_block.new.list os rest total c.in_ok-keep_block.ensures.ok (ap (λ l. with_outlines list (kept_outlines c.args.hinting order l)) all ∙ c.loop-at.invariant)

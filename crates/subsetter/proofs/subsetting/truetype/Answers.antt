@@ -1,14 +1,15 @@
 use Rattle.std.proofs.Common.{ℕ, List, Option, ap, ◌∙◌, arith}
 use Rattle.std.proofs.lemmas.Result.{err_from_is_err_and}
 use Rattle.subsetter.specs.Truetype.Answered.{IsAnswered, IsRefused, no_memory, unread, unclosed}
-use Rattle.subsetter.specs.Sfnt.Read.{table_in}
+use Rattle.subsetter_sfnt.specs.Extras.{asked}
+use Rattle.subsetter_sfnt.specs.Read.{table_in}
 use Rattle.subsetter.specs.Glyf.View.{seen}
-use Rattle.subsetter.specs.Sfnt.Plain.{file_of}
+use Rattle.subsetter_sfnt.specs.Plain.{file_of}
 use Rattle.subsetter.specs.Truetype.View.{made_seen}
-use Rattle.subsetter.specs.Sfnt.View.{views}
-use Rattle.subsetter.specs.Sfnt.Rows.{FontTables, rows, present}
-use Rattle.subsetter.specs.Sfnt.Written.{kind_word}
-use Rattle.subsetter.specs.declared.sfnt.flavor.FontFlavor.TheVariants.{TrueType}
+use Rattle.subsetter.specs.TableView.{views}
+use Rattle.subsetter_sfnt.specs.Rows.{FontTables, rows, present}
+use Rattle.subsetter_sfnt.specs.Written.{kind_word}
+use Rattle.subsetter_sfnt.specs.declared.flavor.FontFlavor.TheVariants.{TrueType}
 use Rattle.subsetter.proofs.TruetypeLaws.PlainAnswers.{gave_ok, gave_err, refused_made, few_tables, all_tables, answered, refused_file}
 use Rattle.subsetter.proofs.subsetting.truetype.Goals as goal
 
@@ -25,8 +26,8 @@ returns-in_err-reached-clause-err c =
 pub returns-in_err-made-clause-err : goal.returns-in_err-made-clause-err
 returns-in_err-made-clause-err c =
     let p = err_from_is_err_and c.from_residual-in_err-made.result c.from_residual-in_err-made.ensures.1 in
-    let find : List ℕ → Option (List ℕ) = table_in c.args.face.now.«data».now c.args.face.now.records.now in
-    rw (p.1, p.2) (refused_made find c.args.mapper.now c.in_ok-reached.reached.order (seen c.in_ok-table.table) c.in_ok-table.ensures.ok c.in_ok-reached.ensures.ok c.in_err-made.field-0.0 c.in_ok-reached.ensures.found c.in_err-made.ensures.exact)
+    let find : List ℕ → Option (List ℕ) = asked c.args.face.now.extras (table_in c.args.face.now.«data».now c.args.face.now.records.now) in
+    rw (p.1, p.2) (refused_made c.args.face.now.extras.hinting find c.args.mapper.now c.in_ok-reached.reached.order (seen c.in_ok-table.table) c.in_ok-table.ensures.ok c.in_ok-reached.ensures.ok c.in_err-made.field-0.0 c.in_ok-reached.ensures.found c.in_err-made.ensures.exact)
 
 pub returns-in_err-list-clause-err : goal.returns-in_err-list-clause-err
 returns-in_err-list-clause-err c =
@@ -35,22 +36,22 @@ returns-in_err-list-clause-err c =
 
 pub finish-requires-clause-few : goal.finish-requires-clause-few
 finish-requires-clause-few c =
-    let find : List ℕ → Option (List ℕ) = table_in c.args.face.now.«data».now c.args.face.now.records.now in
-    few_tables find c.args.mapper.now c.in_ok-reached.reached.order (seen c.in_ok-table.table) c.in_ok-table.ensures.ok c.in_ok-reached.ensures.ok (made_seen c.in_ok-made.made) c.in_ok-made.ensures.exact c.deref.result.now (ap views c.deref.ensures.value ∙ c.in_ok-list.ensures.ok ∙ ap (λ (t : FontTables). present (rows t)) c.font_tables.ensures)
+    let find : List ℕ → Option (List ℕ) = asked c.args.face.now.extras (table_in c.args.face.now.«data».now c.args.face.now.records.now) in
+    few_tables c.args.face.now.extras.hinting find c.args.mapper.now c.in_ok-reached.reached.order (seen c.in_ok-table.table) c.in_ok-table.ensures.ok c.in_ok-reached.ensures.ok (made_seen c.in_ok-made.made) c.in_ok-made.ensures.exact c.deref.result.now (ap views c.deref.ensures.value ∙ c.in_ok-list.ensures.ok ∙ ap (λ (t : FontTables). present (rows t)) c.font_tables.ensures)
 
 pub finish-requires-clause-tables : goal.finish-requires-clause-tables
 finish-requires-clause-tables c =
-    let find : List ℕ → Option (List ℕ) = table_in c.args.face.now.«data».now c.args.face.now.records.now in
-    all_tables find c.args.mapper.now c.in_ok-reached.reached.order (seen c.in_ok-table.table) c.in_ok-table.ensures.ok c.in_ok-reached.ensures.ok (made_seen c.in_ok-made.made) c.in_ok-made.ensures.exact c.deref.result.now (ap views c.deref.ensures.value ∙ c.in_ok-list.ensures.ok ∙ ap (λ (t : FontTables). present (rows t)) c.font_tables.ensures)
+    let find : List ℕ → Option (List ℕ) = asked c.args.face.now.extras (table_in c.args.face.now.«data».now c.args.face.now.records.now) in
+    all_tables c.args.face.now.extras.hinting find c.args.mapper.now c.in_ok-reached.reached.order (seen c.in_ok-table.table) c.in_ok-table.ensures.ok c.in_ok-reached.ensures.ok (made_seen c.in_ok-made.made) c.in_ok-made.ensures.exact c.deref.result.now (ap views c.deref.ensures.value ∙ c.in_ok-list.ensures.ok ∙ ap (λ (t : FontTables). present (rows t)) c.font_tables.ensures)
 
 pub returns-clause-ok : goal.returns-clause-ok
 returns-clause-ok c =
-    let find : List ℕ → Option (List ℕ) = table_in c.args.face.now.«data».now c.args.face.now.records.now in
-    gave_ok (λ v. v.items) c.finish.result (file_of (kind_word TrueType) (views c.deref.result.now)) (IsAnswered find c.args.mapper.now) c.finish.ensures
-    (λ out h. answered find c.args.mapper.now c.in_ok-reached.reached.order (seen c.in_ok-table.table) c.in_ok-table.ensures.ok c.in_ok-reached.ensures.ok (made_seen c.in_ok-made.made) c.in_ok-made.ensures.exact c.deref.result.now (ap views c.deref.ensures.value ∙ c.in_ok-list.ensures.ok ∙ ap (λ (t : FontTables). present (rows t)) c.font_tables.ensures) out c.in_ok-reached.ensures.found (omega (arith, c.num_gids-count.ensures.few)) h)
+    let find : List ℕ → Option (List ℕ) = asked c.args.face.now.extras (table_in c.args.face.now.«data».now c.args.face.now.records.now) in
+    gave_ok (λ v. v.items) c.finish.result (file_of (kind_word TrueType) (views c.deref.result.now)) (IsAnswered c.args.face.now.extras.hinting find c.args.mapper.now) c.finish.ensures
+    (λ out h. answered c.args.face.now.extras.hinting find c.args.mapper.now c.in_ok-reached.reached.order (seen c.in_ok-table.table) c.in_ok-table.ensures.ok c.in_ok-reached.ensures.ok (made_seen c.in_ok-made.made) c.in_ok-made.ensures.exact c.deref.result.now (ap views c.deref.ensures.value ∙ c.in_ok-list.ensures.ok ∙ ap (λ (t : FontTables). present (rows t)) c.font_tables.ensures) out c.in_ok-reached.ensures.found (omega (arith, c.num_gids-count.ensures.few)) h)
 
 pub returns-clause-err : goal.returns-clause-err
 returns-clause-err c =
-    let find : List ℕ → Option (List ℕ) = table_in c.args.face.now.«data».now c.args.face.now.records.now in
-    gave_err (λ v. v.items) c.finish.result (file_of (kind_word TrueType) (views c.deref.result.now)) (IsRefused find c.args.mapper.now) c.finish.ensures no_memory
-    (refused_file find c.args.mapper.now c.in_ok-reached.reached.order (seen c.in_ok-table.table) c.in_ok-table.ensures.ok c.in_ok-reached.ensures.ok (made_seen c.in_ok-made.made) c.in_ok-made.ensures.exact c.deref.result.now (ap views c.deref.ensures.value ∙ c.in_ok-list.ensures.ok ∙ ap (λ (t : FontTables). present (rows t)) c.font_tables.ensures) c.in_ok-reached.ensures.found)
+    let find : List ℕ → Option (List ℕ) = asked c.args.face.now.extras (table_in c.args.face.now.«data».now c.args.face.now.records.now) in
+    gave_err (λ v. v.items) c.finish.result (file_of (kind_word TrueType) (views c.deref.result.now)) (IsRefused c.args.face.now.extras.hinting find c.args.mapper.now) c.finish.ensures no_memory
+    (refused_file c.args.face.now.extras.hinting find c.args.mapper.now c.in_ok-reached.reached.order (seen c.in_ok-table.table) c.in_ok-table.ensures.ok c.in_ok-reached.ensures.ok (made_seen c.in_ok-made.made) c.in_ok-made.ensures.exact c.deref.result.now (ap views c.deref.ensures.value ∙ c.in_ok-list.ensures.ok ∙ ap (λ (t : FontTables). present (rows t)) c.font_tables.ensures) c.in_ok-reached.ensures.found)

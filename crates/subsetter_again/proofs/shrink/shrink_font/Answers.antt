@@ -6,7 +6,7 @@ use Rattle.subsetter_base.specs.declared.error.Error.TheVariants.{OutOfMemory}
 use Rattle.subsetter_cff.specs.Again.{AreAll}
 use Rattle.subsetter.specs.Fault.{HasFault}
 use Rattle.subsetter.specs.Limits.{token_limit, depth_limit}
-use Rattle.subsetter.specs.Sfnt.Read.{Font, as_font}
+use Rattle.subsetter_sfnt.specs.Read.{Font, as_font}
 use Rattle.subsetter.specs.Subset.{IsSubset}
 use Rattle.subsetter_again.specs.Again.{IsTrueTypeOrCidKeyed}
 use Rattle.subsetter_again.specs.Shrink.{OfEachSource, IsShrunk, IsGivenBack}

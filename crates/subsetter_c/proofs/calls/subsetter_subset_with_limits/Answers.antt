@@ -1,17 +1,18 @@
 use Rattle.std.proofs.Common.{arith, inr}
 use Rattle.std.specs.Prelude.{IfOk, IfErr}
-use Rattle.subsetter.specs.Sfnt.Read.{Font}
+use Rattle.subsetter_sfnt.specs.Extras.{all_extras}
+use Rattle.subsetter_sfnt.specs.Read.{Font}
 use Rattle.subsetter_c.specs.Handed.{IsSoundSubset, IsRefusal}
 use Rattle.subsetter_c.proofs.Bytes.{answer_handed, at_limits}
 use Rattle.subsetter_c.proofs.calls.subsetter_subset_with_limits.Goals as goal
 
 pub returns-in-Some : goal.returns-in-Some
 returns-in-Some c =
-    let font : Font = record { bytes = c.args.font.now; index = c.args.index } in
+    let font : Font = record { bytes = c.args.font.now; index = c.args.index; extras = all_extras } in
     inr (
       omega arith,
-      answer_handed (IsSoundSubset c.args.tokens c.args.depth font c.args.glyphs.now) (IsRefusal c.args.tokens c.args.depth font c.args.glyphs.now) c.subset_for.result c.args.out.now c.hand_answer.new.buffer c.hand_answer.new.told c.hand_answer.result
-          (at_limits (λ t d. IfOk c.subset_for.result (λ v. IsSoundSubset t d font c.args.glyphs.now v.items)) c.in-Some.limits.tokens c.args.tokens c.in-Some.limits.depth c.args.depth c.in-Some.ensures.0 c.in-Some.ensures.1 c.subset_for.ensures.ok)
-          (at_limits (λ t d. IfErr c.subset_for.result (IsRefusal t d font c.args.glyphs.now)) c.in-Some.limits.tokens c.args.tokens c.in-Some.limits.depth c.args.depth c.in-Some.ensures.0 c.in-Some.ensures.1 c.subset_for.ensures.err)
+      answer_handed (IsSoundSubset c.args.tokens c.args.depth font c.args.glyphs.now) (IsRefusal c.args.tokens c.args.depth font c.args.glyphs.now) c.whole_subset_for.result c.args.out.now c.hand_answer.new.buffer c.hand_answer.new.told c.hand_answer.result
+          (at_limits (λ t d. IfOk c.whole_subset_for.result (λ v. IsSoundSubset t d font c.args.glyphs.now v.items)) c.in-Some.limits.tokens c.args.tokens c.in-Some.limits.depth c.args.depth c.in-Some.ensures.0 c.in-Some.ensures.1 c.whole_subset_for.ensures.ok)
+          (at_limits (λ t d. IfErr c.whole_subset_for.result (IsRefusal t d font c.args.glyphs.now)) c.in-Some.limits.tokens c.args.tokens c.in-Some.limits.depth c.args.depth c.in-Some.ensures.0 c.in-Some.ensures.1 c.whole_subset_for.ensures.err)
           c.hand_answer.ensures,
     )

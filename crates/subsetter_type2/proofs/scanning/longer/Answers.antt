@@ -1,10 +1,16 @@
-use Rattle.std.proofs.Common.{◌≡◌, ◌≤◌, ◌<◌, ◌+◌, arith, length, get_or, refl, sym}
+use Rattle.std.proofs.Common.{rules, ◌≡◌, ◌≤◌, ◌<◌, ◌+◌, arith, length, get_or, refl, sym}
 use Rattle.subsetter_type2.proofs.Stretches.{by_plain}
 use Rattle.subsetter_type2.proofs.scanning.longer.Goals as goal
 
-pub returns-clause-extends : goal.returns-clause-extends
-returns-clause-extends c =
+pub returns : goal.returns
+returns c =
     let s = c.args.stretch in
     let text = c.args.text.now in
     let small : get_or text (s.len + 1) 0 < 256 = (let h = c.type_inv.text (s.len + 1) in omega arith) in
-    by_plain text _ s _ _ _ _ c.with_token.ensures refl c.plain_size.ensures.size refl (omega arith) (omega arith) (sym c.if-not-begins_plain.ensures) (omega arith) small
+    record {
+      sound = search rules;
+      extends = by_plain text _ s _ _ _ _ c.with_token.ensures refl c.plain_size.ensures.size refl (omega arith) (omega arith) (sym c.if-not-begins_plain.ensures) (omega arith) small;
+      more = search rules;
+      inside = search rules;
+      few = search rules;
+    }

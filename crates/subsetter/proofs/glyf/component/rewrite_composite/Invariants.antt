@@ -5,7 +5,7 @@ use Rattle.subsetter.proofs.glyf.component.rewrite_composite.Given as goal
 
 abbrev pub invariant-loop-component : goal.invariant-loop-component
 invariant-loop-component l = record {
-  written : IsUnderway l.order l.out.items l.rest (with_front (l.fn.out.items ++ take 10 l.outline) (chain_text l.order (drop 10 l.outline)));
+  written : IsUnderway l.hinting l.order l.out.items l.rest (with_front (l.fn.out.items ++ take 10 l.outline) (chain_text l.hinting l.order (drop 10 l.outline)));
   start : l.start ≡ length l.fn.out.items;
   behind : IsBehind l.fn.out.items l.out.items l.rest;
 }

@@ -11,7 +11,7 @@ pub returns-clause-ok : goal.returns-clause-ok
 returns-clause-ok c =
     let o = c.self.inside in
     let all = c.rewrite_composite.new.out.items in
-    let k = behind_ok o.made.items (rewritten_composite c.args.order.now c.args.outline.now) all c.in_ok-rewrite_composite.ensures.ok in
+    let k = behind_ok o.made.items (rewritten_composite c.args.hinting c.args.order.now c.args.outline.now) all c.in_ok-rewrite_composite.ensures.ok in
     let written = written_is o.made.items k.0 all c.deref.result.now c.len-start.result c.deref.ensures.value k.2 (omega arith) in
     let long : c.padded_len-long_len.result ≡ length k.0 = c.padded_len-long_len.ensures ∙ ap length written in
     let kept = pushed (_ ∷ []) c.reserve.ensures.items c.unwrap.ensures c.push.ensures.items in
@@ -23,7 +23,7 @@ pub invariant_of-self-2 : goal.invariant_of-self-2
 invariant_of-self-2 c =
     let o = c.self.inside in
     let all = c.rewrite_composite.new.out.items in
-    let k = behind_ok o.made.items (rewritten_composite c.args.order.now c.args.outline.now) all c.in_ok-rewrite_composite.ensures.ok in
+    let k = behind_ok o.made.items (rewritten_composite c.args.hinting c.args.order.now c.args.outline.now) all c.in_ok-rewrite_composite.ensures.ok in
     let written = written_is o.made.items k.0 all c.deref.result.now c.len-start.result c.deref.ensures.value k.2 (omega arith) in
     let long : c.padded_len-long_len.result ≡ length k.0 = c.padded_len-long_len.ensures ∙ ap length written in
     let kept = pushed (_ ∷ []) c.reserve.ensures.items c.unwrap.ensures c.push.ensures.items in

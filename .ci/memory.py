@@ -1,0 +1,103 @@
+"""Out of memory is answered only where memory was refused: memory.py [FOLDER]
+
+A refused request becomes `Error::OutOfMemory` by `?`, through `From`. This lists each other place in crates/*/src in which
+code names that case, or makes an allocator's refusal of its own, and fails where one isn't on the list below, or where one
+of the list is gone. Clauses, comments and tests don't count. FOLDER is the repository, the one around this file if it is left out.
+"""
+import collections
+import os
+import re
+import sys
+
+# (crate, function or item): how often, and why it may.
+ALLOWED = {
+    ("subsetter_base", "enum Error"): (1, "the case itself"),
+    ("subsetter_base", "fmt"): (1, "its text"),
+    ("subsetter_c", "status_of"): (1, "its status"),
+    ("cid_embed", "write_width"): (1, "`write!` tells a refused request as fmt::Error, and a number's text has no other error"),
+    ("subset_font", "glyphs_of"): (2, "`parts_of` and `push` take memory and have no other error"),
+    ("subset_font", "read_within"): (2, "`clone` takes memory and has no other error"),
+    ("subset_font", "after_name"): (1, "`collect` takes memory and has no other error"),
+    ("subset_font", "words"): (2, "the system's own error for memory"),
+    ("subset_font", "perform"): (1, "`BufWriter::new` takes memory and has no other error"),
+}
+
+WORDS = re.compile(r"\bOutOfMemory\b|\b(?:AllocError|AllocFailed)\b(?!\s*[>,}]|<\w)")
+
+
+def blank(text):
+    """As many spaces and ends of line as a text has characters."""
+    return re.sub(r"[^\n]", " ", text)
+
+
+def end_of_braces(text, start):
+    """Where the braces end that open first at or behind a place."""
+    depth = 0
+    for at in range(text.index("{", start), len(text)):
+        depth += {"{": 1, "}": -1}.get(text[at], 0)
+        if depth == 0:
+            return at + 1
+    raise ValueError("braces that don't end")
+
+
+def code_of(text):
+    """The code of a file: without comments, texts, ghost items, clauses, `use`, tests and `impl From`."""
+    text = re.sub(r'//[^\n]*|b?"(?:\\.|[^"\\])*"|\'(?:\\.|[^\'\\])\'', lambda m: blank(m[0]), text)
+    text = re.sub(r"\b(?:ghost )?(?:pub )?use [^;]*;", lambda m: blank(m[0]), text)
+    for word in (r"\b(?:requires|ensures)\b[*]?[^{\n]*\{", r"\bghost \w+\s*[:=]\s*\{"):
+        while found := re.search(word, text):
+            end = end_of_braces(text, found.start())
+            text = text[: found.start()] + blank(text[found.start() : end]) + text[end:]
+    for head in (r"#\[cfg\(test\)\]\s*(?:pub )?mod \w+\s*\{", r"#\[test\]", r"\bimpl(?:<[^{]*>)? From<[^{]*\{"):
+        at = 0
+        while found := re.compile(head).search(text, at):
+            end = end_of_braces(text, found.start())
+            text = text[: found.start()] + blank(text[found.start() : end]) + text[end:]
+            at = found.start() + 1
+    return text
+
+
+def item_at(code, place):
+    """The function or the enum that a place stands in."""
+    last = None
+    for last in re.finditer(r"\bfn (\w+)|\b(enum) (\w+)", code[:place]):
+        pass
+    return None if last is None else last[1] or f"{last[2]} {last[3]}"
+
+
+def places_of(folder):
+    for top, _, names in sorted(os.walk(folder)):
+        for name in sorted(names):
+            path = os.path.join(top, name)
+            if not name.endswith(".rt") or name == "tests.rt" or "tests" in os.path.relpath(top, folder).split(os.sep):
+                continue
+            with open(path, encoding="utf-8") as file:
+                code = code_of(file.read())
+            for found in WORDS.finditer(code):
+                yield path, code.count("\n", 0, found.start()) + 1, item_at(code, found.start())
+
+
+def main():
+    top = sys.argv[1] if len(sys.argv) > 1 else os.path.join(os.path.dirname(os.path.abspath(__file__)), "..")
+    crates = os.path.join(top, "crates")
+    met = collections.Counter()
+    wrong = 0
+    for crate in sorted(os.listdir(crates)):
+        for path, line, item in places_of(os.path.join(crates, crate, "src")):
+            met[crate, item] += 1
+            count, reason = ALLOWED.get((crate, item), (0, None))
+            if met[crate, item] > count:
+                wrong += 1
+                print(f"{os.path.relpath(path, top)}:{line}: {item} tells out of memory without a refused request")
+            else:
+                print(f"{os.path.relpath(path, top)}:{line}: {item}: {reason}")
+    for (crate, item), (count, _) in ALLOWED.items():
+        if met[crate, item] < count:
+            wrong += 1
+            print(f"{crate}: {item} is on the list {count} times, and stands there {met[crate, item]} times")
+    print(f"memory: {sum(met.values())} places, {wrong} wrong")
+    return 1 if wrong else 0
+
+
+if __name__ == "__main__":
+    sys.exit(main())

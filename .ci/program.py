@@ -1,0 +1,500 @@
+#!/usr/bin/env python3
+"""Runs the built program subset_font on a table of rows, and compares all that it leaves behind.
+
+program.py [--program FILE] [--only WORD]
+
+Each row has words, a standard input and files, and says the status, the standard output, the standard error, and the files
+that are there afterwards. The options are also compared with `--help`, docs/CLI.md and the manual page, and the version with
+the file VERSION. The last line is `program: N rows, M differ`, and the status 1 where one differs.
+"""
+import argparse
+import os
+import re
+import shutil
+import stat
+import subprocess
+import sys
+import tempfile
+from dataclasses import dataclass, field
+
+HERE = os.path.dirname(os.path.realpath(__file__))
+ROOT = os.path.dirname(HERE)
+sys.path.insert(0, os.path.join(ROOT, "compare"))
+sys.dont_write_bytecode = True
+import made  # noqa: E402
+
+USAGE = b"usage: subset_font IN OUT INDEX GID[,GID..]\n"
+OPTIONS = ["--widths", "--limits", "--no-hinting", "--no-names", "--no-glyph-names", "--gids-file", "--text", "--json",
+           "--quiet", "--help", "-h", "--version", "--"]
+
+
+# ---- fonts
+
+def cmap(*tables):
+    """A `cmap` of these (platform, encoding, table)."""
+    at, records, bodies = 4 + 8 * len(tables), b"", b""
+    for platform, encoding, table in tables:
+        records += made.u16s(platform, encoding) + made.u32s(at + len(bodies))
+        bodies += table
+    return made.u16s(0, len(tables)) + records + bodies
+
+
+def groups(*ranges):
+    """A table of format 12 of these (first character, last, glyph)."""
+    return made.u16s(12, 0) + made.u32s(16 + 12 * len(ranges), 0, len(ranges)) + b"".join(made.u32s(*it) for it in ranges)
+
+
+def segments(*ranges, glyphs=()):
+    """A table of format 4 of these (first character, last, idDelta, idRangeOffset), and glyphs behind them."""
+    columns = list(zip(*ranges))
+    body = made.u16s(*columns[1]) + made.u16s(0) + made.u16s(*columns[0]) + made.u16s(*columns[2]) + made.u16s(*columns[3])
+    body += made.u16s(*glyphs)
+    return made.u16s(4, 14 + len(body), 0, 2 * len(ranges), 0, 0, 0) + body
+
+
+MAXP = made.u32s(0x00010000) + made.u16s(6) + bytes(26)
+FURTHER = made.metrics([(100 * k, 0) for k in range(6)]) + [("maxp", MAXP)]
+HEAD = bytes(18) + made.u16s(1000) + bytes(30) + b"\0\1\0\0"
+BARE = bytes(10)  # an outline without contours
+HINTED = bytes.fromhex("0001 0000 0000 000A 000A 0002 0003 B0002F 31 33 35".replace(" ", ""))
+NO_HINTS = bytes.fromhex("0001 0000 0000 000A 000A 0002 0000 31 33 35".replace(" ", ""))
+
+
+def six(*further, outlines=None):
+    """A font of six glyphs with metrics, 1000 units to the em, and further tables."""
+    outlines = outlines or [b"", *[bytes([0, 0, 0, k]) + bytes(8) for k in range(1, 6)]]
+    ends = [sum(map(len, outlines[:k])) for k in range(7)]
+    tables = [("glyf", b"".join(outlines)), ("head", HEAD), ("loca", made.u32s(*ends)), *FURTHER, *further]
+    return made.font(sorted(tables))
+
+
+# A is glyph 1, B 2, C 3 (by a list of glyphs), U+FFFF none.
+BY_SEGMENTS = segments((65, 66, 65536 - 64, 0), (67, 67, 1, 4), (0xFFFF, 0xFFFF, 1, 0), glyphs=[2])
+# A is glyph 4, U+1F600 and the next one are 5 and 6.
+BY_GROUPS = groups((65, 65, 4), (0x1F600, 0x1F601, 5))
+NAMED = [("name", made.THREE_RECORDS), ("post", made.u32s(0x00020000) + bytes(28) + made.u16s(6, 258, 259, 0, 0, 0, 0) + b"\1A\1B")]
+
+SIMPLE = made.WORKED["simple glyphs"][0]
+SID_KEYED = made.WORKED["a SID-keyed font"][0]
+
+
+def moved(font, by):
+    """A font whose tables stand further behind."""
+    count = int.from_bytes(font[4:6], "big")
+    places = [12 + 16 * k + 8 for k in range(count)]
+    for at in places:
+        font = font[:at] + made.u32s(int.from_bytes(font[at:at + 4], "big") + by) + font[at + 4:]
+    return font
+
+
+TWO_FACES = b"ttcf" + made.u32s(0x00010000, 2, 20, 20) + moved(SIMPLE, 20)
+
+FONTS = {
+    "simple": SIMPLE,
+    "cff": SID_KEYED,
+    "six": six(),
+    "both": six(("cmap", cmap((0, 3, BY_SEGMENTS), (3, 10, BY_GROUPS)))),
+    "small": six(("cmap", cmap((1, 0, BY_SEGMENTS), (3, 1, BY_SEGMENTS)))),
+    "mac": six(("cmap", cmap((1, 0, BY_SEGMENTS), (3, 0, BY_SEGMENTS)))),
+    "named": six(*NAMED, outlines=[b"", HINTED + b"\0", b"", b"", b"", b""]),
+    "faces": TWO_FACES,
+    "woff": b"wOFF" + bytes(40),
+    "woff2": b"wOF2" + bytes(40),
+    "empty": b"",
+}
+
+
+# ---- what a subset holds, read afresh
+
+def tables_of(font):
+    count = int.from_bytes(font[4:6], "big")
+    found = {}
+    for k in range(count):
+        record = font[12 + 16 * k:28 + 16 * k]
+        at, length = int.from_bytes(record[8:12], "big"), int.from_bytes(record[12:16], "big")
+        found[record[:4].decode()] = font[at:at + length]
+    return found
+
+
+# ---- rows
+
+@dataclass
+class Row:
+    words: object
+    status: int = 0
+    out: bytes = b""
+    err: bytes = b""
+    stdin: bytes = b""
+    files: dict = field(default_factory=dict)
+    # what stands there afterwards, beside the files of before: name to bytes, to a name of `SAME`, or to None
+    after: dict = field(default_factory=dict)
+    # a name for the row whose OUT others have too
+    same: str = None
+
+
+def lines(*pairs):
+    return b"".join(b"%d -> %d\n" % it for it in pairs)
+
+
+OLD = b"what stood there before"
+USED = {"out": None}
+ROWS = [
+    # the four words, as ever
+    Row("simple out 0 2", out=lines((2, 1)), same="simple 2"),
+    Row("simple out 4294967295 2,0,2,00002", out=lines((2, 1), (0, 0), (2, 1), (2, 1)), same="simple 2"),
+    Row("simple out 0 2", out=lines((2, 1)), files={"out": OLD * 20}, same="simple 2"),
+    Row("simple simple 0 2", out=lines((2, 1)), after={"simple": "simple 2"}),
+    Row("cff out 0 0", out=lines((0, 0)), same="cff 0"),
+    Row("faces out 1 2", out=lines((2, 1)), same="simple 2"),
+    Row("simple out 0 +2", 2, err=USAGE, after=USED),
+    Row("simple out 0", 2, err=USAGE, after=USED),
+    Row("simple out 0 1 2", 2, err=USAGE, after=USED),
+    Row("", 2, err=USAGE),
+    Row("none out 0 2", 3, err=b"cannot read none\n", after=USED),
+    Row(". out 0 2", 3, err=b"cannot read .\n", after=USED),
+    Row("simple none/out 0 2", 3, err=b"cannot write none/out\n"),
+    Row("simple . 0 2", 3, err=b"cannot write .\n"),
+    Row("simple /dev/full 0 2", 3, err=b"cannot write /dev/full\n"),
+    Row("simple out 0 9", 1, err=b"malformed font\n", after=USED),
+    Row("--no-such simple out 0 2", 2, err=USAGE, after=USED),
+    Row("--no-such out 0 2", 3, err=b"cannot read --no-such\n", after=USED),
+    # refusals, and what more is said of them
+    Row("six out 0 1,6", 1, err=b"malformed font\nGID 6: the face has 6 glyphs, from 0 on\n", after=USED),
+    Row("faces out 2 1", 1, err=b"malformed font\nINDEX 2: the collection has 2 faces, from 0 on\n", after=USED),
+    Row("woff out 0 1", 1, err=b"unknown font kind\nWOFF: unpack it first\n", after=USED),
+    Row("woff2 out 0 1", 1, err=b"unknown font kind\nWOFF2: unpack it first\n", after=USED),
+    Row("empty out 0 1", 1, err=b"unknown font kind\n", after=USED),
+    # the limits
+    Row("--limits 0,1 cff out 0 0", 1, err=b"processing CFF table failed\n", after=USED),
+    Row("--limits 1,1 cff out 0 0", out=lines((0, 0)), same="cff 0"),
+    Row("--limits 5,0 cff out 0 0", 2, err=USAGE, after=USED),
+    Row("--limits cff out 0 0", 2, err=USAGE, after=USED),
+    Row("cff --limits 5,5 out 0 0", 2, err=USAGE, after=USED),
+    # the widths
+    Row("--widths six out 0 2,1", out=lines((2, 1), (1, 2)) + b"[0 [0 200 100]]\n", same="six 2,1"),
+    Row("--widths --limits 1,1 six out 0 2,1", out=lines((2, 1), (1, 2)) + b"[0 [0 200 100]]\n", same="six 2,1"),
+    Row("--limits 1,1 --widths six out 0 2,1", out=lines((2, 1), (1, 2)) + b"[0 [0 200 100]]\n", same="six 2,1"),
+    Row("--widths simple out 0 2", 1, err=b"malformed font\n", after=USED),
+    Row("--widths --widths six out 0 1", 2, err=USAGE, after=USED),
+    # JSON and silence
+    Row("--json six out 0 2,1", out=b'{"glyphs":[{"old":2,"new":1},{"old":1,"new":2}]}\n', same="six 2,1"),
+    Row("--json --widths six out 0 2,1", out=b'{"glyphs":[{"old":2,"new":1},{"old":1,"new":2}],"widths":[0,200,100]}\n',
+        same="six 2,1"),
+    Row("--json --text A small out 0", out=b'{"glyphs":[{"character":65,"old":1,"new":1}]}\n', same="six 1"),
+    Row("--quiet six out 0 2,1", same="six 2,1"),
+    Row("--quiet --json --widths six out 0 2,1", same="six 2,1"),
+    Row("--json --json six out 0 1", 2, err=USAGE, after=USED),
+    Row("--quiet --quiet six out 0 1", 2, err=USAGE, after=USED),
+    # the list of a file
+    Row("--gids-file list six out 0", out=lines((2, 1), (1, 2)), files={"list": b"2 1\n"}, same="six 2,1"),
+    Row("--gids-file list six out 0", out=lines((1, 1), (2, 2), (3, 3), (5, 4)), files={"list": b"1-3,\r\n\t5"}, same="six 1-3,5"),
+    Row("--gids-file - six out 0", out=lines((2, 1), (1, 2)), stdin=b"2,1", same="six 2,1"),
+    Row("--gids-file list six out 0", out=lines(*((k, k) for k in range(6))), files={"list": b"*\n"}, same="six 1-5"),
+    Row("six out 0 1,2,3,4,5", out=lines(*((k, k) for k in range(1, 6))), same="six 1-5"),
+    Row("--gids-file list six out 0", files={"list": b" \n"}, same="six none"),
+    Row("--gids-file list simple out 0", 1, err=b"malformed font\n", files={"list": b"*"}, after=USED),
+    Row("--gids-file list six out 0", 1, err=b"malformed font\nGID 65535: the face has 6 glyphs, from 0 on\n",
+        files={"list": b"1-2 65535"}, after=USED),
+    Row("--gids-file list six out 0", 2, err=USAGE, files={"list": b"3-1"}, after=USED),
+    Row("--gids-file list six out 0", 2, err=USAGE, files={"list": b"1\xff"}, after=USED),
+    Row("--gids-file list six out 0", 2, err=USAGE, files={"list": b"65536"}, after=USED),
+    Row("--gids-file none six out 0", 3, err=b"cannot read none\n", after=USED),
+    Row("--gids-file . six out 0", 3, err=b"cannot read .\n", after=USED),
+    Row("--gids-file - - out 0", 2, err=USAGE, after=USED),
+    Row("--gids-file list six out 0 1", 2, err=USAGE, files={"list": b"1"}, after=USED),
+    # the glyphs of a text
+    Row("--text AB small out 0", out=b"U+0041 1 -> 1\nU+0042 2 -> 2\n", same="six 1,2"),
+    Row("six out 0 1,2", out=lines((1, 1), (2, 2)), same="six 1,2"),
+    Row("--text CAxA small out 0", out=b"U+0043 3 -> 1\nU+0041 1 -> 2\nU+0078 0 -> 0\nU+0041 1 -> 2\n", same="six 3,1"),
+    Row("six out 0 3,1", out=lines((3, 1), (1, 2)), same="six 3,1"),
+    Row(["--text", "\U0001F600", "small", "out", "0"], out=b"U+1F600 0 -> 0\n", same="six none"),
+    Row(["--text", "A\U0001F600", "both", "out", "0"], out=b"U+0041 4 -> 1\nU+1F600 5 -> 2\n", same="six 4,5"),
+    Row("six out 0 4,5", out=lines((4, 1), (5, 2)), same="six 4,5"),
+    Row(["--text", "", "small", "out", "0"], same="six none"),
+    Row("--text A mac out 0", 1, err=b"no Unicode cmap in font\n", after=USED),
+    Row("--text A six out 0", 1, err=b"no Unicode cmap in font\n", after=USED),
+    Row("--text A --gids-file list small out 0", 2, err=USAGE, files={"list": b"1"}, after=USED),
+    Row("--text A small out 0 1", 2, err=USAGE, after=USED),
+    # what is kept
+    Row("--no-names --no-hinting --no-glyph-names named out 0 1", out=lines((1, 1)), same="none of the three"),
+    Row("--no-glyph-names --no-hinting --widths --no-names named out 0 1",
+        out=lines((1, 1)) + b"[0 [0 100]]\n", same="none of the three"),
+    Row("--no-names named out 0 1", out=lines((1, 1)), same="no names"),
+    Row("--no-hinting named out 0 1", out=lines((1, 1)), same="no hinting"),
+    Row("--no-glyph-names named out 0 1", out=lines((1, 1)), same="no glyph names"),
+    Row("named out 0 1", out=lines((1, 1)), same="all of the three"),
+    Row("--no-names --no-names named out 0 1", 2, err=USAGE, after=USED),
+    Row("--no-hinting --no-hinting named out 0 1", 2, err=USAGE, after=USED),
+    Row("--no-glyph-names --no-glyph-names named out 0 1", 2, err=USAGE, after=USED),
+    # streams
+    Row("- out 0 2", out=lines((2, 1)), stdin=SIMPLE, same="simple 2"),
+    Row("simple - 0 2", out="simple 2", err=lines((2, 1)), after=USED),
+    Row("--quiet - - 0 2", out="simple 2", stdin=SIMPLE, after=USED),
+    Row("--json simple - 0 2", out="simple 2", err=b'{"glyphs":[{"old":2,"new":1}]}\n', after=USED),
+    Row("simple /dev/stdout 0 2", out="simple 2", err=lines((2, 1)), after=USED),
+    Row("simple /dev/null 0 2", out=lines((2, 1)), after=USED),
+    Row("- out 0 2", 1, err=b"unknown font kind\n", after=USED),
+    Row("simple ./- 0 2", out=lines((2, 1)), after={"-": "simple 2"}),
+    # the end of the options
+    Row("-- simple out 0 2", out=lines((2, 1)), same="simple 2"),
+    Row("--widths -- six out 0 2,1", out=lines((2, 1), (1, 2)) + b"[0 [0 200 100]]\n", same="six 2,1"),
+    Row("-- --json out 0 2", out=lines((2, 1)), files={"--json": SIMPLE}, same="simple 2"),
+    Row("-- -- simple out 0 2", 2, err=USAGE, after=USED),
+    Row([b"simple", b"\xff", b"0", b"2"], 2, err=USAGE),
+    Row("simple out 0 --help", 2, err=USAGE, after=USED),
+]
+
+
+class Table:
+    def __init__(self, program):
+        self.program, self.same, self.ran, self.wrong = program, {}, 0, 0
+
+    def fail(self, what, why):
+        self.wrong += 1
+        print(f"program.py: {what}: {why}")
+
+    def demand(self, holds, what, why):
+        self.ran += 1
+        if not holds:
+            self.fail(what, why)
+
+    def known(self, name, font):
+        """The bytes of a name: those of the first row that has it."""
+        return self.same.setdefault(name, font)
+
+    def start(self, words, room, **given):
+        return subprocess.run([self.program, *words], cwd=room, capture_output=True, timeout=60, **given)
+
+    def run_row(self, row, room):
+        words = row.words.split() if isinstance(row.words, str) else row.words
+        before = FONTS | row.files
+        for name, data in before.items():
+            with open(os.path.join(room, name), "wb") as file:
+                file.write(data)
+        got = self.start(words, room, input=row.stdin)
+        after = {name: open(os.path.join(room, name), "rb").read() for name in os.listdir(room)}
+        wanted = before | row.after
+        if row.same:
+            wanted["out"] = row.same
+        wanted = {name: self.known(it, after.get(name)) if isinstance(it, str) else it for name, it in wanted.items()}
+        wanted = {name: it for name, it in wanted.items() if it is not None}
+        out = self.same.get(row.out) if isinstance(row.out, str) else row.out
+        problems = []
+        if got.returncode != row.status:
+            problems.append(f"status {got.returncode}, wanted {row.status}")
+        if got.stdout != out:
+            problems.append(f"standard output {got.stdout[:200]!r}, wanted {out and out[:200]!r}")
+        if row.err is not None and got.stderr != row.err:
+            problems.append(f"standard error {got.stderr[:200]!r}, wanted {row.err!r}")
+        for name in sorted(after.keys() | wanted.keys()):
+            if after.get(name) != wanted.get(name):
+                problems.append(f"the file {name} has {after.get(name, b'')[:60]!r} (or isn't there)")
+        self.ran += 1
+        if problems:
+            self.fail(row.words, "; ".join(problems))
+
+
+# ---- what a table of rows can't say
+
+def check_contents(table):
+    """What is left out of a font."""
+    all_of_it = tables_of(table.same["all of the three"])
+    for name, dropped in (("no names", "names"), ("no hinting", "hinting"), ("no glyph names", "glyphs"), ("none of the three", "all")):
+        found = tables_of(table.same[name])
+        for what, holds in (
+            ("name", ("name" in found) == (dropped not in ("names", "all"))),
+            ("post", (found["post"] == made.u32s(0x00030000) + bytes(28)) == (dropped in ("glyphs", "all"))),
+            ("glyf", found["glyf"].rstrip(b"\0") == (NO_HINTS if dropped in ("hinting", "all") else HINTED)),
+            ("head", found["head"][12:] == all_of_it["head"][12:]),
+        ):
+            table.demand(holds, name, f"the table {what}: {found.get(what)!r}")
+
+
+def check_words(table, room):
+    """`--help` and `--version`, and that each option stands in all three texts."""
+    with open(os.path.join(ROOT, "docs", "CLI.md")) as file:
+        manual = file.read()
+    with open(os.path.join(ROOT, "crates", "subset_font", "subset_font.1")) as file:
+        page = re.sub(r"\\f[BIR]", " ", file.read().replace("\\-", "-"))
+    first = table.start(["--help"], room)
+    table.demand(first.stdout.startswith(USAGE[:-1].replace(b" IN", b" [OPTIONS] IN", 1)) and first.stderr == b"", "--help", first)
+    for words in (["-h"], ["--widths", "--help"], ["--help", "x"]):
+        got = table.start(words, room)
+        table.demand((got.returncode, got.stdout, got.stderr) == (0, first.stdout, b""), words, got)
+    for option in OPTIONS:
+        for name, text in (("--help", first.stdout.decode()), ("docs/CLI.md", manual), ("subset_font.1", page)):
+            there = re.search(r"(^|[^-\w])" + re.escape(option) + r"($|[^-\w])", text, re.M)
+            table.demand(there, option, f"it doesn't stand in {name}")
+    for option in set(re.findall(r"(?:^|[\s`,|])(--[a-z][a-z-]*)", first.stdout.decode() + manual + page)):
+        # (fc-scan has one of its own)
+        table.demand(option in OPTIONS or option == "--format", option, "no such option")
+    version = table.start(["--version"], room)
+    with open(os.path.join(ROOT, "VERSION")) as file:
+        wanted = f"subset_font {file.read().strip()}, a port of the Rust crate subsetter 0.2.6\n".encode()
+    table.demand((version.returncode, version.stdout, version.stderr) == (0, wanted, b""), "--version", version)
+
+
+def put(room, name, data, mode=None):
+    path = os.path.join(room, name)
+    with open(path, "wb") as file:
+        file.write(data)
+    if mode is not None:
+        os.chmod(path, mode)
+    return path
+
+
+def take(path):
+    with open(path, "rb") as file:
+        return file.read()
+
+
+def check_places(table, room):
+    """Rights, links and devices stay as they were, a failed write loses nothing, and no temporary file is left."""
+    wanted = table.same["simple 2"]
+    put(room, "in", SIMPLE)
+    out = put(room, "out", OLD, 0o640)
+    got = table.start(["in", "out", "0", "2"], room)
+    table.demand(take(out) == wanted and stat.S_IMODE(os.stat(out).st_mode) == 0o640, "the rights of OUT", got)
+    put(room, "real", OLD)
+    os.symlink("real", os.path.join(room, "link"))
+    got = table.start(["in", "link", "0", "2"], room)
+    table.demand(os.path.islink(os.path.join(room, "link")) and take(os.path.join(room, "real")) == wanted, "OUT a link", got)
+    one = put(room, "one", OLD)
+    os.link(one, os.path.join(room, "other"))
+    got = table.start(["in", "one", "0", "2"], room)
+    table.demand(take(os.path.join(room, "other")) == wanted and os.stat(one).st_nlink == 2, "OUT has a second name", got)
+    os.mkfifo(os.path.join(room, "pipe"))
+    reader = subprocess.Popen(["cat", "pipe"], cwd=room, stdout=subprocess.PIPE)
+    got = table.start(["in", "pipe", "0", "2"], room)
+    table.demand(reader.communicate()[0] == wanted and got.returncode == 0, "OUT a pipe", got)
+    put(room, "out.part0", OLD)
+    got = table.start(["in", "fresh", "0", "2"], room)
+    got = table.start(["in", "out", "0", "2"], room)
+    table.demand(got.returncode == 0 and take(os.path.join(room, "out.part0")) == OLD, "a file has the other name", got)
+    os.unlink(os.path.join(room, "out.part0"))
+    # The file grows past the limit on its size in mid-write: OUT stays, and nothing is left beside it.
+    put(room, "out", OLD)
+    before = sorted(os.listdir(room))
+    got = table.start(["in", "out", "0", "2"], room, preexec_fn=few_bytes)
+    table.demand((got.returncode, got.stdout, got.stderr) == (3, b"", b"cannot write out\n"), "a write that fails", got)
+    table.demand(take(out) == OLD and sorted(os.listdir(room)) == before, "a write that fails leaves", os.listdir(room))
+    got = table.start(["in", "in", "0", "2"], room, preexec_fn=few_bytes)
+    table.demand(got.returncode == 3 and take(os.path.join(room, "in")) == SIMPLE, "a write over IN that fails", got)
+    if os.geteuid() != 0:
+        put(room, "shut", OLD, 0o444)
+        got = table.start(["in", "shut", "0", "2"], room)
+        table.demand((got.returncode, got.stderr) == (3, b"cannot write shut\n") and take(os.path.join(room, "shut")) == OLD,
+                     "OUT can't be written", got)
+
+
+def few_bytes():
+    import resource
+    import signal
+    signal.signal(signal.SIGXFSZ, signal.SIG_IGN)
+    resource.setrlimit(resource.RLIMIT_FSIZE, (100, 100))
+
+
+def check_streams(table, room):
+    """Standard streams that fail or are the same file."""
+    put(room, "in", SIMPLE)
+    with open("/dev/full", "wb") as full:
+        got = subprocess.run([table.program, "in", "out", "0", "2"], cwd=room, stdout=full, stderr=subprocess.PIPE)
+        table.demand((got.returncode, got.stderr) == (3, b"cannot write standard output\n"), "standard output is full", got)
+        table.demand(take(os.path.join(room, "out")) == table.same["simple 2"], "and OUT is whole", got)
+        for words in (["--help"], ["--version"]):
+            got = subprocess.run([table.program, *words], cwd=room, stdout=full, stderr=subprocess.PIPE)
+            table.demand((got.returncode, got.stderr) == (3, b"cannot write standard output\n"), words, got)
+        got = subprocess.run([table.program, "in", "-", "0", "2"], cwd=room, stdout=full, stderr=subprocess.PIPE)
+        table.demand((got.returncode, got.stderr) == (3, b"cannot write -\n"), "OUT is standard output, which is full", got)
+    with open(os.path.join(room, "both"), "wb") as file:
+        got = subprocess.run([table.program, "in", "both", "0", "2"], cwd=room, stdout=file, stderr=subprocess.PIPE)
+    table.demand(take(os.path.join(room, "both")) == table.same["simple 2"] and got.stderr == lines((2, 1)),
+                 "standard output is OUT", got)
+
+
+def check_many(table, room):
+    """All glyphs that a face can have, by a file."""
+    count = 65535
+    font = made.font(sorted([("glyf", bytes(12)), ("head", made.HEAD), ("loca", made.u32s(0, *[12] * count)),
+                             ("maxp", made.u32s(0x00010000) + made.u16s(count) + bytes(26))]))
+    put(room, "in", font)
+    for text in (b"*", b"0-65534", b"\n".join(b"%d" % k for k in range(count))):
+        put(room, "list", text)
+        got = table.start(["--gids-file", "list", "in", "out", "0"], room)
+        table.demand((got.returncode, got.stdout, got.stderr) == (0, lines(*((k, k) for k in range(count))), b""),
+                     "65,535 glyphs by a file", (got.returncode, got.stderr))
+
+
+def check_memory(table, room):
+    """With little memory a run ends with 1 or 3, and room is taken for the file alone, not many times it."""
+    import resource
+
+    def little():
+        resource.setrlimit(resource.RLIMIT_AS, (64 << 20, 64 << 20))
+    put(room, "in", SIMPLE + bytes(1 << 20))
+    got = table.start(["in", "out", "0", "2"], room, preexec_fn=little)
+    table.demand((got.returncode, got.stdout) == (0, lines((2, 1))), "1 MB of source in 64 MB", got)
+    put(room, "in", SIMPLE + bytes(80 << 20))
+    got = table.start(["in", "other", "0", "2"], room, preexec_fn=little)
+    table.demand((got.returncode, got.stdout, got.stderr) == (3, b"", b"cannot read in\n"), "80 MB of source in 64 MB", got)
+    table.demand(not os.path.exists(os.path.join(room, "other")), "and OUT isn't there", got)
+
+
+def check_refused_memory(table, room):
+    """Each request for memory is refused in turn, by compare/refuse.c: never does a run end with 0 and another output."""
+    compiler = shutil.which("cc") or shutil.which("gcc")
+    if not compiler:
+        table.fail("refused memory", "there is no C compiler")
+        return
+    library = os.path.join(room, "refuse.so")
+    subprocess.run([compiler, "-O1", "-shared", "-fPIC", "-o", library, os.path.join(ROOT, "compare", "refuse.c")], check=True)
+    put(room, "in", FONTS["both"])
+    put(room, "list", b"1-2 4")
+    for words, out in (
+        (["in", "out", "0", "2"], lines((2, 1))),
+        (["--json", "--widths", "--gids-file", "list", "in", "out", "0"], None),
+        (["--text", "A", "in", "-", "0"], None),
+    ):
+        base = None
+        for number in range(1000):
+            put(room, "out", OLD)
+            env = {"LD_PRELOAD": library, "TOLD": os.path.join(room, "told"), "REFUSE": str(number)}
+            got = table.start(words, room, env=env)
+            left = take(os.path.join(room, "out"))
+            if number == 0:
+                base = got, left
+                table.demand(got.returncode == 0 and out in (None, got.stdout), words, got)
+                continue
+            if take(os.path.join(room, "told")).split()[1] == b"0":
+                break
+            ended = (got.returncode, got.stdout, got.stderr)
+            if got.returncode == 0:
+                table.demand((ended, left) == ((0, base[0].stdout, base[0].stderr), base[1]), f"{words}, refusal {number}", ended)
+            else:
+                told = ((1, b"", b"out of memory\n"), (3, b"", b"cannot read in\n"), (3, b"", b"cannot read list\n"))
+                table.demand(ended in told and left == OLD, f"{words}, refusal {number}", ended)
+        table.demand(number > 5, f"{words}: {number} refusals", number)
+
+
+def main():
+    words = argparse.ArgumentParser(usage=__doc__)
+    words.add_argument("--program", default=os.path.join(ROOT, "crates", "subset_font", "out", "subset_font"))
+    words.add_argument("--only", default="")
+    given = words.parse_args()
+    if not os.path.exists(given.program):
+        sys.exit(f"program.py: no {given.program}")
+    table = Table(os.path.realpath(given.program))
+    for row in ROWS:
+        if given.only in str(row.words) or row.same:
+            with tempfile.TemporaryDirectory(prefix="program-") as room:
+                table.run_row(row, room)
+    for check in (check_words, check_places, check_streams, check_many, check_memory, check_refused_memory):
+        with tempfile.TemporaryDirectory(prefix="program-") as room:
+            check(table, room)
+    check_contents(table)
+    print(f"program: {table.ran} rows, {table.wrong} differ")
+    sys.exit(1 if table.wrong else 0)
+
+
+if __name__ == "__main__":
+    main()

@@ -1,0 +1,113 @@
+/* The header in C++: each call and each constant, against what the library answers. */
+#include "subsetter.h"
+#include "subsetter.h"
+
+#include <cstdio>
+#include <cstring>
+
+static int failures;
+
+static void check(bool holds, const char *what)
+{
+    if (!holds) {
+        failures++;
+        std::printf("FAILED: header, %s\n", what);
+    }
+}
+
+/* A font whose only table is `CFF `: one glyph, whose charstring is `endchar` alone. */
+static const uint8_t font[55] = {79, 84, 84, 79, 0, 1, 0, 16, 0, 0, 0, 0, 67, 70, 70, 32, 0, 0, 0, 0, 0, 0, 0, 28, 0, 0, 0, 27,
+    1, 0, 4, 1, 0, 1, 1, 1, 2, 65, 0, 1, 1, 1, 3, 160, 17, 0, 0, 0, 0, 0, 1, 1, 1, 2, 14};
+
+/* The inline texts are the library's. */
+static void check_texts()
+{
+    for (uint32_t status = 0; status < 300; status++) {
+        uint8_t text[64];
+        size_t length = 0;
+        const char *inline_text = subsetter_status_text(status);
+        check(subsetter_error_text(status, text, sizeof text, &length) == SUBSETTER_DONE, "a text");
+        check(length == std::strlen(inline_text) && std::memcmp(text, inline_text, length) == 0, inline_text);
+    }
+    check(std::strcmp(subsetter_status_text(4294967295u), "unknown status") == 0, "the greatest status");
+}
+
+/* Each status by its name: what the library answers it for, where a small font can ask for it, and its text. */
+static void check_names()
+{
+    static const struct {
+        uint32_t status;
+        const char *text;
+    } names[] = {{SUBSETTER_DONE, "all done"}, {SUBSETTER_UNKNOWN_KIND, "unknown font kind"},
+        {SUBSETTER_MALFORMED_FONT, "malformed font"}, {SUBSETTER_UNIMPLEMENTED, "unsupported feature in font"},
+        {SUBSETTER_SUBSET_ERROR, "subsetting of font failed"}, {SUBSETTER_OVERFLOW_ERROR, "overflow occurred"},
+        {SUBSETTER_CFF_ERROR, "processing CFF table failed"}, {SUBSETTER_OUT_OF_MEMORY, "out of memory"},
+        {SUBSETTER_BUFFER_TOO_SMALL, "a buffer is too small"}, {SUBSETTER_NO_DEPTH, "the limit of the depth is 0"},
+        {SUBSETTER_UNKNOWN_OPTION, "unknown option"}};
+    for (uint32_t i = 0; i < sizeof names / sizeof *names; i++) {
+        uint8_t text[64];
+        size_t length = 0;
+        subsetter_error_text(names[i].status, text, sizeof text, &length);
+        check(length == std::strlen(names[i].text) && std::memcmp(text, names[i].text, length) == 0, names[i].text);
+        check(names[i].status == i, "the numbers of the statuses");
+    }
+}
+
+static void check_version()
+{
+    char text[32];
+    std::snprintf(text, sizeof text, "%d.%d.%d+%d", SUBSETTER_VERSION_MAJOR, SUBSETTER_VERSION_MINOR,
+        SUBSETTER_VERSION_PATCH, SUBSETTER_VERSION_N);
+    check(std::strcmp(text, SUBSETTER_VERSION_TEXT) == 0, "the version's text");
+    check(subsetter_version() == SUBSETTER_VERSION, "the library's version");
+    check(SUBSETTER_VERSION_MAJOR == subsetter_version() >> 24 && SUBSETTER_VERSION_N == (subsetter_version() & 255), "its numbers");
+}
+
+static void check_calls()
+{
+    uint8_t out[164];
+    uint16_t cids[1];
+    uint32_t widths[1];
+    size_t length = 7;
+    subsetter_sizes sizes = {7, 7, 7};
+    subsetter_made made = {out, 7, cids, 7, widths, 7};
+    subsetter_options options = SUBSETTER_DEFAULT_OPTIONS;
+    check(options.size == sizeof options && sizeof options == 16, "the size of the options");
+    check(subsetter_subset(font, 55, 0, NULL, 0, out, 164, &length) == SUBSETTER_DONE && length == 164, "subset");
+    check(subsetter_subset_with_limits(font, 55, 0, NULL, 0, 1, 1, out, 164, &length) == SUBSETTER_DONE, "limits");
+    check(subsetter_subset_with_limits(font, 55, 0, NULL, 0, 1, 0, out, 164, &length) == SUBSETTER_NO_DEPTH, "no depth");
+    check(subsetter_subset_with_options(font, 55, 0, NULL, 0, &options, out, 163, &length) == SUBSETTER_BUFFER_TOO_SMALL
+        && length == 164, "options");
+    check(subsetter_subset_with_options(font, 55, 0, NULL, 0, NULL, out, 164, &length) == SUBSETTER_DONE, "no options");
+    check(subsetter_embed(font, 55, 0, NULL, 0, out, 164, cids, 1, widths, 1, &sizes) == SUBSETTER_MALFORMED_FONT
+        && sizes.font == 0, "embed");
+    check(subsetter_embed_with_options(font, 55, 0, NULL, 0, &options, out, 164, cids, 1, widths, 1, &sizes)
+        == SUBSETTER_MALFORMED_FONT, "embed with options");
+    check(subsetter_make_embedded(font, 55, 0, NULL, 0, &options, &made) == SUBSETTER_MALFORMED_FONT && made.font_size == 0
+        && made.cid_count == 0 && made.width_count == 0, "make embedded");
+    subsetter_free(&made);
+    check(subsetter_make_subset(font, 55, 0, NULL, 0, NULL, &made) == SUBSETTER_DONE && made.font_size == 164, "make subset");
+    check(std::memcmp(made.font, out, 164) == 0, "its bytes");
+    subsetter_free(&made);
+    check(made.font == NULL && made.font_size == 0, "freed");
+    subsetter_free(&made);
+    subsetter_free(NULL);
+    check(options.size == sizeof options && options.tokens == 0 && options.depth == 0 && options.drop == 0, "the default options");
+    options.drop = SUBSETTER_DROP_HINTING | SUBSETTER_DROP_NAMES | SUBSETTER_DROP_GLYPH_NAMES;
+    check(options.drop == 7, "the bits");
+    check(subsetter_make_subset(font, 55, 0, NULL, 0, &options, &made) == SUBSETTER_DONE, "all dropped");
+    subsetter_free(&made);
+    options.drop++;
+    check(subsetter_make_subset(font, 55, 0, NULL, 0, &options, &made) == SUBSETTER_UNKNOWN_OPTION && made.font_size == 0, "an unknown bit");
+}
+
+int main()
+{
+    check_texts();
+    check_names();
+    check_version();
+    check_calls();
+    if (failures == 0)
+        std::printf("header: C++ reads it, and the library answers as it says\n");
+    return failures != 0;
+}

@@ -1,0 +1,380 @@
+/**
+ * Fonts cut down to some of their glyphs, for embedding in PDF: the proved library as a WebAssembly module.
+ *
+ *     import { load } from "subsetter-proved";
+ *     const subsetter = await load();
+ *     const font = subsetter.subset(bytes, [36, 68]);
+ *
+ * `subsetter.d.mts` says what each call takes and answers, and README.md what is proved of it and what is tested.
+ */
+
+/** Why a font can't be subset; its message says it in words. */
+export class SubsetterError extends Error {}
+/** No OpenType font, or one without outlines. */
+export class UnknownKind extends SubsetterError {}
+/** A table is missing or cut, or there is no such glyph or face. */
+export class MalformedFont extends SubsetterError {}
+/** The outlines are CFF2, or a glyph is an accented character that `endchar` puts together. */
+export class Unimplemented extends SubsetterError {}
+/** A kept string lies outside its table, or the new `name` would be too large. */
+export class SubsetError extends SubsetterError {}
+/** The glyphs leave no number for glyph 0, or the new font would be too large. */
+export class OverflowError extends SubsetterError {}
+/** `CFF ` has another version than 1, or a charstring can't be run, or not within the limits. */
+export class CFFError extends SubsetterError {}
+/** Memory ran out. */
+export class OutOfMemory extends SubsetterError {}
+
+// The names stand in strings, since tools that make scripts smaller rename classes.
+const NAMES = {
+    SubsetterError, UnknownKind, MalformedFont, Unimplemented, SubsetError, OverflowError, CFFError, OutOfMemory,
+};
+for (const [name, error] of Object.entries(NAMES)) {
+    Object.defineProperty(error.prototype, "name", { value: name, configurable: true, writable: true });
+}
+
+/** The errors by their status, from 1 on. */
+const ERRORS = [, UnknownKind, MalformedFont, Unimplemented, SubsetError, OverflowError, CFFError, OutOfMemory];
+const DONE = 0;
+const PAGE = 65536, ALIGNMENT = 16, MEMORY_AT_MOST = 2 ** 31;
+const WORD_AT_MOST = 2 ** 32 - 1;
+const TOKENS = 1000000, DEPTH = 64;
+
+const aligned = (at) => Math.ceil(at / ALIGNMENT) * ALIGNMENT;
+
+const shown = (value) => (typeof value === "string" ? JSON.stringify(value) : String(value));
+
+/** A whole number from `low` to `high`; else TypeError for what is no number, and RangeError. */
+function whole(value, low, high, what) {
+    if (typeof value !== "number") {
+        throw new TypeError(`${what} must be a number, and not ${typeof value}`);
+    }
+    if (!Number.isInteger(value) || value < low || value > high) {
+        throw new RangeError(`${what} must be a whole number from ${low} to ${high}, and not ${value}`);
+    }
+    return value;
+}
+
+/** Whether a value is an ArrayBuffer, shared or not. (`instanceof` knows none of another frame.) */
+const isBuffer = (value) => ["[object ArrayBuffer]", "[object SharedArrayBuffer]"].includes(Object.prototype.toString.call(value));
+
+/** The bytes of an ArrayBuffer or of a view of one; else TypeError. */
+function bytesOf(data) {
+    if (ArrayBuffer.isView(data)) {
+        return new Uint8Array(data.buffer, data.byteOffset, data.byteLength);
+    }
+    if (isBuffer(data)) {
+        return new Uint8Array(data);
+    }
+    throw new TypeError("a font must be an ArrayBuffer or a view of one");
+}
+
+/** Glyph numbers as numbers of 16 bits; else TypeError or RangeError. */
+function glyphsOf(glyphs) {
+    if (typeof glyphs !== "object" || typeof glyphs?.[Symbol.iterator] !== "function") {
+        throw new TypeError("glyphs must be an iterable of numbers");
+    }
+    const numbers = [];
+    for (const glyph of glyphs) {
+        numbers.push(whole(glyph, 0, 65535, "a glyph"));
+    }
+    return Uint16Array.from(numbers);
+}
+
+/** Options, if they have no other names than these; else TypeError. */
+function named(options, names, what) {
+    if (options === undefined) {
+        return {};
+    }
+    if (typeof options !== "object" || options === null) {
+        throw new TypeError(`${what} must be an object`);
+    }
+    for (const name of Object.keys(options)) {
+        if (!names.includes(name)) {
+            throw new TypeError(`${what} have no ${shown(name)}, but ${names.join(", ")}`);
+        }
+    }
+    return options;
+}
+
+/** A choice that is kept unless it is false; else TypeError. */
+function kept(value, what) {
+    if (value !== undefined && typeof value !== "boolean") {
+        throw new TypeError(`${what} must be true or false, and not ${shown(value)}`);
+    }
+    return value ?? true;
+}
+
+const CHOICES = ["limits", "hinting", "names", "glyphNames"];
+
+/** The limits, and what is dropped, of the options. */
+function choicesOf({ limits, hinting, names, glyphNames }) {
+    const { tokens = TOKENS, depth = DEPTH } = named(limits, ["tokens", "depth"], "limits");
+    return {
+        tokens: whole(tokens, 1, WORD_AT_MOST, "tokens"),
+        depth: whole(depth, 1, 255, "depth"),
+        drop: (kept(hinting, "hinting") ? 0 : 1) | (kept(names, "names") ? 0 : 2) | (kept(glyphNames, "glyphNames") ? 0 : 4),
+    };
+}
+
+const indexOf = ({ index = 0 }) => whole(index, 0, WORD_AT_MOST, "index");
+
+/**
+ * An instance of the module. Its memory holds the module's own data, then the fonts, and behind them what one call needs:
+ * its arguments, and the heap, which begins anew with each call.
+ */
+class Library {
+    #module;
+    #exports;
+    /** Whether a call didn't come back: it left the instance's stack where it was. */
+    #isSpoilt = false;
+    /** Where the fonts lie, by address. */
+    #places = [];
+    /** What the statuses say. They are asked at once, as later there may be no memory for it. */
+    #texts;
+    version;
+
+    constructor(module, instance) {
+        this.#module = module;
+        this.#exports = instance.exports;
+        this.#texts = ERRORS.map((_, status) => this.#text(status));
+        const version = instance.exports.subsetter_version();
+        this.version = `${version >>> 24}.${(version >> 16) & 255}.${(version >> 8) & 255}+${version & 255}`;
+    }
+
+    /** Makes the memory of an instance `end` bytes large, if it isn't. */
+    #reach(memory, end) {
+        const pages = Math.ceil(end / PAGE) - memory.buffer.byteLength / PAGE;
+        if (pages <= 0) {
+            return;
+        }
+        try {
+            // A memory of 64 bits counts its pages as BigInt.
+            try {
+                memory.grow(pages);
+            } catch (error) {
+                if (!(error instanceof TypeError)) {
+                    throw error;
+                }
+                memory.grow(BigInt(pages));
+            }
+        } catch {
+            throw new OutOfMemory("out of memory");
+        }
+    }
+
+    get #base() {
+        return aligned(Number(this.#exports.__heap_base.value));
+    }
+
+    /** Where the last font ends. */
+    get #end() {
+        const last = this.#places.at(-1);
+        return last ? aligned(last.at + last.size) : this.#base;
+    }
+
+    /** The exports of an instance that can be called: a new one with the same fonts, where a call didn't come back. */
+    #sound() {
+        if (this.#isSpoilt) {
+            let fresh;
+            try {
+                fresh = new WebAssembly.Instance(this.#module, {}).exports;
+            } catch {
+                throw new OutOfMemory("out of memory");
+            }
+            this.#reach(fresh.memory, this.#end);
+            const old = new Uint8Array(this.#exports.memory.buffer, this.#base, this.#end - this.#base);
+            new Uint8Array(fresh.memory.buffer).set(old, this.#base);
+            this.#exports = fresh;
+            this.#isSpoilt = false;
+        }
+        return this.#exports;
+    }
+
+    /** Puts a font into the memory: its place, which is taken until it is released. */
+    hold(bytes) {
+        const { memory } = this.#sound();
+        const size = bytes.byteLength;
+        // The first gap that is large enough, or the end.
+        let at = this.#base, i = 0;
+        for (; i < this.#places.length && this.#places[i].at < at + size; i++) {
+            at = aligned(this.#places[i].at + this.#places[i].size);
+        }
+        if (at + size > MEMORY_AT_MOST) {
+            throw new OutOfMemory("out of memory");
+        }
+        this.#reach(memory, at + size);
+        new Uint8Array(memory.buffer, at, size).set(bytes);
+        const place = { at, size };
+        this.#places.splice(i, 0, place);
+        return place;
+    }
+
+    release(place) {
+        this.#places = this.#places.filter((it) => it !== place);
+    }
+
+    /** Calls `name` with lists, which are put behind the fonts, and a struct of `size` bytes, which it writes. */
+    #call(name, words, lists, size) {
+        const exports = this.#sound(), parts = [...lists, new Uint8Array(size)];
+        let end = this.#end;
+        const places = parts.map((part) => {
+            const at = end;
+            end = aligned(at + part.byteLength);
+            return at;
+        });
+        if (end > MEMORY_AT_MOST) {
+            throw new OutOfMemory("out of memory");
+        }
+        this.#reach(exports.memory, end);
+        const all = new Uint8Array(exports.memory.buffer);
+        parts.forEach((part, i) => all.set(new Uint8Array(part.buffer, part.byteOffset, part.byteLength), places[i]));
+        let status;
+        try {
+            // (what an earlier call handed over is forgotten with all else, and needn't be freed)
+            exports.heap_start(BigInt(end));
+            status = exports[name](...words(...places.map(BigInt)));
+        } catch (error) {
+            this.#isSpoilt = true;
+            throw error;
+        }
+        return { status, buffer: exports.memory.buffer, made: places.at(-1) };
+    }
+
+    #text(status) {
+        const room = 64;
+        const { buffer, made } = this.#call(
+            "subsetter_error_text", (at) => [status, at + 16n, BigInt(room), at], [], 16 + room,
+        );
+        const length = Number(new DataView(buffer).getBigUint64(made, true));
+        return String.fromCharCode(...new Uint8Array(buffer, made + 16, length));
+    }
+
+    /** What the call `name` makes of a font that is held here: its three lists, as copies. */
+    make(name, font, index, glyphs, { tokens, depth, drop }) {
+        const options = Uint32Array.of(16, tokens, depth, drop);
+        const words = (list, choices, made) =>
+            [BigInt(font.at), BigInt(font.size), index, list, BigInt(glyphs.length), choices, BigInt(options.length), made];
+        const { status, buffer, made } = this.#call(name, words, [glyphs, options], 48);
+        if (status !== DONE) {
+            throw new (ERRORS[status] ?? SubsetterError)(this.#texts[status] ?? `status ${status}`);
+        }
+        // Three times where a list lies, and its count.
+        const view = new DataView(buffer, made);
+        const part = (i, size) => {
+            const at = Number(view.getBigUint64(16 * i, true));
+            return buffer.slice(at, at + size * Number(view.getBigUint64(16 * i + 8, true)));
+        };
+        return {
+            font: new Uint8Array(part(0, 1)),
+            cids: [...new Uint16Array(part(1, 2))],
+            widths: [...new Uint32Array(part(2, 4))],
+        };
+    }
+
+    subset(...words) {
+        return this.make("subsetter_make_subset_by_words", ...words).font;
+    }
+
+    embed(...words) {
+        return this.make("subsetter_make_embedded_by_words", ...words);
+    }
+}
+
+/** A font in the module's memory. */
+class Font {
+    #library;
+    #index;
+    #place;
+
+    constructor(library, bytes, index) {
+        this.#library = library;
+        this.#index = index;
+        this.#place = library.hold(bytes);
+    }
+
+    #made(name, glyphs, options) {
+        const choices = choicesOf(named(options, CHOICES, "options"));
+        const numbers = glyphsOf(glyphs);
+        // (looked at last, as a caller's iterator may close the font)
+        if (!this.#place) {
+            throw new TypeError("the font is closed");
+        }
+        return this.#library[name](this.#place, this.#index, numbers, choices);
+    }
+
+    subset(glyphs, options) {
+        return this.#made("subset", glyphs, options);
+    }
+
+    embed(glyphs, options) {
+        return this.#made("embed", glyphs, options);
+    }
+
+    close() {
+        if (this.#place) {
+            this.#library.release(this.#place);
+            this.#place = null;
+        }
+    }
+}
+
+/** The calls of a library, which need no `this`. */
+function callsOf(library) {
+    /** One call on a font that is put into the memory for it. */
+    function once(name, data, glyphs, options) {
+        const bytes = bytesOf(data);
+        const given = named(options, ["index", ...CHOICES], "options");
+        const index = indexOf(given), choices = choicesOf(given), numbers = glyphsOf(glyphs);
+        const place = library.hold(bytes);
+        try {
+            return library[name](place, index, numbers, choices);
+        } finally {
+            library.release(place);
+        }
+    }
+    return Object.freeze({
+        version: library.version,
+        subset: (data, glyphs, options) => once("subset", data, glyphs, options),
+        embed: (data, glyphs, options) => once("embed", data, glyphs, options),
+        open: (data, options) => new Font(library, bytesOf(data), indexOf(named(options, ["index"], "options"))),
+    });
+}
+
+/** The module of what `load` is given. */
+async function moduleOf(source) {
+    if (source instanceof WebAssembly.Module) {
+        return source;
+    }
+    if (isBuffer(source) || ArrayBuffer.isView(source)) {
+        return WebAssembly.compile(bytesOf(source));
+    }
+    if (typeof Response !== "undefined" && source instanceof Response) {
+        return compiled(source);
+    }
+    const url = source === undefined ? new URL("./subsetter.wasm", import.meta.url) : source;
+    if (typeof url !== "string" && !(url instanceof URL)) {
+        throw new TypeError("a module is a WebAssembly.Module, bytes, a Response or an address");
+    }
+    if (url instanceof URL && url.protocol === "file:" && typeof process !== "undefined") {
+        const { readFile } = await import("node:fs/promises");
+        return WebAssembly.compile(await readFile(url));
+    }
+    return compiled(await fetch(url));
+}
+
+async function compiled(response) {
+    if (!response.ok) {
+        throw new Error(`the module isn't at ${response.url}: ${response.status}`);
+    }
+    return WebAssembly.compile(await response.arrayBuffer());
+}
+
+/** The library's calls. `source` is the module, its bytes or where it lies; without it `subsetter.wasm` beside this file. */
+export async function load(source) {
+    const module = await moduleOf(source);
+    if (!WebAssembly.Module.exports(module).some(({ name }) => name === "subsetter_version")) {
+        throw new TypeError("the module isn't subsetter.wasm");
+    }
+    return callsOf(new Library(module, await WebAssembly.instantiate(module, {})));
+}

@@ -1,0 +1,368 @@
+/** What the module does besides the worked rows: arguments, opened fonts, memory, calls that don't come back. */
+import { equal, ok, same, throws } from "./assert.mjs";
+import { memoryOf, plainFont } from "./made.mjs";
+import { readRows } from "./rows.mjs";
+
+const PAGE = 65536;
+
+/** The exports of each instance that is made while `run` runs; `change` may put others in their place. */
+async function watched(run, change = (exports) => exports) {
+    const { Instance, instantiate } = WebAssembly, made = [];
+    const kept = (instance) => {
+        const exports = change({ ...instance.exports });
+        made.push(exports);
+        return { exports };
+    };
+    WebAssembly.Instance = function (module, imports) {
+        return kept(new Instance(module, imports));
+    };
+    WebAssembly.instantiate = async (module, imports) => kept(await instantiate(module, imports));
+    try {
+        await run(made);
+    } finally {
+        Object.assign(WebAssembly, { Instance, instantiate });
+    }
+}
+
+function wrongArguments({ library, subsetter, fonts }) {
+    const font = fonts.three_glyphs, opened = subsetter.open(font);
+    const wrong = (kind, what, data, glyphs, options) => {
+        for (const name of ["subset", "embed"]) {
+            throws(() => subsetter[name](data, glyphs, options), kind, `${name}: ${what}`);
+            if (data === font && options?.index === undefined) {
+                throws(() => opened[name](glyphs, options), kind, `opened, ${name}: ${what}`);
+            }
+        }
+    };
+    for (const data of ["text", 5, null, undefined, [0, 1], {}, new Blob([])]) {
+        wrong(TypeError, `a font that is ${String(data)}`, data, [1]);
+        throws(() => subsetter.open(data), TypeError, `open: a font that is ${String(data)}`);
+    }
+    for (const glyphs of [5, null, undefined, "12", "", {}, { length: 1, 0: 1 }, new ArrayBuffer(2), ["1"], [1n], [null], [undefined], [true], [[1]], [, 1], new Map([[1, 2]])]) {
+        wrong(TypeError, `glyphs that are ${Object.prototype.toString.call(glyphs)}`, font, glyphs);
+    }
+    for (const glyph of [-1, 65536, 1.5, NaN, Infinity, -Infinity, 2 ** 32, 65572]) {
+        wrong(RangeError, `the glyph ${glyph}`, font, [1, glyph]);
+    }
+    for (const index of [-1, 0.5, 2 ** 32, NaN]) {
+        wrong(RangeError, `the index ${index}`, font, [1], { index });
+        throws(() => subsetter.open(font, { index }), RangeError, `open: the index ${index}`);
+    }
+    for (const index of ["0", null, 0n, [0], true]) {
+        wrong(TypeError, `an index that is ${typeof index}`, font, [1], { index });
+        throws(() => subsetter.open(font, { index }), TypeError, `open: an index that is ${typeof index}`);
+    }
+    for (const options of [5, null, "index", true]) {
+        wrong(TypeError, `options that are ${options}`, font, [1], options);
+        wrong(TypeError, `limits that are ${options}`, font, [1], { limits: options });
+        throws(() => subsetter.open(font, options), TypeError, `open: options that are ${options}`);
+    }
+    for (const options of [{ indx: 0 }, { tokens: 5 }, { glyphnames: false }, { limits: { token: 1 } }, { limits: { depth: 1, index: 0 } }]) {
+        wrong(TypeError, `the options ${JSON.stringify(options)}`, font, [1], options);
+    }
+    for (const options of [{ hinting: 0 }, { names: "no" }, { glyphNames: null }, { hinting: new Boolean(false) }]) {
+        wrong(TypeError, `the options ${JSON.stringify(options)}`, font, [1], options);
+    }
+    for (const limits of [{ tokens: "5" }, { tokens: null }, { depth: 1n }, { depth: "64" }, { depth: [1] }]) {
+        wrong(TypeError, `limits of a wrong type: ${Object.keys(limits)}`, font, [1], { limits });
+    }
+    for (const limits of [{ tokens: 0 }, { tokens: -1 }, { tokens: 2 ** 32 }, { tokens: 0.5 }, { depth: 0 }, { depth: 256 }, { depth: 1.5 }, { depth: NaN }]) {
+        wrong(RangeError, `the limits ${JSON.stringify(limits)}`, font, [1], { limits });
+    }
+    throws(() => opened.subset([1], { index: 0 }), TypeError, "an index for an opened font");
+    throws(() => subsetter.open(font, { limits: {} }), TypeError, "limits for open");
+    for (const name of ["subset", "embed"]) {
+        const { message } = throws(() => subsetter[name](font, [1, 70000]), RangeError, name);
+        equal(message, "a glyph must be a whole number from 0 to 65535, and not 70000", "the message");
+    }
+    opened.close();
+    // All names are errors of the module, with it above them.
+    for (const name of ["UnknownKind", "MalformedFont", "Unimplemented", "SubsetError", "OverflowError", "CFFError", "OutOfMemory"]) {
+        const error = new library[name]("why");
+        ok(error instanceof library.SubsetterError && error instanceof Error, `${name} is a SubsetterError`);
+        equal(String(error), `${name}: why`, "the error as a text");
+        ok(!Object.keys(error).includes("name"), "the name isn't the error's own");
+    }
+    equal(new library.SubsetterError("why").name, "SubsetterError", "the name of them all");
+}
+
+function kindsOfArguments({ subsetter }) {
+    const font = plainFont(40, 16), wanted = subsetter.subset(font, [3, 1, 2, 3]);
+    const padded = new Uint8Array(font.length + 10).fill(7);
+    padded.set(font, 3);
+    const shared = typeof SharedArrayBuffer === "undefined" ? [] : [new SharedArrayBuffer(font.length)];
+    shared.forEach((it) => new Uint8Array(it).set(font));
+    const data = [font.buffer, padded.subarray(3, 3 + font.length), new DataView(padded.buffer, 3, font.length), new Uint16Array(font.slice().buffer), ...shared];
+    for (const it of data) {
+        same(subsetter.subset(it, [3, 1, 2, 3]), wanted, `a font as ${it.constructor.name}`);
+        const opened = subsetter.open(it);
+        same(opened.subset([3, 1, 2, 3]), wanted, `an opened font as ${it.constructor.name}`);
+        opened.close();
+    }
+    const counted = function* () {
+        yield* [3, 1, 2, 3];
+    };
+    for (const glyphs of [new Set([3, 1, 2]), new Uint8Array([3, 1, 2]), new Uint16Array([3, 1, 2]), new Float64Array([3, 1, 2]), counted(), [3, 1, 2][Symbol.iterator]()]) {
+        same(subsetter.subset(font, glyphs), wanted, `glyphs as ${Object.prototype.toString.call(glyphs)}`);
+    }
+    same(subsetter.subset(font, [-0]), subsetter.subset(font, []), "glyph -0");
+    ok(subsetter.subset(font, [255 & 39]).length > 0, "one glyph");
+    same(subsetter.subset(font, [3, 1, 2], { index: undefined, limits: undefined, hinting: undefined, names: true, glyphNames: true }), wanted, "all said");
+    same(subsetter.subset(font, [3, 1, 2], { limits: {} }), wanted, "no limits said");
+    same(subsetter.subset(font, [3, 1, 2], { limits: { tokens: undefined, depth: undefined } }), wanted, "limits not said");
+    // An iterator may call as well.
+    const outer = function* () {
+        for (const glyph of [3, 1, 2]) {
+            same(subsetter.subset(font, [3, 1, 2]), wanted, "a call within a call");
+            yield glyph;
+        }
+    };
+    same(subsetter.subset(font, outer()), wanted, "a call round calls");
+    // What the font is when the call is made counts, and neither it nor the list is written.
+    same(font, plainFont(40, 16), "the font afterwards");
+    const list = Uint16Array.of(3, 1, 2);
+    subsetter.embed(font, list);
+    same(list, Uint16Array.of(3, 1, 2), "the list afterwards");
+    const numbers = Array.from({ length: 39 }, (_, i) => 39 - i), { cids, widths } = subsetter.embed(font, numbers);
+    same(cids, numbers.map((_, i) => i + 1), "CIDs");
+    same(widths, [500, ...numbers.map((glyph) => 500 + glyph)], "widths");
+}
+
+function answersAreCopies({ subsetter }) {
+    const font = plainFont(60, 32), first = subsetter.subset(font, [5, 6]), kept = first.slice();
+    equal(first.buffer.byteLength, first.length, "the answer's buffer");
+    equal(first.constructor, Uint8Array, "the answer's kind");
+    for (let i = 0; i < 20; i++) subsetter.subset(font, [40 - i, 7]);
+    same(first, kept, "an answer after other calls");
+    first.fill(0);
+    same(subsetter.subset(font, [5, 6]), kept, "the same call after its answer was written");
+}
+
+function openedFonts({ library, subsetter, fonts }) {
+    const sizes = [20, 300, 60, 1000, 20, 3], sources = sizes.map((count, i) => plainFont(count, 16 + 4 * i));
+    const wanted = sources.map((font) => subsetter.subset(font, [2, 1]));
+    const opened = sources.map((font) => subsetter.open(font));
+    const check = (what) => opened.forEach((font, i) => font && same(font.subset([2, 1]), wanted[i], `font ${i}, ${what}`));
+    check("all open");
+    sources.forEach((font) => font.fill(0));
+    check("the sources written over");
+    // Close some, and open others in their places.
+    for (const [gone, other] of [[1, 4], [3, 0], [0, 1], [5, 3], [4, 5], [2, 2]]) {
+        opened[gone].close();
+        opened[gone].close();
+        throws(() => opened[gone].subset([1]), TypeError, "a closed font");
+        throws(() => opened[gone].embed([1]), TypeError, "a closed font");
+        opened[gone] = null;
+        check(`${gone} closed`);
+        same(subsetter.subset(plainFont(sizes[other], 16 + 4 * other), [2, 1]), wanted[other], "a font between them");
+        check(`${gone} closed, and another passed by`);
+        opened[gone] = subsetter.open(plainFont(sizes[gone], 16 + 4 * gone));
+        check(`${gone} open again`);
+    }
+    opened[2].close();
+    opened[2] = subsetter.open(new Uint8Array());
+    throws(() => opened[2].subset([]), library.UnknownKind, "an empty font");
+    opened[2].close();
+    opened[2] = null;
+    const closing = opened[1];
+    const glyphs = function* () {
+        yield 1;
+        closing.close();
+        yield 2;
+    };
+    throws(() => closing.subset(glyphs()), TypeError, "a font that its own call closes");
+    opened[1] = null;
+    check("after that");
+    // A wrong open takes no place.
+    throws(() => subsetter.open(fonts.collection, { index: -1 }), RangeError, "open");
+    const face = subsetter.open(fonts.collection, { index: 1 }), other = subsetter.open(fonts.collection, { index: 0 });
+    same(face.subset([1]), subsetter.subset(fonts.collection, [1], { index: 1 }), "face 1");
+    same(other.subset([2]), subsetter.subset(fonts.collection, [2]), "face 0");
+    [face, other, ...opened].forEach((font) => font?.close());
+}
+
+/** Whatever is asked, the memory is as large afterwards as it was. */
+async function memoryStays({ library, wasm, fonts }, count) {
+    await watched(async (made) => {
+        const subsetter = await library.load(wasm);
+        const large = plainFont(800, 200), all = Array.from({ length: 799 }, (_, i) => i + 1);
+        const opened = subsetter.open(large);
+        const openAgain = (glyphs) => {
+            const again = subsetter.open(large);
+            again.embed(glyphs);
+            again.close();
+        };
+        openAgain(all);
+        subsetter.embed(large, all);
+        const pages = made[0].memory.buffer.byteLength;
+        for (let i = 0; i < count; i++) {
+            const some = all.slice(i % 700, (i % 700) + 1 + (i * 7) % 97);
+            if (i % 50 === 0) subsetter.subset(large, some);
+            else if (i % 50 === 1) openAgain(some);
+            else if (i % 3 === 0) opened.embed(some);
+            else if (i % 3 === 1) opened.subset(some);
+            else throws(() => subsetter.subset(fonts.no_outlines, []), library.UnknownKind, "a font without outlines");
+        }
+        equal(made[0].memory.buffer.byteLength, pages, `the memory after ${count} calls`);
+        equal(made.length, 1, "instances");
+    });
+}
+
+/** With each cap on the memory a call answers what it does without, or OutOfMemory; and the next call is as good as any. */
+async function memoryEnds({ library, subsetter, wasm }) {
+    const small = plainFont(4, 16), large = plainFont(3000, 300), all = Array.from({ length: 2999 }, (_, i) => i + 1);
+    const wantedSmall = subsetter.subset(small, [2]), wanted = subsetter.embed(large, all);
+    const { least, capped } = memoryOf(wasm);
+    const seen = { open: 0, subset: 0, embed: 0, done: 0 };
+    for (let pages = least + 1; pages < least + 90; pages += pages < least + 4 ? 1 : 5) {
+        const { load, OutOfMemory } = library, it = await load(capped(pages));
+        const first = it.open(small);
+        let font;
+        for (let round = 0; round < 2; round++) {
+            try {
+                font ??= it.open(large);
+                try {
+                    same(font.subset(all), wanted.font, `${pages} pages`);
+                } catch (error) {
+                    if (error.constructor !== OutOfMemory) throw error;
+                    seen.subset++;
+                }
+                try {
+                    const { font: made, cids, widths } = font.embed(all);
+                    same(made, wanted.font, `${pages} pages`);
+                    same(cids, wanted.cids, `${pages} pages: CIDs`);
+                    same(widths, wanted.widths, `${pages} pages: widths`);
+                    seen.done++;
+                } catch (error) {
+                    if (error.constructor !== OutOfMemory) throw error;
+                    equal(String(error), "OutOfMemory: out of memory", "the error");
+                    seen.embed++;
+                }
+            } catch (error) {
+                if (error.constructor !== OutOfMemory) throw error;
+                equal(String(error), "OutOfMemory: out of memory", "the error");
+                seen.open++;
+            }
+            same(first.subset([2]), wantedSmall, "a font that was open before memory ran out");
+            same(it.subset(small, [2]), wantedSmall, "the next call");
+        }
+        font?.close();
+        same(it.subset(small, [2]), wantedSmall, "a call after closing");
+    }
+    for (const [what, times] of Object.entries(seen)) ok(times > 0, `no cap on the memory met this: ${what}`);
+}
+
+/** A call that doesn't come back takes a new instance, and the open fonts move there. */
+async function trapsPass({ library, wasm }) {
+    const sources = [plainFont(30, 16), plainFont(2000, 400)];
+    let isTrap = false;
+    const change = (exports) => {
+        for (const [name, call] of Object.entries(exports)) {
+            if (!name.startsWith("subsetter_") || name === "subsetter_error_text") continue;
+            exports[name] = (...words) => {
+                const answer = call(...words);
+                if (isTrap) {
+                    isTrap = false;
+                    throw new WebAssembly.RuntimeError("unreachable");
+                }
+                return answer;
+            };
+        }
+        return exports;
+    };
+    await watched(async (made) => {
+        const subsetter = await library.load(wasm);
+        const wanted = sources.map((font) => subsetter.subset(font, [7, 3]));
+        const opened = sources.map((font) => subsetter.open(font));
+        for (let round = 1; round < 4; round++) {
+            isTrap = true;
+            const call = [() => opened[0].subset([1]), () => subsetter.embed(sources[0], [1]), () => opened[1].embed([1])][round - 1];
+            throws(call, WebAssembly.RuntimeError, "a trap");
+            equal(made.length, round, "instances after a trap");
+            if (round === 2) same(subsetter.open(sources[0]).subset([7, 3]), wanted[0], "a font that is opened after a trap");
+            opened.forEach((font, i) => same(font.subset([7, 3]), wanted[i], "an open font after a trap"));
+            sources.forEach((font, i) => same(subsetter.subset(font, [7, 3]), wanted[i], "a call after a trap"));
+            equal(made.length, round + 1, "instances after the next calls");
+            ok(made[round].memory !== made[round - 1].memory, "the memory is a new one");
+        }
+        // Where there is no memory for a new instance the fonts wait for one.
+        isTrap = true;
+        throws(() => opened[0].subset([1]), WebAssembly.RuntimeError, "a trap");
+        const { Instance } = WebAssembly;
+        WebAssembly.Instance = function () {
+            throw new RangeError("WebAssembly.Instance(): Out of memory");
+        };
+        throws(() => opened[0].subset([7, 3]), library.OutOfMemory, "no new instance");
+        throws(() => subsetter.open(sources[0]), library.OutOfMemory, "no new instance");
+        WebAssembly.Instance = Instance;
+        opened.forEach((font, i) => same(font.subset([7, 3]), wanted[i], "an open font after both"));
+    }, change);
+}
+
+/** Calls from near the end of the engine's stack: where it ends within one, the next is as good as any. */
+async function stackEnds({ library, wasm }) {
+    await watched(async () => {
+        const subsetter = await library.load(wasm), source = plainFont(30, 16);
+        const wanted = subsetter.subset(source, [7, 3]), opened = subsetter.open(source);
+        let ended = 0, got = null;
+        const down = () => {
+            try {
+                down();
+            } catch (error) {
+                if (!(error instanceof RangeError)) throw error;
+            }
+            // On the way back there is more and more of the stack.
+            if (got || ended > 300) return;
+            try {
+                got = opened.subset([7, 3]);
+            } catch (error) {
+                // (where there is no stack for a new instance there seems to be no memory for it)
+                if (!(error instanceof RangeError || error instanceof library.OutOfMemory)) throw error;
+                ended++;
+            }
+        };
+        down();
+        ok(ended > 0, "the stack didn't end");
+        if (got) same(got, wanted, "near the end of the stack");
+        same(opened.subset([7, 3]), wanted, "after the stack's end");
+        same(subsetter.subset(source, [7, 3]), wanted, "after the stack's end");
+    });
+}
+
+async function waysToLoad({ library, wasm, fonts }) {
+    const module = await WebAssembly.compile(wasm);
+    const wanted = (await library.load(module)).subset(fonts.three_glyphs, [2]);
+    const copy = wasm.slice();
+    const response = () => new Response(copy, { headers: { "content-type": "application/wasm" } });
+    for (const source of [module, copy, copy.buffer, new DataView(copy.buffer), response(), new Response(copy)]) {
+        const { subset, embed, open } = await library.load(source);
+        same(subset(fonts.three_glyphs, [2]), wanted, "a call of its own");
+        same(embed(fonts.three_advances, [2, 2, 1]).cids, [1, 1, 2], "a call of its own");
+        same(open(fonts.three_glyphs).subset([2]), wanted, "a call of its own");
+    }
+    const empty = Uint8Array.of(0, 97, 115, 109, 1, 0, 0, 0);
+    const wrong = [
+        [new Uint8Array([1, 2]), WebAssembly.CompileError, ""], [new Response("", { status: 404 }), Error, "404"],
+        [empty, TypeError, "subsetter.wasm"], [5, TypeError, ""], [null, TypeError, ""],
+    ];
+    for (const [source, kind, text] of wrong) {
+        let thrown;
+        await library.load(source).catch((error) => (thrown = error));
+        ok(thrown?.constructor === kind && thrown.message.includes(text), `load: ${thrown}`);
+    }
+}
+
+/** All of it: the names of the parts. `count` calls are made where the memory is looked at. */
+export async function runCalls(library, wasm, table, count) {
+    const { fonts } = readRows(table), subsetter = await library.load(wasm);
+    const all = { library, subsetter, fonts, wasm };
+    const parts = [wrongArguments, kindsOfArguments, answersAreCopies, openedFonts, memoryStays, memoryEnds, trapsPass, stackEnds, waysToLoad];
+    for (const part of parts) {
+        try {
+            await part(all, count);
+        } catch (error) {
+            throw new Error(`${part.name}: ${error.message}`, { cause: error });
+        }
+    }
+    return parts.map((part) => part.name);
+}

@@ -1,0 +1,132 @@
+/** The module in Node: node tests/node.mjs PART.., of rows, calls, parts, package, fonts, drawings. After `make`. */
+import { execFileSync } from "node:child_process";
+import { mkdtempSync, readFileSync, readdirSync, rmSync, writeFileSync } from "node:fs";
+import { tmpdir } from "node:os";
+import { join } from "node:path";
+import { fileURLToPath } from "node:url";
+import * as library from "../subsetter.mjs";
+import { equal, ok } from "./assert.mjs";
+import { runCalls } from "./calls.mjs";
+import { sfnt } from "../page/example.mjs";
+import { Font, charstringCommands } from "../page/outlines.mjs";
+import { compare, damagedFonts, realFonts } from "./compare.mjs";
+import { fontFiles, readFont, some } from "./fonts.mjs";
+import { runParts } from "./parts.mjs";
+import { runRows } from "./rows.mjs";
+
+const here = (name) => fileURLToPath(new URL(name, import.meta.url));
+const read = (name) => readFileSync(here(name));
+const wasm = new Uint8Array(read("../out/subsetter.wasm"));
+const table = read("../../rows.txt").toString();
+const version = read("../../../VERSION").toString().trim();
+
+async function rows() {
+    const subsetter = await library.load(wasm), count = runRows(library, subsetter, table);
+    ok(count >= 30, "there are rows");
+    equal(subsetter.version, version, "the library's version");
+    // A real font, as the program has it: bindings/test puts it into rows of its own.
+    const more = process.env.SUBSETTER_FONT_ROWS, real = more ? runRows(library, subsetter, readFileSync(more, "utf8")) : 0;
+    return `${count} rows, and ${real} of a real font`;
+}
+
+async function calls() {
+    const parts = await runCalls(library, wasm, table, 10000);
+    return `${parts.length} parts: ${parts.join(", ")}`;
+}
+
+async function parts() {
+    await runParts(read("../out/parts.wasm"));
+    return "the heap and the wide integers";
+}
+
+/** The file for npm, unpacked where a program would have it, and what its types name. */
+async function packed() {
+    const file = `subsetter-proved-${version.replace("+", "-")}.tgz`;
+    ok(readdirSync(here("../out")).includes(file), `there is no ${file}`);
+    const names = execFileSync("tar", ["tzf", here(`../out/${file}`)], { encoding: "utf8" }).trim().split("\n").sort();
+    equal(names.join(), ["README.md", "package.json", "subsetter.d.mts", "subsetter.mjs", "subsetter.wasm"].map((it) => `package/${it}`).sort().join(), "what is packed");
+    const folder = mkdtempSync(join(tmpdir(), "subsetter-package-"));
+    try {
+        writeFileSync(join(folder, "package.json"), '{"name": "user", "private": true}');
+        execFileSync("npm", ["install", "--silent", "--offline", "--no-audit", "--no-fund", here(`../out/${file}`)], { cwd: folder });
+        const program = `import { load, UnknownKind } from "subsetter-proved";
+            const subsetter = await load();
+            try { subsetter.subset(new Uint8Array(), []) } catch (error) { console.log(error instanceof UnknownKind, subsetter.version) }`;
+        writeFileSync(join(folder, "program.mjs"), program);
+        const said = execFileSync(process.execPath, ["program.mjs"], { cwd: folder, encoding: "utf8" });
+        equal(said.trim(), `true ${version}`, "a program that takes the package");
+        const manifest = JSON.parse(readFileSync(join(folder, "node_modules/subsetter-proved/package.json"), "utf8"));
+        equal(manifest.version, version.replace("+", "-"), "the package's version");
+        ok(!("license" in manifest) && !("dependencies" in manifest), "no licence and no dependency is named");
+    } finally {
+        rmSync(folder, { recursive: true });
+    }
+    const typed = [...read("../subsetter.d.mts").toString().matchAll(/^export (?:class|function) (\w+)/gm)].map(([, name]) => name);
+    equal(typed.sort().join(), Object.keys(library).sort().join(), "what the types name");
+    return file;
+}
+
+async function fonts() {
+    const subsetter = await library.load(wasm), native = here("../out/native");
+    const [real, copies] = [realFonts(10), damagedFonts(150)];
+    ok(real.length > 0, "there is no font on this machine (fonts-dejavu-core has some)");
+    await compare(subsetter, native, real);
+    const counts = await compare(subsetter, native, copies);
+    ok(counts[0] > 50 && Object.keys(counts).length > 2, `answers and errors: ${JSON.stringify(counts)}`);
+    return `${real.length} real fonts and ${copies.length} damaged ones, as the native library has them`;
+}
+
+/** What the page reads, against outlines that were worked out by hand. */
+function byHand() {
+    const curve = charstringCommands(Uint8Array.of(139, 139, 21, 144, 149, 159, 169, 179, 27, 14));
+    equal(JSON.stringify(curve), '[["M",0,0],["C",10,5,30,35,70,35],["Z"]]', "hhcurveto with five operands");
+    // Glyph 0 is a triangle (0, 0), (100, 0), (0, 100); glyph 1 is half of it, moved by (10, 20).
+    const triangle = [0, 1, 0, 0, 0, 0, 0, 100, 0, 100, 0, 2, 0, 0, 0x31, 0x33, 0x27, 100, 100, 100].concat([0, 0, 0, 0]);
+    const half = [255, 255, 0, 0, 0, 0, 0, 0, 0, 0, 0, 0x0a, 0, 0, 10, 20, 0x20, 0, 0, 0];
+    const head = new Uint8Array(54), u16 = (...values) => values.flatMap((it) => [it >> 8, it & 255]);
+    head.set(u16(1000), 18);
+    const glyf = [...triangle, ...half], loca = u16(0, triangle.length / 2, glyf.length / 2), maxp = [0, 1, 0, 0, ...u16(2)];
+    const [whole, part] = [0, 1].map((glyph) => new Font(sfnt({ glyf, head, loca, maxp })).outline(glyph));
+    const moved = whole.map(([command, ...at]) => [command, ...at.map((it, i) => it / 2 + (i % 2 ? 0.02 : 0.01))]);
+    equal(part.length, moved.length, "a scaled component");
+    moved.forEach((command, i) => command.forEach((it, k) => ok(k === 0 ? it === part[i][k] : Math.abs(it - part[i][k]) < 1e-9, `a scaled component: ${part[i]}`)));
+}
+
+/** Glyphs of real fonts draw alike from the source and from the subset, as the page reads both. */
+async function drawings() {
+    byHand();
+    const subsetter = await library.load(wasm);
+    let drawn = 0, kinds = new Set();
+    for (const path of some(fontFiles(), 24)) {
+        const data = new Uint8Array(readFont(path));
+        let source;
+        try {
+            source = new Font(data);
+        } catch {
+            continue;
+        }
+        const glyphs = Array.from({ length: 40 }, (_, i) => Math.floor(((i * 37) % 40) * (source.count - 1) / 40) + 1).filter((glyph) => glyph < source.count);
+        const { font, cids, widths } = subsetter.embed(data, glyphs), subset = new Font(font);
+        kinds.add(source.tables.has("glyf") ? "glyf" : "CFF");
+        glyphs.forEach((glyph, i) => {
+            const what = `${path}, glyph ${glyph}`, [one, other] = [source.outline(glyph), subset.outline(cids[i])];
+            equal(one.length, other.length, `${what}: commands`);
+            one.forEach((command, k) => command.forEach((it, n) => ok(it === other[k][n] || Math.abs(it - other[k][n]) < 1e-9, `${what}: command ${k}`)));
+            equal(subset.advance(cids[i]), source.advance(glyph), `${what}: advance`);
+            equal(widths[cids[i]], Math.floor(1000 * source.advance(glyph) + 0.5), `${what}: width`);
+            drawn++;
+        });
+    }
+    ok(drawn > 0, "there is no font on this machine (fonts-dejavu-core has some)");
+    return `${drawn} glyphs draw alike (${[...kinds].join(" and ")})`;
+}
+
+const all = { rows, calls, parts, package: packed, fonts, drawings };
+for (const name of process.argv.slice(2)) {
+    try {
+        console.log(`node, ${name}: ${await all[name]()}`);
+    } catch (error) {
+        console.log(`node, ${name}: FAILED: ${error.stack}${error.cause ? `\n${error.cause.stack}` : ""}`);
+        process.exitCode = 1;
+    }
+}

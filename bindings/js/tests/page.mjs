@@ -1,0 +1,273 @@
+/**
+ * The page in Chromium, without a window: node tests/page.mjs [--picture FILE FONT TEXT]. After `make page`. It drops fonts,
+ * types, saves, and does it again by the keyboard alone. With --picture it only draws the page with a font and a text.
+ */
+import { mkdtempSync, readFileSync, readdirSync, rmSync, writeFileSync } from "node:fs";
+import { tmpdir } from "node:os";
+import { join } from "node:path";
+import { fileURLToPath, pathToFileURL } from "node:url";
+import { exampleFont } from "../page/example.mjs";
+import { Font } from "../page/outlines.mjs";
+import { load } from "../subsetter.mjs";
+import { equal, ok, same } from "./assert.mjs";
+import { Browser } from "./browser.mjs";
+import { plainFont } from "./made.mjs";
+
+const here = (name) => fileURLToPath(new URL(name, import.meta.url));
+const folder = mkdtempSync(join(tmpdir(), "subsetter-page-")), saved = join(folder, "saved");
+const subsetter = await load(readFileSync(here("../out/subsetter.wasm")));
+const browser = new Browser();
+
+async function opened(size) {
+    const page = await browser.page(size);
+    await browser.send("Browser.setDownloadBehavior", { behavior: "allow", downloadPath: saved, eventsEnabled: true });
+    await page.go(pathToFileURL(here("../out/page.html")).href);
+    await page.until("document.body.dataset.ready === 'true'");
+    return page;
+}
+
+const file = (name, data) => {
+    writeFileSync(join(folder, name), data);
+    return join(folder, name);
+};
+
+/** Does something, and waits until the page has done what follows from it. */
+async function after(page, act) {
+    const before = await page.value("document.body.dataset.done");
+    await act();
+    await page.until(`document.body.dataset.done && document.body.dataset.done !== ${JSON.stringify(before)}`);
+}
+
+const set = (page, id, text) =>
+    page.value(`(() => { const it = document.getElementById(${JSON.stringify(id)}); it.value = ${JSON.stringify(text)}; it.dispatchEvent(new Event("input")) })()`);
+
+const text = (page, id) => page.value(`document.getElementById(${JSON.stringify(id)}).innerText`);
+
+/** What the page shows of an answer. */
+const shown = (page) =>
+    page.value(`({
+        said: document.getElementById("said").textContent,
+        result: document.getElementById("result").hidden, trouble: document.getElementById("trouble").hidden,
+        rows: [...document.querySelectorAll("#table tbody tr")].map((row) => [...row.cells].map((it) => Number(it.textContent))),
+        sizes: [...document.querySelectorAll("#sizes tbody tr")].map((row) => [...row.cells].slice(0, 3).map((it) => it.textContent)),
+        bars: [...document.querySelectorAll("#sizes .bar")].map((it) => [it.className, it.style.width]),
+        same: [...document.querySelectorAll("figure")].map((it) => it.dataset.same),
+        paths: [...document.querySelectorAll("figure")].map((it) => [...it.querySelectorAll("path")].map((path) => path.getAttribute("d"))),
+        name: document.getElementById("save").download,
+    })`);
+
+let completed = 0;
+browser.on(({ method, params }) => (completed += method === "Browser.downloadProgress" && params.state === "completed"));
+
+async function save(page, act = () => page.value('document.getElementById("save").click()')) {
+    rmSync(saved, { recursive: true, force: true });
+    const before = completed;
+    await act();
+    for (const end = Date.now() + 30000; Date.now() < end && completed === before; ) await new Promise((done) => setTimeout(done, 30));
+    ok(completed > before, "nothing was saved");
+    const [name] = readdirSync(saved);
+    return { name, data: new Uint8Array(readFileSync(join(saved, name))) };
+}
+
+/** That the page shows, and saves, what the library answers. */
+async function check(page, source, glyphs, options, what) {
+    const made = subsetter.embed(source, glyphs, options), view = await shown(page);
+    const asked = [[0, 0], ...glyphs.map((glyph, i) => [glyph, made.cids[i]]).filter(([glyph]) => glyph)];
+    equal(view.result || !view.trouble, false, `${what}: the result is to be seen, and no trouble`);
+    equal(JSON.stringify(view.rows), JSON.stringify(asked.map(([old, cid]) => [old, cid, made.widths[cid]])), `${what}: the table`);
+    const before = new Font(source, options?.index ?? 0), subset = new Font(made.font);
+    const sizes = [...before.sizes()].sort(([, a], [, b]) => b - a).map(([tag, size]) => [tag, size, subset.sizes().get(tag)]);
+    const count = (it) => (it === undefined ? "–" : it.toLocaleString("en"));
+    equal(JSON.stringify(view.sizes), JSON.stringify(sizes.map(([tag, one, other]) => [tag, count(one), count(other)])), `${what}: the sizes`);
+    const largest = Math.max(...before.sizes().values());
+    const widths = sizes.flatMap(([, one, other]) => [one, other].filter((it) => it !== undefined)).map((it) => (100 * it) / largest);
+    equal(view.bars.length, widths.length, `${what}: bars`);
+    view.bars.forEach(([, width], i) => ok(Math.abs(parseFloat(width) - widths[i]) < 0.01, `${what}: bar ${i}`));
+    equal(view.same.join(), asked.map(() => "true").join(), `${what}: the drawings are alike`);
+    view.paths.forEach(([one, other], i) => {
+        equal(one, other, `${what}: drawing ${i}`);
+        equal(one !== "", before.outline(asked[i][0]).length > 0, `${what}: drawing ${i} is there`);
+    });
+    ok(view.said.startsWith(`Done: ${made.font.length.toLocaleString("en")} bytes with ${subset.count} glyphs`), `${what}: ${view.said}`);
+    same((await save(page)).data, made.font, `${what}: the saved file`);
+    return view;
+}
+
+async function byMouse() {
+    const page = await opened(), example = exampleFont(), reading = new Font(example);
+    const glyphsOf = (characters) => [...new Set([...characters].map((it) => reading.glyphOf(it.codePointAt(0))))];
+    await page.value(`window.heard = []; new MutationObserver(() => window.heard.push(document.getElementById("said").textContent)).observe(document.getElementById("said"), { childList: true, characterData: true, subtree: true })`);
+    await set(page, "text", "ÄB2");
+    await after(page, () => page.drop("#drop", [file("dots.ttf", example)]));
+    const first = await check(page, example, glyphsOf("ÄB2"), {}, "a dropped font");
+    equal(first.name, "subset-dots.ttf", "the name of the saved file");
+    ok((await text(page, "drawn")).includes("3 further glyphs are"), "further glyphs: dot, A and the dieresis");
+    equal((await page.value("window.heard")).map((it) => it.split(" ")[0]).join(), "Reading,Subsetting,Drawing,Done:", "what the page says while it works");
+    // Text and numbers, one after the other.
+    await after(page, () => set(page, "text", "ZEBRA Ж"));
+    await check(page, example, glyphsOf("ZEBRA "), {}, "another text");
+    ok((await text(page, "said")).endsWith("The font has no glyph for “Ж”."), "a character that isn't there");
+    await after(page, () => set(page, "numbers", "5, 9-11 5"));
+    await check(page, example, [...new Set([...glyphsOf("ZEBRA "), 5, 9, 10, 11])], {}, "text and numbers");
+    await after(page, () => set(page, "text", ""));
+    await check(page, example, [5, 9, 10, 11], {}, "numbers alone");
+    await after(page, () => set(page, "numbers", ""));
+    await check(page, example, [], {}, "nothing asked for");
+    for (const wrong of ["5, x", "70000", "9-5", "-3", "1.5"]) {
+        await after(page, () => set(page, "numbers", wrong));
+        const view = await shown(page);
+        ok(!view.trouble && view.result, `${wrong}: the trouble alone is to be seen`);
+        ok((await text(page, "trouble")).includes("is no glyph number from 0 to 65535"), `${wrong}: ${await text(page, "trouble")}`);
+    }
+    await after(page, () => set(page, "numbers", "60000"));
+    ok((await text(page, "trouble")).startsWith("MalformedFont\n"), "a glyph that isn't there");
+    await after(page, () => set(page, "numbers", "7"));
+    // Each choice by itself.
+    const full = exampleFont({ prep: [0x4f], "cvt ": [0, 1] });
+    await after(page, () => page.drop("#drop", [file("full.ttf", full)]));
+    for (const [id, choice] of [["hinting", "hinting"], ["names", "names"], ["glyph-names", "glyphNames"]]) {
+        await after(page, () => page.value(`document.getElementById("${id}").click()`));
+        const without = subsetter.subset(full, [7], { [choice]: false });
+        ok(without.length < subsetter.subset(full, [7]).length, `${choice} drops something`);
+        await check(page, full, [7], { [choice]: false }, `without ${choice}`);
+        await after(page, () => page.value(`document.getElementById("${id}").click()`));
+    }
+    // A face of a collection, and a font with more glyphs than are drawn.
+    const faces = [plainFont(5, 16), plainFont(9, 20)], ttc = collection(faces);
+    await after(page, () => page.drop("body", [file("two.ttc", ttc)]));
+    equal(await page.value('document.getElementById("face-field").hidden'), false, "the face is asked for");
+    await after(page, () => set(page, "numbers", "4"));
+    await after(page, () => set(page, "face", "1"));
+    same((await save(page)).data, subsetter.subset(ttc, [4], { index: 1 }), "face 1");
+    await after(page, () => set(page, "numbers", "1-299"));
+    await after(page, () => page.drop("#drop", [file("many.ttf", plainFont(300, 16))]));
+    equal(await page.value('document.getElementById("face-field").hidden'), true, "the face isn't asked for");
+    equal((await shown(page)).same.length, 240, "drawings of many glyphs");
+    ok((await text(page, "drawn")).endsWith("The first 240 of 300 are drawn."), "what isn't drawn is said");
+    // Fonts that are none, and then one again.
+    const odd = [
+        ["no-loca.ttf", without(example, "loca"), "MalformedFont"],
+        ["cut.ttf", example.slice(0, 2000), "UnknownKind"],
+        ["empty.ttf", new Uint8Array(), "UnknownKind"],
+        ["web.woff", Buffer.concat([Buffer.from("wOFF"), Buffer.alloc(60)]), "UnknownKind"],
+        ["text.ttf", Buffer.from("not a font at all, but a text"), "UnknownKind"],
+    ];
+    await after(page, () => set(page, "numbers", "1"));
+    for (const [name, data, error] of odd) {
+        await after(page, () => page.drop("#drop", [file(name, data)]));
+        const view = await shown(page), trouble = await text(page, "trouble");
+        ok(view.result && !view.trouble, `${name}: the trouble alone is to be seen`);
+        ok(trouble.startsWith(`${error}\n`) && trouble.includes("What to do:"), `${name}: ${trouble}`);
+        ok(view.said.startsWith(`${name} can't be subset: `), `${name}: ${view.said}`);
+        equal(await page.value('document.getElementById("trouble").getAttribute("role")'), "alert", "the role");
+    }
+    await after(page, () => page.drop("#drop", [file("dots.ttf", example)]));
+    await check(page, example, [1], {}, "a font after the damaged ones");
+    // A file that is chosen, and nothing that left the page.
+    await after(page, () => set(page, "text", "AB"));
+    const { root } = await page.send("DOM.getDocument"), { nodeId } = await page.send("DOM.querySelector", { nodeId: root.nodeId, selector: "#file" });
+    await after(page, () => page.send("DOM.setFileInputFiles", { nodeId, files: [file("chosen.ttf", example)] }));
+    await check(page, example, [...glyphsOf("AB"), 1], {}, "a chosen file");
+    quiet(page);
+    // Nor could it: the page's own policy refuses each request.
+    const refused = await page.value(`new Promise((done) => {
+        addEventListener("securitypolicyviolation", ({ effectiveDirective }) => done(effectiveDirective));
+        fetch("http://127.0.0.1:9/").catch(() => setTimeout(() => done("not refused"), 500));
+    })`);
+    equal(refused, "connect-src", "a request of the page");
+}
+
+/** A font in which a table has another tag. */
+function without(font, tag) {
+    const copy = Buffer.from(font), at = copy.indexOf(tag, 12, "latin1");
+    copy.write("????", at, "latin1");
+    return copy;
+}
+
+function quiet(page) {
+    const odd = page.requests.filter((it) => !/^(data|blob):/.test(it) && it !== pathToFileURL(here("../out/page.html")).href);
+    equal(odd.join(), "", "requests");
+    equal(page.errors.join("; "), "", "errors in the page");
+}
+
+function collection(faces) {
+    const front = 12 + 4 * faces.length, size = faces.reduce((sum, face) => sum + face.length, front);
+    const out = new Uint8Array(size), view = new DataView(out.buffer);
+    [0x74746366, 0x00010000, faces.length].forEach((word, i) => view.setUint32(4 * i, word));
+    let at = front;
+    faces.forEach((face, i) => {
+        view.setUint32(12 + 4 * i, at);
+        out.set(face, at);
+        for (let table = 0; table < view.getUint16(at + 4); table++) {
+            const place = at + 12 + 16 * table + 8;
+            view.setUint32(place, view.getUint32(place) + at);
+        }
+        at += face.length;
+    });
+    return out;
+}
+
+/** Everything by Tab, Space, Enter and letters. */
+async function byKeyboard() {
+    const page = await opened(), example = exampleFont();
+    const focus = () => page.value("document.activeElement.id");
+    const to = async (id) => {
+        for (let i = 0; i < 20; i++) {
+            await page.key("Tab");
+            if ((await focus()) === id) return;
+        }
+        throw new Error(`Tab doesn't come to ${id}`);
+    };
+    const order = [];
+    for (let i = 0; i < 7; i++) {
+        await page.key("Tab");
+        order.push(await focus());
+    }
+    equal(order.join(), "file,example,text,numbers,hinting,names,glyph-names", "the order of the fields");
+    await to("example");
+    await after(page, () => page.key("Enter"));
+    await to("text");
+    await page.key("a", 2);
+    await page.key("Backspace");
+    await page.type("CAB");
+    await page.until('document.getElementById("said").textContent.startsWith("Done")');
+    await to("names");
+    await after(page, () => page.key(" "));
+    const reading = new Font(example), glyphs = [..."CAB"].map((it) => reading.glyphOf(it.charCodeAt(0)));
+    await check(page, example, glyphs, { names: false }, "by the keyboard");
+    await to("save");
+    same((await save(page, () => page.key("Enter"))).data, subsetter.subset(example, glyphs, { names: false }), "saved by the keyboard");
+    // Each field has a name, and each drawing.
+    const { nodes } = await page.send("Accessibility.getFullAXTree");
+    const roles = ["button", "textbox", "checkbox", "link", "spinbutton", "img", "SvgRoot", "image"];
+    const nameless = nodes.filter(({ ignored, role, name }) => !ignored && roles.includes(role?.value) && !name?.value);
+    equal(nameless.map(({ role }) => role.value).join(), "", "fields without a name");
+    equal(await page.value('document.getElementById("said").getAttribute("aria-live")'), "polite", "aria-live");
+    quiet(page);
+}
+
+async function picture(to, font, characters) {
+    const page = await opened({ width: 1080, height: 1200 });
+    await set(page, "text", characters);
+    await after(page, () => page.drop("#drop", [font]));
+    writeFileSync(to, await page.picture());
+    console.log(`${to}: ${await text(page, "said")}`);
+}
+
+try {
+    const [word, ...words] = process.argv.slice(2);
+    if (word === "--picture") {
+        await picture(...words);
+    } else {
+        await byMouse();
+        console.log("page: dropped fonts, text, numbers, choices, faces, saved files, damaged fonts");
+        await byKeyboard();
+        console.log("page: the same by the keyboard alone");
+    }
+} catch (error) {
+    console.log(`page: FAILED: ${error.stack}`);
+    process.exitCode = 1;
+} finally {
+    await browser.close();
+    rmSync(folder, { recursive: true, force: true });
+}

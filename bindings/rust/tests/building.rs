@@ -1,0 +1,133 @@
+//! How a program comes to this package, and the package to its library.
+
+mod table;
+
+use std::env;
+use std::fs;
+use std::io::Write;
+use std::path::{Path, PathBuf};
+use std::process::{Command, Output, Stdio};
+use table::table;
+
+/// A library that refuses each font with one status.
+const REFUSING: &str = "
+#include <stdint.h>
+uint32_t subsetter_make_subset_by_words(void) { return 3; }
+uint32_t subsetter_make_embedded_by_words(void) { return 3; }
+void subsetter_free(void *made) { (void)made; }
+uint32_t subsetter_version(void) { return 0; }
+";
+
+/// A new folder for a test.
+fn folder(name: &str) -> PathBuf {
+    let folder = Path::new(env!("CARGO_TARGET_TMPDIR")).join(name);
+    let _ = fs::remove_dir_all(&folder);
+    fs::create_dir_all(&folder).unwrap();
+    folder
+}
+
+/// Cargo for the dependent program, which asks no registry and no net.
+fn cargo(word: &str, target: &Path) -> Command {
+    let mut cargo = Command::new(env!("CARGO"));
+    cargo
+        .args([word, "-q", "--offline", "--target-dir"])
+        .arg(target)
+        .current_dir(concat!(env!("CARGO_MANIFEST_DIR"), "/tests/dependent"))
+        .stdin(Stdio::piped())
+        .stdout(Stdio::piped())
+        .stderr(Stdio::piped());
+    cargo
+}
+
+/// What the dependent program makes of a font, with the library of a folder or of the place where it mostly stands.
+fn run(target: &Path, library: Option<&Path>, font: &[u8]) -> Vec<u8> {
+    let mut cargo = cargo("run", target);
+    if let Some(folder) = library {
+        cargo.env("SUBSETTER_LIBRARY_FOLDER", folder);
+    }
+    let mut child = cargo.spawn().unwrap();
+    child.stdin.take().unwrap().write_all(font).unwrap();
+    let Output {
+        status,
+        stdout,
+        stderr,
+    } = child.wait_with_output().unwrap();
+    assert!(status.success(), "{}", String::from_utf8_lossy(&stderr));
+    stdout
+}
+
+fn done(command: &mut Command) {
+    assert!(command.status().unwrap().success(), "{command:?}");
+}
+
+/// Where the library stands that these tests are linked with.
+fn library() -> PathBuf {
+    env::var_os("SUBSETTER_LIBRARY_FOLDER")
+        .map_or(
+            Path::new(env!("CARGO_MANIFEST_DIR")).join("../c/out"),
+            PathBuf::from,
+        )
+        .join("libsubsetter.a")
+}
+
+#[test]
+fn a_dependency_that_asks_for_the_crate_gets_this_package() {
+    let table = table();
+    let row = table.rows.iter().find(|row| row.name == "simple").unwrap();
+    let target = folder("dependent");
+    assert_eq!(run(&target, None, &row.font), row.wanted.font);
+
+    // The library of another folder is linked, and a changed one is linked anew.
+    let other = folder("other");
+    let (source, object) = (other.join("refusing.c"), other.join("refusing.o"));
+    let archive = other.join("libsubsetter.a");
+    fs::write(&source, REFUSING).unwrap();
+    let compiler = env::var("CC").unwrap_or_else(|_| "cc".into());
+    done(
+        Command::new(compiler)
+            .arg("-c")
+            .arg(&source)
+            .arg("-o")
+            .arg(&object),
+    );
+    done(Command::new("ar").arg("rcs").arg(&archive).arg(&object));
+    let said = run(&target, Some(&other), &row.font);
+    assert_eq!(String::from_utf8(said).unwrap(), table.texts[&3]);
+    fs::copy(library(), &archive).unwrap();
+    assert_eq!(run(&target, Some(&other), &row.font), row.wanted.font);
+}
+
+/// What Cargo says of a folder that can't be taken.
+fn refused(folder: &str) -> String {
+    let target = Path::new(env!("CARGO_TARGET_TMPDIR")).join("refused");
+    let output = cargo("build", &target)
+        .env("SUBSETTER_LIBRARY_FOLDER", folder)
+        .output()
+        .unwrap();
+    assert!(!output.status.success());
+    String::from_utf8(output.stderr).unwrap()
+}
+
+#[test]
+fn a_folder_without_the_library_is_refused_with_words() {
+    // (a folder of this name stands in the package, where Cargo runs the build's program)
+    let said = refused("src");
+    assert!(
+        said.contains("SUBSETTER_LIBRARY_FOLDER is the relative src"),
+        "{said}"
+    );
+    let none = folder("none");
+    let none = none.to_str().unwrap();
+    let said = refused(none);
+    let wanted = format!("{none}/libsubsetter.a isn't there");
+    assert!(said.contains(&wanted), "{said}");
+    assert!(said.contains("`make` in bindings/c"), "{said}");
+}
+
+#[test]
+fn the_package_has_the_version_of_the_repository() {
+    let version = fs::read_to_string(concat!(env!("CARGO_MANIFEST_DIR"), "/../../VERSION"));
+    let manifest = fs::read_to_string(concat!(env!("CARGO_MANIFEST_DIR"), "/Cargo.toml"));
+    let line = format!("\nversion = \"{}\"\n", version.unwrap().trim());
+    assert!(manifest.unwrap().contains(&line), "{line}");
+}

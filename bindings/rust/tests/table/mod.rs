@@ -1,0 +1,218 @@
+//! The worked rows of `../rows.txt`, and those of a font of this machine.
+
+#![allow(dead_code)] // (each test takes a part of it)
+
+use std::collections::HashMap;
+use std::env;
+use std::fs;
+use subsetter::{Embedded, Error, Limits, Options};
+
+/// What a row asks for.
+#[derive(Clone, Copy, Eq, PartialEq, Debug)]
+pub enum Call {
+    Subset,
+    Limits,
+    Options,
+    Embed,
+    EmbedOptions,
+}
+
+/// The numbers of a row with choices; the others have those of the library.
+#[derive(Clone, Copy)]
+pub struct Choice {
+    pub tokens: u32,
+    pub depth: u32,
+    pub drop: u32,
+}
+
+pub struct Row {
+    pub call: Call,
+    pub name: String,
+    pub font: Vec<u8>,
+    pub index: u32,
+    pub glyphs: Vec<u16>,
+    pub choice: Choice,
+    pub status: u32,
+    pub wanted: Embedded,
+}
+
+pub struct Table {
+    pub fonts: HashMap<String, Vec<u8>>,
+    pub texts: HashMap<u32, String>,
+    pub rows: Vec<Row>,
+}
+
+pub fn bytes(word: &str) -> Vec<u8> {
+    if word == "-" {
+        return Vec::new();
+    }
+    assert_eq!(word.len() % 2, 0, "{word}");
+    let digit = |byte: u8| (byte as char).to_digit(16).unwrap() as u8;
+    word.as_bytes()
+        .chunks(2)
+        .map(|two| 16 * digit(two[0]) + digit(two[1]))
+        .collect()
+}
+
+fn numbers(word: &str) -> Vec<u32> {
+    let mut found = Vec::new();
+    for part in word.split(',').filter(|part| *part != "-") {
+        let (first, last) = part.split_once("..").unwrap_or((part, part));
+        found.extend(first.parse::<u32>().unwrap()..=last.parse().unwrap());
+    }
+    found
+}
+
+fn short_numbers(word: &str) -> Vec<u16> {
+    let narrow = |number: u32| u16::try_from(number).unwrap();
+    numbers(word).into_iter().map(narrow).collect()
+}
+
+impl Table {
+    fn add(&mut self, line: &str) {
+        let words: Vec<&str> = line.split_whitespace().collect();
+        let (call, choices) = match words[..] {
+            [] => return,
+            ["font", name, digits] => {
+                self.fonts.insert(name.to_string(), bytes(digits));
+                return;
+            }
+            ["text", status, digits] => {
+                let text = String::from_utf8(bytes(digits)).unwrap();
+                self.texts.insert(status.parse().unwrap(), text);
+                return;
+            }
+            ["subset", ..] => (Call::Subset, 0),
+            ["limits", ..] => (Call::Limits, 2),
+            ["options", ..] => (Call::Options, 3),
+            ["embed", ..] => (Call::Embed, 0),
+            ["embed_options", ..] => (Call::EmbedOptions, 3),
+            _ => panic!("no row: {line}"),
+        };
+        let embeds = matches!(call, Call::Embed | Call::EmbedOptions);
+        assert_eq!(
+            words.len(),
+            7 + choices + if embeds { 2 } else { 0 },
+            "{line}"
+        );
+        let mut chosen = words[5..5 + choices]
+            .iter()
+            .map(|word| word.parse().unwrap());
+        let behind = &words[5 + choices..];
+        let list = |at: usize| behind.get(at).copied().unwrap_or("-");
+        self.rows.push(Row {
+            call,
+            name: words[1].to_string(),
+            font: self.fonts[words[2]].clone(),
+            index: words[3].parse().unwrap(),
+            glyphs: short_numbers(words[4]),
+            choice: Choice {
+                tokens: chosen.next().unwrap_or(0),
+                depth: chosen.next().unwrap_or(0),
+                drop: chosen.next().unwrap_or(0),
+            },
+            status: behind[0].parse().unwrap(),
+            wanted: Embedded {
+                font: bytes(behind[1]),
+                cids: short_numbers(list(2)),
+                widths: numbers(list(3)),
+            },
+        });
+    }
+
+    fn read(&mut self, name: &str) {
+        let text = fs::read_to_string(name).unwrap();
+        let lines = text.lines().filter(|line| !line.starts_with('#'));
+        lines.for_each(|line| self.add(line));
+    }
+}
+
+/// The worked rows.
+pub fn table() -> Table {
+    let mut table = Table {
+        fonts: HashMap::new(),
+        texts: HashMap::new(),
+        rows: Vec::new(),
+    };
+    table.read(concat!(env!("CARGO_MANIFEST_DIR"), "/../rows.txt"));
+    assert!(table.rows.len() > 80);
+    table
+}
+
+/// The rows of a font of this machine, made by the program; none where the font's tests are skipped by name.
+pub fn font_rows() -> Vec<Row> {
+    let mut table = Table {
+        fonts: HashMap::new(),
+        texts: HashMap::new(),
+        rows: Vec::new(),
+    };
+    match env::var("SUBSETTER_FONT_ROWS") {
+        Ok(name) => {
+            table.read(&name);
+            assert!(table.rows.len() > 4);
+        }
+        Err(_) if env::var("SUBSETTER_SKIP").as_deref() == Ok("font") => {
+            println!("the font of this machine is skipped, as was asked for")
+        }
+        Err(_) => panic!("no SUBSETTER_FONT_ROWS: run bindings/test"),
+    }
+    table.rows
+}
+
+impl Row {
+    /// Whether Rust can say what the row asks for: a mapper holds at most 65,535 glyphs.
+    pub fn can_be_said(&self) -> bool {
+        self.choice.drop < 8
+            && self.choice.depth < 256
+            && (self.glyphs.len() < 65_535 || self.embeds())
+    }
+
+    pub fn embeds(&self) -> bool {
+        matches!(self.call, Call::Embed | Call::EmbedOptions)
+    }
+
+    /// The limits of the row: None where they are no limits.
+    pub fn limits(&self) -> Option<Limits> {
+        let Choice { tokens, depth, .. } = self.choice;
+        let is_default = |number| number == 0 && self.call != Call::Limits;
+        Limits::new(
+            if is_default(tokens) {
+                1_000_000
+            } else {
+                tokens
+            },
+            if is_default(depth) { 64 } else { depth as u8 },
+        )
+    }
+
+    /// The options of the row, built in the order in which their bits stand.
+    pub fn options(&self, limits: Limits) -> Options {
+        let mut options = Options::new();
+        if self.choice.drop & 1 != 0 {
+            options = options.hinting(false);
+        }
+        if self.choice.drop & 2 != 0 {
+            options = options.names(false);
+        }
+        if self.choice.drop & 4 != 0 {
+            options = options.glyph_names(false);
+        }
+        if (self.choice.tokens, self.choice.depth) != (0, 0) {
+            options = options.limits(limits);
+        }
+        options
+    }
+
+    pub fn wanted(&self) -> Result<Embedded, Error> {
+        match self.status {
+            0 => Ok(self.wanted.clone()),
+            1 => Err(Error::UnknownKind),
+            2 => Err(Error::MalformedFont),
+            3 => Err(Error::Unimplemented),
+            4 => Err(Error::SubsetError),
+            5 => Err(Error::OverflowError),
+            6 => Err(Error::CFFError),
+            status => panic!("status {status}"),
+        }
+    }
+}

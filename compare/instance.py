@@ -1,0 +1,521 @@
+#!/usr/bin/python3
+"""The points of instances of variable TrueType fonts, by the port, beside HarfBuzz, FreeType and fontTools.
+
+    compare/instance.py [FOLDER ..] [--places N] [--glyphs N] [--seed S] [--only WORD] [--program FILE] [--jobs J]
+                        [--to FILE] [--no-install]
+
+It needs Debian (it installs the Inter fonts, libharfbuzz0b, python3-freetype and python3-fonttools by apt-get, which wants
+root, unless --no-install), and instance_parts, which `rt run` builds in crates/instance_parts (--program names another).
+The fonts are Inter's six and each variable font with TrueType outlines in a FOLDER.
+
+For each font it takes N places (20), at random and the same in each run by the seed: on each axis a user coordinate in
+65536ths, mostly between the axis's ends, else an end, the default, or beyond an end. At each it takes N simple glyphs (100,
+or all). Axes of one tag are given one coordinate. It compares
+
+    coordinates  the normalized ones in F2Dot14: FreeType's, which are 16.16, rounded to F2Dot14 by halves up, must be equal,
+                 and may be one step off only below the default where the 16.16 quotient is an exact half, which FreeType
+                 rounds away from 0 and the port up (FreeType is given coordinates within the axis: beyond an end that is the
+                 default, 2.12 answers -1 or 1 and not 0); fontTools', which rounds once, may be one step off, and HarfBuzz's,
+                 which rounds to F2Dot14 before `avar`, as many steps as the axis's steepest segment there rises by one
+    scalars      of each tuple: fontTools' must be within half of 2^-30 for each axis, as each axis rounds once
+    points       at the port's normalized coordinates: HarfBuzz's path before rounding must be within 0.01 of the port's in
+                 each coordinate; FreeType's unscaled points, which are whole numbers, must be within 1 of the port's rounded
+                 ones; fontTools' (its gvar reader, supportScalar and iup_delta, in floats), rounded once by halves up, must
+                 be equal to them
+
+A glyph that the port refuses is listed, with the error, and has to be refused or passed over by fontTools too. It prints a
+table with the commit; the status is 1 where a difference isn't within these bounds, or nothing was compared.
+"""
+import argparse
+import collections
+import concurrent.futures
+import ctypes
+import glob
+import math
+import os
+import random
+import struct
+import subprocess
+import sys
+
+import fonts
+
+ROOT = os.path.dirname(os.path.dirname(os.path.realpath(__file__)))
+PORT = os.path.join(ROOT, "crates", "instance_parts", "out", "instance_parts")
+PACKAGES = ["fonts-inter-variable", "libharfbuzz0b", "python3-freetype", "python3-fonttools"]
+INTER = f"{fonts.TRUETYPE}/inter-vf"
+UNIT = 2 ** 30
+HARFBUZZ_BOUND = 0.01
+FREETYPE_BOUND = 1
+# The four points behind an outline that carry its metrics.
+PHANTOMS = 4
+
+
+# ---- the port
+
+def port_lines(program, path, glyphs, place):
+    """What the port prints: the normalized coordinates, and of each glyph its scalars and the moved points, or an error. Its
+    coordinates are the 32 bits that fvar would store."""
+    # The last setting of a tag counts, so one before it changes nothing.
+    settings = [f"{tag}={value % 2 ** 32}" for tag, value in [(place[0][0], 0), *place]]
+    words = [program, path, "0", ",".join(map(str, glyphs)), *settings]
+    run = subprocess.run(words, stdout=subprocess.PIPE, stderr=subprocess.PIPE)
+    lines = run.stdout.decode("latin-1").splitlines()
+    if run.returncode or not lines or lines[0].split(" ")[0] != "at":
+        raise RuntimeError(f"{' '.join(words)}: status {run.returncode}, {run.stderr.decode('latin-1').strip()}")
+    at = [int(word) for word in lines[0].split(" ")[1:]]
+    answers, glyph = {}, None
+    for line in lines[1:]:
+        name, *words = line.split(" ")
+        if name == "glyph":
+            glyph = int(words[0])
+            answers[glyph] = {}
+        elif name == "error":
+            answers[glyph]["error"] = " ".join(words)
+        else:
+            answers[glyph][name] = [int(word) for word in words]
+    if list(answers) != list(glyphs):
+        raise RuntimeError(f"{path}: answers on {len(answers)} glyphs of {len(glyphs)}")
+    return at, answers
+
+
+# ---- fontTools
+
+class Source:
+    """A font, as fontTools reads it."""
+
+    def __init__(self, path):
+        from fontTools.ttLib import TTFont
+
+        self.path = path
+        self.font = TTFont(path, lazy=True)
+        self.glyf, self.gvar = self.font["glyf"], self.font["gvar"].variations
+        self.axes = [(axis.axisTag, axis.minValue, axis.defaultValue, axis.maxValue) for axis in self.font["fvar"].axes]
+        self.tags = [axis[0] for axis in self.axes]
+        self.names = self.font.getGlyphOrder()
+        # The tuples of fontTools are by tag, so of axes of one tag it knows the last alone.
+        self.has_twins = len(set(self.tags)) < len(self.tags)
+
+    def simple_glyphs(self):
+        return [g for g, name in enumerate(self.names) if self.glyf[name].numberOfContours > 0]
+
+    def shift(self, g):
+        """The left phantom point of the default."""
+        name = self.names[g]
+        return self.glyf[name].xMin - self.font["hmtx"][name][1]
+
+    def is_half(self, tag, value):
+        """Whether a user coordinate is below the default and lies halfway between two 16.16 numbers."""
+        low, default = [[round(end * 65536) for end in ends[:2]] for name, *ends in self.axes if name == tag][0]
+        return low <= value < default and 2 * (default - value) * 65536 % (2 * (default - low)) == default - low
+
+    def steps(self, tag):
+        """How many steps of F2Dot14 a step before `avar` may be behind it."""
+        pairs = sorted(self.font["avar"].segments[tag].items()) if "avar" in self.font else []
+        slopes = [abs(t2 - t1) / (f2 - f1) for (f1, t1), (f2, t2) in zip(pairs, pairs[1:]) if f2 > f1]
+        return math.ceil(max(slopes + [1]))
+
+    def normalized(self, place):
+        """F2Dot14 coordinates of a place, in fontTools' order of rounding."""
+        from fontTools.varLib.models import normalizeLocation, piecewiseLinearMap
+        from fontTools.misc.fixedTools import floatToFixed
+
+        user = {tag: value / 65536 for tag, value in place}
+        location = normalizeLocation(user, {tag: ends for tag, *ends in self.axes})
+        if "avar" in self.font:
+            maps = self.font["avar"].segments
+            location = {tag: piecewiseLinearMap(value, maps[tag]) for tag, value in location.items()}
+        return [floatToFixed(location[tag], 14) for tag in self.tags]
+
+    def varied(self, g, at):
+        """The scalar of each tuple, and the points with the phantoms, in floats."""
+        from fontTools.varLib.iup import iup_delta
+        from fontTools.varLib.models import supportScalar
+
+        name = self.names[g]
+        coordinates, ends, _ = self.glyf[name].getCoordinates(self.glyf)
+        points = list(coordinates) + [(0, 0)] * PHANTOMS
+        moved = [[float(x), float(y)] for x, y in points]
+        location = {tag: value / 16384 for tag, value in zip(self.tags, at)}
+        scalars = []
+        for tuple_ in self.gvar.get(name, []):
+            scalar = supportScalar(location, tuple_.axes)
+            scalars.append(scalar)
+            deltas = tuple_.coordinates
+            if scalar and None in deltas:
+                deltas = iup_delta(deltas, points, list(ends))
+            if scalar:
+                for point, delta in zip(moved, deltas):
+                    point[0] += scalar * delta[0]
+                    point[1] += scalar * delta[1]
+        return scalars, moved
+
+    def ends_and_flags(self, g):
+        _, ends, flags = self.glyf[self.names[g]].getCoordinates(self.glyf)
+        return list(ends), [flag & 1 for flag in flags]
+
+
+# ---- HarfBuzz
+
+class Variation(ctypes.Structure):
+    _fields_ = [("tag", ctypes.c_uint32), ("value", ctypes.c_float)]
+
+
+class HarfBuzz:
+    """A font of HarfBuzz's library, drawn without rounding."""
+
+    def __init__(self, path):
+        lib = self.lib = ctypes.CDLL("libharfbuzz.so.0")
+        pointer, number = ctypes.c_void_p, ctypes.c_uint
+        for name in ["blob_create_from_file", "face_create", "font_create", "draw_funcs_create", "font_get_var_coords_normalized"]:
+            getattr(lib, "hb_" + name).restype = pointer
+        lib.hb_version_string.restype = ctypes.c_char_p
+        lib.hb_face_create.argtypes = [pointer, number]
+        lib.hb_font_create.argtypes = [pointer]
+        lib.hb_font_set_variations.argtypes = [pointer, ctypes.POINTER(Variation), number]
+        lib.hb_font_set_var_coords_normalized.argtypes = [pointer, ctypes.POINTER(ctypes.c_int), number]
+        lib.hb_font_get_var_coords_normalized.argtypes = [pointer, ctypes.POINTER(number)]
+        # The older name; since 7.0 it is hb_font_draw_glyph.
+        lib.hb_font_get_glyph_shape.argtypes = [pointer, ctypes.c_uint32, pointer, pointer]
+        blob = lib.hb_blob_create_from_file(path.encode())
+        self.font = lib.hb_font_create(lib.hb_face_create(blob, 0))
+        self.path = []
+        self.functions = lib.hb_draw_funcs_create()
+        self.kept = [self.callback("move_to", 2), self.callback("line_to", 2), self.callback("quadratic_to", 4)]
+
+    def callback(self, name, count):
+        """Makes a function of the library add its numbers to the path."""
+        floats = [ctypes.c_float] * count
+        kind = ctypes.CFUNCTYPE(None, *[ctypes.c_void_p] * 3, *floats, ctypes.c_void_p)
+        add = self.path
+
+        def called(_functions, _data, _state, *numbers):
+            add.append((name, *numbers[:count]))
+
+        made = kind(called)
+        setter = getattr(self.lib, f"hb_draw_funcs_set_{name}_func")
+        setter.argtypes = [ctypes.c_void_p, kind, ctypes.c_void_p, ctypes.c_void_p]
+        setter(self.functions, made, None, None)
+        return made
+
+    def normalized(self, place):
+        settings = (Variation * len(place))(*[(int.from_bytes(tag.encode("latin-1"), "big"), value / 65536) for tag, value in place])
+        self.lib.hb_font_set_variations(self.font, settings, len(place))
+        count = ctypes.c_uint()
+        coordinates = self.lib.hb_font_get_var_coords_normalized(self.font, ctypes.byref(count))
+        return list((ctypes.c_int * count.value).from_address(coordinates)) if count.value else []
+
+    def place(self, at):
+        self.lib.hb_font_set_var_coords_normalized(self.font, (ctypes.c_int * len(at))(*at), len(at))
+
+    def drawn(self, g):
+        del self.path[:]
+        self.lib.hb_font_get_glyph_shape(self.font, g, self.functions, None)
+        return list(self.path)
+
+
+def middle(a, b):
+    return ((a[0] + b[0]) / 2, (a[1] + b[1]) / 2)
+
+
+def contour_path(points, flags):
+    """A contour as HarfBuzz draws it: from its first point on the curve, or from the middle of the first two, and closed."""
+    path, on, first, last = [], None, None, None
+    for p, is_on in zip(points, flags):
+        if on is None:
+            if is_on:
+                on = p
+                path.append(("move_to", *p))
+            elif first is None:
+                first = p
+            else:
+                on, last = middle(first, p), p
+                path.append(("move_to", *on))
+        elif last is not None:
+            end = p if is_on else middle(last, p)
+            path.append(("quadratic_to", *last, *end))
+            last = None if is_on else p
+        elif is_on:
+            path.append(("line_to", *p))
+        else:
+            last = p
+    if first is not None and last is not None:
+        path.append(("quadratic_to", *last, *middle(last, first)))
+        last = None
+    if on is not None and first is not None:
+        path.append(("quadratic_to", *first, *on))
+    elif on is not None and last is not None:
+        path.append(("quadratic_to", *last, *on))
+    elif on is not None:
+        path.append(("line_to", *on))
+    elif first is not None:
+        path += [("move_to", *first), ("quadratic_to", *first, *first)]
+    return path
+
+
+def outline_path(points, ends, flags):
+    path, start = [], 0
+    for end in ends:
+        path += contour_path(points[start:end + 1], flags[start:end + 1])
+        start = end + 1
+    return path
+
+
+def path_distance(ours, theirs):
+    """The greatest distance of two coordinates, none where the paths have other parts. A line back to where a contour
+    began, with no length, may be left out."""
+    if [part[0] for part in ours] != [part[0] for part in theirs]:
+        return None
+    pairs = ((a, b) for one, other in zip(ours, theirs) for a, b in zip(one[1:], other[1:]))
+    return max((abs(a - b) for a, b in pairs), default=0)
+
+
+# ---- what is compared
+
+def half_up(v):
+    return math.floor(v + 0.5)
+
+
+def random_place(axes, rng):
+    """A user coordinate in 65536ths for each tag."""
+    place = {}
+    for tag, *ends in axes:
+        low, default, high = [round(end * 65536) for end in ends]
+        kind = rng.random()
+        inside = rng.randint(low, high)
+        beyond = rng.choice([low - rng.randint(1, 65536), high + rng.randint(1, 65536)])
+        value = inside if kind < 0.7 else low if kind < 0.77 else high if kind < 0.84 else default if kind < 0.94 else beyond
+        place.setdefault(tag, value)
+    return list(place.items())
+
+
+class Counts:
+    """How many were compared, and how far apart they were."""
+
+    def __init__(self):
+        self.apart = collections.Counter()
+        self.worst = 0
+
+    def add(self, distance):
+        self.apart[min(math.ceil(distance), 2)] += 1
+        self.worst = max(self.worst, distance)
+
+    def join(self, other):
+        self.apart.update(other.apart)
+        self.worst = max(self.worst, other.worst)
+
+
+ROWS = ["coordinates: FreeType", "coordinates: HarfBuzz", "coordinates: fontTools", "scalars: fontTools", "glyphs: HarfBuzz, before rounding",
+        "glyphs: FreeType, rounded", "glyphs: fontTools, rounded"]
+
+
+class Report:
+    """What came of a font."""
+
+    def __init__(self, path):
+        self.label = os.path.basename(path)
+        self.rows = {name: Counts() for name in ROWS}
+        self.wrong = []
+        self.refused = []
+        self.points = 0
+
+    def say(self, text):
+        self.wrong.append(f"{self.label}: {text}")
+
+
+def compare_coordinates(report, at, place, source, freetype_face, harfbuzz):
+    """The normalized coordinates of a place."""
+    user = dict(place)
+    freetype_face.set_var_design_coords([min(max(user[tag] / 65536, low), high) for tag, low, _, high in source.axes])
+    fine = [round(value * 65536) for value in freetype_face.get_var_blend_coords()]
+    halves = [int(source.is_half(tag, user[tag])) for tag in source.tags]
+    others = [(ROWS[0], [(value + 2) >> 2 for value in fine], halves)]
+    others.append((ROWS[1], harfbuzz.normalized(place), [source.steps(tag) for tag in source.tags]))
+    if not source.has_twins:
+        others.append((ROWS[2], source.normalized(place), [1] * len(at)))
+    for name, theirs, bounds in others:
+        if len(theirs) != len(at):
+            report.say(f"{name}: {len(theirs)} coordinates and not {len(at)}")
+        for tag, our, their, bound in zip(source.tags, at, theirs, bounds):
+            report.rows[name].add(abs(our - their))
+            if abs(our - their) > bound:
+                report.say(f"{name}: {tag} at {user[tag]} is {our}, and not {their}")
+
+
+def compare_fonttools(report, g, answer, source, at, ours):
+    scalars, moved = source.varied(g, at)
+    bound = len(at) / 2 / UNIT + 1e-14
+    if len(scalars) != len(answer["scalar"]):
+        report.say(f"glyph {g} at {at}: {len(answer['scalar'])} tuples, and not {len(scalars)}")
+    for our, their in zip(answer["scalar"], scalars):
+        distance = abs(our / UNIT - their)
+        report.rows[ROWS[3]].add(0 if distance <= bound else distance * UNIT)
+        if distance > bound:
+            report.say(f"glyph {g} at {at}: scalar {our / UNIT}, and not {their}")
+    theirs = [(half_up(x), half_up(y)) for x, y in moved]
+    distance = max((abs(a - b) for p, q in zip(ours, theirs) for a, b in zip(p, q)), default=0)
+    report.rows[ROWS[6]].add(distance)
+    if distance or len(ours) != len(theirs):
+        report.say(f"glyph {g} at {at}: fontTools' points are {distance} off")
+
+
+def compare_glyph(report, g, answer, source, at, freetype_face, harfbuzz):
+    """A glyph at normalized coordinates."""
+    import freetype
+
+    ends, flags = source.ends_and_flags(g)
+    xs, ys = answer["x"], answer["y"]
+    if len(xs) != len(flags) + PHANTOMS or len(ys) != len(xs):
+        report.say(f"glyph {g} at {at}: {len(xs)} points, and not {len(flags) + PHANTOMS}")
+        return
+    report.points += len(flags)
+    left = source.shift(g) * UNIT + xs[len(flags)]
+    fine = [((x - left) / UNIT, y / UNIT) for x, y in zip(xs[:len(flags)], ys)]
+    distance = path_distance(outline_path(fine, ends, flags), harfbuzz.drawn(g))
+    if distance is None:
+        report.say(f"glyph {g} at {at}: HarfBuzz draws other parts")
+    else:
+        report.rows[ROWS[4]].worst = max(report.rows[ROWS[4]].worst, distance)
+        report.rows[ROWS[4]].apart[0 if distance <= HARFBUZZ_BOUND else 2] += 1
+        if distance > HARFBUZZ_BOUND:
+            report.say(f"glyph {g} at {at}: HarfBuzz's points are {distance} off")
+    freetype_face.load_glyph(g, freetype.FT_LOAD_NO_SCALE)
+    theirs = freetype_face.glyph.outline.points
+    whole = [((2 * (x - left) + UNIT) // (2 * UNIT), (2 * y + UNIT) // (2 * UNIT)) for x, y in zip(xs[:len(flags)], ys)]
+    distance = max((abs(a - b) for p, q in zip(whole, theirs) for a, b in zip(p, q)), default=0)
+    report.rows[ROWS[5]].add(distance)
+    if distance > FREETYPE_BOUND or len(theirs) != len(whole):
+        report.say(f"glyph {g} at {at}: FreeType's points are {distance} off")
+    if not source.has_twins:
+        ours = [((2 * x + UNIT) // (2 * UNIT), (2 * y + UNIT) // (2 * UNIT)) for x, y in zip(xs, ys)]
+        compare_fonttools(report, g, answer, source, at, ours)
+
+
+def is_readable(source, g):
+    """Whether fontTools reads the outline and the tuples of a glyph."""
+    try:
+        source.varied(g, [0] * len(source.tags))
+        return True
+    except Exception:
+        return False
+
+
+def compare_font(words, path):
+    """Compares a font at all its places."""
+    import freetype
+
+    report = Report(path)
+    source, harfbuzz, face = Source(path), HarfBuzz(path), freetype.Face(path)
+    rng = random.Random(f"{words.seed} {report.label}")
+    simple = source.simple_glyphs()
+    for _ in range(words.places):
+        place = random_place(source.axes, rng)
+        glyphs = rng.sample(simple, min(words.glyphs, len(simple)))
+        if not glyphs:
+            continue
+        at, answers = port_lines(words.program, path, glyphs, place)
+        compare_coordinates(report, at, place, source, face, harfbuzz)
+        harfbuzz.place(at)
+        face.set_var_blend_coords([value / 16384 for value in at])
+        for g in glyphs:
+            if "error" in answers[g]:
+                report.refused.append(f"{report.label}: glyph {g}: {answers[g]['error']}")
+                if is_readable(source, g):
+                    report.say(f"glyph {g} is refused: {answers[g]['error']}")
+            else:
+                compare_glyph(report, g, answers[g], source, at, face, harfbuzz)
+    return report
+
+
+# ---- the report
+
+def is_variable(path):
+    """Whether a font has TrueType outlines that vary."""
+    with open(path, "rb") as file:
+        data = file.read()
+    if data[:4] not in (b"\0\1\0\0", b"true"):
+        return False
+    return {"fvar", "gvar", "glyf"} <= set(fonts.directory(data))
+
+
+def font_paths(folders, only):
+    found = sorted(glob.glob(f"{INTER}/*.ttf"))
+    for folder in folders:
+        found += sorted(path for path in glob.glob(os.path.join(folder, "*")) if path.endswith((".ttf", ".otf")))
+    return [path for path in found if only in os.path.basename(path) and is_variable(path)]
+
+
+def versions():
+    from fontTools import version
+    import freetype
+
+    harfbuzz = ctypes.CDLL("libharfbuzz.so.0")
+    harfbuzz.hb_version_string.restype = ctypes.c_char_p
+    return f"HarfBuzz {harfbuzz.hb_version_string().decode()}, FreeType {'.'.join(map(str, freetype.version()))}, fontTools {version}"
+
+
+def commit():
+    """The commit of this folder, and whether it holds more than that."""
+    git = ["git", "-C", ROOT]
+    name = subprocess.run([*git, "rev-parse", "--short=10", "HEAD"], capture_output=True, text=True).stdout.strip()
+    changed = subprocess.run([*git, "status", "--porcelain", "--untracked-files=no"], capture_output=True, text=True).stdout
+    return (name or "no commit") + (", changed" if changed else "")
+
+
+def summary(words, reports):
+    """The table, as text."""
+    total = {name: Counts() for name in ROWS}
+    for report in reports:
+        for name in ROWS:
+            total[name].join(report.rows[name])
+    lines = [f"Commit {commit()}; {versions()}; seed {words.seed}, {words.places} places, at most {words.glyphs} glyphs at each.", ""]
+    lines += ["| Compared | Number | Equal | Within 1 | More | Largest difference |", "|---|---|---|---|---|---|"]
+    for name in ROWS:
+        counts = total[name]
+        number = sum(counts.apart.values())
+        equal = "within 0.01: " if "before" in name else "within rounding: " if "scalars" in name else ""
+        lines.append(f"| {name} | {number} | {equal}{counts.apart[0]} | {counts.apart[1]} | {counts.apart[2]} | {counts.worst:.6g} |")
+    lines += ["", "| Font | Glyphs at places | Points | HarfBuzz, largest | FreeType, off by 1 | Refused | Out of bounds |", "|---|---|---|---|---|---|---|"]
+    for report in reports:
+        rows = report.rows
+        number = sum(rows[ROWS[5]].apart.values())
+        off = rows[ROWS[5]].apart[1]
+        lines.append(f"| {report.label} | {number} | {report.points} | {rows[ROWS[4]].worst:.6f} | {off} | {len(report.refused)} | {len(report.wrong)} |")
+    return lines
+
+
+def main():
+    parser = argparse.ArgumentParser(description=__doc__, formatter_class=argparse.RawDescriptionHelpFormatter)
+    parser.add_argument("folders", nargs="*", metavar="FOLDER")
+    parser.add_argument("--places", type=int, default=20)
+    parser.add_argument("--glyphs", type=int, default=100)
+    parser.add_argument("--seed", default="1")
+    parser.add_argument("--only", default="")
+    parser.add_argument("--program", default=PORT)
+    parser.add_argument("--jobs", type=int, default=2)
+    parser.add_argument("--to")
+    parser.add_argument("--no-install", action="store_true")
+    words = parser.parse_args()
+    if not words.no_install:
+        fonts.install(PACKAGES)
+    paths = font_paths(words.folders, words.only)
+    with concurrent.futures.ProcessPoolExecutor(words.jobs) as pool:
+        reports = list(pool.map(compare_font, [words] * len(paths), paths))
+    wrong = [line for report in reports for line in report.wrong]
+    refused = sorted({line for report in reports for line in report.refused})
+    lines = summary(words, reports)
+    lines += ["", f"{len(wrong)} differences out of bounds."] + [f"- {line}" for line in wrong[:40]]
+    lines += [f"- refused: {line}" for line in refused[:40]]
+    text = "\n".join(lines) + "\n"
+    print(text, end="")
+    if words.to:
+        with open(words.to, "w") as file:
+            file.write(text)
+    compared = sum(sum(report.rows[ROWS[6]].apart.values()) for report in reports)
+    if not compared:
+        print("nothing was compared")
+    sys.exit(1 if wrong or not compared else 0)
+
+
+if __name__ == "__main__":
+    main()

@@ -1,0 +1,4 @@
+pub mod Groups
+pub mod Segments
+pub mod Subtable
+pub mod View

@@ -1,0 +1,67 @@
+//! Tables of format 12.
+
+ghost use Rattle.std.specs.Prelude.{◌≡◌, ◌+◌, ◌-◌, ◌≤◌, length};
+ghost use Rattle.cmap.specs.Groups.{group_of, has, in_range, by_groups, glyph_by_groups};
+
+use subsetter_base::read::{Reader, u32_at};
+
+/// A range of characters, and the glyph of its first.
+#[derive(Clone, Copy)]
+struct Group {
+    start: u32,
+    end: u32,
+    glyph: u32,
+}
+
+/// The group that twelve bytes spell.
+fn group_of(bytes: &[u8]) -> Group
+    requires { length bytes.now ≡ 12 }
+    ensures { record { start = result.start; end = result.end; glyph = result.glyph } ≡ group_of bytes.now }
+{
+    Group {
+        start: u32_at(bytes, 0),
+        end: u32_at(bytes, 4),
+        glyph: u32_at(bytes, 8),
+    }
+}
+
+impl Group {
+    /// Whether a character lies in the group.
+    fn has(&self, character: u32) -> bool
+        ensures { result ≡ has (record { start = self.now.start; end = self.now.end; glyph = self.now.glyph }) character }
+    {
+        self.start <= character && character <= self.end
+    }
+
+    /// The glyph of a character of the group.
+    fn glyph_of(&self, character: u32) -> Option<u16>
+        requires { self.now.start ≤ character }
+        ensures { result ≡ in_range (self.now.glyph + (character - self.now.start)) }
+    {
+        let glyph = u64::from(self.glyph) + u64::from(character - self.start);
+        u16::try_from(glyph).ok()
+    }
+}
+
+/// The glyph of a character, by a table of format 12.
+pub fn glyph_by_groups(table: &[u8], character: u32) -> Option<u16>
+    ensures { result ≡ glyph_by_groups table.now character }
+{
+    let count = Reader::new_at(table, 12).read::<u32>()?;
+    find_glyph(table, count, character)
+}
+
+/// The glyph of a character, by at most so many groups.
+#[tactic(auto, using(crate::proofs::Steps::groups_none, crate::proofs::Steps::groups_here, crate::proofs::Steps::groups_on, crate::proofs::Steps::groups_end))]
+fn find_glyph(table: &[u8], count: u32, character: u32) -> Option<u16>
+    ensures { result ≡ by_groups table.now count 16 character }
+{
+    for place in 0..count {
+        let bytes = Reader::new_at(table, 16 + 12 * (place as usize)).read_bytes(12)?;
+        let group = group_of(bytes);
+        if group.has(character) {
+            return group.glyph_of(character);
+        }
+    }
+    None
+}

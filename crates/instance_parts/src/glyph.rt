@@ -1,0 +1,133 @@
+//! The parts of a glyph at a place.
+
+ghost use Rattle.std.specs.Prelude.{◌≡◌, ◌+◌, ◌≤◌, ◌<◌, ◌^◌, length, map, IfOk, IsTrue};
+ghost use Rattle.subsetter_points.specs.Simple.{are_ends};
+ghost use Rattle.subsetter_variation.specs.Varied.{AreEnds};
+
+use crate::tables::Tables;
+use std::alloc::Global;
+use subsetter_base::Error;
+use subsetter_points::read_simple;
+use subsetter_variation::movement::{Outline, moved_points};
+use subsetter_variation::region::scalar;
+use subsetter_variation::tuples::{Gvar, next_header, shared_numbers, tuple_headers};
+
+/// The points behind an outline that carry its metrics.
+const PHANTOMS: usize = 4;
+/// More than any glyph takes: 65,540 points in each of 4,095 tuples.
+const STEPS: u32 = u32::MAX;
+
+/// The scalars of a glyph's tuples, and the coordinates of its moved points and of its phantom points, whose default is
+/// taken as 0, all in parts of 2^30.
+#[derive(Drop)]
+pub struct Parts {
+    /// The scalars.
+    pub scalars: Vec<i64>,
+    /// The coordinates from left to right.
+    pub x: Vec<i64>,
+    /// The coordinates from below to above.
+    pub y: Vec<i64>,
+}
+
+/// The last points of the contours, where each phantom point behind so many points is a contour.
+fn ends_of(alloc: Global, outline: &subsetter_points::Outline) -> Result<Vec<usize>, Error>
+    requires { IsTrue (are_ends 0 outline.now.ends.items (length outline.now.points.items)) }
+    ensures { IfOk result (λ v. AreEnds 0 v.items (length outline.now.points.items + 4)) }
+{
+    let mut ends = Vec::new(alloc);
+    for end in &outline.ends {
+        ends.push(usize::from(*end))?;
+    }
+    let first = outline.points.len();
+    ends.extend_from_slice(&[first, first + 1, first + 2, first + 3])?;
+    Ok(ends)
+}
+
+/// The coordinates from left to right of an outline and its phantom points.
+fn xs_of(alloc: Global, outline: &subsetter_points::Outline) -> Result<Vec<i16>, Error>
+    ensures { IfOk result (λ v. length v.items ≡ length outline.now.points.items + 4) }
+{
+    let mut xs = Vec::new(alloc);
+    for point in &outline.points {
+        xs.push(point.x)?;
+    }
+    xs.extend_from_slice(&[0; PHANTOMS])?;
+    Ok(xs)
+}
+
+/// The coordinates from below to above of an outline and its phantom points.
+fn ys_of(alloc: Global, outline: &subsetter_points::Outline) -> Result<Vec<i16>, Error>
+    ensures { IfOk result (λ v. length v.items ≡ length outline.now.points.items + 4) }
+{
+    let mut ys = Vec::new(alloc);
+    for point in &outline.points {
+        ys.push(point.y)?;
+    }
+    ys.extend_from_slice(&[0; PHANTOMS])?;
+    Ok(ys)
+}
+
+/// The scalar of each tuple of a glyph of so many points, by the bytes of its variations.
+fn scalars_in<'a>(
+    alloc: Global,
+    gvar: &Gvar<'a>,
+    bytes: &'a [u8],
+    count: u32,
+    at: &[i32],
+) -> Result<Vec<i64>, Error>
+    requires { length at.now ≡ gvar.now.axis_count }
+{
+    let mut scalars = Vec::new(alloc);
+    let (is_shared, headers) = tuple_headers(bytes).ok_or(Error::MalformedFont)?;
+    let (_, headers) = shared_numbers(alloc, count, is_shared, headers)?;
+    let mut headers = headers;
+    for _ in 0..headers.left() {
+        let (header, rest) = next_header(alloc, gvar, headers)?;
+        scalars.push(scalar(header.region(), at))?;
+        headers = rest;
+    }
+    Ok(scalars)
+}
+
+/// The scalar of each tuple of a glyph of so many points.
+fn scalars_of(
+    alloc: Global,
+    gvar: &Gvar<'_>,
+    glyph: u16,
+    count: u32,
+    at: &[i32],
+) -> Result<Vec<i64>, Error>
+    requires { length at.now ≡ gvar.now.axis_count }
+{
+    let bytes = gvar.variations_of(glyph).ok_or(Error::MalformedFont)?;
+    if bytes.is_empty() {
+        return Ok(Vec::new(alloc));
+    }
+    scalars_in(alloc, gvar, bytes, count, at)
+}
+
+/// The parts of a simple glyph at a place; `MalformedFont` where it is none or can't be read.
+pub fn parts_of(
+    alloc: Global,
+    tables: &Tables<'_>,
+    gvar: &Gvar<'_>,
+    at: &[i32],
+    glyph: u16,
+) -> Result<Parts, Error>
+    requires { length at.now ≡ gvar.now.axis_count }
+{
+    let description = tables.description(glyph).ok_or(Error::MalformedFont)?;
+    let outline = read_simple(alloc, description)?.ok_or(Error::MalformedFont)?;
+    let xs = xs_of(alloc, &outline)?;
+    let ys = ys_of(alloc, &outline)?;
+    let ends = ends_of(alloc, &outline)?;
+    let count = u32::try_from(xs.len()).map_err(|_| Error::MalformedFont)?;
+    let scalars = scalars_of(alloc, gvar, glyph, count, at)?;
+    let outline = Outline {
+        xs: &xs,
+        ys: &ys,
+        ends: &ends,
+    };
+    let (x, y, _) = moved_points(alloc, gvar, glyph, &outline, at, STEPS)?;
+    Ok(Parts { scalars, x, y })
+}

@@ -1,0 +1,6 @@
+pub mod Limits
+pub mod Options
+pub mod Request
+pub mod View
+pub mod Lists
+pub mod ListView

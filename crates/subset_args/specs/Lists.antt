@@ -1,0 +1,70 @@
+-- The glyphs that a file lists.
+use Rattle.std.specs.Prelude.{ℕ, zero, suc, ◌+◌, ◌-◌, ◌==◌, ◌||◌, not, nat_le, nat_lt, Bool, if◌then◌else◌, List, [], ◌∷◌, ◌++◌, map, filter, length, Option, Some, None, codes}
+use Rattle.std.specs.Option.{option_map, option_and_then}
+use Rattle.std.specs.List.{slice_split, before_first, after_first, position_or_len}
+use Rattle.std.specs.Str.{bytes_eq}
+use Rattle.subsetter_words.specs.Numbers.{number_in_bits}
+
+-- a blank, a tab, a line feed or a carriage return
+abbrev pub is_blank : ℕ → Bool
+is_blank b = b == 32 || (b == 9 || (b == 10 || b == 13))
+
+-- blanks and line ends divide as commas (44) do
+abbrev pub as_comma : ℕ → ℕ
+as_comma b = if is_blank b then 44 else b
+
+-- so many numbers, from one on
+abbrev pub counting : ℕ → ℕ → List ℕ
+counting first zero = []
+counting first (suc n) = first ∷ counting (first + 1) n
+
+-- the ends of a range
+pub record Ends : Type 0 where
+  pub first : ℕ
+  pub last : ℕ
+
+abbrev pub is_dash : ℕ → Bool
+is_dash b = b == 45
+
+-- ends that stand in order
+abbrev pub in_order : ℕ → ℕ → Option Ends
+in_order first last = if nat_le first last then Some (record { first = first; last = last }) else None
+
+-- the ends of a range `36-38`
+abbrev pub ends_of_range : List ℕ → Option Ends
+ends_of_range part = option_and_then (λ first. option_and_then (in_order first) (number_in_bits 16 (after_first is_dash part))) (number_in_bits 16 (before_first is_dash part))
+
+-- the ends that a part writes, where one number is both
+abbrev pub ends_in : List ℕ → Option Ends
+ends_in part = if nat_lt (position_or_len is_dash part) (length part) then ends_of_range part else option_map (λ glyph. record { first = glyph; last = glyph }) (number_in_bits 16 part)
+
+-- all numbers between two ends, and these
+abbrev pub between : Ends → List ℕ
+between ends = counting ends.first (ends.last + 1 - ends.first)
+
+-- the glyphs that a part lists: none where it is empty
+abbrev pub part_glyphs : List ℕ → Option (List ℕ)
+part_glyphs [] = Some []
+part_glyphs (b ∷ part) = option_map between (ends_in (b ∷ part))
+
+-- the glyphs that parts list, in order
+abbrev pub parts_glyphs : List (List ℕ) → Option (List ℕ)
+parts_glyphs [] = Some []
+parts_glyphs (part ∷ parts) = option_and_then (λ glyphs. option_map (λ more. glyphs ++ more) (parts_glyphs parts)) (part_glyphs part)
+
+-- the parts of a text between commas, blanks and line ends
+abbrev pub parts : List ℕ → List (List ℕ)
+parts text = slice_split (λ b. b == 44) (map as_comma text)
+
+-- whether a text is `*`, but for blanks and line ends
+abbrev pub is_star : List ℕ → Bool
+is_star text = bytes_eq (filter (λ b. not (is_blank b)) text) (codes "*")
+
+-- every glyph of the face, or these
+pub data FileList : Type 0 where
+  every : FileList
+  these : List ℕ → FileList
+
+-- the glyphs that the text of a file lists: numbers and ranges, or `*`
+abbrev pub list_in : List ℕ → Option FileList
+list_in text = if is_star text then Some every else option_map these (parts_glyphs (parts text))

@@ -1,0 +1,120 @@
+-- The options in front of IN.
+use Rattle.std.specs.Prelude.{Bool, true, false, if◌then◌else◌, ℕ, List, [], ◌∷◌, Option, Some, None, codes, is_some}
+use Rattle.std.specs.Option.{option_map, option_and_then}
+use Rattle.std.specs.Str.{bytes_eq}
+use Rattle.subset_args.specs.Limits.{TokensAndDepth, limits_in}
+use Rattle.subset_args.specs.declared.options.Switch.{Switch}
+use Rattle.subset_args.specs.declared.options.Switch.TheVariants.{Widths, NoHinting, NoNames, NoGlyphNames, Json, Quiet}
+use Rattle.subset_args.specs.declared.options.Setting.{Setting}
+use Rattle.subset_args.specs.declared.options.Setting.TheVariants.{Limits, GidsFile, Text}
+use Rattle.subset_args.specs.declared.options.Kind.{Kind}
+use Rattle.subset_args.specs.declared.options.Kind.TheVariants.{Switch as IsSwitch, Setting as IsSetting, Help, Version, End, Place}
+use Rattle.subset_args.specs.declared.options.Switches.{Switches}
+
+-- the option of one word that a word is
+abbrev pub switch_of : List ℕ → Option Switch
+switch_of word =
+    if bytes_eq word (codes "--widths") then Some Widths
+    else if bytes_eq word (codes "--no-hinting") then Some NoHinting
+    else if bytes_eq word (codes "--no-names") then Some NoNames
+    else if bytes_eq word (codes "--no-glyph-names") then Some NoGlyphNames
+    else if bytes_eq word (codes "--json") then Some Json
+    else if bytes_eq word (codes "--quiet") then Some Quiet
+    else None
+
+-- the option that a value follows, which a word is
+abbrev pub setting_of : List ℕ → Option Setting
+setting_of word =
+    if bytes_eq word (codes "--limits") then Some Limits
+    else if bytes_eq word (codes "--gids-file") then Some GidsFile
+    else if bytes_eq word (codes "--text") then Some Text
+    else None
+
+-- what a word that is neither is
+abbrev pub other_kind : List ℕ → Kind
+other_kind word =
+    if bytes_eq word (codes "--help") then Help
+    else if bytes_eq word (codes "-h") then Help
+    else if bytes_eq word (codes "--version") then Version
+    else if bytes_eq word (codes "--") then End
+    else Place
+
+-- what a word in front of IN is
+abbrev pub first_of : Option Switch → Option Setting → Kind → Kind
+first_of (Some switch) setting other = IsSwitch switch
+first_of None (Some setting) other = IsSetting setting
+first_of None None other = other
+
+abbrev pub kind_of : List ℕ → Kind
+kind_of word = first_of (switch_of word) (setting_of word) (other_kind word)
+
+-- whether an option of one word was given
+abbrev pub is_on : Switch → Switches → Bool
+is_on Widths all = all.widths
+is_on NoHinting all = all.no_hinting
+is_on NoNames all = all.no_names
+is_on NoGlyphNames all = all.no_glyph_names
+is_on Json all = all.json
+is_on Quiet all = all.quiet
+
+-- with one that is given
+abbrev pub switched_on : Switch → Switches → Switches
+switched_on Widths all = record all { widths = true }
+switched_on NoHinting all = record all { no_hinting = true }
+switched_on NoNames all = record all { no_names = true }
+switched_on NoGlyphNames all = record all { no_glyph_names = true }
+switched_on Json all = record all { json = true }
+switched_on Quiet all = record all { quiet = true }
+
+-- where the glyphs are found that no word lists: in the list of a file, or by the characters of a text
+pub data GlyphSource : Type 0 where
+  in_file : List ℕ → GlyphSource
+  by_text : List ℕ → GlyphSource
+
+-- what the options choose
+pub record Choice : Type 0 where
+  pub switches : Switches
+  pub limits : Option TokensAndDepth
+  pub source : Option GlyphSource
+
+-- nothing
+abbrev pub no_choice : Choice
+no_choice = record { switches = record { widths = false; no_hinting = false; no_names = false; no_glyph_names = false; json = false; quiet = false }; limits = None; source = None }
+
+-- with an option of one word; none where it was given before
+abbrev pub with_switch : Switch → Choice → Option Choice
+with_switch switch choice = if is_on switch choice.switches then None else Some (record choice { switches = switched_on switch choice.switches })
+
+-- with limits; none where they were given before, or aren't as they should be
+abbrev pub with_limits : List ℕ → Choice → Option Choice
+with_limits value choice = if is_some choice.limits then None else option_map (λ limits. record choice { limits = Some limits }) (limits_in value)
+
+-- with a place where the glyphs are found; none where one was given before
+abbrev pub with_source : GlyphSource → Choice → Option Choice
+with_source source choice = if is_some choice.source then None else Some (record choice { source = Some source })
+
+-- with an option and its value
+abbrev pub with_setting : Setting → List ℕ → Choice → Option Choice
+with_setting Limits value choice = with_limits value choice
+with_setting GidsFile value choice = with_source (in_file value) choice
+with_setting Text value choice = with_source (by_text value) choice
+
+-- what the words with options in front say: that help or the version is wanted, or what is chosen, and the words behind the options
+pub data Options : Type 0 where
+  helped : Options
+  versioned : Options
+  chosen : Choice → List (List ℕ) → Options
+
+-- the same for words behind an option that wants a value, where there is one, besides what is chosen already; none where an option is given twice, or a value is missing or isn't as it should be
+abbrev pub parsed : Option Setting → Choice → List (List ℕ) → Option Options
+parsed (Some setting) choice [] = None
+parsed (Some setting) choice (value ∷ words) = option_and_then (λ more. parsed None more words) (with_setting setting value choice)
+parsed None choice [] = Some (chosen choice [])
+parsed None choice (word ∷ words) = elim (kind_of word) [
+  | IsSwitch switch ↦ option_and_then (λ more. parsed None more words) (with_switch switch choice)
+  | IsSetting setting ↦ parsed (Some setting) choice words
+  | Help ↦ Some helped
+  | Version ↦ Some versioned
+  | End ↦ Some (chosen choice words)
+  | Place ↦ Some (chosen choice (word ∷ words))
+]

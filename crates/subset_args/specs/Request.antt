@@ -1,0 +1,74 @@
+-- What the words after the program's name ask for.
+use Rattle.std.specs.Prelude.{ℕ, Bool, false, ◌&&◌, ◌==◌, if◌then◌else◌, List, [], ◌∷◌, map, Option, Some, None, codes}
+use Rattle.std.specs.Option.{option_map, option_and_then}
+use Rattle.std.specs.List.{slice_split}
+use Rattle.std.specs.Str.{bytes_eq}
+use Rattle.subsetter_words.specs.Numbers.{number_in_bits}
+use Rattle.subset_args.specs.Limits.{TokensAndDepth}
+use Rattle.subset_args.specs.Options.{GlyphSource, in_file, by_text, Choice, Options, helped, versioned, chosen, no_choice, parsed}
+use Rattle.subset_args.specs.declared.options.Switches.{Switches}
+
+-- the values, if there is one at each place
+abbrev pub all_some : List (Option ℕ) → Option (List ℕ)
+all_some [] = Some []
+all_some (x ∷ xs) = option_and_then (λ y. option_map (λ ys. y ∷ ys) (all_some xs)) x
+
+-- the glyphs of a list with a comma (44) between each two
+abbrev pub glyph_list : List ℕ → Option (List ℕ)
+glyph_list text = all_some (map (number_in_bits 16) (slice_split (λ b. b == 44) text))
+
+-- which glyphs are asked for: these, or those that are found there
+pub data Asked : Type 0 where
+  listed : List ℕ → Asked
+  from : GlyphSource → Asked
+
+-- what a run that makes a subset is to do
+pub record Request : Type 0 where
+  pub switches : Switches
+  pub limits : Option TokensAndDepth
+  pub input : List ℕ
+  pub output : List ℕ
+  pub index : ℕ
+  pub glyphs : Asked
+
+-- what a run is to do
+pub data Command : Type 0 where
+  help : Command
+  version : Command
+  subset : Request → Command
+
+-- which glyphs the words behind INDEX ask for: one word that lists them, or none where they are found elsewhere
+abbrev pub asked : Option GlyphSource → List (List ℕ) → Option Asked
+asked None (list ∷ []) = option_map listed (glyph_list list)
+asked None _ = None
+asked (Some source) [] = Some (from source)
+asked (Some source) (word ∷ words) = None
+
+-- whether a word means standard input or output
+abbrev pub is_stream : List ℕ → Bool
+is_stream word = bytes_eq word (codes "-")
+
+-- whether the glyphs are listed in standard input
+abbrev pub lists_in_stream : Asked → Bool
+lists_in_stream (listed glyphs) = false
+lists_in_stream (from (in_file name)) = is_stream name
+lists_in_stream (from (by_text text)) = false
+
+-- what is asked for, where standard input isn't to be read twice
+abbrev pub request_of : Choice → List ℕ → List ℕ → ℕ → Asked → Option Request
+request_of choice input output index glyphs = if is_stream input && lists_in_stream glyphs then None else Some (record { switches = choice.switches; limits = choice.limits; input = input; output = output; index = index; glyphs = glyphs })
+
+-- what the words `IN OUT INDEX GID[,GID..]` ask for with these choices, or `IN OUT INDEX` where the glyphs are found elsewhere; none where their count is another, or one isn't as it should be
+abbrev pub request_with : Choice → List (List ℕ) → Option Request
+request_with choice (input ∷ output ∷ index ∷ words) = option_and_then (λ i. option_and_then (request_of choice input output i) (asked choice.source words)) (number_in_bits 32 index)
+request_with choice _ = None
+
+-- what the options and the words behind them ask for
+abbrev pub command_of : Options → Option Command
+command_of helped = Some help
+command_of versioned = Some version
+command_of (chosen choice words) = option_map subset (request_with choice words)
+
+-- what the words `[OPTIONS] IN OUT INDEX [GID[,GID..]]` ask for
+abbrev pub command : List (List ℕ) → Option Command
+command words = option_and_then command_of (parsed None no_choice words)

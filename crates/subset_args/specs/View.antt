@@ -1,0 +1,41 @@
+-- What was read of the words, as the definitions name it.
+use Rattle.std.specs.Prelude.{ℕ, List, map, string_bytes}
+use Rattle.std.specs.Option.{option_map}
+use Rattle.subset_args.specs.Limits.{limits_view}
+use Rattle.subset_args.specs.Options.{GlyphSource, in_file, by_text, Choice, Options, helped, versioned, chosen}
+use Rattle.subset_args.specs.Request.{Asked, listed, from, Request, Command as Wanted, help, version, subset}
+use Rattle.subset_args.specs.declared.options.Source.{Source}
+use Rattle.subset_args.specs.declared.options.Source.TheVariants.{File, Text}
+use Rattle.subset_args.specs.declared.options.Chosen.{Chosen}
+use Rattle.subset_args.specs.declared.options.Parsed.{Parsed}
+use Rattle.subset_args.specs.declared.options.Parsed.TheVariants.{Help, Version, Chosen as IsChosen}
+use Rattle.subset_args.specs.declared.jobs.Glyphs.{Glyphs}
+use Rattle.subset_args.specs.declared.jobs.Glyphs.TheVariants.{Listed, InFile, ByText}
+use Rattle.subset_args.specs.declared.jobs.Job.{Job}
+use Rattle.subset_args.specs.declared.jobs.Command.{Command}
+use Rattle.subset_args.specs.declared.jobs.Command.TheVariants.{Help as ForHelp, Version as ForVersion, Subset}
+
+abbrev pub source_view : Source → GlyphSource
+source_view (File name) = in_file name.now
+source_view (Text text) = by_text text.now
+
+abbrev pub chosen_view : Chosen → Choice
+chosen_view c = record { switches = c.switches; limits = option_map limits_view c.limits; source = option_map source_view c.source }
+
+abbrev pub parsed_view : Parsed → Options
+parsed_view Help = helped
+parsed_view Version = versioned
+parsed_view (IsChosen choice words) = chosen (chosen_view choice) (map (λ word. string_bytes word) words.now)
+
+abbrev pub asked_view : Glyphs → Asked
+asked_view (Listed glyphs) = listed glyphs.items
+asked_view (InFile name) = from (in_file (string_bytes name))
+asked_view (ByText text) = from (by_text (string_bytes text))
+
+abbrev pub job_view : Job → Request
+job_view job = record { switches = job.switches; limits = option_map limits_view job.limits; input = string_bytes job.input; output = string_bytes job.output; index = job.index; glyphs = asked_view job.glyphs }
+
+abbrev pub command_view : Command → Wanted
+command_view ForHelp = help
+command_view ForVersion = version
+command_view (Subset job) = subset (job_view job)

@@ -1,0 +1,163 @@
+//! What the words ask for.
+
+ghost use Rattle.std.specs.Prelude.{◌≡◌, ◌⊎◌, ℕ, List, map, IfOk, IfErr, Some, None, string_bytes};
+ghost use Rattle.std.specs.Option.{option_map};
+ghost use Rattle.subset_args.specs.Request.{glyph_list, asked, is_stream, lists_in_stream, request_with, command};
+ghost use Rattle.subset_args.specs.View.{source_view, chosen_view, asked_view, job_view, command_view};
+ghost use Rattle.subset_args.specs.declared.jobs.ArgsError.TheVariants.{Usage, OutOfMemory};
+
+use crate::limits::RunLimits;
+use crate::options::{Chosen, Parsed, Source, Switches, parse_options};
+use std::alloc::{AllocError, Global};
+use subsetter_words::{parts_of, u16_of, u32_of};
+
+/// Why the words ask for nothing.
+#[derive(Clone, Copy, PartialEq, Eq, Debug)]
+pub enum ArgsError {
+    /// They aren't as the usage says.
+    Usage,
+    /// A request for memory was refused.
+    OutOfMemory,
+}
+
+impl From<AllocError> for ArgsError {
+    ghost use Rattle.std.specs.Prelude.{◌≡◌};
+    ghost use Rattle.subset_args.specs.declared.jobs.ArgsError.TheVariants.{OutOfMemory};
+
+    ghost from_gives = { λ _ e. e ≡ OutOfMemory };
+
+    fn from(_error: AllocError) -> ArgsError {
+        ArgsError::OutOfMemory
+    }
+}
+
+/// Which glyphs are to be kept.
+#[derive(Debug, Drop)]
+pub enum Glyphs {
+    /// Those of these old numbers, in the order asked for.
+    Listed(Vec<u16>),
+    /// Those that the file of this name lists.
+    InFile(String),
+    /// Those of the characters of this text.
+    ByText(String),
+}
+
+/// The making of a subset.
+#[derive(Debug, Drop)]
+pub struct Job {
+    /// The name of the source font's file.
+    pub input: String,
+    /// The name of the file that the subset goes to.
+    pub output: String,
+    /// The font of a collection, from 0.
+    pub index: u32,
+    /// The glyphs to keep.
+    pub glyphs: Glyphs,
+    /// How far the charstring of a glyph may run, where it is said.
+    pub limits: Option<RunLimits>,
+    /// The options of one word that were given.
+    pub switches: Switches,
+}
+
+/// What a run of the program is to do.
+#[derive(Debug, Drop)]
+pub enum Command {
+    /// To print the help.
+    Help,
+    /// To print the version.
+    Version,
+    /// To make a subset.
+    Subset(Job),
+}
+
+/// The glyphs of a list with a comma between each two.
+fn glyphs_of(alloc: Global, list: &str) -> Result<Vec<u16>, ArgsError>
+    ensures ok { IfOk result (λ v. glyph_list list.now ≡ Some v.items) }
+    ensures err { IfErr result (λ e. (e ≡ OutOfMemory) ⊎ ((e ≡ Usage) × (glyph_list list.now ≡ None))) }
+{
+    let parts = parts_of(alloc, list)?;
+    let mut glyphs = Vec::new(alloc);
+    for part in &parts {
+        let glyph = u16_of(part).ok_or(ArgsError::Usage)?;
+        glyphs.push(glyph).map_err(|_| ArgsError::OutOfMemory)?;
+    }
+    Ok(glyphs)
+}
+
+/// Which glyphs the words behind INDEX ask for.
+fn read_glyphs(
+    alloc: Global,
+    source: Option<Source<'_>>,
+    words: &[String],
+) -> Result<Glyphs, ArgsError>
+    ensures ok { IfOk result (λ g. asked (option_map source_view source.entry) (map (λ word. string_bytes word) words.now) ≡ Some (asked_view g)) }
+    ensures err { IfErr result (λ e. (e ≡ OutOfMemory) ⊎ ((e ≡ Usage) × (asked (option_map source_view source.entry) (map (λ word. string_bytes word) words.now) ≡ None))) }
+{
+    match (source, words) {
+        (None, [list]) => Ok(Glyphs::Listed(glyphs_of(alloc, list)?)),
+        (Some(Source::File(name)), []) => Ok(Glyphs::InFile(String::from_str(alloc, name)?)),
+        (Some(Source::Text(text)), []) => Ok(Glyphs::ByText(String::from_str(alloc, text)?)),
+        _ => Err(ArgsError::Usage),
+    }
+}
+
+/// Whether a word means standard input or output.
+pub fn is_stream(word: &str) -> bool
+    ensures { result ≡ is_stream word.now }
+{
+    word == "-"
+}
+
+/// Whether the glyphs are listed in standard input.
+fn lists_in_stream(glyphs: &Glyphs) -> bool
+    ensures { result ≡ lists_in_stream (asked_view glyphs.now) }
+{
+    match glyphs {
+        Glyphs::InFile(name) => is_stream(name),
+        _ => false,
+    }
+}
+
+/// What the words `IN OUT INDEX GID[,GID..]` ask for, or `IN OUT INDEX` where the glyphs are found elsewhere.
+///
+/// `Usage` where their count is another, where INDEX or a GID isn't one or more ASCII digits whose value fits `u32` or
+/// `u16`, or where standard input is to be read twice.
+fn read_job(alloc: Global, chosen: Chosen<'_>, words: &[String]) -> Result<Job, ArgsError>
+    ensures ok { IfOk result (λ job. request_with (chosen_view chosen.entry) (map (λ word. string_bytes word) words.now) ≡ Some (job_view job)) }
+    ensures err { IfErr result (λ e. (e ≡ OutOfMemory) ⊎ ((e ≡ Usage) × (request_with (chosen_view chosen.entry) (map (λ word. string_bytes word) words.now) ≡ None))) }
+{
+    let [input, output, index, rest @ ..] = words else {
+        return Err(ArgsError::Usage);
+    };
+    let index = u32_of(index).ok_or(ArgsError::Usage)?;
+    let glyphs = read_glyphs(alloc, chosen.source, rest)?;
+    if is_stream(input) && lists_in_stream(&glyphs) {
+        return Err(ArgsError::Usage);
+    }
+    Ok(Job {
+        input: input.clone()?,
+        output: output.clone()?,
+        index,
+        glyphs,
+        limits: chosen.limits,
+        switches: chosen.switches,
+    })
+}
+
+/// What the words after the program's name ask for: `[OPTIONS] IN OUT INDEX GID[,GID..]`, where the last word is left out
+/// with `--gids-file` and `--text`.
+///
+/// `Usage` where an option is given twice or isn't followed by its value, where the count of the other words is another,
+/// where INDEX or a GID isn't one or more ASCII digits whose value fits `u32` or `u16`, where the limits aren't such
+/// numbers that fit `u32` and `u8`, or the depth is 0, or where standard input is to be read twice.
+pub fn read_words(alloc: Global, words: &[String]) -> Result<Command, ArgsError>
+    ensures ok { IfOk result (λ c. command (map (λ word. string_bytes word) words.now) ≡ Some (command_view c)) }
+    ensures err { IfErr result (λ e. (e ≡ OutOfMemory) ⊎ ((e ≡ Usage) × (command (map (λ word. string_bytes word) words.now) ≡ None))) }
+{
+    match parse_options(Chosen::NOTHING, words) {
+        None => Err(ArgsError::Usage),
+        Some(Parsed::Help) => Ok(Command::Help),
+        Some(Parsed::Version) => Ok(Command::Version),
+        Some(Parsed::Chosen(chosen, rest)) => Ok(Command::Subset(read_job(alloc, chosen, rest)?)),
+    }
+}

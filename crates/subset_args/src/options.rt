@@ -1,0 +1,275 @@
+//! The options in front of IN.
+
+ghost use Rattle.std.specs.Prelude.{◌≡◌, map, string_bytes, None};
+ghost use Rattle.std.specs.Option.{option_map};
+ghost use Rattle.subset_args.specs.Limits.{limits_in, limits_view};
+ghost use Rattle.subset_args.specs.Options.{switch_of, setting_of, kind_of, is_on, switched_on, with_switch, with_limits, with_source, with_setting, parsed};
+ghost use Rattle.subset_args.specs.View.{source_view, chosen_view, parsed_view};
+
+use crate::limits::RunLimits;
+use subsetter_words::{u8_of, u32_of};
+
+/// An option that is one word.
+#[derive(Clone, Copy, Debug)]
+pub enum Switch {
+    /// `--widths`
+    Widths,
+    /// `--no-hinting`
+    NoHinting,
+    /// `--no-names`
+    NoNames,
+    /// `--no-glyph-names`
+    NoGlyphNames,
+    /// `--json`
+    Json,
+    /// `--quiet`
+    Quiet,
+}
+
+/// An option that a value follows.
+#[derive(Clone, Copy, Debug)]
+pub enum Setting {
+    /// `--limits TOKENS,DEPTH`
+    Limits,
+    /// `--gids-file FILE`
+    GidsFile,
+    /// `--text TEXT`
+    Text,
+}
+
+/// Where the glyphs are found that no word lists.
+#[derive(Clone, Copy, Debug)]
+pub enum Source<'a> {
+    /// In the list that the file of this name holds.
+    File(&'a str),
+    /// By the characters of this text.
+    Text(&'a str),
+}
+
+/// What a word in front of IN is.
+#[derive(Clone, Copy, Debug)]
+pub enum Kind {
+    Switch(Switch),
+    Setting(Setting),
+    /// `--help` or `-h`
+    Help,
+    /// `--version`
+    Version,
+    /// `--`, which ends the options
+    End,
+    /// No option: IN.
+    Place,
+}
+
+/// The options of one word that were given.
+#[derive(Clone, Copy, PartialEq, Eq, Debug)]
+pub struct Switches {
+    pub widths: bool,
+    pub no_hinting: bool,
+    pub no_names: bool,
+    pub no_glyph_names: bool,
+    pub json: bool,
+    pub quiet: bool,
+}
+
+impl Switches {
+    /// None of them.
+    pub const NONE: Switches = Switches {
+        widths: false,
+        no_hinting: false,
+        no_names: false,
+        no_glyph_names: false,
+        json: false,
+        quiet: false,
+    };
+
+    /// Whether an option was given.
+    fn is_on(&self, switch: Switch) -> bool
+        ensures { result ≡ is_on switch self.now }
+    {
+        match switch {
+            Switch::Widths => self.widths,
+            Switch::NoHinting => self.no_hinting,
+            Switch::NoNames => self.no_names,
+            Switch::NoGlyphNames => self.no_glyph_names,
+            Switch::Json => self.json,
+            Switch::Quiet => self.quiet,
+        }
+    }
+
+    /// With an option that is given.
+    fn switched_on(self, switch: Switch) -> Switches
+        ensures { result ≡ switched_on switch self }
+    {
+        let mut all = self;
+        match switch {
+            Switch::Widths => all.widths = true,
+            Switch::NoHinting => all.no_hinting = true,
+            Switch::NoNames => all.no_names = true,
+            Switch::NoGlyphNames => all.no_glyph_names = true,
+            Switch::Json => all.json = true,
+            Switch::Quiet => all.quiet = true,
+        }
+        all
+    }
+}
+
+/// What the options in front of IN choose.
+#[derive(Clone, Copy, Debug)]
+pub struct Chosen<'a> {
+    /// The options of one word.
+    pub switches: Switches,
+    /// How far the charstring of a glyph may run, where it is said.
+    pub limits: Option<RunLimits>,
+    /// Where the glyphs are found, where that is said.
+    pub source: Option<Source<'a>>,
+}
+
+impl<'a> Chosen<'a> {
+    /// Nothing is chosen.
+    pub const NOTHING: Chosen<'static> = Chosen {
+        switches: Switches::NONE,
+        limits: None,
+        source: None,
+    };
+
+    /// With an option of one word, which is given once.
+    fn with_switch(self, switch: Switch) -> Option<Chosen<'a>>
+        ensures { option_map chosen_view result ≡ with_switch switch (chosen_view self.entry) }
+    {
+        if self.switches.is_on(switch) {
+            return None;
+        }
+        Some(Chosen {
+            switches: self.switches.switched_on(switch),
+            limits: self.limits,
+            source: self.source,
+        })
+    }
+
+    /// With an option and its value, which is given once.
+    fn with_setting(self, setting: Setting, value: &'a str) -> Option<Chosen<'a>>
+        ensures { option_map chosen_view result ≡ with_setting setting value.now (chosen_view self.entry) }
+    {
+        match setting {
+            Setting::Limits => self.with_limits(value),
+            Setting::GidsFile => self.with_source(Source::File(value)),
+            Setting::Text => self.with_source(Source::Text(value)),
+        }
+    }
+
+    /// With limits.
+    fn with_limits(self, value: &str) -> Option<Chosen<'a>>
+        ensures { option_map chosen_view result ≡ with_limits value.now (chosen_view self.entry) }
+    {
+        if self.limits.is_some() {
+            return None;
+        }
+        Some(Chosen {
+            switches: self.switches,
+            limits: Some(limits_of(value)?),
+            source: self.source,
+        })
+    }
+
+    /// With a place where the glyphs are found.
+    fn with_source(self, source: Source<'a>) -> Option<Chosen<'a>>
+        ensures { option_map chosen_view result ≡ with_source (source_view source.entry) (chosen_view self.entry) }
+    {
+        if self.source.is_some() {
+            return None;
+        }
+        Some(Chosen {
+            switches: self.switches,
+            limits: self.limits,
+            source: Some(source),
+        })
+    }
+}
+
+/// The limits that a word `TOKENS,DEPTH` writes.
+fn limits_of(word: &str) -> Option<RunLimits>
+    ensures { option_map limits_view result ≡ limits_in word.now }
+{
+    let (tokens, depth) = word.split_once(',')?;
+    RunLimits::new(u32_of(tokens)?, u8_of(depth)?)
+}
+
+/// The option of one word that a word is.
+fn switch_of(word: &str) -> Option<Switch>
+    ensures { result ≡ switch_of word.now }
+{
+    match word {
+        "--widths" => Some(Switch::Widths),
+        "--no-hinting" => Some(Switch::NoHinting),
+        "--no-names" => Some(Switch::NoNames),
+        "--no-glyph-names" => Some(Switch::NoGlyphNames),
+        "--json" => Some(Switch::Json),
+        "--quiet" => Some(Switch::Quiet),
+        _ => None,
+    }
+}
+
+/// The option that a value follows, which a word is.
+fn setting_of(word: &str) -> Option<Setting>
+    ensures { result ≡ setting_of word.now }
+{
+    match word {
+        "--limits" => Some(Setting::Limits),
+        "--gids-file" => Some(Setting::GidsFile),
+        "--text" => Some(Setting::Text),
+        _ => None,
+    }
+}
+
+/// What a word in front of IN is.
+fn kind_of(word: &str) -> Kind
+    ensures { result ≡ kind_of word.now }
+{
+    if let Some(switch) = switch_of(word) {
+        return Kind::Switch(switch);
+    }
+    if let Some(setting) = setting_of(word) {
+        return Kind::Setting(setting);
+    }
+    match word {
+        "--help" => Kind::Help,
+        "-h" => Kind::Help,
+        "--version" => Kind::Version,
+        "--" => Kind::End,
+        _ => Kind::Place,
+    }
+}
+
+/// What the options say.
+pub enum Parsed<'a> {
+    /// The help is wanted.
+    Help,
+    /// The version is wanted.
+    Version,
+    /// What is chosen, and the words behind the options.
+    Chosen(Chosen<'a>, &'a [String]),
+}
+
+/// What the options in front of IN say, besides what is chosen already. None where one is given twice, or its value is
+/// missing or isn't as it should be.
+pub fn parse_options<'a>(chosen: Chosen<'a>, words: &'a [String]) -> Option<Parsed<'a>>
+    ensures { option_map parsed_view result ≡ parsed None (chosen_view chosen.entry) (map (λ word. string_bytes word) words.now) }
+{
+    let [word, behind @ ..] = words else {
+        return Some(Parsed::Chosen(chosen, words));
+    };
+    match kind_of(word) {
+        Kind::Switch(switch) => parse_options(chosen.with_switch(switch)?, behind),
+        Kind::Setting(setting) => {
+            let [value, rest @ ..] = behind else {
+                return None;
+            };
+            parse_options(chosen.with_setting(setting, value)?, rest)
+        }
+        Kind::Help => Some(Parsed::Help),
+        Kind::Version => Some(Parsed::Version),
+        Kind::End => Some(Parsed::Chosen(chosen, behind)),
+        Kind::Place => Some(Parsed::Chosen(chosen, words)),
+    }
+}

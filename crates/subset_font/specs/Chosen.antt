@@ -1,0 +1,58 @@
+-- What the options in front of IN choose for a task.
+use Rattle.std.specs.Prelude.{◌≡◌, ℕ, List, [], Bool, not, if◌then◌else◌, Option, Some, None, string_bytes}
+use Rattle.subsetter.specs.Limits.{token_limit, depth_limit}
+use Rattle.subsetter_sfnt.specs.declared.extras.Extras.{Extras}
+use Rattle.subsetter_type2.specs.declared.limits.Limits.{Limits}
+use Rattle.subset_args.specs.declared.limits.RunLimits.{RunLimits}
+use Rattle.subset_args.specs.declared.options.Switches.{Switches}
+use Rattle.subset_args.specs.declared.jobs.Glyphs.{Glyphs}
+use Rattle.subset_args.specs.declared.jobs.Glyphs.TheVariants.{Listed, InFile, ByText as InText}
+use Rattle.subset_args.specs.declared.jobs.Job.{Job}
+use Rattle.subset_args.specs.declared.lists.GlyphList.{GlyphList}
+use Rattle.subset_args.specs.declared.lists.GlyphList.TheVariants.{Every as EveryGlyph, These as TheseGlyphs}
+use Rattle.subset_font.specs.declared.task.Asked.{Asked}
+use Rattle.subset_font.specs.declared.task.Asked.TheVariants.{These, Every, ByText}
+use Rattle.subset_font.specs.declared.task.Task.{Task}
+use Rattle.subset_font.specs.declared.task.Form.{Form}
+use Rattle.subset_font.specs.declared.task.Form.TheVariants.{Lines, Json, Silence}
+
+-- the limits that are said, else the default ones
+abbrev pub LimitsAreChosen : Option RunLimits → Limits → Type 0
+LimitsAreChosen (Some said) limits = (limits.tokens ≡ said.tokens) × (limits.depth ≡ said.depth)
+LimitsAreChosen None limits = (limits.tokens ≡ token_limit) × (limits.depth ≡ depth_limit)
+
+-- all that isn't declined
+abbrev pub extras_chosen : Switches → Extras
+extras_chosen s = record { hinting = not s.no_hinting; names = not s.no_names; glyph_names = not s.no_glyph_names }
+
+-- `--quiet` goes before `--json`
+abbrev pub form_chosen : Switches → Form
+form_chosen s = if s.quiet then Silence else if s.json then Json else Lines
+
+-- which glyphs are kept: these, every one of the face, or those of a text's characters
+pub data Wanted : Type 0 where
+  these : List ℕ → Wanted
+  every : Wanted
+  by_text : List ℕ → Wanted
+
+abbrev pub wanted_of : Asked → Wanted
+wanted_of (These glyphs) = these glyphs.now
+wanted_of Every = every
+wanted_of (ByText text) = by_text text.now
+
+-- those that the words list, or the file that was read for it
+abbrev pub wanted_for : Glyphs → Option GlyphList → Wanted
+wanted_for (Listed glyphs) list = these glyphs.items
+wanted_for (InText text) list = by_text (string_bytes text)
+wanted_for (InFile name) (Some EveryGlyph) = every
+wanted_for (InFile name) (Some (TheseGlyphs glyphs)) = these glyphs.items
+wanted_for (InFile name) None = these []
+
+-- the task that a job asks for
+pub record IsTaskOf (job : Job) (list : Option GlyphList) (task : Task) : Type 0 where
+  pub glyphs : wanted_of task.asked ≡ wanted_for job.glyphs list
+  pub index : task.index ≡ job.index
+  pub limits : LimitsAreChosen job.limits task.options.limits
+  pub extras : task.options.extras ≡ extras_chosen job.switches
+  pub widths : task.widths ≡ job.switches.widths
+  pub form : task.form ≡ form_chosen job.switches

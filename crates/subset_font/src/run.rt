@@ -1,0 +1,228 @@
+//! A run of the program.
+
+ghost use Rattle.std.specs.Prelude.{◌≡◌, ◌≢◌, ◌⊎◌, ◌≤◌, drop, IfErr, IfOk};
+ghost use Rattle.std.specs.Process.{exit_status};
+ghost use Rattle.std.specs.Vec.Iter.{into_iter_items};
+ghost use Rattle.subset_font.specs.Chosen.{wanted_of, wanted_for, IsTaskOf};
+ghost use Rattle.subset_font.specs.Failure.{status_of_end};
+ghost use Rattle.subset_font.specs.declared.failure.Failure.TheVariants.{Error as Refused, Read as CannotRead, Usage};
+ghost use Rattle.subsetter_base.specs.declared.error.Error.TheVariants.{OutOfMemory};
+
+use crate::carried::{carry_out, read_whole};
+use crate::failure::{Failure, Told, status_of_run};
+use crate::help::{HELP, VERSION_LINE};
+use crate::hint::find_hint;
+use crate::streams::{Source, Target, lines_beside, open_source};
+use crate::task::{Asked, Task, extras_of, form_of, limits_of};
+use std::alloc::Global;
+use std::fs::OpenFile;
+use std::io::{BufWriter, ErrorKind, Read, Write};
+use std::process::{ExitCode, Termination};
+use std::rt::{Env, Files};
+use std::{env, io};
+use subset_args::{ArgsError, Command, GlyphList, Glyphs, Job, read_list, read_words};
+use subsetter::{Error, Options};
+
+/// The words after the program's name, which is the first.
+fn after_name(alloc: Global, all: env::Args) -> Result<Vec<String>, Failure>
+    ensures ok { IfOk result (λ words. words.items ≡ drop 1 (into_iter_items all)) }
+    ensures err { IfErr result (λ e. e ≡ Refused OutOfMemory) }
+{
+    match all.skip(1).collect(alloc) {
+        Ok(words) => Ok(words),
+        Err(_) => Err(Failure::Error(Error::OutOfMemory)),
+    }
+}
+
+/// The words after the program's name. One that isn't UTF-8 is a wrong word.
+fn words<R: Env + AllocGlobal>(rt: &R) -> Result<Vec<String>, Failure>
+    ensures { IfErr result (λ e. (e ≡ Refused OutOfMemory) ⊎ (e ≡ Usage)) }
+{
+    match env::args(rt) {
+        Ok(all) => after_name(rt.alloc(), all),
+        Err(e) if e.kind() == ErrorKind::OutOfMemory => Err(Failure::Error(Error::OutOfMemory)),
+        Err(_) => Err(Failure::Usage),
+    }
+}
+
+/// What the words after the program's name ask for.
+fn command<R: Env + AllocGlobal>(rt: &R) -> Result<Command, Failure>
+    ensures { IfErr result (λ e. (e ≡ Refused OutOfMemory) ⊎ (e ≡ Usage)) }
+{
+    let words = words(rt)?;
+    match read_words(rt.alloc(), &words) {
+        Ok(command) => Ok(command),
+        Err(ArgsError::Usage) => Err(Failure::Usage),
+        Err(ArgsError::OutOfMemory) => Err(Failure::Error(Error::OutOfMemory)),
+    }
+}
+
+/// The list of glyphs that a file has.
+fn read_list_file<R: Files + Input + AllocGlobal>(rt: &R, name: &str) -> Result<GlyphList, Failure>
+    ensures { IfErr result (λ e. e ≢ Usage) }
+{
+    let mut file = open_source(rt, name).map_err(|_| Failure::ReadList)?;
+    let text = read_whole(rt.alloc(), &mut file, 0).map_err(|_| Failure::ReadList)?;
+    match read_list(rt.alloc(), &text) {
+        Ok(list) => Ok(list),
+        Err(ArgsError::Usage) => Err(Failure::List),
+        Err(ArgsError::OutOfMemory) => Err(Failure::Error(Error::OutOfMemory)),
+    }
+}
+
+/// The list of glyphs, where a file has it.
+fn list_of<R: Files + Input + AllocGlobal>(
+    rt: &R,
+    glyphs: &Glyphs,
+) -> Result<Option<GlyphList>, Failure>
+    ensures { IfErr result (λ e. e ≢ Usage) }
+{
+    match glyphs {
+        Glyphs::InFile(name) => Ok(Some(read_list_file(rt, name)?)),
+        _ => Ok(None),
+    }
+}
+
+/// Which glyphs are kept.
+fn asked_of<'a>(glyphs: &'a Glyphs, list: &'a Option<GlyphList>) -> Asked<'a>
+    ensures { wanted_of result ≡ wanted_for glyphs.now list.now }
+{
+    match (glyphs, list) {
+        (Glyphs::Listed(given), _) => Asked::These(given),
+        (Glyphs::ByText(text), _) => Asked::ByText(text),
+        (Glyphs::InFile(_), Some(GlyphList::Every)) => Asked::Every,
+        (Glyphs::InFile(_), Some(GlyphList::These(given))) => Asked::These(given),
+        (Glyphs::InFile(_), None) => Asked::These(&[]),
+    }
+}
+
+/// What a job asks to be made of the font.
+fn task_of<'a>(job: &'a Job, list: &'a Option<GlyphList>) -> Task<'a>
+    ensures { IsTaskOf job.now list.now result }
+{
+    Task {
+        asked: asked_of(&job.glyphs, list),
+        index: job.index,
+        options: Options {
+            limits: limits_of(job.limits),
+            extras: extras_of(job.switches),
+        },
+        widths: job.switches.widths,
+        form: form_of(job.switches),
+    }
+}
+
+/// Room for the bytes of a file and for one more, so that its end is seen without a growth. None is taken for a stream.
+fn room_of<F: OpenFile + Read + Drop, S: Read + Drop>(
+    source: &Source<F, S>,
+) -> Result<usize, Failure>
+    ensures { IfErr result (λ e. e ≡ CannotRead) }
+{
+    let Source::File(file) = source else {
+        return Ok(0);
+    };
+    match file.metadata() {
+        Ok(about) => Ok(usize::try_from(about.len()).unwrap_or(0).saturating_add(1)),
+        Err(_) => Err(Failure::Read),
+    }
+}
+
+/// Does a task on files and the standard streams. The output's file is made by its first write.
+fn perform<R: Files + Print + Eprint + Input + AllocGlobal>(
+    rt: &R,
+    job: &Job,
+    task: &Task<'_>,
+    source: &mut Vec<u8>,
+) -> Result<(), Failure>
+    ensures { IfErr result (λ e. e ≢ Usage) }
+{
+    let Ok(mut lines) = BufWriter::new(rt.alloc(), lines_beside(rt, job.output.as_str())) else {
+        return Err(Failure::Error(Error::OutOfMemory));
+    };
+    let mut input = open_source(rt, job.input.as_str()).map_err(|_| Failure::Read)?;
+    let room = room_of(&input)?;
+    let mut output = Target::new(rt, job.output.as_str());
+    carry_out(
+        rt.alloc(),
+        task,
+        &mut input,
+        room,
+        source,
+        &mut output,
+        &mut lines,
+    )
+}
+
+/// Prints why a run failed, if it did, and answers the status.
+fn report<R: Eprint>(rt: &R, ended: &Result<(), Failure>, job: Option<&Job>) -> u8
+    ensures { result ≡ status_of_end ended.now }
+{
+    if let Err(failure) = ended {
+        // Nobody could be told of a failure here, so the status alone tells.
+        let _ = eprintln!(rt; "{}", Told { failure, job });
+    }
+    status_of_run(ended)
+}
+
+/// Says more of a font that is refused, where more can be seen.
+fn tell_hint<R: Eprint>(rt: &R, ended: &Result<(), Failure>, font: &[u8], task: &Task<'_>) {
+    if let Err(failure) = ended {
+        if let Some(hint) = find_hint(failure, font, task) {
+            let _ = eprintln!(rt; "{hint}");
+        }
+    }
+}
+
+/// Makes a subset, and answers the status.
+fn run_job<R: Files + Print + Eprint + Input + AllocGlobal>(rt: &R, job: &Job) -> u8
+    ensures { result ≤ 3 }
+{
+    let list = match list_of(rt, &job.glyphs) {
+        Ok(list) => list,
+        Err(failure) => return report(rt, &Err(failure), Some(job)),
+    };
+    let task = task_of(job, &list);
+    let mut font = Vec::new(rt.alloc());
+    let ended = perform(rt, job, &task, &mut font);
+    let status = report(rt, &ended, Some(job));
+    tell_hint(rt, &ended, &font, &task);
+    status
+}
+
+/// Prints a text, and answers the status.
+fn print_text<R: Print + Eprint>(rt: &R, text: &str) -> u8
+    ensures { result ≤ 3 }
+{
+    let ended = io::writer(rt)
+        .write_all(text.as_bytes())
+        .map_err(|_| Failure::Output);
+    report(rt, &ended, None)
+}
+
+/// The end of a run, with its status. Only `run` makes one, and it can't be dropped, so that `main` ends with no other
+/// status than the run's.
+pub struct Ended {
+    status: u8,
+}
+
+impl Termination for Ended {
+    fn report<R: Eprint>(self, _rt: &R) -> ExitCode
+        ensures { exit_status result ≡ self.status }
+    {
+        let Ended { status } = self;
+        ExitCode::from(status)
+    }
+}
+
+/// Runs the program, and answers its status: 0 where all is done, else the failure's.
+pub fn run<R: Env + Files + Print + Eprint + Input + AllocGlobal>(rt: &R) -> Ended
+    ensures { result.status ≤ 3 }
+{
+    let status = match command(rt) {
+        Ok(Command::Help) => print_text(rt, HELP),
+        Ok(Command::Version) => print_text(rt, VERSION_LINE),
+        Ok(Command::Subset(job)) => run_job(rt, &job),
+        Err(failure) => report(rt, &Err(failure), None),
+    };
+    Ended { status }
+}

@@ -1,0 +1,79 @@
+//! What is made of the font that is read.
+
+ghost use Rattle.std.specs.Prelude.{◌≡◌};
+ghost use Rattle.subset_font.specs.Chosen.{LimitsAreChosen, extras_chosen, form_chosen};
+
+use subset_args::{RunLimits, Switches};
+use subsetter::{Extras, Limits, Options};
+
+/// Which glyphs are kept.
+#[derive(Clone, Copy)]
+pub enum Asked<'a> {
+    /// Those of these old numbers, in the order asked for.
+    These(&'a [u16]),
+    /// Every glyph of the face.
+    Every,
+    /// Those of the characters of this text.
+    ByText(&'a str),
+}
+
+/// How the new numbers are told.
+#[derive(Clone, Copy)]
+pub enum Form {
+    /// By a line for each glyph.
+    Lines,
+    /// By one JSON object.
+    Json,
+    /// Not at all.
+    Silence,
+}
+
+/// What is made of the font that is read.
+#[derive(Clone, Copy)]
+pub struct Task<'a> {
+    /// The glyphs to keep.
+    pub asked: Asked<'a>,
+    /// The font of a collection, from 0.
+    pub index: u32,
+    /// How far a charstring may run, and what is kept besides outlines and metrics.
+    pub options: Options,
+    /// Whether the widths of the glyphs are told.
+    pub widths: bool,
+    /// How the new numbers are told.
+    pub form: Form,
+}
+
+/// The limits that are said, else the default ones.
+pub fn limits_of(limits: Option<RunLimits>) -> Limits
+    ensures { LimitsAreChosen limits result }
+{
+    match limits {
+        Some(limits) => Limits::new(limits.tokens, limits.depth).unwrap_or(Limits::default()),
+        None => Limits::default(),
+    }
+}
+
+/// What is kept besides outlines and metrics: all that isn't declined.
+pub fn extras_of(switches: Switches) -> Extras
+    ensures { result ≡ extras_chosen switches }
+{
+    Extras {
+        hinting: !switches.no_hinting,
+        names: !switches.no_names,
+        glyph_names: !switches.no_glyph_names,
+    }
+}
+
+/// How the new numbers are told: with `--quiet` not at all, with `--json` as JSON.
+pub fn form_of(switches: Switches) -> Form
+    ensures { result ≡ form_chosen switches }
+{
+    if switches.quiet {
+        return Form::Silence;
+    }
+    if switches.json {
+        Form::Json
+    } else {
+        Form::Lines
+    }
+}

@@ -1,0 +1,45 @@
+-- The same as one JSON object (RFC 8259).
+use Rattle.std.specs.Prelude.{ℕ, List, [], ◌∷◌, ◌++◌, drop, Option, Some, None, codes, decimal}
+use Rattle.subsetter_base.specs.Places.{place}
+use Rattle.subset_lines.specs.Text.{Numbers, first}
+
+-- the member that has a character's number
+abbrev pub character_member : Option ℕ → List ℕ
+character_member None = []
+character_member (Some c) = codes "\"character\":" ++ decimal c ++ codes ","
+
+-- a new number, if there is one
+abbrev pub number_or_null : Option ℕ → List ℕ
+number_or_null None = codes "null"
+number_or_null (Some new) = decimal new
+
+-- the object of a glyph
+abbrev pub object_of : Option ℕ → ℕ → Option ℕ → List ℕ
+object_of character old new = codes "{" ++ character_member character ++ codes "\"old\":" ++ decimal old ++ codes ",\"new\":" ++ number_or_null new ++ codes "}"
+
+-- the objects of glyphs, in order, with a text in front of the first and a comma between each two
+abbrev pub objects : List ℕ → List ℕ → List ℕ → List ℕ → List ℕ
+objects before order characters [] = []
+objects before order characters (old ∷ glyphs) = (before ++ object_of (first characters) old (place order old)) ++ objects (codes ",") order (drop 1 characters) glyphs
+
+-- the member that has the widths, whose text an empty one isn't
+abbrev pub widths_member : List ℕ → List ℕ
+widths_member [] = []
+widths_member (b ∷ text) = codes ",\"widths\":" ++ (b ∷ text)
+
+-- the member that has the glyphs, and what opens the object
+abbrev pub glyphs_member : Numbers → List ℕ
+glyphs_member n = codes "{\"glyphs\":[" ++ objects [] n.order n.characters n.glyphs ++ codes "]"
+
+-- the object, on a line
+abbrev pub json_of : Numbers → List ℕ → List ℕ
+json_of n text = glyphs_member n ++ widths_member text ++ codes "}\n"
+
+-- numbers, with a text in front of the first and a comma between each two
+abbrev pub numbers_from : List ℕ → List ℕ → List ℕ
+numbers_from before [] = []
+numbers_from before (n ∷ ns) = (before ++ decimal n) ++ numbers_from (codes ",") ns
+
+-- an array of numbers
+abbrev pub array_of : List ℕ → List ℕ
+array_of ns = codes "[" ++ numbers_from [] ns ++ codes "]"

@@ -1,0 +1,28 @@
+-- The lines that tell the new numbers.
+use Rattle.std.specs.Prelude.{ℕ, List, [], ◌∷◌, ◌++◌, drop, Option, Some, None, codes, decimal}
+use Rattle.subsetter_base.specs.Places.{place}
+use Rattle.subset_lines.specs.Text.{Numbers, first, four_digits}
+
+-- a character as `U+` and its number, with a blank behind it
+abbrev pub name_of : Option ℕ → List ℕ
+name_of None = []
+name_of (Some c) = codes "U+" ++ four_digits c ++ codes " "
+
+-- the line `old -> new`, with the character in front of it; nothing for a glyph without a new number
+abbrev pub line_of : Option ℕ → ℕ → Option ℕ → List ℕ
+line_of character old None = []
+line_of character old (Some new) = name_of character ++ decimal old ++ codes " -> " ++ decimal new ++ 10 ∷ []
+
+-- a line for each glyph, in order
+abbrev pub lines_for : List ℕ → List ℕ → List ℕ → List ℕ
+lines_for order characters [] = []
+lines_for order characters (old ∷ glyphs) = line_of (first characters) old (place order old) ++ lines_for order (drop 1 characters) glyphs
+
+-- a text as the last line, which an empty one isn't
+abbrev pub last_line : List ℕ → List ℕ
+last_line [] = []
+last_line (b ∷ text) = (b ∷ text) ++ 10 ∷ []
+
+-- a line for each glyph, and the text as the last one
+abbrev pub lines_of : Numbers → List ℕ → List ℕ
+lines_of n text = lines_for n.order n.characters n.glyphs ++ last_line text

@@ -1,0 +1,18 @@
+-- Parts of the text that tells the new numbers.
+use Rattle.std.specs.Prelude.{ℕ, false, true, ◌^◌, ◌-◌, List, [], ◌∷◌, ◌++◌, Option, Some, None, codes, decimal}
+use Rattle.std.specs.Fmt.{digits, padded_integral, format_spec}
+
+-- the glyphs that are told, with the characters that they stand for, as far as there are any, and the old numbers in the order of the new ones
+pub record Numbers : Type 0 where
+  pub characters : List ℕ
+  pub glyphs : List ℕ
+  pub order : List ℕ
+
+-- the first member
+abbrev pub first : List ℕ → Option ℕ
+first [] = None
+first (x ∷ xs) = Some x
+
+-- at least four hexadecimal digits
+abbrev pub four_digits : ℕ → List ℕ
+four_digits n = padded_integral (format_spec 32 0 4 4 (2 ^ 64 - 1)) false [] (digits 16 true n)

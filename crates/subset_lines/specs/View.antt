@@ -1,0 +1,6 @@
+-- What a value of the code stands for.
+use Rattle.subset_lines.specs.Text.{Numbers}
+use Rattle.subset_lines.specs.declared.entry.Numbering.{Numbering}
+
+abbrev pub numbers_view : Numbering → Numbers
+numbers_view n = record { characters = n.characters.now; glyphs = n.glyphs.now; order = n.mapper.now }

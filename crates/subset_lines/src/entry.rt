@@ -1,0 +1,32 @@
+//! What is told.
+
+ghost use Rattle.std.specs.Prelude.{◌≡◌, drop};
+ghost use Rattle.subset_lines.specs.Text.{first};
+
+use subsetter_base::GlyphRemapper;
+
+/// The glyphs whose new numbers are told.
+#[derive(Clone, Copy)]
+pub struct Numbering<'a> {
+    /// The characters that the glyphs stand for, as far as there are any.
+    pub characters: &'a [char],
+    /// The old numbers.
+    pub glyphs: &'a [u16],
+    /// What knows the new numbers.
+    pub mapper: &'a GlyphRemapper,
+}
+
+/// The writer failed.
+#[derive(Debug, Drop)]
+pub struct Unwritten;
+
+/// The first character, and the others.
+pub fn take_first(characters: &[char]) -> (Option<char>, &[char])
+    ensures first { result.0 ≡ first characters.now }
+    ensures others { result.1.now ≡ drop 1 characters.now }
+{
+    match characters {
+        [] => (None, characters),
+        [character, others @ ..] => (Some(*character), others),
+    }
+}

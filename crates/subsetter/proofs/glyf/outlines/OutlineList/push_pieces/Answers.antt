@@ -1,0 +1,37 @@
+use Rattle.std.proofs.Common.{◌≡◌, ℕ, List, true, false, [], ◌∷◌, ◌++◌, length, refl, sym, ap, ◌∙◌, arith}
+use Rattle.std.proofs.lemmas.Slice.{pushed}
+use Rattle.subsetter.specs.Glyf.Unfold.{padded}
+use Rattle.subsetter.proofs.GlyfLaws.Counted.{counted_more}
+use Rattle.subsetter.proofs.GlyfLaws.KeptList.{written_is}
+use Rattle.subsetter.proofs.GlyfLaws.Woven.{made_last}
+use Rattle.subsetter.proofs.glyf.outlines.OutlineList.push_pieces.Goals as goal
+
+pub returns-clause-ok : goal.returns-clause-ok
+returns-clause-ok c =
+    let o = c.self.inside in
+    let all = c.write_pieces.new.out.items in
+    let bytes = c.args.pieces.front.now ++ 0 ∷ 0 ∷ c.args.pieces.behind.now in
+    let k : o.made.items ++ bytes ≡ all = sym c.in_ok-write_pieces.ensures.ok in
+    let written = written_is o.made.items bytes all c.deref.result.now c.len-start.result c.deref.ensures.value k (omega arith) in
+    let long : c.padded_len-long_len.result ≡ length bytes = c.padded_len-long_len.ensures ∙ ap length written in
+    let kept = pushed (_ ∷ []) c.reserve.ensures.items c.unwrap.ensures c.push.ensures.items in
+    let sizes = pushed (c.padded_len-long_len.result ∷ []) c.reserve-2.ensures.items c.unwrap-2.ensures c.push-2.ensures.items in
+    let last = made_last o.kept.items o.sizes.items o.made.items c.self.invariant.parts _ c.push.new.self.items c.push-2.new.self.items all bytes refl kept (sizes ∙ ap (λ (n : ℕ). o.sizes.items ++ n ∷ []) long) (sym k) in
+    last.1 ∙ ap (λ (l : List (List ℕ)). l ++ bytes ∷ []) c.self.view_is
+
+pub invariant_of-self-2 : goal.invariant_of-self-2
+invariant_of-self-2 c =
+    let o = c.self.inside in
+    let all = c.write_pieces.new.out.items in
+    let bytes = c.args.pieces.front.now ++ 0 ∷ 0 ∷ c.args.pieces.behind.now in
+    let k : o.made.items ++ bytes ≡ all = sym c.in_ok-write_pieces.ensures.ok in
+    let written = written_is o.made.items bytes all c.deref.result.now c.len-start.result c.deref.ensures.value k (omega arith) in
+    let long : c.padded_len-long_len.result ≡ length bytes = c.padded_len-long_len.ensures ∙ ap length written in
+    let kept = pushed (_ ∷ []) c.reserve.ensures.items c.unwrap.ensures c.push.ensures.items in
+    let sizes = pushed (c.padded_len-long_len.result ∷ []) c.reserve-2.ensures.items c.unwrap-2.ensures c.push-2.ensures.items in
+    let last = made_last o.kept.items o.sizes.items o.made.items c.self.invariant.parts _ c.push.new.self.items c.push-2.new.self.items all bytes refl kept (sizes ∙ ap (λ (n : ℕ). o.sizes.items ++ n ∷ []) long) (sym k) in
+    record {
+      parts = last.0;
+      counted = counted_more true _ _ bytes o.size c.padded_len-long_len.result c.saturating_add-self-inside.result c.self.invariant.counted last.1 long c.saturating_add-self-inside.ensures;
+      even = counted_more false _ _ bytes o.even_size c.padded_len-short_len.result c.saturating_add-self-inside-2.result c.self.invariant.even last.1 (c.padded_len-short_len.ensures ∙ ap (λ (l : List ℕ). length (padded false l)) written) c.saturating_add-self-inside-2.ensures;
+    }

@@ -1,0 +1,26 @@
+use Rattle.std.proofs.Common.{inl, inr, refl}
+use Rattle.subsetter_sfnt.specs.declared.extras.Extras.{Extras}
+use Rattle.subsetter_sfnt.specs.Read.{Font}
+use Rattle.subsetter_c.specs.Made.{IsEmbeddingMade, lists_in}
+use Rattle.subsetter_c.proofs.Lists.{embedding_sound, embedding_refused}
+use Rattle.subsetter_c.proofs.Made.{embedding_made}
+use Rattle.subsetter_c.proofs.Asked.{at_asked}
+use Rattle.subsetter_c.proofs.calls.subsetter_make_embedded_by_words.Goals as goal
+
+pub returns-in-Some : goal.returns-in-Some
+returns-in-Some c =
+    let font : Extras → Font = λ x. record { bytes = c.args.font.now; index = c.args.index; extras = x } in
+    let tokens = c.in-Some.options.limits.tokens in
+    let depth = c.in-Some.options.limits.depth in
+    let asked = font c.in-Some.options.extras in
+    let glyphs = c.args.glyphs.now in
+    let answer = c.embed_with_options-answer.result in
+    let of = c.embed_with_options-answer.ensures in
+    inr (
+      c.in-Some.ensures.0,
+      at_asked (λ t d x. IsEmbeddingMade t d (font x) glyphs (lists_in c.make_embedded.new.made) c.make_embedded.result) c.args.options.now c.in-Some.options c.in-Some.ensures.1
+          (embedding_made tokens depth asked glyphs answer (lists_in c.make_embedded.new.made) c.make_embedded.result (embedding_sound tokens depth asked glyphs answer of.clean of.exact of.same) (embedding_refused tokens depth asked glyphs answer of.err of.no_answer of.before_memory) c.make_embedded.ensures),
+    )
+
+pub returns-in-None : goal.returns-in-None
+returns-in-None c = inl (c.in-None.ensures, record { empty = c.nothing.ensures; status_is = refl })

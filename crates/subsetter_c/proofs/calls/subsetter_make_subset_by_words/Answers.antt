@@ -1,0 +1,23 @@
+use Rattle.std.proofs.Common.{inl, inr, refl}
+use Rattle.subsetter_sfnt.specs.declared.extras.Extras.{Extras}
+use Rattle.subsetter_sfnt.specs.Read.{Font}
+use Rattle.subsetter_c.specs.Made.{IsSubsetMade, lists_in}
+use Rattle.subsetter_c.proofs.Made.{subset_made}
+use Rattle.subsetter_c.proofs.Asked.{at_asked}
+use Rattle.subsetter_c.proofs.calls.subsetter_make_subset_by_words.Goals as goal
+
+pub returns-in-Some : goal.returns-in-Some
+returns-in-Some c =
+    let font : Extras → Font = λ x. record { bytes = c.args.font.now; index = c.args.index; extras = x } in
+    let tokens = c.in-Some.options.limits.tokens in
+    let depth = c.in-Some.options.limits.depth in
+    let asked = font c.in-Some.options.extras in
+    let glyphs = c.args.glyphs.now in
+    inr (
+      c.in-Some.ensures.0,
+      at_asked (λ t d x. IsSubsetMade t d (font x) glyphs (lists_in c.make_subset.new.made) c.make_subset.result) c.args.options.now c.in-Some.options c.in-Some.ensures.1
+          (subset_made tokens depth asked glyphs c.subset_for.result (lists_in c.make_subset.new.made) c.make_subset.result c.subset_for.ensures.ok c.subset_for.ensures.err c.make_subset.ensures),
+    )
+
+pub returns-in-None : goal.returns-in-None
+returns-in-None c = inl (c.in-None.ensures, record { empty = c.nothing.ensures; status_is = refl })

@@ -1,0 +1,35 @@
+-- How lists are handed to C in memory of the library: by where they stand and how long they are, and a status.
+use Rattle.std.specs.Prelude.{◌≡◌, ℕ, List, []}
+use Rattle.subsetter_base.specs.declared.error.Error.{Error}
+use Rattle.subsetter_sfnt.specs.Read.{Font}
+use Rattle.cid_embed.specs.declared.embedding.Embedded.{Embedded}
+use Rattle.subsetter_c.specs.Embedding.{Buffers, lists_of, IsSoundEmbedding, IsEmbeddingRefusal}
+use Rattle.subsetter_c.specs.Handed.{IsSoundSubset, IsRefusal}
+use Rattle.subsetter_c.specs.Status.{status_of}
+use Rattle.subsetter_c.specs.declared.making.Made.{Made}
+
+-- the lists that are handed over
+abbrev pub lists_in : Made → Buffers
+lists_in made = record { font = made.font.now; cids = made.cids.now; widths = made.widths.now }
+
+abbrev pub only_font : List ℕ → Buffers
+only_font bytes = record { font = bytes; cids = []; widths = [] }
+
+-- lists of which `Is` holds, or an error of which `Why` holds, are handed over: the lists, and the status
+pub data IsMade (Is : Buffers → Type 0) (Why : Error → Type 0) (made : Buffers) (status : ℕ) : Type 0 where
+  whole : Is made → status ≡ 0 → IsMade Is Why made status
+  -- all are empty
+  refused : (e : Error) → Why e → made ≡ only_font [] → status ≡ status_of e → IsMade Is Why made status
+
+-- no lists are handed over, for the reason of a status
+pub record IsNothingMade (why : ℕ) (made : Buffers) (status : ℕ) : Type 0 where
+  pub empty : made ≡ only_font []
+  pub status_is : status ≡ why
+
+-- a subset, without CIDs and widths
+abbrev pub IsSubsetMade : ℕ → ℕ → Font → List ℕ → Buffers → ℕ → Type 0
+IsSubsetMade tokens depth font glyphs = IsMade (λ made. (bytes : List ℕ) × IsSoundSubset tokens depth font glyphs bytes × (made ≡ only_font bytes)) (IsRefusal tokens depth font glyphs)
+
+-- a subset with its CIDs and widths
+abbrev pub IsEmbeddingMade : ℕ → ℕ → Font → List ℕ → Buffers → ℕ → Type 0
+IsEmbeddingMade tokens depth font glyphs = IsMade (λ made. (e : Embedded) × IsSoundEmbedding tokens depth font glyphs e × (made ≡ lists_of e)) (IsEmbeddingRefusal tokens depth font glyphs)

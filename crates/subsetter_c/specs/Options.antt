@@ -1,0 +1,44 @@
+-- What the words of `struct subsetter_options` ask for (bindings/c/subsetter.h): their size in bytes, the limits of a charstring, and what is left out.
+use Rattle.std.specs.Prelude.{◌≡◌, ℕ, ◌*◌, ◌<◌, ◌≤◌, List, length, slice_index_or, Bool, ◌==◌, if◌then◌else◌}
+use Rattle.std.specs.Int.Bits.{bit_and}
+use Rattle.subsetter.specs.Limits.{token_limit, depth_limit}
+use Rattle.subsetter_sfnt.specs.declared.extras.Extras.{Extras}
+use Rattle.subsetter.specs.declared.choice.Options.{Options}
+
+-- a word by its place; one past the end is 0
+abbrev pub word : List ℕ → ℕ → ℕ
+word words at = slice_index_or words at 0
+
+-- the library knows them; where there are none they are
+pub record AreKnown (words : List ℕ) : Type 0 where
+  -- the first is their size in bytes
+  pub size : word words 0 ≡ 4 * length words
+  -- there are four at most
+  pub count : length words ≤ 4
+  -- the third is a depth of at most 255
+  pub depth : word words 2 ≤ 255
+  -- the fourth has no other bits than 1, 2 and 4
+  pub bits : word words 3 < 8
+
+-- 0 stands for the default
+abbrev pub or_default : ℕ → ℕ → ℕ
+or_default n usual = if n == 0 then usual else n
+
+abbrev pub tokens_asked : List ℕ → ℕ
+tokens_asked words = or_default (word words 1) token_limit
+
+abbrev pub depth_asked : List ℕ → ℕ
+depth_asked words = or_default (word words 2) depth_limit
+
+-- a bit that isn't set drops nothing
+abbrev pub keeps : List ℕ → ℕ → Bool
+keeps words bit = bit_and (word words 3) bit == 0
+
+abbrev pub extras_asked : List ℕ → Extras
+extras_asked words = record { hinting = keeps words 1; names = keeps words 2; glyph_names = keeps words 4 }
+
+-- options say what the words ask for
+pub record AreAsked (words : List ℕ) (options : Options) : Type 0 where
+  pub tokens : options.limits.tokens ≡ tokens_asked words
+  pub depth : options.limits.depth ≡ depth_asked words
+  pub extras : options.extras ≡ extras_asked words

@@ -1,0 +1,42 @@
+//! What the words of `subsetter_options` ask for.
+
+ghost use Rattle.std.specs.Prelude.{◌≡◌, MatchOption};
+ghost use Rattle.subsetter_c.specs.Options.{AreAsked, AreKnown, or_default, word};
+
+use subsetter::{Extras, Limits, Options};
+
+/// A word by its place; one past the end is 0.
+fn word(words: &[u32], at: usize) -> u32
+    ensures { result ≡ word words.now at }
+{
+    words.get(at).copied().unwrap_or(0)
+}
+
+/// 0 stands for the default.
+fn or_default(n: u32, usual: u32) -> u32
+    ensures { result ≡ or_default n usual }
+{
+    if n == 0 { usual } else { n }
+}
+
+/// The options that are asked for; none where the library doesn't know them.
+pub fn options_of(words: &[u32]) -> Option<Options>
+    ensures { MatchOption result (¬ (AreKnown words.now)) (λ options. AreKnown words.now × AreAsked words.now options) }
+{
+    let count = words.len();
+    if count > 4 || word(words, 0) as usize != 4 * count {
+        return None;
+    }
+    let depth = u8::try_from(or_default(word(words, 2), 64)).ok()?;
+    let drop = word(words, 3);
+    if drop > 7 {
+        return None;
+    }
+    let limits = Limits::new(or_default(word(words, 1), 1_000_000), depth)?;
+    let extras = Extras {
+        hinting: drop & 1 == 0,
+        names: drop & 2 == 0,
+        glyph_names: drop & 4 == 0,
+    };
+    Some(Options { limits, extras })
+}

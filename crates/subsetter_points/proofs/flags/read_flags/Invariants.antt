@@ -1,0 +1,7 @@
+use Rattle.std.proofs.Common.{◌≡◌, ◌-◌}
+use Rattle.subsetter_points.specs.Simple.{flags}
+use Rattle.subsetter_points.proofs.ReadLemmas.{with_front}
+use Rattle.subsetter_points.proofs.flags.read_flags.Given as goal
+
+abbrev pub invariant-loop : goal.invariant-loop
+invariant-loop l = flags l.count (record { flag = 0; repeats = 0 }) l.fn.bytes ≡ with_front l.flags.items (flags (l.count - l.counter) l.run l.rest)

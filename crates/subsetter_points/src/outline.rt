@@ -1,0 +1,38 @@
+//! Outlines as points.
+
+ghost use Rattle.std.specs.Prelude.{◌≡◌, []};
+
+use std::alloc::Global;
+
+/// A point of an outline, in font design units.
+#[derive(Clone, Copy, Debug, PartialEq, Eq)]
+pub struct Point {
+    /// From left to right.
+    pub x: i16,
+    /// From below to above.
+    pub y: i16,
+    /// Whether it is on the curve, and no control point.
+    pub on_curve: bool,
+}
+
+/// An outline: the points of its contours one after the other, and for each contour the number of its last point, from 0.
+#[derive(Debug, Drop)]
+pub struct Outline {
+    /// The points of all contours.
+    pub points: Vec<Point>,
+    /// The number of the last point of each contour.
+    pub ends: Vec<u16>,
+}
+
+impl Outline {
+    /// An outline without points.
+    pub fn new(alloc: Global) -> Self
+        ensures points { result.points.items ≡ [] }
+        ensures ends { result.ends.items ≡ [] }
+    {
+        Self {
+            points: Vec::new(alloc),
+            ends: Vec::new(alloc),
+        }
+    }
+}

@@ -1,0 +1,129 @@
+//! A simple glyph description, read.
+
+ghost use Rattle.std.specs.Prelude.{◌≡◌, IfOk, IfErr, IfSome, IsTrue, length};
+ghost use Rattle.std.specs.Option.{option_map};
+ghost use Rattle.subsetter_base.specs.declared.error.Error.TheVariants.{OutOfMemory};
+ghost use Rattle.subsetter_points.specs.Simple.{points_at, body_at, parts_at, description_at, header_at, parts, simple, are_ends};
+ghost use Rattle.subsetter_points.specs.View.{parts_of, contours_of};
+
+use crate::coordinates::read_coordinates;
+use crate::ends::{count, read_ends};
+use crate::flags::read_flags;
+use crate::front::{read_after, read_word};
+use crate::outline::{Outline, Point};
+use crate::points::join_points;
+use std::alloc::Global;
+use subsetter_base::Error;
+use subsetter_base::read::Reader;
+
+/// The size of the header: the number of contours and the bounding box.
+const HEADER_SIZE: usize = 10;
+/// The most contours of a simple glyph: `numberOfContours` is an int16, and below 0 for a composite glyph.
+const MOST_CONTOURS: u16 = 0x7FFF;
+/// The delta in x is one byte.
+const X_SHORT_VECTOR: u8 = 0x02;
+/// That byte is added; without it x is the same as before.
+const X_IS_SAME_OR_POSITIVE_X_SHORT_VECTOR: u8 = 0x10;
+/// The delta in y is one byte.
+const Y_SHORT_VECTOR: u8 = 0x04;
+/// That byte is added; without it y is the same as before.
+const Y_IS_SAME_OR_POSITIVE_Y_SHORT_VECTOR: u8 = 0x20;
+
+/// So many points: their flags, then their x coordinates, then their y coordinates.
+#[tactic(auto, unfolding(crate::specs::Simple::points_at))]
+fn read_points(alloc: Global, count: usize, bytes: &[u8]) -> Result<Option<Vec<Point>>, Error>
+    ensures ok { IfOk result (λ o. option_map (λ v. v.items) o ≡ points_at count bytes.now) }
+    ensures err { IfErr result (λ e. e ≡ OutOfMemory) }
+{
+    let Some((flags, rest)) = read_flags(alloc, count, bytes)? else {
+        return Ok(None);
+    };
+    let Some((xs, rest)) = read_coordinates(
+        alloc,
+        X_SHORT_VECTOR,
+        X_IS_SAME_OR_POSITIVE_X_SHORT_VECTOR,
+        &flags,
+        rest,
+    )?
+    else {
+        return Ok(None);
+    };
+    let Some((ys, _)) = read_coordinates(
+        alloc,
+        Y_SHORT_VECTOR,
+        Y_IS_SAME_OR_POSITIVE_Y_SHORT_VECTOR,
+        &flags,
+        rest,
+    )?
+    else {
+        return Ok(None);
+    };
+    Ok(Some(join_points(alloc, &flags, &xs, &ys)?))
+}
+
+/// The bytes after the instructions.
+fn read_body(bytes: &[u8]) -> Option<&[u8]>
+    ensures { option_map (λ p. p.now) result ≡ body_at bytes.now }
+{
+    let (size, rest) = read_word(bytes)?;
+    read_after(rest, usize::from(size))
+}
+
+/// The last points of so many contours, the instructions, which are passed over, and the points.
+#[tactic(auto, unfolding(crate::specs::Simple::parts_at))]
+fn read_parts(alloc: Global, contours: u16, bytes: &[u8]) -> Result<Option<Outline>, Error>
+    ensures ok { IfOk result (λ o. option_map parts_of o ≡ parts_at contours bytes.now) }
+    ensures err { IfErr result (λ e. e ≡ OutOfMemory) }
+{
+    let Some((ends, rest)) = read_ends(alloc, contours, bytes)? else {
+        return Ok(None);
+    };
+    let Some(body) = read_body(rest) else {
+        return Ok(None);
+    };
+    let Some(points) = read_points(alloc, count(&ends), body)? else {
+        return Ok(None);
+    };
+    Ok(Some(Outline { points, ends }))
+}
+
+/// The last points of contours and the points, by what follows the header; none where there are no contours.
+fn read_description(alloc: Global, contours: u16, bytes: &[u8]) -> Result<Option<Outline>, Error>
+    ensures ok { IfOk result (λ o. option_map parts_of o ≡ description_at contours bytes.now) }
+    ensures err { IfErr result (λ e. e ≡ OutOfMemory) }
+{
+    if contours == 0 {
+        return Ok(Some(Outline::new(alloc)));
+    }
+    read_parts(alloc, contours, bytes)
+}
+
+/// The number of contours, if it isn't that of a composite glyph, and the bytes after the header.
+fn read_header(bytes: &[u8]) -> Option<(u16, &[u8])>
+    ensures { option_map (λ p. (p.0, p.1.now)) result ≡ header_at bytes.now }
+{
+    let contours = Reader::new(bytes).read::<u16>()?;
+    let rest = read_after(bytes, HEADER_SIZE)?;
+    if contours > MOST_CONTOURS {
+        return None;
+    }
+    Some((contours, rest))
+}
+
+/// The outline of a simple glyph, if the bytes are its description. A glyph without bytes has an outline without points, and
+/// so has one of no contours.
+pub fn read_simple(alloc: Global, bytes: &[u8]) -> Result<Option<Outline>, Error>
+    ensures ok { IfOk result (λ o. option_map contours_of o ≡ simple bytes.now) }
+    // The same, as the points of all contours and the last point of each.
+    ensures parts { IfOk result (λ o. option_map parts_of o ≡ parts bytes.now) }
+    ensures sound { IfOk result (λ o. IfSome o (λ x. IsTrue (are_ends 0 x.ends.items (length x.points.items)))) }
+    ensures err { IfErr result (λ e. e ≡ OutOfMemory) }
+{
+    if bytes.is_empty() {
+        return Ok(Some(Outline::new(alloc)));
+    }
+    let Some((contours, rest)) = read_header(bytes) else {
+        return Ok(None);
+    };
+    read_description(alloc, contours, rest)
+}

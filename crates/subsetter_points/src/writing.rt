@@ -1,0 +1,45 @@
+//! A simple glyph description, written.
+
+ghost use Rattle.std.specs.Prelude.{◌≡◌, ◌++◌, IsTrue, OnOk, IfErr};
+ghost use Rattle.subsetter_base.specs.declared.error.Error.TheVariants.{OutOfMemory};
+ghost use Rattle.subsetter_points.specs.Simple.{parts_bytes, simple_bytes, parts_fit, fits};
+ghost use Rattle.subsetter_points.specs.View.{contours_of};
+
+use crate::bounds::write_box;
+use crate::delta_bytes::{write_xs, write_ys};
+use crate::end_bytes::write_ends;
+use crate::flag_bytes::write_flags;
+use crate::outline::{Outline, Point};
+use subsetter_base::Error;
+
+/// Writes points as a simple glyph description, by the last points of their contours.
+fn write_parts(out: &mut Vec<u8>, ends: &[u16], points: &[Point]) -> Result<(), Error>
+    requires { IsTrue (parts_fit ends.now points.now) }
+    ensures ok { OnOk result (out.new.items ≡ out.old.items ++ parts_bytes ends.now points.now) }
+    ensures err { IfErr result (λ e. e ≡ OutOfMemory) }
+{
+    if points.is_empty() {
+        return Ok(());
+    }
+    let contours = ends.len() as u16;
+    out.extend_from_slice(&contours.to_be_bytes())?;
+    write_box(out, points[0], &points[1..])?;
+    write_ends(out, ends)?;
+    out.extend_from_slice(&[0, 0])?;
+    write_flags(out, points)?;
+    write_xs(out, points)?;
+    write_ys(out, points)?;
+    Ok(())
+}
+
+/// Appends the simple glyph description of an outline that fits, as `fits` says, to bytes; nothing where it has no points.
+#[tactic(auto, using(crate::proofs::WriteLemmas::bytes_of_parts, crate::proofs::WriteLemmas::fits_of_parts))]
+pub fn write_simple(out: &mut Vec<u8>, outline: &Outline) -> Result<(), Error>
+    requires { IsTrue (parts_fit outline.now.ends.items outline.now.points.items) }
+    ensures ok { OnOk result (out.new.items ≡ out.old.items ++ simple_bytes (contours_of outline.now)) }
+    // An outline that fits is read from these bytes.
+    ensures fits { IsTrue (fits (contours_of outline.now)) }
+    ensures err { IfErr result (λ e. e ≡ OutOfMemory) }
+{
+    write_parts(out, &outline.ends, &outline.points)
+}

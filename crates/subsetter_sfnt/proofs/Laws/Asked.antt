@@ -1,0 +1,11 @@
+-- What is asked for of a look-up.
+use Rattle.std.proofs.Common.{◌≡◌, ℕ, Bool, true, false, List, Option, refl}
+use Rattle.std.specs.Prelude.{codes}
+use Rattle.subsetter_sfnt.specs.Extras.{by_hinting, by_names, by_glyph_names}
+
+-- `post` depends on the names of glyphs alone
+pub post_asked : (h n g : Bool) (found : Option (List ℕ)) → by_glyph_names g (codes "post") (by_names n (codes "post") (by_hinting h (codes "post") found)) ≡ by_glyph_names g (codes "post") found
+post_asked true true g found = refl
+post_asked true false g found = refl
+post_asked false true g found = refl
+post_asked false false g found = refl

@@ -1,0 +1,13 @@
+use Rattle.std.proofs.Common.{◌≡◌, ◌-◌, ◌/◌, ◌≤◌, length, drop}
+use Rattle.subsetter_sfnt.specs.Read.{directory_records, find_record}
+use Rattle.subsetter_sfnt.proofs.parse.find_record.Given as goal
+
+abbrev pub invariant-loop-record : goal.invariant-loop-record
+invariant-loop-record l = record {
+  same : l.r.bytes ≡ l.records;
+  within : l.r.place ≤ length l.records;
+  rest : find_record l.tag.0 (directory_records ((length l.records - l.r.place) / 16) (drop l.r.place l.records)) ≡ find_record l.tag.0 (directory_records (length l.records / 16) l.records);
+}
+
+abbrev pub decreases-loop-record : goal.decreases-loop-record
+decreases-loop-record l = length l.records - l.r.place

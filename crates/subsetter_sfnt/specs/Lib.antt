@@ -1,0 +1,11 @@
+pub mod Optional
+pub mod Extras
+pub mod Read
+pub mod Plain
+pub mod Checksum
+pub mod Written
+pub mod Container
+pub mod Weights
+pub mod Rows
+pub mod View
+pub mod Fault

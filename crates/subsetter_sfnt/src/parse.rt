@@ -1,0 +1,124 @@
+//! Finding a font's directory and its tables.
+
+ghost use Rattle.std.specs.Prelude.{◌≡◌, ◌/◌, ◌<◌, ◌^◌, ◌&&◌, ◌||◌, not, false, length, codes, IfOk, IfErr};
+ghost use Rattle.std.specs.Option.{option_copied};
+ghost use Rattle.std.specs.Str.{bytes_eq};
+ghost use Rattle.subsetter_sfnt.specs.Extras.{asked, is_program};
+ghost use Rattle.subsetter_sfnt.specs.Read.{records_at, find_record, directory_records, table_in};
+ghost use Rattle.subsetter_base.specs.Bytes.{IsBytes};
+ghost use Rattle.subsetter_sfnt.specs.Plain.{opened_header, opened};
+
+use crate::extras::Extras;
+use crate::face::{Face, FontKind, TableRecord};
+use subsetter_base::read::Reader;
+use subsetter_base::{Error, Tag};
+
+/// Where the font's header stands.
+#[tactic(auto, unfolding(crate::specs::Plain::opened_header))]
+fn header(file: &[u8], index: u32, extras: Extras) -> Result<usize, Error>
+    ensures exact { result ≡ opened_header (record { bytes = file.now; index = index; extras = extras }) }
+    ensures small { IfOk result (λ at. at < 2 ^ 32) }
+{
+    let mut r = Reader::new(file);
+    let kind = r.read::<FontKind>().ok_or(Error::UnknownKind)?;
+    if kind == FontKind::Single {
+        return Ok(0);
+    }
+    let mut r = Reader::new_at(file, 12 + 4 * (index as usize));
+    let offset = r.read::<u32>().ok_or(Error::MalformedFont)?;
+    let mut r = Reader::new_at(file, offset as usize);
+    match r.read::<FontKind>() {
+        Some(FontKind::Single) => Ok(offset as usize),
+        _ => Err(Error::MalformedFont),
+    }
+}
+
+/// The bytes of the directory's records.
+#[tactic(auto, unfolding(crate::specs::Read::records_at))]
+fn records(file: &[u8], at: usize) -> Option<&[u8]>
+    requires { at < 2 ^ 32 }
+    ensures { option_copied result ≡ records_at file.now at }
+{
+    let mut r = Reader::new_at(file, at + 4);
+    let count = r.read::<u16>()?;
+    let mut r = Reader::new_at(file, at + 12);
+    r.read_bytes(16 * (count as usize))
+}
+
+/// Parses the directory of a font, of which these extras are asked for.
+#[tactic(auto, unfolding(crate::specs::Plain::opened))]
+pub fn parse(file: &[u8], index: u32, extras: Extras) -> Result<Face<'_>, Error>
+    ensures ok { IfOk result (λ face. (face.«data».now ≡ file.now) × (opened (record { bytes = file.now; index = index; extras = extras }) ≡ Ok face.records.now)) }
+    ensures extras { IfOk result (λ face. face.extras ≡ extras) }
+    ensures bytes { IsBytes file.now }
+    ensures err { IfErr result (λ e. opened (record { bytes = file.now; index = index; extras = extras }) ≡ Err e) }
+{
+    let at = header(file, index, extras)?;
+    let records = records(file, at).ok_or(Error::MalformedFont)?;
+    Ok(Face {
+        data: file,
+        records,
+        extras,
+    })
+}
+
+/// The first record that bears a tag.
+fn find_record(records: &[u8], tag: Tag) -> Option<TableRecord>
+    ensures { result ≡ find_record tag.0 (directory_records (length records.now / 16) records.now) }
+{
+    let mut r = Reader::new(records);
+    while let Some(record) = r.read::<TableRecord>() {
+        if record.tag == tag {
+            return Some(record);
+        }
+    }
+    None
+}
+
+impl<'a> Face<'a> {
+    /// Whether a table isn't asked for.
+    fn leaves_out(&self, tag: Tag) -> bool
+        ensures { result ≡ ((not self.now.extras.hinting && is_program tag.0) || (not self.now.extras.names && bytes_eq tag.0 (codes "name"))) }
+    {
+        let extras = self.extras;
+        (!extras.hinting && (tag == Tag::CVT || (tag == Tag::FPGM || tag == Tag::PREP)))
+            || (!extras.names && tag == Tag::NAME)
+    }
+
+    /// The bytes of a table other than `post`, if it is asked for.
+    pub fn table(&self, tag: Tag) -> Option<&'a [u8]>
+        requires { bytes_eq tag.0 (codes "post") ≡ false }
+        ensures { option_copied result ≡ asked self.now.extras (table_in self.now.«data».now self.now.records.now) tag.0 }
+    {
+        if self.leaves_out(tag) {
+            return None;
+        }
+        self.stored(tag)
+    }
+
+    /// The bytes of a table.
+    pub fn stored(&self, tag: Tag) -> Option<&'a [u8]>
+        ensures { option_copied result ≡ table_in self.now.«data».now self.now.records.now tag.0 }
+    {
+        let record = find_record(self.records, tag)?;
+        Reader::new_at(self.data, record.offset as usize).read_bytes(record.length as usize)
+    }
+}
+
+#[cfg(test)]
+mod tests {
+    use super::*;
+
+    #[test]
+    fn a_table_past_the_end_is_missing(rt: HostRuntime) {
+        let records = [
+            0x68, 0x65, 0x61, 0x64, 0, 0, 0, 0, 0xff, 0xff, 0xff, 0xff, 0xff, 0xff, 0xff, 0xff,
+        ];
+        let face = Face {
+            data: &[],
+            records: &records,
+            extras: Extras::ALL,
+        };
+        assert!(rt; face.table(Tag::HEAD).is_none());
+    }
+}

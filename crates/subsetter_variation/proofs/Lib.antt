@@ -1,0 +1,17 @@
+pub mod Ascending
+pub mod Between
+pub mod Bounds
+pub mod Contours
+pub mod Listed
+pub mod ListedDeltas
+pub mod Lying
+pub mod Masters
+pub mod Quotients
+pub mod Regions
+pub mod Runs
+pub mod StepLaws
+pub mod Sums
+pub mod Terms
+pub mod Turning
+pub mod Walk
+pub mod Walks

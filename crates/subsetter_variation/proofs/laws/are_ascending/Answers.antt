@@ -1,0 +1,5 @@
+use Rattle.subsetter_variation.proofs.Ascending.{are_ascending}
+use Rattle.subsetter_variation.proofs.laws.are_ascending.Goals as goal
+
+pub returns : goal.returns
+returns c = are_ascending

@@ -1,0 +1,5 @@
+use Rattle.subsetter_variation.proofs.Lying.{lies_between}
+use Rattle.subsetter_variation.proofs.laws.lies_between.Goals as goal
+
+pub returns : goal.returns
+returns c = lies_between

@@ -1,0 +1,14 @@
+pub mod Axes
+pub mod Coordinates
+pub mod Inferred
+pub mod ItemVariations
+pub mod Movement
+pub mod Moves
+pub mod Nearest
+pub mod Optional
+pub mod Packed
+pub mod Region
+pub mod Segments
+pub mod Tuples
+pub mod VariationLaws
+pub mod Varied

@@ -1,0 +1,38 @@
+-- Laws of how far tuples count, and of what they move.
+use Rattle.std.specs.Prelude.{◌≡◌, ◌+◌, ◌≤◌, ℕ, ℤ, pos, ◌*ℤ◌, false, List, [], ◌∷◌, length, map, slice_get, Option, Some, Ok, All}
+use Rattle.subsetter_variation.specs.declared.inference.Point.{Point}
+use Rattle.subsetter_variation.specs.declared.region.RegionAxis.{RegionAxis}
+use Rattle.subsetter_variation.specs.Inferred.{moved}
+use Rattle.subsetter_variation.specs.Packed.{point_numbers}
+use Rattle.subsetter_variation.specs.Region.{is_ignored, scalar, unit}
+use Rattle.subsetter_variation.specs.Tuples.{Gvar, TupleHeader, TupleHeaders, next_header}
+use Rattle.subsetter_variation.specs.Movement.{Outline, Walk, next_walk, moved_points}
+
+-- at the default a region counts nothing if one of its axes isn't ignored
+abbrev pub IsNothingAtDefault : Type 0
+IsNothingAtDefault = (region : List RegionAxis) (at : List ℤ) (k : ℕ) (t : RegionAxis) → length region ≡ length at → All (λ c. c ≡ pos 0) at → slice_get region k ≡ Some t → is_ignored t ≡ false → scalar region at ≡ pos 0
+
+-- a tuple whose scalar is 0 leaves all points where they are
+abbrev pub IsPassedOver : Type 0
+IsPassedOver = (t : Gvar) (o : Outline) (shared : Option (List ℕ)) (at : List ℤ) (w v : Walk) (h : TupleHeader) (rest : TupleHeaders) → next_header t w.headers ≡ Some (h, rest) → scalar h.region at ≡ pos 0 → next_walk t o shared at w ≡ Ok v → (v.xs ≡ w.xs) × (v.ys ≡ w.ys)
+
+-- at its peak a tuple moves each point that it gives a delta by exactly that delta
+abbrev pub IsExactAtPeak : Type 0
+IsExactAtPeak = (region : List RegionAxis) (contour : List Point) (k : ℕ) (p : Point) (d : ℤ) → slice_get contour k ≡ Some p → p.delta ≡ Some d → moved contour k (scalar region (map (λ t. t.peak) region)) ≡ unit *ℤ d
+
+-- in a contour of one point, as a phantom point is, it doesn't matter where the point lies
+abbrev pub IsFreeOfPlace : Type 0
+IsFreeOfPlace = (x y scalar : ℤ) (d : Option ℤ) → moved (record { at = x; delta = d } ∷ []) 0 scalar ≡ moved (record { at = y; delta = d } ∷ []) 0 scalar
+
+-- each number is at least this one, and the next one greater
+abbrev pub Ascends : ℕ → List ℕ → Type 0
+Ascends least [] = Unit {0}
+Ascends least (n ∷ numbers) = (least ≤ n) × Ascends (n + 1) numbers
+
+-- the point numbers of a tuple ascend
+abbrev pub AreAscending : Type 0
+AreAscending = (limit : ℕ) (bytes rest numbers : List ℕ) → point_numbers limit bytes ≡ Some (Some numbers, rest) → Ascends 0 numbers
+
+-- points go to the same places at whatever number of steps
+abbrev pub IsSameAtAnySteps : Type 0
+IsSameAtAnySteps = (t : Gvar) (g : ℕ) (o : Outline) (at : List ℤ) (steps more : ℕ) (a b : List ℤ × List ℤ × ℕ) → moved_points t g o at steps ≡ Ok a → moved_points t g o at more ≡ Ok b → (a.0 ≡ b.0) × (a.1 ≡ b.1)

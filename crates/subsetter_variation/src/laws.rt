@@ -1,0 +1,54 @@
+//! The laws of variations, which name no code: how far a tuple counts, and what it moves the points of a contour by.
+
+ghost use Rattle.subsetter_variation.specs.Moves.{IsShift, IsStill, IsTurned, LiesBetween};
+ghost use Rattle.subsetter_variation.specs.VariationLaws.{AreAscending, IsExactAtPeak, IsFreeOfPlace, IsNothingAtDefault, IsPassedOver, IsSameAtAnySteps};
+
+/// At the scalar 0 nothing moves.
+pub fn is_still()
+    ensures { IsStill }
+{}
+
+/// An untouched point moves as between the last touched point and the first one of the contour turned to it.
+pub fn is_turned()
+    ensures { IsTurned }
+{}
+
+/// One touched point moves all points of its contour by its delta.
+pub fn is_shift()
+    ensures { IsShift }
+{}
+
+/// An inferred delta lies between the scaled deltas of its neighbours.
+pub fn lies_between()
+    ensures { LiesBetween }
+{}
+
+/// At the default a region counts nothing.
+pub fn is_nothing_at_default()
+    ensures { IsNothingAtDefault }
+{}
+
+/// A tuple that doesn't count moves nothing.
+pub fn is_passed_over()
+    ensures { IsPassedOver }
+{}
+
+/// At its peak a tuple moves points by exactly its deltas.
+pub fn is_exact_at_peak()
+    ensures { IsExactAtPeak }
+{}
+
+/// What moves a point that is alone in its contour, as a phantom point is, doesn't depend on where it lies.
+pub fn is_free_of_place()
+    ensures { IsFreeOfPlace }
+{}
+
+/// The point numbers of a tuple ascend.
+pub fn are_ascending()
+    ensures { AreAscending }
+{}
+
+/// Points go to the same places at whatever number of steps.
+pub fn is_same_at_any_steps()
+    ensures { IsSameAtAnySteps }
+{}

@@ -1,0 +1,105 @@
+//! The segments that bend an axis (OpenType, "avar").
+
+ghost use Rattle.std.specs.Prelude.{◌≡◌, ◌+◌, ◌*◌, ◌<◌, ◌≤◌, ◌^◌, Some, true, ◌-ℤ◌, ◌≤ℤ◌, ◌<ℤ◌, IfSome, true, unsigned_abs};
+ghost use Rattle.subsetter_variation.specs.Segments.{axis_value_map_of, segment_map_at, axis_value_maps, fine, passed, on_segment, is_on, mapped};
+
+use crate::rounding::{minus, part, plus};
+use subsetter_base::read::{LazyArray16, Readable, Reader};
+
+/// The end of a segment: a number and its new one, in 16384ths.
+#[derive(Clone, Copy, PartialEq, Eq)]
+pub struct AxisValueMap {
+    pub from: i16,
+    pub to: i16,
+}
+
+impl Readable<'_> for AxisValueMap {
+    const SIZE: usize = 4;
+
+    ghost SIZE = { 4 };
+
+    ghost value_of = { λ bytes. Some (axis_value_map_of bytes) };
+
+    fn read(r: &mut Reader<'_>) -> Option<Self> {
+        let b = r.read_bytes(4)?;
+        Some(AxisValueMap {
+            from: i16::from_be_bytes([b[0], b[1]]),
+            to: i16::from_be_bytes([b[2], b[3]]),
+        })
+    }
+}
+
+/// 16384ths as 65536ths.
+fn fine(z: i16) -> i64
+    ensures value { result ≡ fine z }
+    ensures bound { unsigned_abs result ≤ 2 ^ 17 }
+{
+    4 * i64::from(z)
+}
+
+/// Of a whole as great a part as a number has passed of the way from one end to another.
+fn passed(from: i64, to: i64, n: i64, whole: i64) -> i64
+    requires behind { from ≤ℤ n }
+    requires before { n <ℤ to }
+    requires start { unsigned_abs from ≤ 2 ^ 20 }
+    requires end { unsigned_abs to ≤ 2 ^ 20 }
+    requires small { unsigned_abs whole ≤ 2 ^ 20 }
+    ensures value { result ≡ passed from to n whole }
+    ensures bound { unsigned_abs result ≤ unsigned_abs whole }
+{
+    let way = (to - from).unsigned_abs();
+    part(n - from, way, whole)
+}
+
+/// A number that lies between two ends, at the same part of the way between their new numbers.
+#[tactic(auto, unfolding(crate::specs::Segments::on_segment))]
+fn on_segment(p: AxisValueMap, q: AxisValueMap, n: i64) -> i64
+    requires behind { fine p.from ≤ℤ n }
+    requires before { n <ℤ fine q.from }
+    ensures value { result ≡ on_segment p q n }
+    ensures bound { unsigned_abs result ≤ 2 ^ 19 }
+{
+    let to = fine(p.to);
+    let whole = minus(fine(q.to), to);
+    let more = passed(fine(p.from), fine(q.from), n, whole);
+    plus(to, more)
+}
+
+/// The number lies between two ends, and not on the second.
+fn is_on(p: AxisValueMap, q: AxisValueMap, n: i64) -> bool
+    ensures value { result ≡ is_on p q n }
+    ensures behind { result ≡ true → fine p.from ≤ℤ n }
+    ensures before { result ≡ true → n <ℤ fine q.from }
+{
+    fine(p.from) <= n && n < fine(q.from)
+}
+
+/// The ends of the segments of the next axis.
+pub fn next_segment_map<'a>(r: &mut Reader<'a>) -> Option<LazyArray16<'a, AxisValueMap>>
+    ensures value { result ≡ segment_map_at r.old.bytes r.old.place }
+    ensures bytes { r.new.bytes ≡ r.old.bytes }
+    ensures place { IfSome result (λ x. r.new.place ≡ r.old.place + 2 + x.count * 4) }
+{
+    let count = r.read::<u16>()?;
+    r.read_array16(count)
+}
+
+/// A number by the first segment in which it lies; one that lies in none stays.
+pub fn mapped(ends: LazyArray16<'_, AxisValueMap>, n: i64) -> i64
+    requires { unsigned_abs n ≤ 2 ^ 19 }
+    ensures value { result ≡ mapped (axis_value_maps ends.entry) n }
+    ensures bound { unsigned_abs result ≤ 2 ^ 19 }
+{
+    let mut rest = ends.iter();
+    let Some(first) = rest.next() else {
+        return n;
+    };
+    let mut p = first;
+    for q in rest {
+        if is_on(p, q, n) {
+            return on_segment(p, q, n);
+        }
+        p = q;
+    }
+    n
+}

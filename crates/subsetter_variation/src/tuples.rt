@@ -1,0 +1,449 @@
+//! The variations of a glyph (OpenType, "gvar" and "Tuple Variation Store"), read one tuple at a time.
+
+ghost use Rattle.std.specs.Prelude.{◌<◌, ◌≡◌, ◌+◌, ◌++◌, ◌*◌, ◌<◌, ◌≤◌, Some, None, Ok, MatchOption, IfSome, IfOk, length, drop};
+ghost use Rattle.std.specs.Option.{ok_or, option_copied, option_map};
+ghost use Rattle.subsetter_base.specs.Gives.{Gives};
+ghost use Rattle.subsetter_base.specs.declared.error.Error.TheVariants.{MalformedFont};
+ghost use Rattle.subsetter_variation.specs.Tuples.{split, tail, parts, gvar_table, offset, between_offsets, variations_of, tuple_headers, short, plain_region_axis, region_axis_of, region_axes, peaks_in, ends_in, region_in, next_header, both_deltas, numbers_and_deltas, tuple_size, count_of, shared_numbers};
+
+use crate::packed::{deltas, point_numbers, word_in};
+use crate::region::RegionAxis;
+use std::alloc::Global;
+use std::marker::Model;
+use subsetter_base::Error;
+use subsetter_base::read::Reader;
+
+/// The table `gvar`.
+#[derive(Drop)]
+pub struct Gvar<'a> {
+    axis_count: u16,
+    glyph_count: u16,
+    long: bool,
+    shared: &'a [u8],
+    offsets: &'a [u8],
+    variations: &'a [u8],
+}
+
+impl<'a> Model for Gvar<'a> {
+    ghost use Rattle.subsetter_variation.specs.Tuples.{Gvar};
+
+    ghost Value = { Gvar };
+
+    ghost view = { λ t. record { axis_count = t.axis_count; glyph_count = t.glyph_count; long = t.long; shared = t.shared.now; offsets = t.offsets.now; variations = t.variations.now } };
+}
+
+/// The tuples that are left of a glyph.
+#[derive(Drop)]
+pub struct TupleHeaders<'a> {
+    left: u16,
+    headers: &'a [u8],
+    serialized: &'a [u8],
+}
+
+impl<'a> Model for TupleHeaders<'a> {
+    ghost use Rattle.subsetter_variation.specs.Tuples.{TupleHeaders};
+
+    ghost Value = { TupleHeaders };
+
+    ghost view = { λ r. record { left = r.left; headers = r.headers.now; serialized = r.serialized.now } };
+}
+
+/// The first bytes and those behind them, if there are as many.
+fn split(n: usize, bytes: &[u8]) -> Option<(&[u8], &[u8])>
+    ensures value { MatchOption result (split n bytes.now ≡ None) (λ r. split n bytes.now ≡ Some (r.0.now, r.1.now)) }
+    ensures len { IfSome result (λ r. length r.0.now ≡ n) }
+{
+    if n <= bytes.len() {
+        Some((&bytes[..n], &bytes[n..]))
+    } else {
+        None
+    }
+}
+
+/// The bytes from a place on, which isn't past the end.
+pub(crate) fn tail(bytes: &[u8], at: usize) -> Option<&[u8]>
+    ensures { option_copied result ≡ tail bytes.now at }
+{
+    bytes.get(at..)
+}
+
+/// The parts of the table, for these numbers of its header.
+fn parts(gvar: &[u8], axis_count: u16, glyph_count: u16, long: bool) -> Option<Gvar<'_>>
+    ensures { result ≡ parts gvar.now axis_count glyph_count long }
+{
+    let shared_count = Reader::new_at(gvar, 6).read::<u16>()?;
+    let shared_at = Reader::new_at(gvar, 8).read::<u32>()?;
+    let from = Reader::new_at(gvar, 16).read::<u32>()?;
+    let size = shared_count as usize * (axis_count as usize * 2);
+    let shared = Reader::new_at(gvar, shared_at as usize).read_bytes(size)?;
+    let entry = if long { 4 } else { 2 };
+    let offsets = Reader::new_at(gvar, 20).read_bytes((glyph_count as usize + 1) * entry)?;
+    let variations = tail(gvar, from as usize)?;
+    Some(Gvar {
+        axis_count,
+        glyph_count,
+        long,
+        shared,
+        offsets,
+        variations,
+    })
+}
+
+/// The table, unless it is cut.
+#[tactic(auto, unfolding(crate::specs::Tuples::gvar_table))]
+pub fn gvar_table(gvar: &[u8]) -> Option<Gvar<'_>>
+    ensures { result ≡ gvar_table gvar.now }
+{
+    let axis_count = Reader::new_at(gvar, 4).read::<u16>()?;
+    let glyph_count = Reader::new_at(gvar, 12).read::<u16>()?;
+    let flags = Reader::new_at(gvar, 14).read::<u16>()?;
+    parts(gvar, axis_count, glyph_count, flags % 2 == 1)
+}
+
+impl<'a> Gvar<'a> {
+    /// How many axes there are.
+    pub fn axis_count(&self) -> u16
+        ensures { result ≡ self.now.axis_count }
+    {
+        self.axis_count
+    }
+
+    /// An offset.
+    fn offset(&self, glyph: usize) -> Option<usize>
+        requires { glyph ≤ 65536 }
+        ensures { result ≡ offset self.now glyph }
+    {
+        if self.long {
+            Some(Reader::new_at(self.offsets, glyph * 4).read::<u32>()? as usize)
+        } else {
+            Some(2 * Reader::new_at(self.offsets, glyph * 2).read::<u16>()? as usize)
+        }
+    }
+
+    /// The variations of a glyph, unless they aren't there; no bytes where it has none.
+    #[tactic(auto, unfolding(crate::specs::Tuples::variations_of))]
+    pub fn variations_of(&self, glyph: u16) -> Option<&'a [u8]>
+        ensures { option_copied result ≡ variations_of self.now glyph }
+    {
+        if glyph >= self.glyph_count {
+            return None;
+        }
+        let from = self.offset(glyph as usize)?;
+        let to = self.offset(glyph as usize + 1)?;
+        between_offsets(self.variations, from, to)
+    }
+}
+
+/// The bytes between two offsets.
+fn between_offsets(bytes: &[u8], from: usize, to: usize) -> Option<&[u8]>
+    ensures { option_copied result ≡ between_offsets bytes.now from to }
+{
+    if from <= to {
+        Reader::new_at(bytes, from).read_bytes(to - from)
+    } else {
+        None
+    }
+}
+
+/// Whether point numbers are shared, and the tuples of a glyph, by the bytes of its variations.
+#[tactic(auto, unfolding(crate::specs::Tuples::tuple_headers))]
+pub fn tuple_headers(bytes: &[u8]) -> Option<(bool, TupleHeaders<'_>)>
+    ensures value { result ≡ tuple_headers bytes.now }
+    ensures few { IfSome result (λ r. r.1.left < 4096) }
+{
+    let count = Reader::new(bytes).read::<u16>()?;
+    let at = Reader::new_at(bytes, 2).read::<u16>()?;
+    let serialized = tail(bytes, at as usize)?;
+    Some((
+        count >= 32768,
+        TupleHeaders {
+            left: count % 4096,
+            headers: &bytes[4..],
+            serialized,
+        },
+    ))
+}
+
+/// The signed number of the first two bytes.
+fn short(bytes: &[u8]) -> i16
+    requires { 2 ≤ length bytes.now }
+    ensures { result ≡ short bytes.now }
+{
+    i16::from_be_bytes([bytes[0], bytes[1]])
+}
+
+/// A peak without ends of its own.
+fn plain_region_axis(peak: i16) -> RegionAxis
+    ensures { result ≡ plain_region_axis peak }
+{
+    if peak < 0 {
+        RegionAxis {
+            start: peak,
+            peak,
+            end: 0,
+        }
+    } else {
+        RegionAxis {
+            start: 0,
+            peak,
+            end: peak,
+        }
+    }
+}
+
+/// The region on the first axis, with ends of its own or without.
+fn region_axis_of(inner: bool, peaks: &[u8], starts: &[u8], ends: &[u8]) -> RegionAxis
+    requires peak { 2 ≤ length peaks.now }
+    requires start { 2 ≤ length starts.now }
+    requires end { 2 ≤ length ends.now }
+    ensures { result ≡ region_axis_of inner peaks.now starts.now ends.now }
+{
+    if inner {
+        RegionAxis {
+            start: short(starts),
+            peak: short(peaks),
+            end: short(ends),
+        }
+    } else {
+        plain_region_axis(short(peaks))
+    }
+}
+
+/// The bytes behind the first two.
+fn behind_two(bytes: &[u8]) -> &[u8]
+    requires { 2 ≤ length bytes.now }
+    ensures value { result.now ≡ drop 2 bytes.now }
+    ensures len { length result.now + 2 ≡ length bytes.now }
+{
+    &bytes[2..]
+}
+
+/// The region on so many axes.
+#[tactic(auto, using(crate::proofs::Regions::region_axes_step, crate::proofs::Regions::region_axes_end))]
+fn region_axes(
+    alloc: Global,
+    inner: bool,
+    count: u16,
+    peaks: &[u8],
+    starts: &[u8],
+    ends: &[u8],
+) -> Result<Vec<RegionAxis>, Error>
+    requires peak { length peaks.now ≡ tuple_size count }
+    requires start { length starts.now ≡ tuple_size count }
+    requires end { length ends.now ≡ tuple_size count }
+    ensures value { Gives (λ v. v.items) result (Ok (region_axes inner count peaks.now starts.now ends.now)) }
+    ensures count { IfOk result (λ v. length v.items ≡ count) }
+{
+    let mut list = Vec::new(alloc);
+    let mut p = peaks;
+    let mut s = starts;
+    let mut e = ends;
+    for i in 0..count {
+        list.push(region_axis_of(inner, p, s, e))?;
+        p = behind_two(p);
+        s = behind_two(s);
+        e = behind_two(e);
+    }
+    Ok(list)
+}
+
+/// The peaks of a region, and the bytes of the header behind them.
+fn peaks_in<'a>(t: &Gvar<'a>, flags: u16, bytes: &'a [u8]) -> Option<(&'a [u8], &'a [u8])>
+    ensures value { MatchOption result (peaks_in t.now flags bytes.now ≡ None) (λ r. peaks_in t.now flags bytes.now ≡ Some (r.0.now, r.1.now)) }
+    ensures len { IfSome result (λ r. length r.0.now ≡ tuple_size t.now.axis_count) }
+{
+    let size = t.axis_count as usize * 2;
+    if flags >= 32768 {
+        split(size, bytes)
+    } else {
+        let at = (flags % 4096) as usize * size;
+        let peaks = Reader::new_at(t.shared, at).read_bytes(size)?;
+        Some((peaks, bytes))
+    }
+}
+
+/// The region with these peaks, and the bytes of the header behind it.
+fn ends_in<'a>(
+    alloc: Global,
+    axis_count: u16,
+    flags: u16,
+    peaks: &[u8],
+    bytes: &'a [u8],
+) -> Result<(Vec<RegionAxis>, &'a [u8]), Error>
+    requires { length peaks.now ≡ tuple_size axis_count }
+    ensures value { Gives (λ r. (r.0.items, r.1.now)) result (ok_or (ends_in axis_count flags peaks.now bytes.now) MalformedFont) }
+    ensures axes { IfOk result (λ r. length r.0.items ≡ axis_count) }
+{
+    let size = axis_count as usize * 2;
+    if flags % 32768 >= 16384 {
+        let (starts, rest) = split(size, bytes).ok_or(Error::MalformedFont)?;
+        let (ends, rest) = split(size, rest).ok_or(Error::MalformedFont)?;
+        let region = region_axes(alloc, true, axis_count, peaks, starts, ends)?;
+        Ok((region, rest))
+    } else {
+        let region = region_axes(alloc, false, axis_count, peaks, peaks, peaks)?;
+        Ok((region, bytes))
+    }
+}
+
+/// The region of a tuple, and the bytes of the header behind it.
+#[tactic(auto, unfolding(crate::specs::Tuples::region_in))]
+fn region_in<'a>(
+    alloc: Global,
+    t: &Gvar<'a>,
+    flags: u16,
+    bytes: &'a [u8],
+) -> Result<(Vec<RegionAxis>, &'a [u8]), Error>
+    ensures value { Gives (λ r. (r.0.items, r.1.now)) result (ok_or (region_in t.now flags bytes.now) MalformedFont) }
+    ensures axes { IfOk result (λ r. length r.0.items ≡ t.now.axis_count) }
+{
+    let (peaks, rest) = peaks_in(t, flags, bytes).ok_or(Error::MalformedFont)?;
+    ends_in(alloc, t.axis_count, flags, peaks, rest)
+}
+
+/// A tuple before its deltas are read.
+#[derive(Drop)]
+pub struct TupleHeader<'a> {
+    region: Vec<RegionAxis>,
+    private_numbers: bool,
+    packed: &'a [u8],
+}
+
+impl<'a> Model for TupleHeader<'a> {
+    ghost use Rattle.subsetter_variation.specs.Tuples.{TupleHeader};
+
+    ghost Value = { TupleHeader };
+
+    ghost view = { λ h. record { region = h.region.items; private_numbers = h.private_numbers; packed = h.packed.now } };
+}
+
+impl<'a> TupleHeader<'a> {
+    /// Where it counts.
+    pub fn region(&self) -> &[RegionAxis]
+        ensures { result.now ≡ self.now.region }
+    {
+        self.region.as_slice()
+    }
+
+    /// It has point numbers of its own.
+    pub fn has_private_numbers(&self) -> bool
+        ensures { result ≡ self.now.private_numbers }
+    {
+        self.private_numbers
+    }
+
+    /// The bytes of its point numbers and deltas.
+    pub fn packed(&self) -> &'a [u8]
+        ensures { result.now ≡ self.now.packed }
+    {
+        self.packed
+    }
+}
+
+impl<'a> TupleHeaders<'a> {
+    /// How many tuples are left.
+    pub fn left(&self) -> u16
+        ensures { result ≡ self.now.left }
+    {
+        self.left
+    }
+
+    /// The bytes of the shared point numbers, where they are shared, and then those of the tuples.
+    pub fn serialized(&self) -> &'a [u8]
+        ensures { result.now ≡ self.now.serialized }
+    {
+        self.serialized
+    }
+
+    /// The same tuples, whose data are these bytes.
+    pub fn with_serialized(self, serialized: &'a [u8]) -> Self
+        ensures { result ≡ record self.entry { serialized = serialized.now } }
+    {
+        TupleHeaders { serialized, ..self }
+    }
+}
+
+/// The next tuple, without its deltas, and those behind it. What is cut is `MalformedFont`.
+#[tactic(auto, unfolding(crate::specs::Tuples::next_header))]
+pub fn next_header<'a>(
+    alloc: Global,
+    t: &Gvar<'a>,
+    r: TupleHeaders<'a>,
+) -> Result<(TupleHeader<'a>, TupleHeaders<'a>), Error>
+    ensures value { Gives (λ x. x) result (ok_or (next_header t.now r.entry) MalformedFont) }
+    ensures axes { IfOk result (λ x. length x.0.region ≡ t.now.axis_count) }
+{
+    let (size, rest) = word_in(r.headers).ok_or(Error::MalformedFont)?;
+    let (flags, rest) = word_in(rest).ok_or(Error::MalformedFont)?;
+    let (region, headers) = region_in(alloc, t, flags, rest)?;
+    let (packed, serialized) = split(size as usize, r.serialized).ok_or(Error::MalformedFont)?;
+    let private_numbers = flags % 16384 >= 8192;
+    let left = r.left.saturating_sub(1);
+    Ok((
+        TupleHeader {
+            region,
+            private_numbers,
+            packed,
+        },
+        TupleHeaders {
+            left,
+            headers,
+            serialized,
+        },
+    ))
+}
+
+/// The deltas of x and those of y, one for each of so many points.
+#[tactic(auto, unfolding(crate::specs::Tuples::both_deltas))]
+pub fn both_deltas(alloc: Global, n: usize, bytes: &[u8]) -> Result<(Vec<i16>, Vec<i16>), Error>
+    ensures exact { Gives (λ r. (r.0.items, r.1.items)) result (ok_or (both_deltas n bytes.now) MalformedFont) }
+    ensures x_count { IfOk result (λ r. length r.0.items ≡ n) }
+    ensures y_count { IfOk result (λ r. length r.1.items ≡ n) }
+{
+    let (x, rest) = deltas(alloc, n, bytes)?;
+    let (y, _) = deltas(alloc, n, rest)?;
+    Ok((x, y))
+}
+
+/// How many points have deltas: all below the limit, or those that are listed.
+pub(crate) fn count_of(limit: u32, numbers: &Option<Vec<u32>>) -> usize
+    ensures { result ≡ count_of limit (option_map (λ v. v.items) numbers.now) }
+{
+    match numbers {
+        None => limit as usize,
+        Some(list) => list.len(),
+    }
+}
+
+/// The point numbers of a tuple's own, none for all, and its deltas of x and of y.
+#[tactic(auto, unfolding(crate::specs::Tuples::numbers_and_deltas))]
+pub fn numbers_and_deltas(
+    alloc: Global,
+    limit: u32,
+    bytes: &[u8],
+) -> Result<(Option<Vec<u32>>, Vec<i16>, Vec<i16>), Error>
+    ensures { Gives (λ r. (option_map (λ v. v.items) r.0, r.1.items, r.2.items)) result (ok_or (numbers_and_deltas limit bytes.now) MalformedFont) }
+{
+    let (numbers, rest) = point_numbers(alloc, limit, bytes)?;
+    let (x, y) = both_deltas(alloc, count_of(limit, &numbers), rest)?;
+    Ok((numbers, x, y))
+}
+
+/// The point numbers that the tuples share, none for all, and the tuples.
+#[tactic(auto, unfolding(crate::specs::Tuples::shared_numbers))]
+pub fn shared_numbers<'a>(
+    alloc: Global,
+    limit: u32,
+    is_shared: bool,
+    r: TupleHeaders<'a>,
+) -> Result<(Option<Vec<u32>>, TupleHeaders<'a>), Error>
+    ensures value { Gives (λ x. (option_map (λ v. v.items) x.0, x.1)) result (ok_or (shared_numbers limit is_shared r.entry) MalformedFont) }
+    ensures left { IfOk result (λ x. x.1.left ≡ r.entry.left) }
+{
+    if is_shared {
+        let (numbers, rest) = point_numbers(alloc, limit, r.serialized())?;
+        Ok((numbers, r.with_serialized(rest)))
+    } else {
+        Ok((None, r))
+    }
+}
