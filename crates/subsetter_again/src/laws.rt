@@ -1,5 +1,9 @@
 //! The laws of a subset of a subset, which name no code. The second subset's glyphs are named by their places in the
 //! first one's order.
+//!
+//! Composition and the fixed point ask for one glyph at least in the second list, which every mapper has. That a list
+//! names all glyphs in order is counted by the first order (`AreAll`): a subset has as many glyphs as its order, so
+//! nothing has to be read of it.
 
 ghost use Rattle.subsetter_again.specs.Again.{ComposesAfresh, ComposesLessAfresh, HasNoFaultAgain, IsCanonical, IsComposed, IsComposedOfLess, IsKeyedByCids, KeepsAllCharStrings, UnknownIsFault};
 
