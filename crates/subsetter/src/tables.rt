@@ -1,4 +1,7 @@
 //! The tables of a new font.
+//!
+//! A table that is made of the source's (`NewHead`, `NewMetrics`, `NewMaxp`, `NewNames`) is written into the output at
+//! once: it knows its length and writes itself, and its value in contracts is the bytes that it writes.
 
 ghost use Rattle.std.specs.Prelude.{◌≡◌, ◌+◌, ◌<◌, ◌≤◌, ◌^◌, ◌++◌, length, vec_capacity, IfOk, IfErr};
 ghost use Rattle.std.specs.Option.{option_copied, option_map};
