@@ -1,11 +1,12 @@
 """Warns where a file of results speaks of older code: compares each commit that it names with the last one that touched
 the code. It prints a line for each, and always ends with status 0."""
+import glob
 import os
 import re
 import subprocess
 
 ROOT = os.path.dirname(os.path.dirname(os.path.realpath(__file__)))
-RESULTS = ["docs/EVIDENCE.md", "compare/results/truetype.csv", "compare/results/cff.csv", "compare/results/sizes.md", "compare/results/instances.md"]
+RESULTS = ["docs/EVIDENCE.md", *sorted(os.path.relpath(it, ROOT) for it in glob.glob(os.path.join(ROOT, "compare", "results", "*")))]
 CODE = [":(glob)crates/*/src/**"]
 
 
