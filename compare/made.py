@@ -64,7 +64,7 @@ def offset(value):
 
 
 def entry(operator, *operands):
-    """An entry of a dict; offsets have five bytes, so that its length doesn't hang on them."""
+    """An entry of a dict; offsets have five bytes, so that its length doesn't depend on them."""
     return b"".join(offset(it) for it in operands) + bytes([12, operator - 1200] if operator >= 1200 else [operator])
 
 

@@ -56,7 +56,7 @@ pub fn mapper_for(
     ensures ok { IfOk result (λ mapper. mapper ≡ numbering glyphs.now) }
     ensures room { OnOk result (HasAllAboveZero glyphs.now → ⊥) }
     ensures err { IfErr result (λ why. (why ≡ OutOfMemory) ⊎ HasMapperFault (record { bytes = «data».now; index = index; extras = extras }) glyphs.now why) }
-    // Where a fault stands that is found before memory is taken, the answer isn't want of memory.
+    // Where a fault stands that is found before memory is taken, the answer isn't out of memory.
     ensures before_memory { (e : SpecError) → HasOpeningFault (record { bytes = «data».now; index = index; extras = extras }) e → result ≢ Err OutOfMemory }
 {
     match GlyphRemapper::new_from_glyphs(alloc, glyphs) {
@@ -82,7 +82,7 @@ pub fn mapper_for(
 /// - `MalformedFont`: there is no `hmtx` or no `head`, or unitsPerEm is 0.
 /// - `OutOfMemory`: a request for memory was refused; never for a font that `check_opening` refuses.
 ///
-/// But for want of memory they are looked for in this order.
+/// Unless memory runs out they are looked for in this order.
 pub fn embed(alloc: Global, data: &[u8], index: u32, glyphs: &[u16]) -> Result<Embedded, Error>
     // What is answered is a subset with CIDs and widths.
     ensures ok { IfOk result (λ e. IsEmbedded token_limit depth_limit (record { bytes = «data».now; index = index; extras = all_extras }) glyphs.now e) }
@@ -93,9 +93,9 @@ pub fn embed(alloc: Global, data: &[u8], index: u32, glyphs: &[u16]) -> Result<E
     ensures same { IfOk result (λ e. IsTheAnswer (record { bytes = «data».now; index = index; extras = all_extras }) (numbering glyphs.now) e.font.items) }
     // What is refused has a fault of that name.
     ensures err { IfErr result (λ why. (why ≡ OutOfMemory) ⊎ ((order : List ℕ) × HasEmbedFault token_limit depth_limit (record { bytes = «data».now; index = index; extras = all_extras }) glyphs.now order why)) }
-    // And, but for want of memory, it has no answer: no call answers it within these limits.
+    // And, unless memory ran out, it has no answer: no call answers it within these limits.
     ensures no_answer { IfErr result (λ why. (why ≡ OutOfMemory) ⊎ HasNoEmbedding token_limit depth_limit (record { bytes = «data».now; index = index; extras = all_extras }) glyphs.now) }
-    // Where a fault stands that is found before memory is taken, the answer isn't want of memory.
+    // Where a fault stands that is found before memory is taken, the answer isn't out of memory.
     ensures before_memory { (e : SpecError) → HasOpeningFault (record { bytes = «data».now; index = index; extras = all_extras }) e → result ≢ Err OutOfMemory }
 {
     embed_with_limits(alloc, data, index, glyphs, &Limits::default())
@@ -122,9 +122,9 @@ pub fn embed_with_limits(
     ensures same { IfOk result (λ e. IsTheAnswer (record { bytes = «data».now; index = index; extras = all_extras }) (numbering glyphs.now) e.font.items) }
     // What is refused has a fault of that name.
     ensures err { IfErr result (λ why. (why ≡ OutOfMemory) ⊎ ((order : List ℕ) × HasEmbedFault limits.now.tokens limits.now.depth (record { bytes = «data».now; index = index; extras = all_extras }) glyphs.now order why)) }
-    // And, but for want of memory, it has no answer: no call answers it within these limits.
+    // And, unless memory ran out, it has no answer: no call answers it within these limits.
     ensures no_answer { IfErr result (λ why. (why ≡ OutOfMemory) ⊎ HasNoEmbedding limits.now.tokens limits.now.depth (record { bytes = «data».now; index = index; extras = all_extras }) glyphs.now) }
-    // Where a fault stands that is found before memory is taken, the answer isn't want of memory.
+    // Where a fault stands that is found before memory is taken, the answer isn't out of memory.
     ensures before_memory { (e : SpecError) → HasOpeningFault (record { bytes = «data».now; index = index; extras = all_extras }) e → result ≢ Err OutOfMemory }
 {
     let options = Options {
@@ -156,9 +156,9 @@ pub fn embed_with_options(
     ensures same { IfOk result (λ e. IsTheAnswer (record { bytes = «data».now; index = index; extras = options.now.extras }) (numbering glyphs.now) e.font.items) }
     // What is refused has a fault of that name.
     ensures err { IfErr result (λ why. (why ≡ OutOfMemory) ⊎ ((order : List ℕ) × HasEmbedFault options.now.limits.tokens options.now.limits.depth (record { bytes = «data».now; index = index; extras = options.now.extras }) glyphs.now order why)) }
-    // And, but for want of memory, it has no answer: no call answers it within these limits.
+    // And, unless memory ran out, it has no answer: no call answers it within these limits.
     ensures no_answer { IfErr result (λ why. (why ≡ OutOfMemory) ⊎ HasNoEmbedding options.now.limits.tokens options.now.limits.depth (record { bytes = «data».now; index = index; extras = options.now.extras }) glyphs.now) }
-    // Where a fault stands that is found before memory is taken, the answer isn't want of memory.
+    // Where a fault stands that is found before memory is taken, the answer isn't out of memory.
     ensures before_memory { (e : SpecError) → HasOpeningFault (record { bytes = «data».now; index = index; extras = options.now.extras }) e → result ≢ Err OutOfMemory }
 {
     let mapper = mapper_for(alloc, data, index, glyphs, options.extras)?;

@@ -79,7 +79,7 @@ fn calls_of(word: &str) -> Option<u32>
 /// Reads a task from its words: `FONT INDEX GLYPHS COUNT [OUT]`, with COUNT at least 1.
 ///
 /// `Usage` where their number is another, where INDEX or COUNT isn't one or more ASCII digits whose value fits `u32`,
-/// where a number of GLYPHS isn't one whose value fits `u16`, or where COUNT is 0; `Memory` for want of memory.
+/// where a number of GLYPHS isn't one whose value fits `u16`, or where COUNT is 0; `Memory` where memory ran out.
 pub fn read_task(alloc: Global, words: &[&str]) -> Result<Task, Failure>
     ensures ok { IfOk result (λ task. request (map (λ word. word.now) words.now) ≡ Some (record {
       font = string_bytes task.font;

@@ -48,7 +48,7 @@ pub fn answered_excludes()
     ensures { AnsweredExcludes }
 {}
 
-/// Faults have five names, and want of memory is none of them.
+/// Faults have five names, and out of memory is none of them.
 #[tactic(auto, using(crate::proofs::WriteLaws::FaultNames::fault_is_named))]
 pub fn fault_is_named()
     ensures { FaultIsNamed }
