@@ -1,4 +1,4 @@
-//! Out of memory. What stands between two readings of the clock is run by `compare/refusals.py` with its requests for
+//! Want of memory. What stands between two readings of the clock is run by `compare/refusals.py` with its requests for
 //! memory refused.
 
 use crate::{Error, GlyphRemapper, Tag, TagLengthError};
@@ -20,7 +20,7 @@ fn has(mapper: &GlyphRemapper, glyphs: &[u16]) -> bool {
     rest.is_empty()
 }
 
-/// Whether a call answered a mapper with just these glyphs, or that it is out of memory.
+/// Whether a call answered a mapper with just these glyphs, or want of memory.
 fn is_answer(made: &Result<GlyphRemapper, Error>, glyphs: &[u16]) -> bool {
     match made {
         Ok(mapper) => has(mapper, glyphs),
@@ -33,8 +33,8 @@ const NUMBERS: [u16; 20] = [
     0, 1, 2, 3, 4, 5, 6, 7, 8, 9, 10, 11, 12, 13, 14, 15, 16, 17, 18, 19,
 ];
 
-/// Gives a mapper of glyph 0 the further numbers. Whether each is its last glyph then, or the list is as it was where the
-/// call is out of memory; such a glyph is asked for once more.
+/// Gives a mapper of glyph 0 the further numbers. Whether each is its last glyph then, or the list is as it was, with
+/// want of memory for an answer; such a glyph is asked for once more.
 fn is_numbered(mapper: &mut GlyphRemapper) -> bool {
     let mut holds = true;
     for glyph in 1..20u16 {
@@ -79,7 +79,7 @@ fn a_mapper_is_whole_or_wants_memory(rt: HostRuntime) -> Result<(), Fail> {
     Ok(())
 }
 
-/// A text of at most 8,192 bytes.
+/// A text of at most 200 bytes.
 #[derive(Drop)]
 struct Text {
     bytes: [u8; 8192],
