@@ -261,6 +261,14 @@ def refusals(drivers, paths, copies, kept, seed=20240607, jobs=1, is_aimed=False
     return [[count, *key, example] for key, (count, example) in sorted(pairs.items(), key=lambda it: -it[1][0])]
 
 
+def summed(rows):
+    """The sum of the rows in a sentence, and how many copies aren't explained."""
+    differing = [row for row in rows if row[3]]
+    unexplained = sum(row[0] for row in differing if row[3] == "not explained")
+    copies, different = sum(row[0] for row in rows), sum(row[0] for row in differing)
+    return f"Of {copies} copies the answers differ on {different}, of which {unexplained} are not explained.", unexplained
+
+
 def main():
     words = argparse.ArgumentParser(usage=__doc__)
     words.add_argument("--no-build", action="store_true")
@@ -282,12 +290,11 @@ def main():
         paths = [path for _, path in fonts.DAMAGED_CFF] + [fonts.keyed_font(*it) for it in fonts.KEYED]
     paths, kept = [it for it in paths if given.only in it], os.path.join(BUILD, "damaged")
     rows = refusals(drivers, paths, given.copies, kept, given.seed, given.jobs, not given.truetype)
-    differing = [row for row in rows if row[3]]
     print("| Copies | Original | Port | Why they differ | Examples |\n|---|---|---|---|---|")
     for row in rows:
         print("|", " | ".join(map(str, row)), "|")
-    total, unexplained = sum(row[0] for row in differing), sum(row[0] for row in differing if row[3] == "not explained")
-    print(f"\nOf {given.copies} copies the answers differ on {total}, of which {unexplained} are not explained.")
+    text, unexplained = summed(rows)
+    print(f"\n{text}")
     sys.exit(1 if unexplained else 0)
 
 

@@ -45,7 +45,7 @@ import build
 import fonts
 import growth
 from build import BUILD
-from damage import refusals
+from damage import refusals, summed
 from fonts import GLYPHS_AT_MOST, directory, glyph_count, glyph_sets, label, spread
 
 ORIGINAL = build.cargo_driver("original")
@@ -220,7 +220,8 @@ def report(rows, refusal_rows, both, beside):
     head = ["Font", "Kept"] + [f"{it}, {what}" for what in ("median", "process") for it in ["Original", *port]]
     text += "\n## Median times in nanoseconds, and the process in KiB\n\n" + table(head, further_rows)
     text += "\n## Damaged copies\n\n"
-    return text + table(["Copies", "Original", *port, "Why they differ", "Examples"], refusal_rows)
+    text += table(["Copies", "Original", *port, "Why they differ", "Examples"], refusal_rows)
+    return text + (f"\n{summed(refusal_rows)[0]}\n" if both and refusal_rows else "")
 
 
 def read_words():

@@ -18,7 +18,10 @@ export class MalformedFont extends SubsetterError {}
 export class Unimplemented extends SubsetterError {}
 /** A kept string lies outside its table, or the new `name` would be too large. */
 export class SubsetError extends SubsetterError {}
-/** The glyphs leave no number for glyph 0, or the new font would be too large. */
+/**
+ * The glyphs leave no number for glyph 0, or the new font would be too large; or a real number of a CFF dict has more than
+ * 64 characters, or `hhea` counts no metrics.
+ */
 export class OverflowError extends SubsetterError {}
 /** `CFF ` has another version than 1, or a charstring can't be run, or not within the limits. */
 export class CFFError extends SubsetterError {}

@@ -13,7 +13,7 @@ const ADVICE = {
     MalformedFont: ["A table that is needed is missing or cut, or the font has no such glyph or face.", "Look at the glyph numbers and the face first. If these are right, the font is damaged: fetch it again."],
     Unimplemented: ["The outlines are CFF2, or a glyph is an accented character that its charstring puts together of two others.", "Take a font with CFF or TrueType outlines, or leave the glyph out."],
     SubsetError: ["A string that is kept lies outside its table.", "The font is damaged. It may work without the names."],
-    OverflowError: ["The glyphs leave no number for glyph 0, or the new font would be too large, or hhea counts no metrics.", "Ask for fewer glyphs; if these are few, the font is damaged."],
+    OverflowError: ["The glyphs leave no number for glyph 0, or the new font would be too large; or a real number of a CFF dict is too long, or hhea counts no metrics.", "Ask for fewer glyphs; if these are few, the font is damaged."],
     CFFError: ["The outline of a glyph can't be run: a wrong operator, number or call, or too much work.", "The font is damaged, or made to do harm. Take another copy, or leave the glyph out."],
     OutOfMemory: ["The page has no memory left for this font.", "Close other pages, or use the program on a machine with more memory."],
 };

@@ -2,12 +2,13 @@
  * The module's answers beside those of the native library, which must be the same, byte for byte:
  *
  *     node tests/compare.mjs [--fonts N] [--copies N] [--sixty-four]     the real fonts of this machine, and damaged copies
- *     node tests/compare.mjs --times                                     a table of times
+ *     node tests/compare.mjs --times [--write]                           a table of times; put into ../README.md
  *
  * It is run by hand after `make native` and says which commit it ran on. `bindings/js/test` runs a short form.
  */
 import { execFileSync } from "node:child_process";
-import { readFileSync, statSync } from "node:fs";
+import { readFileSync, statSync, writeFileSync } from "node:fs";
+import { cpus, loadavg } from "node:os";
 import { fileURLToPath } from "node:url";
 import { equal, ok, same } from "./assert.mjs";
 import { callsOn, damaged, fontFiles, glyphCount, readFont, some } from "./fonts.mjs";
@@ -124,8 +125,16 @@ function timed(call) {
     return times.sort((a, b) => a - b)[times.length >> 1];
 }
 
-async function times() {
+/** Puts a text into README.md, in the place of the one that stands behind the heading "Times". */
+function write(text) {
+    const path = fileURLToPath(new URL("../README.md", import.meta.url));
+    const [front] = readFileSync(path, "utf8").split("\n## Times\n");
+    writeFileSync(path, `${front}\n## Times\n\n${text}\n`);
+}
+
+async function times(isWritten) {
     const { load } = await import("../subsetter.mjs");
+    const before = loadavg()[0];
     const subsetter = await load(readFileSync(`${OUT}subsetter.wasm`));
     const rows = [
         ["/usr/share/fonts/truetype/dejavu/DejaVuSans.ttf", 80], ["/usr/share/fonts/truetype/dejavu/DejaVuSans.ttf", 5000],
@@ -134,8 +143,7 @@ async function times() {
         ["/usr/share/fonts/opentype/noto/NotoSerifCJK-Regular.ttc", 18], ["/usr/share/fonts/opentype/noto/NotoSerifCJK-Regular.ttc", 2000],
     ];
     const us = (value) => (value < 100 ? value.toFixed(1) : Math.round(value).toLocaleString("en"));
-    console.log(`At ${commit()}, Node ${process.version}: microseconds for a call (median), where the bytes are the same.\n`);
-    console.log("| Font | Bytes | Glyphs | Native | Opened font | One call | Opened : native |\n|---|---:|---:|---:|---:|---:|---:|");
+    const lines = ["| Font | Bytes | Glyphs | Native | Opened font | One call | Opened : native |", "|---|---:|---:|---:|---:|---:|---:|"];
     for (const [path, count] of rows) {
         const data = readFont(path), total = glyphCount(data, 0);
         const glyphs = Array.from({ length: count }, (_, i) => 1 + Math.floor((i * (total - 1)) / count));
@@ -147,11 +155,15 @@ async function times() {
         const [open, once] = [timed(() => opened.subset(glyphs)), timed(() => subsetter.subset(data, glyphs))];
         opened.close();
         const native = wanted.time / 1e3;
-        console.log(`| ${path.split("/").pop()} | ${data.length.toLocaleString("en")} | ${count} | ${us(native)} | ${us(open)} | ${us(once)} | ${(open / native).toFixed(1)} |`);
+        lines.push(`| ${path.split("/").pop()} | ${data.length.toLocaleString("en")} | ${count} | ${us(native)} | ${us(open)} | ${us(once)} | ${(open / native).toFixed(1)} |`);
     }
+    const load1 = [before, loadavg()[0]].map((it) => it.toFixed(1)).join(" to ");
+    const text = `Microseconds for a call (median), where the bytes are the same; commit ${commit()}, Node ${process.version}, ${cpus().length} cores of ${cpus()[0].model} under a load of ${load1}. \`node bindings/js/tests/compare.mjs --times --write\` writes this.\n\n${lines.join("\n")}`;
+    console.log(text);
+    if (isWritten) write(text);
 }
 
 if (process.argv[1] === fileURLToPath(import.meta.url)) {
     const words = process.argv.slice(2);
-    await (words.includes("--times") ? times() : sweep(words));
+    await (words.includes("--times") ? times(words.includes("--write")) : sweep(words));
 }

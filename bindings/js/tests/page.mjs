@@ -18,10 +18,11 @@ const folder = mkdtempSync(join(tmpdir(), "subsetter-page-")), saved = join(fold
 const subsetter = await load(readFileSync(here("../out/subsetter.wasm")));
 const browser = new Browser();
 
-async function opened(size) {
+async function opened(size, path = here("../out/page.html")) {
     const page = await browser.page(size);
     await browser.send("Browser.setDownloadBehavior", { behavior: "allow", downloadPath: saved, eventsEnabled: true });
-    await page.go(pathToFileURL(here("../out/page.html")).href);
+    page.address = pathToFileURL(path).href;
+    await page.go(page.address);
     await page.until("document.body.dataset.ready === 'true'");
     return page;
 }
@@ -53,6 +54,7 @@ const shown = (page) =>
         bars: [...document.querySelectorAll("#sizes .bar")].map((it) => [it.className, it.style.width]),
         same: [...document.querySelectorAll("figure")].map((it) => it.dataset.same),
         paths: [...document.querySelectorAll("figure")].map((it) => [...it.querySelectorAll("path")].map((path) => path.getAttribute("d"))),
+        captions: [...document.querySelectorAll("figcaption")].map((it) => [...it.children].map((part) => part.textContent)),
         name: document.getElementById("save").download,
     })`);
 
@@ -101,12 +103,19 @@ async function byMouse() {
     await after(page, () => page.drop("#drop", [file("dots.ttf", example)]));
     const first = await check(page, example, glyphsOf("ÄB2"), {}, "a dropped font");
     equal(first.name, "subset-dots.ttf", "the name of the saved file");
+    equal(JSON.stringify(first.captions.map(([name]) => name)), '["","Ä","B","2"]', "the characters under the drawings");
     ok((await text(page, "drawn")).includes("3 further glyphs are"), "further glyphs: dot, A and the dieresis");
     equal((await page.value("window.heard")).map((it) => it.split(" ")[0]).join(), "Reading,Subsetting,Drawing,Done:", "what the page says while it works");
     // Text and numbers, one after the other.
     await after(page, () => set(page, "text", "ZEBRA Ж"));
     await check(page, example, glyphsOf("ZEBRA "), {}, "another text");
     ok((await text(page, "said")).endsWith("The font has no glyph for “Ж”."), "a character that isn't there");
+    // A glyph that two characters ask for has the first one under it.
+    await after(page, () => set(page, "text", "Aab BA"));
+    const twice = await check(page, example, glyphsOf("Ab "), {}, "characters with the same glyph");
+    const under = [0, ...glyphsOf("Ab ")].map((glyph, i) => [["", "A", "b", "space"][i], `${glyph} → ${i}`]);
+    equal(JSON.stringify(twice.captions), JSON.stringify(under), "the first character under each drawing");
+    await after(page, () => set(page, "text", "ZEBRA Ж"));
     await after(page, () => set(page, "numbers", "5, 9-11 5"));
     await check(page, example, [...new Set([...glyphsOf("ZEBRA "), 5, 9, 10, 11])], {}, "text and numbers");
     await after(page, () => set(page, "text", ""));
@@ -185,7 +194,7 @@ function without(font, tag) {
 }
 
 function quiet(page) {
-    const odd = page.requests.filter((it) => !/^(data|blob):/.test(it) && it !== pathToFileURL(here("../out/page.html")).href);
+    const odd = page.requests.filter((it) => !/^(data|blob):/.test(it) && it !== page.address);
     equal(odd.join(), "", "requests");
     equal(page.errors.join("; "), "", "errors in the page");
 }
@@ -246,6 +255,28 @@ async function byKeyboard() {
     quiet(page);
 }
 
+/** The page over a subsetter that lies: asked for A, B and C it gives A, then C in the place of B, and nothing for C. */
+async function overALie() {
+    const example = exampleFont(), reading = new Font(example), [a, b, c] = [..."ABC"].map((it) => reading.glyphOf(it.charCodeAt(0)));
+    const made = Buffer.from(subsetter.subset(example, [a, c, b])).toString("base64");
+    const lie = `const font = Uint8Array.from(atob("${made}"), (it) => it.charCodeAt(0));
+        export const load = async () => ({ embed: () => ({ font, cids: [1, 2, 99], widths: Array(100).fill(600) }) });`;
+    const url = (code) => `data:text/javascript;base64,${Buffer.from(code).toString("base64")}`;
+    const whole = readFileSync(here("../out/page.html"), "utf8"), lying = whole.replace(url(readFileSync(here("../subsetter.mjs"))), url(lie));
+    ok(lying !== whole, "the page takes another subsetter");
+    const page = await opened({}, file("lying.html", lying));
+    await set(page, "text", "ABC");
+    await after(page, () => page.drop("#drop", [file("dots.ttf", example)]));
+    const { same: alike, paths, captions } = await shown(page);
+    equal(alike.map((it) => it === "true").join(), "true,true,false,false", "what is the same");
+    ok(paths[1][0] === paths[1][1] && paths[1][0] !== "", "A is drawn from both");
+    ok(paths[2][0] !== paths[2][1] && paths[2][1] === paths[3][0], "B from the source, and C in its place from the subset");
+    ok(paths[3][0] !== "" && paths[3][1] === "", "C from the source alone");
+    equal(captions.map(([, numbers]) => numbers).join(), `0 → 0,${a} → 1,${b} → 2 differs,${c} → 99 not drawn`, "what is said of each");
+    ok((await text(page, "drawn")).includes(": 2 of 4 have the same outline"), "how many are the same");
+    quiet(page);
+}
+
 async function picture(to, font, characters) {
     const page = await opened({ width: 1080, height: 1200 });
     await set(page, "text", characters);
@@ -263,6 +294,8 @@ try {
         console.log("page: dropped fonts, text, numbers, choices, faces, saved files, damaged fonts");
         await byKeyboard();
         console.log("page: the same by the keyboard alone");
+        await overALie();
+        console.log("page: what differs is told");
     }
 } catch (error) {
     console.log(`page: FAILED: ${error.stack}`);
