@@ -5,6 +5,3 @@ pub mod laws;
 mod shrink;
 
 pub use shrink::shrink_font;
-
-#[cfg(test)]
-mod tests;

@@ -1,8 +1,8 @@
 //! Building fonts and looking into them.
 
-use crate::{Error, GlyphRemapper, Tag, subset};
 use std::alloc::Global;
 use std::test::*;
+use subsetter::{Error, Extras, GlyphRemapper, Tag, subset};
 use subsetter_sfnt::parse::parse;
 
 /// A table of a font that a test builds.
@@ -99,26 +99,17 @@ pub fn subset_of(alloc: Global, file: &[u8], glyphs: &[u16]) -> Result<Vec<u8>, 
 }
 
 /// The error of a subset for a mapper of these glyphs.
-pub fn refusal(alloc: Global, file: &[u8], index: u32, glyphs: &[u16]) -> Result<Error, Fail> {
+pub fn refusal(alloc: Global, file: &[u8], glyphs: &[u16]) -> Result<Error, Fail> {
     let mapper = mapper(alloc, glyphs)?;
-    Ok(
-        subset(alloc, file, index, &mapper)
-            .err()
-            .ok_or("a refusal")?,
-    )
+    Ok(subset(alloc, file, 0, &mapper).err().ok_or("a refusal")?)
 }
 
 /// The table of a file that has it.
 pub fn table<'a>(file: &'a [u8], tag: Tag) -> Result<&'a [u8], Fail> {
-    let face = parse(file, 0, crate::Extras::ALL)
+    let face = parse(file, 0, Extras::ALL)
         .ok()
         .ok_or("a directory")?;
     Ok(face.stored(tag).ok_or("a table")?)
-}
-
-/// `glyf` of 23 zero bytes with the offsets 0, 0, 12 and 23: glyph 0 is empty, 1 and 2 are simple.
-pub fn two_glyphs(alloc: Global) -> Result<Vec<u8>, Fail> {
-    outlines(alloc, &[0; 23], &[0, 0, 12, 23])
 }
 
 /// What a table of three empty glyphs becomes for a mapper of these glyphs.
@@ -131,5 +122,5 @@ pub fn rewritten(alloc: Global, tag: Tag, bytes: &[u8], glyphs: &[u16]) -> Resul
 /// The error of a font of three empty glyphs with this table, for a mapper of these glyphs.
 pub fn refused(alloc: Global, tag: Tag, bytes: &[u8], glyphs: &[u16]) -> Result<Error, Fail> {
     let file = three_empty(alloc, &[part(tag, bytes)])?;
-    refusal(alloc, &file, 0, glyphs)
+    refusal(alloc, &file, glyphs)
 }

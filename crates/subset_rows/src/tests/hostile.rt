@@ -1,9 +1,9 @@
 //! Chains and crowds of composites.
 
 use super::fonts::*;
-use crate::{Error, Tag};
 use std::alloc::Global;
 use std::test::*;
+use subsetter::{Error, Tag};
 use subsetter_base::write::Writer;
 
 /// Glyph k is a composite of glyph k + 1, for each k below a count.
@@ -39,12 +39,12 @@ fn a_chain_of_composites_is_followed_to_its_end(rt: HostRuntime) -> Result<(), F
     // One glyph more, and all 65536 numbers are reached.
     let glyf = chain_glyf(rt.alloc(), 65535)?;
     let mut font = long_font(rt.alloc(), &glyf, &chain_loca(rt.alloc(), 65535)?)?;
-    assert_eq!(rt; refusal(rt.alloc(), &font, 0, &[])?, Error::OverflowError);
+    assert_eq!(rt; refusal(rt.alloc(), &font, &[])?, Error::OverflowError);
     // The arguments of glyph 0 are now words, of which the second is cut off. That is seen later.
     if let Some(flags) = font.get_mut(71) {
         *flags = 1;
     }
-    assert_eq!(rt; refusal(rt.alloc(), &font, 0, &[])?, Error::OverflowError);
+    assert_eq!(rt; refusal(rt.alloc(), &font, &[])?, Error::OverflowError);
     Ok(())
 }
 
@@ -89,11 +89,11 @@ fn one_glyph_with_a_component_for_each_number(rt: HostRuntime) -> Result<(), Fai
 fn the_first_fault_on_the_way_names_the_error(rt: HostRuntime) -> Result<(), Fail> {
     // The components wait in ascending order and are taken from the end, so glyph 1 is taken last. For it no number is left.
     let font = crowd(rt.alloc(), 65535, 1)?;
-    assert_eq!(rt; refusal(rt.alloc(), &font, 0, &[])?, Error::OverflowError);
+    assert_eq!(rt; refusal(rt.alloc(), &font, &[])?, Error::OverflowError);
     // Where it is given, its one byte is seen before the components of glyph 0.
-    assert_eq!(rt; refusal(rt.alloc(), &font, 0, &[1])?, Error::MalformedFont);
+    assert_eq!(rt; refusal(rt.alloc(), &font, &[1])?, Error::MalformedFont);
     // Glyph 2 gets the last number, so its one byte is seen.
     let font = crowd(rt.alloc(), 65535, 2)?;
-    assert_eq!(rt; refusal(rt.alloc(), &font, 0, &[])?, Error::MalformedFont);
+    assert_eq!(rt; refusal(rt.alloc(), &font, &[])?, Error::MalformedFont);
     Ok(())
 }

@@ -1,10 +1,10 @@
-//! Hostile CFF tables: files that are cut, and charstrings at both sides of each limit.
+//! Charstrings at both sides of the limits that take too many bytes for a row.
 
 use super::fonts::*;
-use crate::{Error, Tag, subset};
 use std::alloc::Global;
 use std::process::Abort;
 use std::test::*;
+use subsetter::{Error, Tag};
 
 /// A CFF table of one glyph up to its charstrings: the header, the Name INDEX of `A`, a top dict that says where the
 /// charstrings stand, an empty String INDEX and an empty Global Subr INDEX.
@@ -20,25 +20,6 @@ fn one_charstring(alloc: Global, charstring: &[u8]) -> Result<Vec<u8>, Fail> {
     bytes.extend_from_slice(&end.to_be_bytes())?;
     bytes.extend_from_slice(charstring)?;
     font(alloc, b"OTTO", &[part(Tag::CFF, &bytes)])
-}
-
-#[test]
-fn a_file_that_is_cut_is_refused(rt: HostRuntime) -> Result<(), Fail> {
-    let mut bytes = Vec::from_slice(rt.alloc(), &FRONT)?;
-    bytes.extend_from_slice(&[0, 1, 1, 1, 2, 14])?;
-    let file = font(rt.alloc(), b"OTTO", &[part(Tag::CFF, &bytes)])?;
-    for length in 0..55usize {
-        // The first word and the records; with all of these the table leaves the file.
-        let wanted = match length {
-            4..=27 => Error::MalformedFont,
-            _ => Error::UnknownKind,
-        };
-        let cut = &file[..length.min(file.len())];
-        assert_eq!(rt; refusal(rt.alloc(), cut, 0, &[])?, wanted, "at {length}");
-    }
-    let mapper = mapper(rt.alloc(), &[])?;
-    assert!(rt; subset(rt.alloc(), &file[..file.len().min(55)], 0, &mapper).is_ok());
-    Ok(())
 }
 
 /// So many bytes.
@@ -73,7 +54,7 @@ fn is_at_its_limit(
     let out = subset_of(alloc, &file, &[])?;
     assert!(rt; table(&out, Tag::CFF)?.ends_with(charstring));
     let file = one_charstring(alloc, past)?;
-    assert_eq!(rt; refusal(alloc, &file, 0, &[])?, Error::CFFError);
+    assert_eq!(rt; refusal(alloc, &file, &[])?, Error::CFFError);
     Ok(())
 }
 

@@ -1,12 +1,12 @@
 //! Want of memory. What stands between two readings of the clock is run by `compare/refusals.py` with its requests for
 //! memory refused.
 
-use crate::{Error, GlyphRemapper, Tag, TagLengthError};
 use std::fmt;
 use std::fmt::Write;
 use std::hash::{DefaultHasher, Hash, Hasher};
 use std::test::*;
 use std::time::Instant;
+use subsetter::{Error, GlyphRemapper, Tag, TagLengthError};
 
 /// Whether a mapper has just these glyphs.
 fn has(mapper: &GlyphRemapper, glyphs: &[u16]) -> bool {
@@ -79,7 +79,7 @@ fn a_mapper_is_whole_or_wants_memory(rt: HostRuntime) -> Result<(), Fail> {
     Ok(())
 }
 
-/// A text of at most 200 bytes.
+/// A text of at most 8192 bytes.
 #[derive(Drop)]
 struct Text {
     bytes: [u8; 8192],
