@@ -72,7 +72,7 @@ void __wrap_free(void *block)
 
 /* ---- rows */
 
-enum { MOST = 256, WORDS = 12, BEHIND = 8, LINES = 1024 };
+enum { MOST = 1024, WORDS = 12, BEHIND = 8, LINES = 4096 };
 
 struct row {
     char *words[WORDS];

@@ -14,6 +14,9 @@ mod failure;
 mod row;
 mod running;
 
+#[cfg(test)]
+mod tests;
+
 use std::process::ExitCode;
 
 fn main(rt: HostRuntime) -> ExitCode {

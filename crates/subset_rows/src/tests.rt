@@ -5,5 +5,7 @@ mod charstrings;
 mod fonts;
 mod hostile;
 mod memory;
+mod operators;
 mod shrinking;
 mod sizes;
+mod texts;
