@@ -568,7 +568,7 @@ static int has_options(const struct row *row)
 
 static void *many_calls(void *wrong)
 {
-    for (int turn = 0; turn < 100; turn++)
+    for (int turn = 0; turn < 30; turn++)
         for (size_t i = 0; i < row_count; i++) {
             const struct row *row = &rows[i];
             struct answer a;

@@ -3,6 +3,7 @@
 ghost use Rattle.std.specs.Prelude.{◌≡◌, ◌≤◌, IfNone};
 ghost use Rattle.subset_rows.specs.Answers.{status_of, IsSame};
 
+use cid_embed::Embedded;
 use std::alloc::Global;
 use std::fmt;
 use subsetter::Error;
@@ -38,7 +39,7 @@ pub fn status_of(error: Error) -> u32
 
 impl Answer {
     /// The answer that is a status alone.
-    pub fn refused(alloc: Global, status: u32) -> Self
+    fn refused(alloc: Global, status: u32) -> Self
         ensures { result.status ≡ status }
     {
         Answer {
@@ -46,6 +47,38 @@ impl Answer {
             font: Vec::new(alloc),
             cids: Vec::new(alloc),
             widths: Vec::new(alloc),
+        }
+    }
+
+    /// The answer that is an error.
+    pub fn of_error(alloc: Global, error: Error) -> Self
+        ensures { 1 ≤ result.status }
+    {
+        Answer::refused(alloc, status_of(error))
+    }
+
+    /// The answer that is a new font.
+    pub fn of_font(alloc: Global, font: Vec<u8>) -> Self
+        ensures { result.font.items ≡ font.items }
+    {
+        Answer {
+            status: 0,
+            font,
+            cids: Vec::new(alloc),
+            widths: Vec::new(alloc),
+        }
+    }
+
+    /// The answer that is a new font with CIDs and widths.
+    pub fn of_embedded(made: Embedded) -> Self
+        ensures { result.font.items ≡ made.font.items }
+    {
+        let Embedded { font, cids, widths } = made;
+        Answer {
+            status: 0,
+            font,
+            cids,
+            widths,
         }
     }
 }
@@ -90,7 +123,7 @@ fn first_difference(one: &[u8], other: &[u8]) -> usize {
 }
 
 /// In what an answer first isn't the wanted one; none only where they are the same to the byte.
-pub fn difference(answered: &Answer, wanted: &Answer) -> Option<Difference>
+pub fn compare(answered: &Answer, wanted: &Answer) -> Option<Difference>
     ensures { IfNone result (IsSame answered.now wanted.now) }
 {
     if answered.status != wanted.status {

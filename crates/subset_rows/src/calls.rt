@@ -4,9 +4,9 @@ ghost use Rattle.std.specs.Prelude.{◌≡◌, [], ◌∷◌, IfNone, IfOk};
 ghost use Rattle.subsetter.specs.Subset.{IsSubset};
 ghost use Rattle.subsetter_base.specs.Places.{with_glyphs};
 
-use crate::answer::{Answer, Difference, difference, status_of};
+use crate::answer::{Answer, Difference, compare};
 use crate::row::{Kind, Row};
-use cid_embed::{Embedded, embed, embed_with_options};
+use cid_embed::{embed, embed_with_options};
 use std::alloc::Global;
 use std::fmt;
 use subsetter::{
@@ -25,32 +25,6 @@ impl fmt::Display for Miss {
     fn fmt<W: fmt::Write>(&self, f: &mut fmt::Formatter<W>) -> fmt::Result {
         let Miss { call, difference } = self;
         write!(f, "{call} answered {difference}")
-    }
-}
-
-/// The answer that is a new font, or an error.
-fn of_font(alloc: Global, answered: Result<Vec<u8>, Error>) -> Answer {
-    match answered {
-        Ok(font) => Answer {
-            status: 0,
-            font,
-            cids: Vec::new(alloc),
-            widths: Vec::new(alloc),
-        },
-        Err(error) => Answer::refused(alloc, status_of(error)),
-    }
-}
-
-/// The answer that is a new font with CIDs and widths, or an error.
-fn of_embedded(alloc: Global, answered: Result<Embedded, Error>) -> Answer {
-    match answered {
-        Ok(Embedded { font, cids, widths }) => Answer {
-            status: 0,
-            font,
-            cids,
-            widths,
-        },
-        Err(error) => Answer::refused(alloc, status_of(error)),
     }
 }
 
@@ -73,16 +47,18 @@ fn by_options(alloc: Global, font: &[u8], row: &Row<'_>, options: &Options) -> A
     ensures { result.status ≡ 0 → IsSubset options.now.limits.tokens options.now.limits.depth (record { bytes = font.now; index = row.now.index; extras = options.now.extras }) (with_glyphs (0 ∷ []) row.now.glyphs.items) result.font.items }
 {
     if row.kind.embeds() {
-        of_embedded(
-            alloc,
-            embed_with_options(alloc, font, row.index, &row.glyphs, options),
-        )
-    } else {
-        of_font(alloc, subset_by_options(alloc, font, row, options))
+        return match embed_with_options(alloc, font, row.index, &row.glyphs, options) {
+            Ok(made) => Answer::of_embedded(made),
+            Err(error) => Answer::of_error(alloc, error),
+        };
+    }
+    match subset_by_options(alloc, font, row, options) {
+        Ok(made) => Answer::of_font(alloc, made),
+        Err(error) => Answer::of_error(alloc, error),
     }
 }
 
-/// The subset of a row's font by the short call of its kind.
+/// The subset of a row's font by `subset`, or by `subset_with_limits` where the row has limits.
 fn subset_by_kind(
     alloc: Global,
     font: &[u8],
@@ -96,24 +72,31 @@ fn subset_by_kind(
     }
 }
 
-/// What the call of the row's kind answers, which has no options; none where the kind is that of the call with options.
-fn by_kind(
-    alloc: Global,
-    font: &[u8],
-    row: &Row<'_>,
-    options: &Options,
-) -> Option<(&'static str, Answer)> {
+/// What the call of the row's kind answers, which has no options.
+fn by_kind(alloc: Global, font: &[u8], row: &Row<'_>, limits: &Limits) -> Answer {
+    if row.kind.embeds() {
+        return match embed(alloc, font, row.index, &row.glyphs) {
+            Ok(made) => Answer::of_embedded(made),
+            Err(error) => Answer::of_error(alloc, error),
+        };
+    }
+    match subset_by_kind(alloc, font, row, limits) {
+        Ok(made) => Answer::of_font(alloc, made),
+        Err(error) => Answer::of_error(alloc, error),
+    }
+}
+
+/// How the call of the row's kind misses; none where the kind is that of the call with options.
+fn miss_by_kind(alloc: Global, font: &[u8], row: &Row<'_>, limits: &Limits) -> Option<Miss> {
     let call = match row.kind {
-        Kind::Options | Kind::EmbedOptions => return None,
-        Kind::Embed => {
-            let answered = embed(alloc, font, row.index, &row.glyphs);
-            return Some(("embed", of_embedded(alloc, answered)));
-        }
-        Kind::Limits => "subset_with_limits",
         Kind::Subset => "subset",
+        Kind::Limits => "subset_with_limits",
+        Kind::Embed => "embed",
+        Kind::Options | Kind::EmbedOptions => return None,
     };
-    let answered = subset_by_kind(alloc, font, row, &options.limits);
-    Some((call, of_font(alloc, answered)))
+    let answered = by_kind(alloc, font, row, limits);
+    let difference = compare(&answered, &row.wanted)?;
+    Some(Miss { call, difference })
 }
 
 /// Passes a row through the call with options and that of its kind, and answers the first that answered something else
@@ -122,19 +105,18 @@ pub fn miss_of(alloc: Global, font: &[u8], row: &Row<'_>, options: &Options) -> 
     // A row of status 0 is as expected only where its very bytes are a subset of the font.
     ensures { IfNone result (row.now.wanted.status ≡ 0 → IsSubset options.now.limits.tokens options.now.limits.depth (record { bytes = font.now; index = row.now.index; extras = options.now.extras }) (with_glyphs (0 ∷ []) row.now.glyphs.items) row.now.wanted.font.items) }
 {
+    let call = if row.kind.embeds() {
+        "embed_with_options"
+    } else {
+        "subset_with_options"
+    };
     let answered = by_options(alloc, font, row, options);
-    if let Some(difference) = difference(&answered, &row.wanted) {
-        let call = if row.kind.embeds() {
-            "embed_with_options"
-        } else {
-            "subset_with_options"
-        };
-        return Some(Miss { call, difference });
+    match compare(&answered, &row.wanted) {
+        Some(difference) => return Some(Miss { call, difference }),
+        None => {}
     }
-    if let Some((call, answered)) = by_kind(alloc, font, row, options) {
-        if let Some(difference) = difference(&answered, &row.wanted) {
-            return Some(Miss { call, difference });
-        }
+    if let Some(miss) = miss_by_kind(alloc, font, row, &options.limits) {
+        return Some(miss);
     }
     None
 }

@@ -1,7 +1,7 @@
 //! The bytes and the numbers that the words of a row write.
 
-ghost use Rattle.std.specs.Prelude.{◌≡◌, Some, IfOk};
-ghost use Rattle.subset_rows.specs.Digits.{digit, byte_of, bytes_of};
+ghost use Rattle.std.specs.Prelude.{◌≡◌};
+ghost use Rattle.subset_rows.specs.Digits.{digit, byte_of};
 
 use crate::failure::Failure;
 use std::alloc::Global;
@@ -30,20 +30,16 @@ fn byte_of(high: u8, low: u8) -> Option<u8>
 /// The bytes that hexadecimal digits write, two digits each.
 ///
 /// `Row` where one isn't a digit or the last one is alone.
-pub fn bytes_of(alloc: Global, digits: &[u8]) -> Result<Vec<u8>, Failure>
-    ensures { IfOk result (λ v. bytes_of digits.now ≡ Some v.items) }
-{
+fn bytes_of(alloc: Global, digits: &[u8]) -> Result<Vec<u8>, Failure> {
+    if digits.len() % 2 != 0 {
+        return Err(Failure::Row);
+    }
     let mut bytes = Vec::with_capacity(alloc, digits.len() / 2)?;
-    let mut rest = digits;
-    while let [high, low, more @ ..] = rest {
-        bytes.push(byte_of(*high, *low).ok_or(Failure::Row)?)?;
-        rest = more;
+    for place in 0..digits.len() / 2 {
+        let byte = byte_of(digits[2 * place], digits[2 * place + 1]).ok_or(Failure::Row)?;
+        bytes.push(byte)?;
     }
-    if rest.is_empty() {
-        Ok(bytes)
-    } else {
-        Err(Failure::Row)
-    }
+    Ok(bytes)
 }
 
 /// The bytes of a word: none for `-`, else those that its digits write.

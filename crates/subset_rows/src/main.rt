@@ -13,7 +13,6 @@ mod digits;
 mod failure;
 mod row;
 mod running;
-
 #[cfg(test)]
 mod tests;
 

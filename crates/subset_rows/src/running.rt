@@ -31,8 +31,8 @@ enum Outcome<'a> {
     Missed(&'a str, Miss),
     /// A row of this name has a choice that no call takes, and doesn't say the status of it, which is this one.
     NotAsked(&'a str, u32),
-    /// An error of this status has another text.
-    OtherText(&'a str),
+    /// Whether the error of this status has the text of the table.
+    Text(&'a str, bool),
 }
 
 impl fmt::Display for Outcome<'_> {
@@ -42,7 +42,8 @@ impl fmt::Display for Outcome<'_> {
             Outcome::AsExpected(name) => write!(f, "{name}: as expected"),
             Outcome::Missed(name, miss) => write!(f, "{name}: {miss}"),
             Outcome::NotAsked(name, status) => write!(f, "{name}: its choice has status {status}"),
-            Outcome::OtherText(name) => write!(f, "{name}: the error has another text"),
+            Outcome::Text(status, true) => write!(f, "text {status}: as expected"),
+            Outcome::Text(status, false) => write!(f, "text {status}: the error has another"),
         }
     }
 }
@@ -65,11 +66,7 @@ fn run_text<'a>(alloc: Global, status: &'a str, text: &str) -> Result<Outcome<'a
     for error in ERRORS {
         if status_of(error) == number {
             let told = format!(in alloc; "{error}")?;
-            return Ok(if told.as_bytes() == wanted.as_slice() {
-                Outcome::AsExpected(status)
-            } else {
-                Outcome::OtherText(status)
-            });
+            return Ok(Outcome::Text(status, told.as_bytes() == wanted.as_slice()));
         }
     }
     Ok(Outcome::Nothing)
@@ -137,7 +134,7 @@ fn run_table<R: Print + AllocGlobal>(rt: &R, table: &str) -> Result<bool, Failur
         let outcome = run_line(rt.alloc(), &mut fonts, line);
         match &outcome {
             Ok(Outcome::Nothing) => {}
-            Ok(Outcome::AsExpected(_)) => right = right.saturating_add(1),
+            Ok(Outcome::AsExpected(_) | Outcome::Text(_, true)) => right = right.saturating_add(1),
             _ => wrong = wrong.saturating_add(1),
         }
         match outcome {

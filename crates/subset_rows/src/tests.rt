@@ -6,6 +6,7 @@ mod fonts;
 mod hostile;
 mod memory;
 mod operators;
+mod parts;
 mod shrinking;
 mod sizes;
 mod texts;

@@ -106,9 +106,7 @@ pub fn refusal(alloc: Global, file: &[u8], glyphs: &[u16]) -> Result<Error, Fail
 
 /// The table of a file that has it.
 pub fn table<'a>(file: &'a [u8], tag: Tag) -> Result<&'a [u8], Fail> {
-    let face = parse(file, 0, Extras::ALL)
-        .ok()
-        .ok_or("a directory")?;
+    let face = parse(file, 0, Extras::ALL).ok().ok_or("a directory")?;
     Ok(face.stored(tag).ok_or("a table")?)
 }
 
