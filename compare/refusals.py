@@ -1,13 +1,13 @@
 #!/usr/bin/python3
 """Refuses each request for memory and fails each call for files, one at a time: refusals.py [--no-build] [--more]
 
-It builds refuse.c, the programs (`rt run`) and the tests of `subsetter` (`rt test`), and runs them, each time with the
+It builds refuse.c, the programs (`rt run`) and the tests of `subset_rows` (`rt test`), and runs them, each time with the
 next request refused or the next call failed, until a run ends in which nothing was. Then it prints how many that were.
 At the first disagreement it tells it, and ends with status 1. What is demanded:
 
     subset        what is timed by subset_bench answers `out of memory`, and nothing else changes
     mapper        each call of GlyphRemapper answers, or wants memory and leaves the list as it was (the tests of
-                  crates/subsetter/src/tests/memory.rt)
+                  crates/subset_rows/src/tests/memory.rt)
     no memory     with every request refused, the calls that take no memory answer, and so does `subset` on fonts that are
                   refused by the first checks
     subset_font   status 1 and `out of memory`, while IN is read status 3 and `cannot read IN`; OUT isn't touched
@@ -34,7 +34,7 @@ CALLS = ("open", "size", "read", "write", "write1", "write2", "rename")
 NO_MEMORY = b"error out of memory\n"
 
 
-BENCH, FONT, TESTS = build.BENCH, build.FONT, build.built("subsetter", "subsetter_tests")
+BENCH, FONT, TESTS = build.BENCH, build.FONT, build.built("subset_rows", "subset_rows_tests")
 
 
 @dataclass
@@ -157,7 +157,7 @@ def check_without_memory(room):
 
 
 def run_test(name, room, **wishes):
-    """Runs one test of crates/subsetter/src/tests/memory.rt."""
+    """Runs one test of crates/subset_rows/src/tests/memory.rt."""
     got = run([TESTS, f"tests::memory::{name}"], room, WITHIN="clock", **wishes)
     demand(got.status == 0, f"the test {name} with {wishes}", got)
     return got
@@ -259,7 +259,7 @@ def check_silence(room):
 
 def build_all():
     build.preload("refuse.c", to="refuse.so")
-    for crate, verb in (("subset_bench", "run"), ("subset_font", "run"), ("subsetter", "test")):
+    for crate, verb in (("subset_bench", "run"), ("subset_font", "run"), ("subset_rows", "test")):
         build.rt(crate, verb)
 
 

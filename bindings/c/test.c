@@ -72,7 +72,7 @@ void __wrap_free(void *block)
 
 /* ---- rows */
 
-enum { MOST = 256, WORDS = 12, BEHIND = 8, LINES = 1024 };
+enum { MOST = 1024, WORDS = 12, BEHIND = 8, LINES = 4096 };
 
 struct row {
     char *words[WORDS];
@@ -568,7 +568,7 @@ static int has_options(const struct row *row)
 
 static void *many_calls(void *wrong)
 {
-    for (int turn = 0; turn < 100; turn++)
+    for (int turn = 0; turn < 30; turn++)
         for (size_t i = 0; i < row_count; i++) {
             const struct row *row = &rows[i];
             struct answer a;

@@ -8,7 +8,7 @@ const read = (name) => readFileSync(fileURLToPath(new URL(name, import.meta.url)
 const scripts = ["subsetter.mjs", "page/example.mjs", ...["assert", "rows", "calls", "made"].map((name) => `tests/${name}.mjs`)];
 const server = await serve({
     "/index.html": () => "<!doctype html><meta charset=utf-8><title>Tests</title>",
-    "/rows.txt": () => read("../../rows.txt"),
+    "/rows.txt": () => read("../../../crates/subset_rows/data/rows.txt"),
     "/subsetter.wasm": () => read("../out/subsetter.wasm"),
     "/subsetter64.wasm": () => read("../out/subsetter64.wasm"),
     ...Object.fromEntries(scripts.map((name) => [`/${name}`, () => read(`../${name}`)])),

@@ -114,7 +114,7 @@ const here = fileURLToPath(new URL("..", import.meta.url));
 const word = process.argv[2] ?? "";
 const room = mkdtempSync(join(tmpdir(), "subsetter-plants-")), copy = join(room, "bindings/js");
 mkdirSync(copy, { recursive: true });
-cpSync(join(here, "../rows.txt"), join(room, "bindings/rows.txt"));
+cpSync(join(here, "../../crates/subset_rows/data"), join(room, "crates/subset_rows/data"), { recursive: true });
 cpSync(join(here, "../../VERSION"), join(room, "VERSION"));
 cpSync(here, copy, { recursive: true, verbatimSymlinks: true });
 const through = [];

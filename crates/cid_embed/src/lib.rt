@@ -19,6 +19,3 @@ pub use array::write_widths;
 pub use embedding::{Embedded, embed, embed_with_limits, embed_with_options, mapper_for};
 pub use shrinking::shrink;
 pub use subsetter_again::shrink_font;
-
-#[cfg(test)]
-mod tests;

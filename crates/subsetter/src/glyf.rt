@@ -30,8 +30,6 @@ ghost use Rattle.subsetter_base.specs.declared.error.Error.TheVariants.{OutOfMem
 mod component;
 pub mod f2dot14;
 pub mod outlines;
-#[cfg(test)]
-mod tests;
 
 use crate::glyf::component::{Components, is_composite};
 use crate::glyf::outlines::OutlineList;

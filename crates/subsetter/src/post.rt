@@ -394,36 +394,3 @@ pub fn subset_without_names<'a>(
     }
     Ok(Some(CowSlice::Owned(header_alone(alloc, bytes)?)))
 }
-
-#[cfg(test)]
-mod tests {
-    use super::*;
-    use std::test::*;
-
-    /// The error for so many glyphs of 65535 that each have a name of their own, none of which is there.
-    fn error_of(rt: &HostRuntime, glyphs: &[u16]) -> Result<Option<Error>, Fail> {
-        let mut table = Vec::new(rt.alloc());
-        table.extend_from_slice(&[0, 2, 0, 0])?;
-        table.extend_from_slice(&[0; 28])?;
-        for _ in 0..65536 {
-            table.extend_from_slice(&[0xFF, 0xFF])?;
-        }
-        let mapper = GlyphRemapper::new_from_glyphs(rt.alloc(), glyphs)?;
-        Ok(subset(rt.alloc(), Some(&table), &mapper).err())
-    }
-
-    #[test]
-    fn at_most_65278_own_names_are_kept(rt: HostRuntime) -> Result<(), Fail> {
-        let mut glyphs = Vec::new(rt.alloc());
-        for glyph in 0..65278u16 {
-            glyphs.push(glyph)?;
-        }
-        assert_eq!(rt; error_of(&rt, &glyphs)?, None);
-        glyphs.push(65278)?;
-        assert_eq!(rt; error_of(&rt, &glyphs)?, Some(Error::OverflowError));
-        // A glyph without an index comes before the number of names.
-        glyphs.push(65535)?;
-        assert_eq!(rt; error_of(&rt, &glyphs)?, Some(Error::MalformedFont));
-        Ok(())
-    }
-}

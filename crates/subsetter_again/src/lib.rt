@@ -12,6 +12,3 @@ pub mod laws;
 mod shrink;
 
 pub use shrink::shrink_font;
-
-#[cfg(test)]
-mod tests;

@@ -30,8 +30,6 @@ mod real_number;
 mod real_text;
 mod real_writing;
 mod string_id;
-#[cfg(test)]
-mod tests;
 mod text;
 mod tokens;
 mod u24;

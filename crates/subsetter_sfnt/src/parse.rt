@@ -104,21 +104,3 @@ impl<'a> Face<'a> {
         Reader::new_at(self.data, record.offset as usize).read_bytes(record.length as usize)
     }
 }
-
-#[cfg(test)]
-mod tests {
-    use super::*;
-
-    #[test]
-    fn a_table_past_the_end_is_missing(rt: HostRuntime) {
-        let records = [
-            0x68, 0x65, 0x61, 0x64, 0, 0, 0, 0, 0xff, 0xff, 0xff, 0xff, 0xff, 0xff, 0xff, 0xff,
-        ];
-        let face = Face {
-            data: &[],
-            records: &records,
-            extras: Extras::ALL,
-        };
-        assert!(rt; face.table(Tag::HEAD).is_none());
-    }
-}

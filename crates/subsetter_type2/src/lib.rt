@@ -27,6 +27,4 @@ mod scanning;
 mod sink;
 mod stretch;
 pub mod subroutines;
-#[cfg(test)]
-mod tests;
 mod token;

@@ -1,4 +1,4 @@
-//! The worked rows of `../rows.txt`, and those of a font of this machine.
+//! The worked rows of `crates/subset_rows/data/rows.txt`, and those of a font of this machine.
 
 #![allow(dead_code)] // (each test takes a part of it)
 
@@ -134,7 +134,7 @@ pub fn table() -> Table {
         texts: HashMap::new(),
         rows: Vec::new(),
     };
-    table.read(concat!(env!("CARGO_MANIFEST_DIR"), "/../rows.txt"));
+    table.read(concat!(env!("CARGO_MANIFEST_DIR"), "/../../crates/subset_rows/data/rows.txt"));
     assert!(table.rows.len() > 80);
     table
 }
