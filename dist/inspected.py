@@ -167,6 +167,9 @@ class Looker:
                 text = re.sub(r"static inline[^{;]*|/\*.*?\*/", "", file.read(), flags=re.S)
             wanted = {*re.findall(r"^(?:uint32_t|void) (subsetter_\w+)\(", text, re.M)}
             self.demand(shown == wanted and wanted, f"{name}: the shared library shows {sorted(shown)}")
+            said = subprocess.run(["readelf", "-Ws", paths[1]], capture_output=True, text=True).stdout
+            shown = {it.split()[7] for it in said.split("\n") if re.search(r"\b(GLOBAL|WEAK)\b.*DEFAULT\s+\d+ ", it)}
+            self.demand(shown == wanted, f"{name}: the static library shows {sorted(shown)}")
             said = subprocess.run(["readelf", "-Wh", paths[1]], capture_output=True, text=True).stdout
             machines = {*re.findall(r"Machine:\s+(.*)", said)}
             self.demand(machines == {{"x86_64": "Advanced Micro Devices X86-64", "aarch64": "AArch64"}[target]}, f"{name}: the static library is for {machines}")

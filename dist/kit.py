@@ -65,9 +65,9 @@ class Kit:
             raise Failed(f"{crate} isn't proved")
         return said[-1]
 
-    def compile(self, crate, target, to):
-        """Compiles a proved crate for a target, and answers the last line of it, which names the target."""
-        triple, cpu = TARGETS[target]
+    def compile(self, crate, target, to, cpu=None):
+        """Compiles a proved crate for a target, for every processor of it or for `cpu`, and answers the last line of that."""
+        triple, every = TARGETS[target]
         is_program = os.path.exists(os.path.join(folder_of(crate), "src", "main.rt"))
         words = [os.path.join(self.folder, "bin", "rattle"), "build", "--crate-name", crate]
         words += ["src/main.rt"] if is_program else ["src/lib.rt", "--crate-type", "staticlib"]
@@ -79,10 +79,10 @@ class Kit:
         words += ["--antt-project", f"{self.folder}/rattle/logic/antt-project.json"]
         words += ["--logic-built", f"{self.folder}/logic_built", "--incremental", "out/incremental"]
         words += ["--links", f"{crate}=", "--toolchain", f"{self.folder}/toolchain", "--backend", "llvm"]
-        words += ["--target", triple, "--cpu", cpu, "-o", to]
+        words += ["--target", triple, "--cpu", cpu or every, "-o", to]
         said = re.findall(r"^logic=proved .*$", run(words, folder_of(crate)), re.M)
-        if not said or f" target={triple} " not in said[-1] or " cpu=" in said[-1]:
-            raise Failed(f"{crate} isn't proved for {triple}, for each of its processors: {said}")
+        if not said or f" target={triple} " not in said[-1] or (" cpu=" in said[-1]) != bool(cpu):
+            raise Failed(f"{crate} isn't proved for {triple}, {cpu or 'each of its processors'}: {said}")
         return said[-1]
 
     def link(self, compiled, program):
