@@ -1,10 +1,10 @@
 #!/usr/bin/python3
-"""What it costs that the release files run on every x86-64 processor: compare/cpu.py [--seconds S] [--only WORD] [--no-install]
+"""What it costs that the release files run on every x86-64 processor: compare/cpu.py [--seconds S] [--only WORD] [--no-install] [--keep FOLDER]
 
 It compiles the driver subset_bench twice from what is proved, for x86-64 and for x86-64-v2, and times both on the fonts and
 glyphs of `run.py --all`, in eight rounds that take turns. It prints a row for each case with the least nanoseconds of a call,
 then the sums and the mean ratio, and writes them to results/cpu.csv. The packages are built for x86-64 as long as that
-costs at most 5 % of the sum. `rt check` in crates/subset_bench comes first.
+costs at most 5 % of the sum. `rt check` in crates/subset_bench comes first; the drivers are left in FOLDER, or taken from it.
 """
 import argparse
 import math
@@ -26,10 +26,12 @@ MOST = 1.05
 
 
 def drivers(room):
-    """The driver for each kind of processor."""
+    """The driver for each kind of processor, in a folder: those that stand there are taken."""
     kit, made = Kit(), {}
     for name, cpu in (("x86-64", None), ("x86-64-v2", "x86-64-v2")):
         made[name] = os.path.join(room, name)
+        if os.path.exists(made[name]):
+            continue
         kit.compile("subset_bench", "x86_64", f"{made[name]}.o", cpu)
         kit.link(f"{made[name]}.o", made[name])
     return made
@@ -50,6 +52,7 @@ def main():
     words.add_argument("--seconds", type=float, default=0.03)
     words.add_argument("--only", default="")
     words.add_argument("--no-install", action="store_true")
+    words.add_argument("--keep")
     given = words.parse_args()
     taken = [it for it in fonts.TRUETYPE_FONTS + fonts.CFF_FONTS if given.only in it[1]]
     if not given.no_install:
@@ -57,7 +60,7 @@ def main():
     taken = [it for it in taken if os.path.exists(it[1])]
     rows = []
     with tempfile.TemporaryDirectory(prefix="cpu-") as room:
-        programs = drivers(room)
+        programs = drivers(os.path.abspath(given.keep) if given.keep else room)
         for row in measured(programs, taken, given.seconds, room):
             rows.append([*row, f"{row[2] / row[3]:.3f}"])
             print(*rows[-1], sep=",", flush=True)

@@ -19,11 +19,12 @@ ROOT = os.path.dirname(os.path.dirname(os.path.realpath(__file__)))
 TRIPLES = {"x86_64": "x86_64-unknown-linux-gnu", "aarch64": "aarch64-unknown-linux-gnu"}
 MACHINES = {"x86_64": b"\x3e\x00", "aarch64": b"\xb7\x00"}
 DATE = 315532800
-# Instructions that not every x86-64 processor has: SSE3 to SSE4.2, AVX, BMI and others, by their names in objdump.
+# Instructions that not every x86-64 processor has: SSE3 to SSE4.2, AVX, BMI and others, by their names in objdump. (What it
+# shows as tzcnt is `rep bsf` too, which older processors run as bsf: compilers write it where both give the same.)
 BEYOND = (r"pshufb|palignr|pmaddubsw|pmulhrsw|phadd\w+|phsub\w+|psign[bwd]|pabs[bwd]|ptest|pmulld|pmuldq|pinsr[bdq]|pextr[bdq]"
           r"|pm(?:in|ax)(?:sb|sd|uw|ud)|p?blend\w+|pmov[sz]x\w+|packusdw|pcmpeqq|pcmpgtq|round[sp][sd]|insertps|extractps|dpp[sd]"
           r"|mpsadbw|pcmp[ei]str[im]|crc32\w*|popcnt|lddqu|movddup|movs[hl]dup|h(?:add|sub)p[sd]|addsubp[sd]|v[a-z]+\d*[a-z]+"
-          r"|andn|bextr|bls\w+|bzhi|mulx|pdep|pext|rorx|sarx|shlx|shrx|lzcnt|tzcnt|adcx|adox|movbe|aes\w+|pclmul\w+|sha(?:1|256)\w+"
+          r"|andn|bextr|bls\w+|bzhi|mulx|pdep|pext|rorx|sarx|shlx|shrx|lzcnt|adcx|adox|movbe|aes\w+|pclmul\w+|sha(?:1|256)\w+"
           r"|cmpxchg16b|lahf|sahf")
 
 
@@ -90,15 +91,15 @@ class Looker:
         self.demand({*said} == crates and all(it.startswith("proved ") for it in said.values()), f"PROVED has the crates {sorted(said)}, and not {sorted(crates)}")
 
     def crates(self):
-        """The crates that PROVED has to name."""
+        """The libraries below what is compiled, which PROVED has to name."""
         with open(os.path.join(ROOT, "crates.txt"), encoding="utf-8") as file:
             named = {line.split()[0].rstrip(":"): line.partition(":")[2].split() for line in file if ":" in line.partition("#")[0]}
         tops = ["subsetter_c"] + ["subset_font"] * ("program" not in self.skip)
-        found, left = set(), list(tops)
+        found, left = set(), [it for top in tops for it in named[top]]
         while left and "lines" not in self.skip:
-            found.add(left[0])
-            left = [it for it in [*left[1:], *named[left[0]]] if it in named and it not in found]
-        return found | {*tops}
+            found |= {left[0]} & {*named}
+            left = [it for it in [*left[1:], *named.get(left[0], [])] if it in named and it not in found]
+        return found
 
     # ---- packages
 
@@ -143,6 +144,8 @@ class Looker:
         self.demand(readme.startswith(f"# subsetter {self.version} for Linux on {target}\n") and self.licensed(readme, "The licence is "), f"{name}: README.md")
         self.library(name, target, found.get(f"lib/{full}", b""), found.get("lib/libsubsetter.a", b""))
         if "bin/subset_font" in found:
+            with open(os.path.join(ROOT, "crates", "subset_font", "subset_font.1"), "rb") as file:
+                self.demand(found.get("share/man/man1/subset_font.1") == file.read(), f"{name}: the manual page isn't that of the program")
             self.demand(found["bin/subset_font"][18:20] == MACHINES[target], f"{name}: the program is for another processor")
             self.baseline(f"{name}: bin/subset_font", found["bin/subset_font"])
         return found
