@@ -1,8 +1,8 @@
 #!/usr/bin/python3
-"""What it costs that the release files run on every x86-64 processor: compare/cpu.py [--seconds S] [--only WORD] [--no-install] [--keep FOLDER]
+"""What it costs that the release files run on every x86-64 processor: compare/cpu.py [--seconds S] [--rounds N] [--only WORD] [--no-install] [--keep FOLDER]
 
 It compiles the driver subset_bench twice from what is proved, for x86-64 and for x86-64-v2, and times both on the fonts and
-glyphs of `run.py --all`, in eight rounds that take turns. It prints a row for each case with the least nanoseconds of a call,
+glyphs of `run.py --all`, in N (8) rounds that take turns. It prints a row for each case with the least nanoseconds of a call,
 then the sums and the mean ratio, and writes them to results/cpu.csv. The packages are built for x86-64 as long as that
 costs at most 5 % of the sum. `rt check` in crates/subset_bench comes first; the drivers are left in FOLDER, or taken from it.
 """
@@ -50,10 +50,12 @@ def measured(programs, taken, seconds, room):
 def main():
     words = argparse.ArgumentParser(usage=__doc__)
     words.add_argument("--seconds", type=float, default=0.03)
+    words.add_argument("--rounds", type=int, default=run.ROUNDS)
     words.add_argument("--only", default="")
     words.add_argument("--no-install", action="store_true")
     words.add_argument("--keep")
     given = words.parse_args()
+    run.ROUNDS = given.rounds
     taken = [it for it in fonts.TRUETYPE_FONTS + fonts.CFF_FONTS if given.only in it[1]]
     if not given.no_install:
         fonts.install(["time", *[it[0] for it in taken]])
