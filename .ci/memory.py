@@ -15,10 +15,14 @@ ALLOWED = {
     ("subsetter_base", "fmt"): (1, "its text"),
     ("subsetter_c", "status_of"): (1, "its status"),
     ("cid_embed", "write_width"): (1, "`write!` tells a refused request as fmt::Error, and a number's text has no other error"),
-    ("subset_font", "glyphs_of"): (2, "`parts_of` and `push` take memory and have no other error"),
-    ("subset_font", "read_within"): (2, "`clone` takes memory and has no other error"),
+    ("subset_args", "enum ArgsError"): (1, "the case itself"),
+    ("subset_args", "glyphs_of"): (1, "`push` takes memory and has no other error"),
+    ("subset_font", "no_memory"): (2, "its argument is an allocator's refusal"),
+    ("subset_font", "text_of"): (1, "`json_numbers` writes into a vector, which has no other error"),
     ("subset_font", "after_name"): (1, "`collect` takes memory and has no other error"),
     ("subset_font", "words"): (2, "the system's own error for memory"),
+    ("subset_font", "command"): (2, "passes on that of `read_words`"),
+    ("subset_font", "read_list_file"): (2, "passes on that of `read_list`"),
     ("subset_font", "perform"): (1, "`BufWriter::new` takes memory and has no other error"),
 }
 

@@ -88,6 +88,13 @@ def moved(font, by):
 
 
 TWO_FACES = b"ttcf" + made.u32s(0x00010000, 2, 20, 20) + moved(SIMPLE, 20)
+# The first face doesn't say how many glyphs it has, the second has six.
+MIXED = b"ttcf" + made.u32s(0x00010000, 2, 20, 20 + len(SIMPLE)) + moved(SIMPLE, 20) + moved(six(), 20 + len(SIMPLE))
+# Glyphs 0 and 2 of `simple`, worked out by hand: `glyf` at 60 (12 bytes), `head` at 72 (54), `loca` at 128 (6).
+SIMPLE_2 = bytes.fromhex(
+    "00010000 0003 0020 0001 0010"
+    "676C7966 00000000 0000003C 0000000C 68656164 00000000 00000048 00000036 6C6F6361 00060000 00000080 00000006"
+) + bytes(20) + bytes.fromhex("755E7013") + bytes(44) + bytes.fromhex("0000 0000 0006 0000")
 
 FONTS = {
     "simple": SIMPLE,
@@ -98,6 +105,7 @@ FONTS = {
     "mac": six(("cmap", cmap((1, 0, BY_SEGMENTS), (3, 0, BY_SEGMENTS)))),
     "named": six(*NAMED, outlines=[b"", HINTED + b"\0", b"", b"", b"", b""]),
     "faces": TWO_FACES,
+    "mixed": MIXED,
     "woff": b"wOFF" + bytes(40),
     "woff2": b"wOF2" + bytes(40),
     "empty": b"",
@@ -114,6 +122,24 @@ def tables_of(font):
         at, length = int.from_bytes(record[8:12], "big"), int.from_bytes(record[12:16], "big")
         found[record[:4].decode()] = font[at:at + length]
     return found
+
+
+def sum_of(data):
+    """The sum of a table's words."""
+    data += bytes(-len(data) % 4)
+    return sum(int.from_bytes(data[k:k + 4], "big") for k in range(0, len(data), 4)) % (1 << 32)
+
+
+def is_whole(font):
+    """Whether a font ends with its last table, and its checksums are right."""
+    count = int.from_bytes(font[4:6], "big")
+    records = [font[12 + 16 * k:28 + 16 * k] for k in range(count)]
+    places = [[int.from_bytes(it[k:k + 4], "big") for k in (4, 8, 12)] for it in records]
+    end = max((at + length for _, at, length in places), default=0)
+    sums = [wanted == sum_of(font[at:at + length]) for tag, (wanted, at, length) in zip((it[:4] for it in records), places)
+            if tag != b"head"]
+    is_adjusted = len(sums) == count or sum_of(font) == 0xB1B0AFBA  # (`head` has what makes it so)
+    return len(font) == end + -end % 4 and all(sums) and is_adjusted
 
 
 # ---- rows
@@ -160,6 +186,11 @@ ROWS = [
     Row("--no-such out 0 2", 3, err=b"cannot read --no-such\n", after=USED),
     # refusals, and what more is said of them
     Row("six out 0 1,6", 1, err=b"malformed font\nGID 6: the face has 6 glyphs, from 0 on\n", after=USED),
+    Row("six out 0 9,1,7,6", 1, err=b"malformed font\nGID 9: the face has 6 glyphs, from 0 on\n", after=USED),
+    Row("mixed out 1 1,6", 1, err=b"malformed font\nGID 6: the face has 6 glyphs, from 0 on\n", after=USED),
+    Row("mixed out 0 9", 1, err=b"malformed font\n", after=USED),
+    Row("mixed out 2 9", 1, err=b"malformed font\nINDEX 2: the collection has 2 faces, from 0 on\n", after=USED),
+    Row("--widths simple out 0 9", 1, err=b"malformed font\n", after=USED),
     Row("faces out 2 1", 1, err=b"malformed font\nINDEX 2: the collection has 2 faces, from 0 on\n", after=USED),
     Row("woff out 0 1", 1, err=b"unknown font kind\nWOFF: unpack it first\n", after=USED),
     Row("woff2 out 0 1", 1, err=b"unknown font kind\nWOFF2: unpack it first\n", after=USED),
@@ -228,6 +259,8 @@ ROWS = [
     Row("--no-glyph-names --no-glyph-names named out 0 1", 2, err=USAGE, after=USED),
     # streams
     Row("- out 0 2", out=lines((2, 1)), stdin=SIMPLE, same="simple 2"),
+    Row("/dev/stdin out 0 2", out=lines((2, 1)), stdin=SIMPLE, same="simple 2"),
+    Row("- out 0 1", out=lines((1, 1)), stdin=six(), same="six 1"),
     Row("simple - 0 2", out="simple 2", err=lines((2, 1)), after=USED),
     Row("--quiet - - 0 2", out="simple 2", stdin=SIMPLE, after=USED),
     Row("--json simple - 0 2", out="simple 2", err=b'{"glyphs":[{"old":2,"new":1}]}\n', after=USED),
@@ -247,7 +280,7 @@ ROWS = [
 
 class Table:
     def __init__(self, program):
-        self.program, self.same, self.ran, self.wrong = program, {}, 0, 0
+        self.program, self.same, self.ran, self.wrong = program, {"simple 2": SIMPLE_2}, 0, 0
 
     def fail(self, what, why):
         self.wrong += 1
@@ -259,7 +292,9 @@ class Table:
             self.fail(what, why)
 
     def known(self, name, font):
-        """The bytes of a name: those of the first row that has it."""
+        """The bytes of a name: those of the first row that has it, which are a whole font."""
+        if name not in self.same:
+            self.demand(font is not None and is_whole(font), name, f"it isn't a whole font: {font and font[-60:]!r}")
         return self.same.setdefault(name, font)
 
     def start(self, words, room, **given):
@@ -316,8 +351,12 @@ def check_words(table, room):
         manual = file.read()
     with open(os.path.join(ROOT, "crates", "subset_font", "subset_font.1")) as file:
         page = re.sub(r"\\f[BIR]", " ", file.read().replace("\\-", "-"))
+    with open(os.path.join(ROOT, "crates", "subset_font", "src", "help.rt")) as file:
+        wanted = re.search(r'pub const HELP: &str = "([^"\\]*)";', file.read())[1]
     first = table.start(["--help"], room)
-    table.demand(first.stdout.startswith(USAGE[:-1].replace(b" IN", b" [OPTIONS] IN", 1)) and first.stderr == b"", "--help", first)
+    table.demand((first.returncode, first.stdout, first.stderr) == (0, wanted.encode(), b""), "--help", first)
+    for part in (USAGE[:-1].replace(b" IN", b" [OPTIONS] IN", 1), b"(default 1000000,64)", b"\nStatus: 0 ", b"\nExamples:\n  subset_font "):
+        table.demand(part in first.stdout, "--help", f"{part!r} doesn't stand there")
     for words in (["-h"], ["--widths", "--help"], ["--help", "x"]):
         got = table.start(words, room)
         table.demand((got.returncode, got.stdout, got.stderr) == (0, first.stdout, b""), words, got)
@@ -353,12 +392,50 @@ def check_places(table, room):
     wanted = table.same["simple 2"]
     put(room, "in", SIMPLE)
     out = put(room, "out", OLD, 0o640)
+    before = sorted(os.listdir(room))
     got = table.start(["in", "out", "0", "2"], room)
     table.demand(take(out) == wanted and stat.S_IMODE(os.stat(out).st_mode) == 0o640, "the rights of OUT", got)
+    got = table.start(["in", "new", "0", "2"], room, preexec_fn=lambda: os.umask(0o027))
+    table.demand(stat.S_IMODE(os.stat(os.path.join(room, "new")).st_mode) == 0o640, "the rights of a new OUT", got)
+    os.unlink(os.path.join(room, "new"))
+    table.demand(sorted(os.listdir(room)) == before, "a run leaves", os.listdir(room))
+    # The file grows past the limit on its size in mid-write: OUT stays, and nothing is left beside it.
+    put(room, "out", OLD)
+    got = table.start(["in", "out", "0", "2"], room, preexec_fn=few_bytes)
+    table.demand((got.returncode, got.stdout, got.stderr) == (3, b"", b"cannot write out\n"), "a write that fails", got)
+    table.demand(take(out) == OLD and sorted(os.listdir(room)) == before, "a write that fails leaves", os.listdir(room))
+    got = table.start(["in", "new", "0", "2"], room, preexec_fn=few_bytes)
+    table.demand(got.returncode == 3 and sorted(os.listdir(room)) == before, "a write of a new OUT that fails", got)
+    got = table.start(["in", "in", "0", "2"], room, preexec_fn=few_bytes)
+    table.demand(got.returncode == 3 and take(os.path.join(room, "in")) == SIMPLE, "a write over IN that fails", got)
+    os.mkdir(os.path.join(room, "folder"))
+    got = table.start(["in", "folder/out", "0", "2"], room)
+    table.demand(take(os.path.join(room, "folder", "out")) == wanted and os.listdir(os.path.join(room, "folder")) == ["out"],
+                 "OUT in a folder", got)
+    # All names beside OUT are taken: OUT is written in place. So it is where a name beside it would be too long.
+    for number in range(100):
+        put(room, f"out.part{number}", OLD)
+        if number in (0, 99):
+            put(room, "out", OLD)
+            before = sorted(os.listdir(room))
+            got = table.start(["in", "out", "0", "2"], room)
+            table.demand(got.returncode == 0 and take(out) == wanted and sorted(os.listdir(room)) == before
+                         and all(take(f"{out}.part{k}") == OLD for k in range(number + 1)), f"{number + 1} names are taken", got)
+    for _ in range(2):
+        got = table.start(["in", "n" * 255, "0", "2"], room)
+        table.demand(got.returncode == 0 and take(os.path.join(room, "n" * 255)) == wanted, "a long name", got)
+
+
+def check_links(table, room):
+    """Links and second names stay, and what they lead to is written; a pipe is written."""
+    wanted = table.same["simple 2"]
+    put(room, "in", SIMPLE)
     put(room, "real", OLD)
     os.symlink("real", os.path.join(room, "link"))
-    got = table.start(["in", "link", "0", "2"], room)
-    table.demand(os.path.islink(os.path.join(room, "link")) and take(os.path.join(room, "real")) == wanted, "OUT a link", got)
+    os.symlink("nowhere", os.path.join(room, "hanging"))
+    for name, real in (("link", "real"), ("hanging", "nowhere")):
+        got = table.start(["in", name, "0", "2"], room)
+        table.demand(os.path.islink(os.path.join(room, name)) and take(os.path.join(room, real)) == wanted, "OUT a link", got)
     one = put(room, "one", OLD)
     os.link(one, os.path.join(room, "other"))
     got = table.start(["in", "one", "0", "2"], room)
@@ -366,25 +443,42 @@ def check_places(table, room):
     os.mkfifo(os.path.join(room, "pipe"))
     reader = subprocess.Popen(["cat", "pipe"], cwd=room, stdout=subprocess.PIPE)
     got = table.start(["in", "pipe", "0", "2"], room)
-    table.demand(reader.communicate()[0] == wanted and got.returncode == 0, "OUT a pipe", got)
-    put(room, "out.part0", OLD)
-    got = table.start(["in", "fresh", "0", "2"], room)
-    got = table.start(["in", "out", "0", "2"], room)
-    table.demand(got.returncode == 0 and take(os.path.join(room, "out.part0")) == OLD, "a file has the other name", got)
-    os.unlink(os.path.join(room, "out.part0"))
-    # The file grows past the limit on its size in mid-write: OUT stays, and nothing is left beside it.
-    put(room, "out", OLD)
-    before = sorted(os.listdir(room))
-    got = table.start(["in", "out", "0", "2"], room, preexec_fn=few_bytes)
-    table.demand((got.returncode, got.stdout, got.stderr) == (3, b"", b"cannot write out\n"), "a write that fails", got)
-    table.demand(take(out) == OLD and sorted(os.listdir(room)) == before, "a write that fails leaves", os.listdir(room))
-    got = table.start(["in", "in", "0", "2"], room, preexec_fn=few_bytes)
-    table.demand(got.returncode == 3 and take(os.path.join(room, "in")) == SIMPLE, "a write over IN that fails", got)
-    if os.geteuid() != 0:
-        put(room, "shut", OLD, 0o444)
-        got = table.start(["in", "shut", "0", "2"], room)
-        table.demand((got.returncode, got.stderr) == (3, b"cannot write shut\n") and take(os.path.join(room, "shut")) == OLD,
-                     "OUT can't be written", got)
+    table.demand(reader.communicate()[0] == wanted and (got.returncode, got.stdout) == (0, lines((2, 1))), "OUT a pipe", got)
+    names = ["hanging", "in", "link", "nowhere", "one", "other", "pipe", "real"]
+    table.demand(sorted(os.listdir(room)) == names, "links leave", os.listdir(room))
+
+
+def check_rights(table, room):
+    """Where files of others or shut folders are in the way. The program is run as a user who isn't root."""
+    wanted, is_root = table.same["simple 2"], os.geteuid() == 0
+    who = {"user": 65534, "group": 65534, "extra_groups": []} if is_root else {}
+    program = os.path.join(room, "program")
+    shutil.copyfile(table.program, program)
+    os.chmod(program, 0o755)
+    os.chmod(room, 0o777)
+
+    def start(*words):
+        return subprocess.run([program, *words], cwd=room, capture_output=True, timeout=60, **who)
+    put(room, "in", SIMPLE, 0o444)
+    shut = put(room, "shut", OLD, 0o444)
+    got = start("in", "shut", "0", "2")
+    table.demand((got.returncode, got.stderr) == (3, b"cannot write shut\n") and take(shut) == OLD, "OUT can't be written", got)
+    table.demand(sorted(os.listdir(room)) == ["in", "program", "shut"], "and leaves", os.listdir(room))
+    put(room, "secret", SIMPLE, 0)
+    got = start("secret", "out", "0", "2")
+    table.demand((got.returncode, got.stderr) == (3, b"cannot read secret\n"), "IN can't be read", got)
+    # No file can be made beside OUT, which may be written.
+    os.mkdir(os.path.join(room, "folder"))
+    out = put(os.path.join(room, "folder"), "out", OLD, 0o666)
+    os.chmod(os.path.join(room, "folder"), 0o555)
+    got = start("in", "folder/out", "0", "2")
+    table.demand(got.returncode == 0 and take(out) == wanted, "OUT in a shut folder", got)
+    os.chmod(os.path.join(room, "folder"), 0o755)
+    if is_root:
+        other = put(room, "of another", OLD, 0o666)
+        got = start("in", "of another", "0", "2")
+        table.demand(got.returncode == 0 and take(other) == wanted and os.stat(other).st_uid == 0, "OUT of another user", got)
+        table.demand(sorted(os.listdir(room)) == ["folder", "in", "of another", "program", "secret", "shut"], "and leaves", os.listdir(room))
 
 
 def few_bytes():
@@ -406,6 +500,15 @@ def check_streams(table, room):
             table.demand((got.returncode, got.stderr) == (3, b"cannot write standard output\n"), words, got)
         got = subprocess.run([table.program, "in", "-", "0", "2"], cwd=room, stdout=full, stderr=subprocess.PIPE)
         table.demand((got.returncode, got.stderr) == (3, b"cannot write -\n"), "OUT is standard output, which is full", got)
+    with open(os.path.join(room, "said"), "wb") as file:
+        got = subprocess.run([table.program, "in", "out", "0", "2"], cwd=room, stdout=file, stderr=subprocess.PIPE)
+    table.demand(take(os.path.join(room, "said")) == lines((2, 1)) and got.stderr == b"", "standard output is a file beside OUT", got)
+    reading, writing = os.pipe()
+    os.close(reading)
+    for words, told in (("in out 0 2", b"standard output"), ("in - 0 2", b"-"), ("--help", b"standard output")):
+        got = subprocess.run([table.program, *words.split()], cwd=room, stdout=writing, stderr=subprocess.PIPE)
+        table.demand((got.returncode, got.stderr) == (3, b"cannot write " + told + b"\n"), f"{words}: nobody reads", got)
+    os.close(writing)
     with open(os.path.join(room, "both"), "wb") as file:
         got = subprocess.run([table.program, "in", "both", "0", "2"], cwd=room, stdout=file, stderr=subprocess.PIPE)
     table.demand(take(os.path.join(room, "both")) == table.same["simple 2"] and got.stderr == lines((2, 1)),
@@ -423,6 +526,11 @@ def check_many(table, room):
         got = table.start(["--gids-file", "list", "in", "out", "0"], room)
         table.demand((got.returncode, got.stdout, got.stderr) == (0, lines(*((k, k) for k in range(count))), b""),
                      "65,535 glyphs by a file", (got.returncode, got.stderr))
+    out = take(os.path.join(room, "out"))
+    table.demand(is_whole(out), "OUT of 65,535 glyphs", len(out))
+    got = table.start(["--gids-file", "list", "-", "-", "0"], room, input=font)
+    table.demand((got.returncode, got.stdout, got.stderr) == (0, out, lines(*((k, k) for k in range(count)))),
+                 "65,535 glyphs by streams", (got.returncode, len(got.stdout), len(got.stderr)))
 
 
 def check_memory(table, room):
@@ -488,7 +596,7 @@ def main():
         if given.only in str(row.words) or row.same:
             with tempfile.TemporaryDirectory(prefix="program-") as room:
                 table.run_row(row, room)
-    for check in (check_words, check_places, check_streams, check_many, check_memory, check_refused_memory):
+    for check in (check_words, check_places, check_links, check_rights, check_streams, check_many, check_memory, check_refused_memory):
         with tempfile.TemporaryDirectory(prefix="program-") as room:
             check(table, room)
     check_contents(table)

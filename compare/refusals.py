@@ -1,12 +1,13 @@
 #!/usr/bin/python3
 """Refuses each request for memory and fails each call for files, one at a time: refusals.py [--no-build] [--more]
 
-It builds refuse.c, the programs (`rt run`) and the tests of `subset_rows` (`rt test`), and runs them, each time with the
-next request refused or the next call failed, until a run ends in which nothing was. Then it prints how many that were.
+It builds refuse.c, and but for --no-build the programs (`rt run`) and the tests of `subset_rows` (`rt test`), and runs
+them, each time with the next request refused or the next call failed, until a run ends in which nothing was. Then it prints
+how many that were.
 At the first disagreement it tells it, and ends with status 1. What is demanded:
 
     subset        what is timed by subset_bench answers `out of memory`, and nothing else changes
-    mapper        each call of GlyphRemapper answers, or wants memory and leaves the list as it was (the tests of
+    mapper        each call of GlyphRemapper answers, or is out of memory and leaves the list as it was (the tests of
                   crates/subset_rows/src/tests/memory.rt)
     no memory     with every request refused, the calls that take no memory answer, and so does `subset` on fonts that are
                   refused by the first checks
@@ -30,7 +31,7 @@ import fonts
 import made
 
 REFUSE = os.path.join(build.BUILD, "refuse.so")
-CALLS = ("open", "size", "read", "write", "write1", "write2", "rename")
+CALLS = ("open", "size", "read", "write", "write1", "write2", "rename", "sync")
 NO_MEMORY = b"error out of memory\n"
 
 
@@ -115,7 +116,7 @@ def remove(room, name):
 # ---- the library
 
 def check_subset(name, path, glyphs, room):
-    """`subset` answers want of memory at each request, and nothing else changes. Where it is refused to give back a part
+    """`subset` answers that memory ran out at each request, and nothing else changes. Where it is refused to give back a part
     of a block, it answers as ever."""
     words = [BENCH, path, "0", glyphs, "1", "out"]
     base = run(words, room, WITHIN="clock")
@@ -164,7 +165,7 @@ def run_test(name, room, **wishes):
 
 
 def check_mapper(room):
-    """Each call of a mapper answers, or wants memory and leaves the list as it was."""
+    """Each call of a mapper answers, or is out of memory and leaves the list as it was."""
     name = "a_mapper_is_whole_or_wants_memory"
     base = run_test(name, room)
     for number in itertools.count(1):
@@ -230,7 +231,7 @@ def check_files(name, data, glyphs, room):
     """The program ends with its status at each failed call."""
     base, whole = base_of(name, data, glyphs, room)
     counts = {}
-    for what in (*CALLS[:5], "rename"):
+    for what in (*CALLS[:5], "rename", "sync"):
         for number in range(1, base.calls[what] + 1):
             got = run_font(room, glyphs, FAIL=f"{what}:{number}")
             told, out = (got.status, got.err), take(room, "out")
@@ -240,7 +241,7 @@ def check_files(name, data, glyphs, room):
             elif what == "write1":
                 demand(told == (3, b"cannot write standard output\n") and out == whole, case, got)
                 demand(base.out.startswith(got.out), case, got)
-            elif what in ("write", "rename") or (what, number) == ("open", 2):
+            elif what in ("write", "rename", "sync") or (what, number) == ("open", 2):
                 demand(told == (3, b"cannot write out\n") and got.out == b"" and out == OLD, case, got)
             else:
                 demand(told == (3, b"cannot read in\n") and got.out == b"" and out == OLD, case, got)
@@ -258,7 +259,6 @@ def check_silence(room):
 # ---- all
 
 def build_all():
-    build.preload("refuse.c", to="refuse.so")
     for crate, verb in (("subset_bench", "run"), ("subset_font", "run"), ("subset_rows", "test")):
         build.rt(crate, verb)
 
@@ -277,6 +277,7 @@ def main():
     words.add_argument("--no-build", action="store_true")
     words.add_argument("--more", action="store_true")
     given = words.parse_args()
+    build.preload("refuse.c", to="refuse.so")
     if not given.no_build:
         build_all()
     for needed in (REFUSE, BENCH, FONT, TESTS):

@@ -3,7 +3,8 @@
  *
  *     REFUSE=N       the Nth request for memory is refused; with `all` each is
  *     WITHIN=clock   requests count from the first reading of the clock to the second: what a program times
- *     FAIL=WHAT:N    the Nth call of WHAT fails: open, size, read, write, write1 and write2 for the standard streams, or rename
+ *     FAIL=WHAT:N    the Nth call of WHAT fails: open, size, read, write, write1 and write2 for the standard streams,
+ *                    rename, or sync
  *     TOLD=FILE      gets the counts at the end, where the last refused request stood, and whether it gave back a part of a
  *                    block (`less`) or asked for memory (`more`)
  *
@@ -19,8 +20,8 @@
 
 #include "blocks.h"
 
-enum call { OPEN, SIZE, READ, WRITE, WRITE1, WRITE2, RENAME, CALLS };
-static const char *const names[CALLS] = {"open", "size", "read", "write", "write1", "write2", "rename"};
+enum call { OPEN, SIZE, READ, WRITE, WRITE1, WRITE2, RENAME, SYNC, CALLS };
+static const char *const names[CALLS] = {"open", "size", "read", "write", "write1", "write2", "rename", "sync"};
 
 /* Where a program that reads a file and then writes one stands. */
 enum stage { BEFORE, READING, AFTER, WRITING };
@@ -134,6 +135,8 @@ int statx(int folder, const char *restrict name, int how, unsigned wanted_parts,
 int rename(const char *from, const char *to) {
     return fails(RENAME) ? -1 : syscall(SYS_renameat2, AT_FDCWD, from, AT_FDCWD, to, 0);
 }
+
+int fdatasync(int file) { return fails(SYNC) ? -1 : syscall(SYS_fdatasync, file); }
 
 ssize_t read(int file, void *bytes, size_t count) {
     if (fails(READ)) return -1;

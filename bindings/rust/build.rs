@@ -1,14 +1,19 @@
-//! Says where `libsubsetter.a` stands: in the folder that SUBSETTER_LIBRARY_FOLDER names, else in `../c/out`.
+//! Says where `libsubsetter.a` stands: in the folder that SUBSETTER_LIBRARY_FOLDER names, else in `native/TARGET`, where the
+//! package carries libraries, else in `../c/out`.
 
 use std::env;
 use std::path::{Path, PathBuf};
 
 fn main() {
     println!("cargo:rerun-if-env-changed=SUBSETTER_LIBRARY_FOLDER");
+    let here = Path::new(env!("CARGO_MANIFEST_DIR"));
+    let target = env::var("TARGET").expect("Cargo sets it");
+    let carried = here.join("native");
     let named = env::var_os("SUBSETTER_LIBRARY_FOLDER").filter(|folder| !folder.is_empty());
     let folder = match named {
         Some(folder) => PathBuf::from(folder),
-        None => Path::new(env!("CARGO_MANIFEST_DIR")).join("../c/out"),
+        None if carried.is_dir() => carried.join(&target),
+        None => here.join("../c/out"),
     };
     // (Cargo runs this program in the package's folder, and doesn't say where it was called itself)
     if folder.is_relative() {
@@ -21,8 +26,13 @@ fn main() {
     println!("cargo:rerun-if-changed={}", library.display());
     if !library.is_file() {
         panic!(
-            "{} isn't there: `make` in bindings/c builds it, and SUBSETTER_LIBRARY_FOLDER names another folder",
-            library.display()
+            "{} isn't there: {}, and SUBSETTER_LIBRARY_FOLDER names another folder",
+            library.display(),
+            if folder.starts_with(&carried) {
+                format!("this package carries no library for {target}")
+            } else {
+                "`make` in bindings/c builds it".to_string()
+            }
         );
     }
     println!("cargo:rustc-link-search=native={}", folder.display());

@@ -4,10 +4,18 @@ ghost use Rattle.std.specs.Prelude.{◌≡◌, None};
 
 use crate::temporary::make_beside;
 use std::alloc::Global;
-use std::fs::OpenOptions;
+use std::fs::{OpenFile, OpenOptions};
 use std::io::{ErrorKind, Write};
 use std::rt::Files;
 use std::{fs, io};
+
+/// Whether an error says that a file has no such call.
+fn lacks_call(error: &io::Error) -> bool {
+    matches!(
+        error.kind(),
+        ErrorKind::InvalidInput | ErrorKind::Unsupported
+    )
+}
 
 /// A file that is made by its first write, so that nothing is touched before. It is written beside the place of its name,
 /// where a file can be made there, and is given the name by `flush`. A file that isn't flushed is gone with its value.
@@ -62,6 +70,18 @@ impl<'a, R: Files> LateFile<'a, R> {
         }
     }
 
+    /// Has the file's bytes reach its disk, so that what a file system may tell as late as at the close is told now. A pipe
+    /// or a device has no such call.
+    fn settle(&self) -> io::Result<()> {
+        let Some(file) = &self.file else {
+            return Ok(());
+        };
+        match file.sync_data() {
+            Err(error) if !lacks_call(&error) => Err(error),
+            _ => Ok(()),
+        }
+    }
+
     /// Gives the file its name.
     fn take_place(&mut self) -> io::Result<()>
         ensures { self.new.file ≡ self.old.file }
@@ -96,6 +116,7 @@ impl<R: Files> Write for LateFile<'_, R> {
             Some(file) => file.flush()?,
             None => return Ok(()),
         }
+        self.settle()?;
         self.take_place()
     }
 }

@@ -40,6 +40,13 @@ wanted_of (These glyphs) = these glyphs.now
 wanted_of Every = every
 wanted_of (ByText text) = by_text text.now
 
+-- a list was read where a file has it
+abbrev pub IsListFor : Glyphs → Option GlyphList → Type 0
+IsListFor (Listed glyphs) list = Unit {0}
+IsListFor (InText text) list = Unit {0}
+IsListFor (InFile name) (Some list) = Unit {0}
+IsListFor (InFile name) None = ⊥
+
 -- those that the words list, or the file that was read for it
 abbrev pub wanted_for : Glyphs → Option GlyphList → Wanted
 wanted_for (Listed glyphs) list = these glyphs.items

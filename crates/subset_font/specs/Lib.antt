@@ -5,3 +5,4 @@ pub mod Told
 pub mod Carried
 pub mod FaceView
 pub mod Failure
+pub mod Hint

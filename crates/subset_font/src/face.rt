@@ -54,7 +54,7 @@ fn place_in_collection(file: &[u8], index: u32) -> Option<usize>
 }
 
 /// Where the font's header stands.
-#[tactic(auto, unfolding(subsetter::specs::Sfnt::Read::header_place))]
+#[tactic(auto, unfolding(subsetter_sfnt::specs::Read::header_place))]
 fn header_place(file: &[u8], index: u32) -> Option<usize>
     ensures place { result ≡ header_place (record { bytes = file.now; index = index; extras = all_extras }) }
     ensures small { IfSome result (λ at. at < 2 ^ 32) }
@@ -66,7 +66,7 @@ fn header_place(file: &[u8], index: u32) -> Option<usize>
 }
 
 /// The bytes of the records of the directory at a place.
-#[tactic(auto, unfolding(subsetter::specs::Sfnt::Read::records_at))]
+#[tactic(auto, unfolding(subsetter_sfnt::specs::Read::records_at))]
 fn records_at(file: &[u8], at: usize) -> Option<&[u8]>
     requires { at < 2 ^ 32 }
     ensures { option_copied result ≡ records_at file.now at }

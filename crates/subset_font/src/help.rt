@@ -1,10 +1,7 @@
 //! What `--help` and `--version` print.
 
-/// The version of the program: that of the crate that it ports, and behind the plus its own. The file `VERSION` at the top
-/// of the repository says the same.
-pub const VERSION: &str = "0.2.6+1";
-
-/// What `--version` prints.
+/// What `--version` prints: the version of the program, which the file `VERSION` at the top of the repository says too
+/// (that of the crate that it ports, and behind the plus its own), and that of the crate.
 pub const VERSION_LINE: &str = "subset_font 0.2.6+1, a port of the Rust crate subsetter 0.2.6\n";
 
 /// What `--help` prints.
@@ -39,8 +36,8 @@ Options stand in front of IN, each once, in any order:
   -h, --help        print this and end
   --version         print the version and end
 
-Status: 0 where OUT holds the new font, 1 where the font or a glyph is refused, 2 where the
-words are wrong, 3 where a file can't be read or written.
+Status: 0 where OUT holds the new font, 1 where the font or a glyph is refused or memory ran
+out, 2 where the arguments are wrong, 3 where a file can't be read or written.
 
 Examples:
   subset_font DejaVuSans.ttf subset.ttf 0 36,37,38

@@ -1,6 +1,10 @@
 //! What more can be said of a refusal: what the program sees at once.
 
-ghost use Rattle.std.specs.Prelude.{◌≤◌, IfSome};
+ghost use Rattle.std.specs.Prelude.{◌≡◌};
+ghost use Rattle.subsetter_sfnt.specs.Extras.{all_extras};
+ghost use Rattle.subset_font.specs.Asked.{face_glyphs};
+ghost use Rattle.subset_font.specs.Made.{face_of};
+ghost use Rattle.subset_font.specs.Hint.{packed, face_count, no_face, first_past, no_glyph, hint_of_error, hint_of};
 
 use crate::face::count_glyphs;
 use crate::failure::Failure;
@@ -41,20 +45,31 @@ impl fmt::Display for Hint {
 }
 
 /// Whether a file is a WOFF or a WOFF2.
-fn packed(font: &[u8]) -> Option<Hint> {
-    match font {
-        [b'w', b'O', b'F', b'F', ..] => Some(Hint::Woff),
-        [b'w', b'O', b'F', b'2', ..] => Some(Hint::Woff2),
+fn packed(font: &[u8]) -> Option<Hint>
+    ensures { result ≡ packed font.now }
+{
+    match Reader::new_at(font, 0).read::<u32>()? {
+        0x774F4646 => Some(Hint::Woff),
+        0x774F4632 => Some(Hint::Woff2),
+        _ => None,
+    }
+}
+
+/// How many faces a collection says that it has.
+fn face_count(font: &[u8]) -> Option<u32>
+    ensures { result ≡ face_count font.now }
+{
+    match Reader::new_at(font, 0).read::<u32>()? {
+        0x74746366 => Reader::new_at(font, 8).read::<u32>(),
         _ => None,
     }
 }
 
 /// Whether a collection has no face of an index.
-fn no_face(font: &[u8], index: u32) -> Option<Hint> {
-    let [b't', b't', b'c', b'f', ..] = font else {
-        return None;
-    };
-    let count = Reader::new_at(font, 8).read::<u32>()?;
+fn no_face(font: &[u8], index: u32) -> Option<Hint>
+    ensures { result ≡ no_face font.now index }
+{
+    let count = face_count(font)?;
     if index < count {
         return None;
     }
@@ -62,8 +77,8 @@ fn no_face(font: &[u8], index: u32) -> Option<Hint> {
 }
 
 /// The first of the glyphs that a face of so many glyphs doesn't have.
-fn first_past(glyphs: &[u16], count: u16) -> Option<u16>
-    ensures { IfSome result (λ g. count ≤ g) }
+fn first_past(count: u16, glyphs: &[u16]) -> Option<u16>
+    ensures { result ≡ first_past count glyphs.now }
 {
     for glyph in glyphs {
         if *glyph >= count {
@@ -73,20 +88,35 @@ fn first_past(glyphs: &[u16], count: u16) -> Option<u16>
     None
 }
 
-/// Whether a face doesn't have one of the asked glyphs.
-fn no_glyph(font: &[u8], task: &Task<'_>) -> Option<Hint> {
+/// Whether a face doesn't have one of the listed glyphs.
+fn no_glyph(font: &[u8], task: &Task<'_>) -> Option<Hint>
+    ensures { result ≡ no_glyph (face_of task.now font.now) task.now.asked }
+{
     let Asked::These(glyphs) = task.asked else {
         return None;
     };
     let count = count_glyphs(font, task.index)?;
-    Some(Hint::NoGlyph(first_past(glyphs, count)?, count))
+    let glyph = first_past(count, glyphs)?;
+    Some(Hint::NoGlyph(glyph, count))
+}
+
+/// What more can be said of a font that is refused by an error.
+fn hint_of_error(error: Error, font: &[u8], task: &Task<'_>) -> Option<Hint>
+    ensures { result ≡ hint_of_error error task.now font.now }
+{
+    match error {
+        Error::UnknownKind => packed(font).or(no_face(font, task.index)),
+        Error::MalformedFont => no_face(font, task.index).or(no_glyph(font, task)),
+        _ => None,
+    }
 }
 
 /// What more can be said of a font that is refused.
-pub fn find_hint(failure: &Failure, font: &[u8], task: &Task<'_>) -> Option<Hint> {
+pub fn find_hint(failure: &Failure, font: &[u8], task: &Task<'_>) -> Option<Hint>
+    ensures { result ≡ hint_of failure.now task.now font.now }
+{
     match failure {
-        Failure::Error(Error::UnknownKind) => packed(font).or(no_face(font, task.index)),
-        Failure::Error(Error::MalformedFont) => no_face(font, task.index).or(no_glyph(font, task)),
+        Failure::Error(error) => hint_of_error(*error, font, task),
         _ => None,
     }
 }

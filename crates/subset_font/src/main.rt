@@ -23,7 +23,7 @@ mod task;
 pub use asked::{Picked, pick};
 pub use carried::carry_out;
 pub use failure::{Failure, Told, status_of_run};
-pub use help::{HELP, VERSION, VERSION_LINE};
+pub use help::{HELP, VERSION_LINE};
 pub use hint::{Hint, find_hint};
 pub use output::emit;
 pub use subset::{Made, make_of};

@@ -3,7 +3,7 @@
 ghost use Rattle.std.specs.Prelude.{◌≡◌, ◌≢◌, ◌⊎◌, ◌≤◌, drop, IfErr, IfOk};
 ghost use Rattle.std.specs.Process.{exit_status};
 ghost use Rattle.std.specs.Vec.Iter.{into_iter_items};
-ghost use Rattle.subset_font.specs.Chosen.{wanted_of, wanted_for, IsTaskOf};
+ghost use Rattle.subset_font.specs.Chosen.{IsListFor, wanted_of, wanted_for, IsTaskOf};
 ghost use Rattle.subset_font.specs.Failure.{status_of_end};
 ghost use Rattle.subset_font.specs.declared.failure.Failure.TheVariants.{Error as Refused, Read as CannotRead, Usage};
 ghost use Rattle.subsetter_base.specs.declared.error.Error.TheVariants.{OutOfMemory};
@@ -75,7 +75,8 @@ fn list_of<R: Files + Input + AllocGlobal>(
     rt: &R,
     glyphs: &Glyphs,
 ) -> Result<Option<GlyphList>, Failure>
-    ensures { IfErr result (λ e. e ≢ Usage) }
+    ensures ok { IfOk result (IsListFor glyphs.now) }
+    ensures err { IfErr result (λ e. e ≢ Usage) }
 {
     match glyphs {
         Glyphs::InFile(name) => Ok(Some(read_list_file(rt, name)?)),
@@ -85,6 +86,7 @@ fn list_of<R: Files + Input + AllocGlobal>(
 
 /// Which glyphs are kept.
 fn asked_of<'a>(glyphs: &'a Glyphs, list: &'a Option<GlyphList>) -> Asked<'a>
+    requires { IsListFor glyphs.now list.now }
     ensures { wanted_of result ≡ wanted_for glyphs.now list.now }
 {
     match (glyphs, list) {
@@ -98,6 +100,7 @@ fn asked_of<'a>(glyphs: &'a Glyphs, list: &'a Option<GlyphList>) -> Asked<'a>
 
 /// What a job asks to be made of the font.
 fn task_of<'a>(job: &'a Job, list: &'a Option<GlyphList>) -> Task<'a>
+    requires { IsListFor job.now.glyphs list.now }
     ensures { IsTaskOf job.now list.now result }
 {
     Task {

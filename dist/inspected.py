@@ -1,0 +1,297 @@
+"""What stands in the release files, looked at byte by byte: `look(folder, skip, version, licence)` gives what is wrong.
+
+It asks nothing of what made them, but where they came to: what each file must hold is said here once more.
+"""
+import base64
+import csv
+import gzip
+import hashlib
+import io
+import os
+import re
+import socket
+import subprocess
+import tarfile
+import tempfile
+import zipfile
+
+ROOT = os.path.dirname(os.path.dirname(os.path.realpath(__file__)))
+TRIPLES = {"x86_64": "x86_64-unknown-linux-gnu", "aarch64": "aarch64-unknown-linux-gnu"}
+MACHINES = {"x86_64": b"\x3e\x00", "aarch64": b"\xb7\x00"}
+DATE = 315532800
+# Instructions that not every x86-64 processor has: SSE3 to SSE4.2, AVX, BMI and others, by their names in objdump. (What it
+# shows as tzcnt is `rep bsf` too, which older processors run as bsf: compilers write it where both give the same.)
+BEYOND = (r"pshufb|palignr|pmaddubsw|pmulhrsw|phadd\w+|phsub\w+|psign[bwd]|pabs[bwd]|ptest|pmulld|pmuldq|pinsr[bdq]|pextr[bdq]"
+          r"|pm(?:in|ax)(?:sb|sd|uw|ud)|p?blend\w+|pmov[sz]x\w+|packusdw|pcmpeqq|pcmpgtq|round[sp][sd]|insertps|extractps|dpp[sd]"
+          r"|mpsadbw|pcmp[ei]str[im]|crc32\w*|popcnt|lddqu|movddup|movs[hl]dup|h(?:add|sub)p[sd]|addsubp[sd]|v[a-z]+\d*[a-z]+"
+          r"|andn|bextr|bls\w+|bzhi|mulx|pdep|pext|rorx|sarx|shlx|shrx|lzcnt|adcx|adox|movbe|aes\w+|pclmul\w+|sha(?:1|256)\w+"
+          r"|cmpxchg16b|lahf|sahf")
+
+
+class Looker:
+    def __init__(self, folder, skip, version, licence):
+        self.folder, self.skip, self.version, self.licence = folder, skip, version, licence
+        self.number, _, own = version.partition("+")
+        self.wheel_version, self.npm_version = f"{self.number}.post{own}", f"{self.number}-{own}"
+        self.targets = [it for it in TRIPLES if it not in skip]
+        self.wrong = []
+        # (file, path in it, bytes) of all that is packed
+        self.packed = []
+
+    def demand(self, is_so, what):
+        if not is_so:
+            self.wrong.append(what)
+
+    def read(self, name):
+        path = os.path.join(self.folder, name)
+        if not os.path.isfile(path):
+            self.demand(False, f"{name} isn't there")
+            return b""
+        with open(path, "rb") as file:
+            return file.read()
+
+    # ---- the files as a whole
+
+    def names(self):
+        """The names of all files, with those of the wheels as they stand there, since a test of its own reads their tags."""
+        wanted = {f"subsetter-{self.version}.crate", "PROVED", "SHA256SUMS"}
+        wanted |= {f"subsetter-{self.version}-linux-{it}.tar.gz" for it in self.targets}
+        wanted |= set() if "js" in self.skip else {f"subsetter-proved-{self.npm_version}.tgz"}
+        there = sorted(os.listdir(self.folder))
+        wheels = [it for it in there if it.endswith(".whl")]
+        for target in self.targets:
+            own = [it for it in wheels if it.startswith(f"subsetter-{self.wheel_version}-py3-none-manylinux") and it.endswith(f"_{target}.whl")]
+            self.demand(len(own) == 1, f"not one wheel of version {self.wheel_version} for {target}: {wheels}")
+        self.demand(len(wheels) == len(self.targets), f"the wheels are {wheels}")
+        self.demand(wanted == {*there} - {*wheels}, f"the files are {there}, and without the wheels they should be {sorted(wanted)}")
+        return there
+
+    def sums(self, there):
+        lines = self.read("SHA256SUMS").decode().split("\n")
+        wanted = [f"{hashlib.sha256(self.read(it)).hexdigest()}  {it}" for it in there if it != "SHA256SUMS"] + [""]
+        self.demand(lines == wanted, "SHA256SUMS isn't the sums of the other files")
+
+    def proved(self):
+        text = self.read("PROVED").decode()
+        head = subprocess.run(["git", "-C", ROOT, "rev-parse", "HEAD"], capture_output=True, text=True).stdout.strip()
+        with open(os.path.join(ROOT, "README.md"), encoding="utf-8") as file:
+            kit = re.search(r"`(rattle-kit-\S+ logic \w+)`", file.read())[1]
+        lines = text.split("\n")
+        self.demand(lines[0] == f"subsetter {self.version}", f"PROVED is of {lines[0]}")
+        self.demand(lines[1].split()[1:2] == [head], f"PROVED is of the {lines[1]}, and this is {head}")
+        self.demand(lines[2] == kit, f"PROVED has the kit {lines[2]}, and README.md {kit}")
+        said = dict(it.partition(": logic=")[::2] for it in lines if ": logic=" in it)
+        wanted = {f"subsetter_c, compiled for {it}": TRIPLES[it] for it in self.targets}
+        if "program" not in self.skip:
+            wanted["subset_font, compiled for x86_64"] = TRIPLES["x86_64"]
+        for name, triple in wanted.items():
+            line = said.pop(name, "")
+            self.demand(line.startswith("proved ") and f" target={triple} " in line and " cpu=" not in line, f"PROVED: {name}: {line!r}")
+        crates = self.crates()
+        self.demand({*said} == crates and all(it.startswith("proved ") for it in said.values()), f"PROVED has the crates {sorted(said)}, and not {sorted(crates)}")
+
+    def crates(self):
+        """The libraries below what is compiled, which PROVED has to name."""
+        with open(os.path.join(ROOT, "crates.txt"), encoding="utf-8") as file:
+            named = {line.split()[0].rstrip(":"): line.partition(":")[2].split() for line in file if ":" in line.partition("#")[0]}
+        tops = ["subsetter_c"] + ["subset_font"] * ("program" not in self.skip)
+        found, left = set(), [it for top in tops for it in named[top]]
+        while left and "lines" not in self.skip:
+            found |= {left[0]} & {*named}
+            left = [it for it in [*left[1:], *named.get(left[0], [])] if it in named and it not in found]
+        return found
+
+    # ---- packages
+
+    def tar(self, name, front, wanted):
+        """The files of a tar by their paths, after a look at their heads: `wanted` are the paths, with the link that each is."""
+        data = self.read(name)
+        self.demand(data[:3] == b"\x1f\x8b\x08" and data[3] == 0 and data[4:8] == bytes(4), f"{name}: gzip's head has a name or a date")
+        found = {}
+        if not data:
+            return found
+        with tarfile.open(fileobj=io.BytesIO(gzip.decompress(data))) as tar:
+            heads = tar.getmembers()
+            for head in heads:
+                is_program = re.search(r"/bin/|\.so[.\d]*$", head.name) and head.isfile()
+                mode = 0o777 if head.issym() else 0o755 if head.isdir() or is_program else 0o644
+                owner = (head.uid, head.gid, head.uname, head.gname)
+                self.demand((head.mtime, head.mode, owner) == (DATE, mode, (0, 0, "", "")), f"{name}: {head.name} has date {head.mtime}, mode {head.mode:o}, owner {owner}")
+                if not head.isdir():
+                    path = head.name.removeprefix(f"{front}/")
+                    found[path] = head.linkname if head.issym() else tar.extractfile(head).read()
+        self.demand([it.name for it in heads] == sorted(it.name for it in heads), f"{name}: the names aren't in order")
+        links = {path: it for path, it in found.items() if isinstance(it, str)}
+        self.demand({path: links.get(path) for path in found} == wanted, f"{name}: it holds {sorted(found)} with links {links}, and not {sorted(wanted)}")
+        self.packed += [(name, path, it) for path, it in found.items() if isinstance(it, bytes)]
+        return found
+
+    def linux(self, target):
+        name = f"subsetter-{self.version}-linux-{target}"
+        full = f"libsubsetter.so.{self.version.replace('+', '.')}"
+        wanted = dict.fromkeys(["README.md", "include/subsetter.h", "lib/libsubsetter.a", f"lib/{full}", "lib/pkgconfig/subsetter.pc"])
+        wanted.update({"lib/libsubsetter.so.0": full, "lib/libsubsetter.so": "libsubsetter.so.0"})
+        if target == "x86_64" and "program" not in self.skip:
+            wanted.update(dict.fromkeys(["bin/subset_font", "share/man/man1/subset_font.1"]))
+        found = self.tar(f"{name}.tar.gz", name, wanted)
+        header, pc = found.get("include/subsetter.h", b""), found.get("lib/pkgconfig/subsetter.pc", b"").decode()
+        with open(os.path.join(ROOT, "bindings", "c", "subsetter.h"), "rb") as file:
+            self.demand(header == file.read(), f"{name}: its header isn't that of bindings/c")
+        self.demand(f'"{self.version}"'.encode() in header, f"{name}: its header has another version")
+        self.demand(f"\nVersion: {self.version}\n" in pc, f"{name}: subsetter.pc has another version")
+        self.demand(self.licensed(pc, "License: "), f"{name}: the licence in subsetter.pc")
+        readme = found.get("README.md", b"").decode()
+        self.demand(readme.startswith(f"# subsetter {self.version} for Linux on {target}\n") and self.licensed(readme, "The licence is "), f"{name}: README.md")
+        self.library(name, target, found.get(f"lib/{full}", b""), found.get("lib/libsubsetter.a", b""))
+        if "bin/subset_font" in found:
+            with open(os.path.join(ROOT, "crates", "subset_font", "subset_font.1"), "rb") as file:
+                self.demand(found.get("share/man/man1/subset_font.1") == file.read(), f"{name}: the manual page isn't that of the program")
+            self.demand(found["bin/subset_font"][18:20] == MACHINES[target], f"{name}: the program is for another processor")
+            self.baseline(f"{name}: bin/subset_font", found["bin/subset_font"])
+        return found
+
+    def licensed(self, text, front):
+        """Whether a text names the licence where there is one, and else none."""
+        return f"{front}{self.licence}" in text if self.licence else front not in text
+
+    def library(self, name, target, shared, static):
+        """A shared and a static library: the processor, the soname, what is needed and what is shown."""
+        with tempfile.TemporaryDirectory(prefix="look-") as room:
+            paths = [os.path.join(room, it) for it in ("l.so", "l.a")]
+            for path, data in zip(paths, (shared, static)):
+                with open(path, "wb") as file:
+                    file.write(data)
+            said = subprocess.run(["readelf", "-Wd", paths[0]], capture_output=True, text=True).stdout
+            self.demand("SONAME" in said and "[libsubsetter.so.0]" in said, f"{name}: the soname isn't libsubsetter.so.0")
+            self.demand(re.findall(r"NEEDED.*\[(.*)\]", said) == ["libc.so.6"], f"{name}: it needs more than libc.so.6")
+            said = subprocess.run(["readelf", "-W", "--dyn-syms", paths[0]], capture_output=True, text=True).stdout
+            shown = {it.split()[7] for it in said.split("\n") if re.search(r"\b(GLOBAL|WEAK)\b.*DEFAULT\s+\d+ ", it)}
+            with open(os.path.join(ROOT, "bindings", "c", "subsetter.h"), encoding="utf-8") as file:
+                text = re.sub(r"static inline[^{;]*|/\*.*?\*/", "", file.read(), flags=re.S)
+            wanted = {*re.findall(r"^(?:uint32_t|void) (subsetter_\w+)\(", text, re.M)}
+            self.demand(shown == wanted and wanted, f"{name}: the shared library shows {sorted(shown)}")
+            said = subprocess.run(["readelf", "-Ws", paths[1]], capture_output=True, text=True).stdout
+            shown = {it.split()[7] for it in said.split("\n") if re.search(r"\b(GLOBAL|WEAK)\b.*DEFAULT\s+\d+ ", it)}
+            self.demand(shown == wanted, f"{name}: the static library shows {sorted(shown)}")
+            said = subprocess.run(["readelf", "-Wh", paths[1]], capture_output=True, text=True).stdout
+            machines = {*re.findall(r"Machine:\s+(.*)", said)}
+            self.demand(machines == {{"x86_64": "Advanced Micro Devices X86-64", "aarch64": "AArch64"}[target]}, f"{name}: the static library is for {machines}")
+        self.demand(shared[18:20] == MACHINES[target], f"{name}: the shared library is for another processor")
+        if target == "x86_64":
+            self.baseline(f"{name}: the static library", static)
+            self.baseline(f"{name}: the shared library", shared)
+
+    def baseline(self, name, data):
+        """No instruction that some processor of x86-64 lacks."""
+        with tempfile.NamedTemporaryFile(prefix="look-") as file:
+            file.write(data)
+            file.flush()
+            said = subprocess.run(["objdump", "-d", "--no-show-raw-insn", file.name], capture_output=True, text=True, errors="replace").stdout
+        self.demand(said.count("\n") > 1000, f"{name}: objdump shows nothing")
+        found = {*re.findall(rf"^\s+[0-9a-f]+:\t(?:lock |rep[nz]* |data16 )*({BEYOND})\b", said, re.M)} - {"verr", "verw"}
+        self.demand(not found, f"{name} has instructions that not every x86-64 has: {', '.join(sorted(found))}")
+
+    def wheel(self, target, shared):
+        names = [it for it in os.listdir(self.folder) if it.endswith(f"_{target}.whl")]
+        if len(names) != 1:
+            return
+        info = f"subsetter-{self.wheel_version}.dist-info"
+        with zipfile.ZipFile(os.path.join(self.folder, names[0])) as file:
+            heads = file.infolist()
+            found = {it.filename: file.read(it) for it in heads}
+        for head in heads:
+            mode = 0o100755 if head.filename.endswith(".so") else 0o100644
+            self.demand((head.date_time, head.external_attr >> 16) == ((1980, 1, 1, 0, 0, 0), mode), f"{names[0]}: {head.filename} has date {head.date_time}, mode {head.external_attr >> 16:o}")
+        own = {f"subsetter/{it}" for it in ("__init__.py", "py.typed", "libsubsetter.so")}
+        self.demand({*found} == own | {f"{info}/{it}" for it in ("METADATA", "WHEEL", "RECORD")} and len(heads) == len(found), f"{names[0]}: it holds {sorted(found)}")
+        self.packed += [(names[0], path, data) for path, data in found.items()]
+        self.recorded(names[0], info, found)
+        metadata = found.get(f"{info}/METADATA", b"").decode()
+        for line in ("Metadata-Version: 2.1", "Name: subsetter", f"Version: {self.wheel_version}", "Requires-Python: >=3.8"):
+            self.demand(f"\n{line}\n" in f"\n{metadata}", f"{names[0]}: METADATA has no line {line}")
+        self.demand(self.licensed(metadata, "License: "), f"{names[0]}: the licence")
+        self.tags(names[0], found.get(f"{info}/WHEEL", b"").decode(), shared)
+        self.demand(found.get("subsetter/libsubsetter.so") == shared, f"{names[0]}: its library isn't that for C")
+        with open(os.path.join(ROOT, "bindings", "python", "subsetter", "__init__.py"), "rb") as file:
+            self.demand(found.get("subsetter/__init__.py") == file.read(), f"{names[0]}: its module isn't that of bindings/python")
+
+    def recorded(self, name, info, found):
+        rows = list(csv.reader(io.StringIO(found.get(f"{info}/RECORD", b"").decode())))
+        wanted = []
+        for path, data in found.items():
+            sum_of = base64.urlsafe_b64encode(hashlib.sha256(data).digest()).decode().rstrip("=")
+            wanted.append([path, "", ""] if path.endswith("/RECORD") else [path, f"sha256={sum_of}", str(len(data))])
+        self.demand(sorted(rows) == sorted(wanted), f"{name}: RECORD isn't the sums of its files")
+
+    def tags(self, name, text, shared):
+        """The tags are those of the file's name, say `none` and `py3`, and promise no older glibc than the library needs."""
+        tags = re.findall(r"^Tag: (.*)$", text, re.M)
+        self.demand(tags == [f"py3-none-{it}" for it in name[:-4].split("-")[-1].split(".")] and tags, f"{name}: its tags are {tags}")
+        self.demand("\nRoot-Is-Purelib: false\n" in text, f"{name}: it says that it's pure")
+        with tempfile.NamedTemporaryFile(prefix="look-") as file:
+            file.write(shared)
+            file.flush()
+            said = subprocess.run(["readelf", "-W", "--dyn-syms", file.name], capture_output=True, text=True).stdout
+        needed = max(([int(it) for it in found.split(".")[:2]] for found in re.findall(r"@GLIBC_([\d.]+)", said)), default=[0, 0])
+        older = {"manylinux1": [2, 5], "manylinux2010": [2, 12], "manylinux2014": [2, 17]}
+        for tag in tags:
+            platform = tag.split("-")[2]
+            numbers = re.match(r"manylinux_(\d+)_(\d+)_", platform)
+            promised = [int(it) for it in numbers.groups()] if numbers else older.get(platform.split("_")[0], [0, 0])
+            self.demand(needed != [0, 0] and promised >= needed and promised <= [2, 31], f"{name}: {tag}, and the library needs glibc {needed}")
+
+    def crate(self, libraries):
+        name = f"subsetter-{self.version}"
+        src = sorted(os.listdir(os.path.join(ROOT, "bindings", "rust", "src")))
+        wanted = ["Cargo.toml", "README.md", "build.rs", *[f"src/{it}" for it in src]]
+        wanted += [f"native/{TRIPLES[it]}/libsubsetter.a" for it in self.targets]
+        found = self.tar(f"{name}.crate", name, dict.fromkeys(wanted))
+        for path in ["build.rs", *[f"src/{it}" for it in src]]:
+            with open(os.path.join(ROOT, "bindings", "rust", path), "rb") as file:
+                self.demand(found.get(path) == file.read(), f"{name}.crate: {path} isn't that of bindings/rust")
+        for target in self.targets:
+            self.demand(found.get(f"native/{TRIPLES[target]}/libsubsetter.a") == libraries[target], f"{name}.crate: its library for {target} isn't that for C")
+        manifest = found.get("Cargo.toml", b"").decode()
+        self.demand(f'\nversion = "{self.version}"\n' in manifest and self.licensed(manifest, 'license = "'), f"{name}.crate: Cargo.toml")
+        self.demand(self.licensed(found.get("README.md", b"").decode(), "The licence is "), f"{name}.crate: README.md")
+
+    def js(self):
+        name = f"subsetter-proved-{self.npm_version}.tgz"
+        data = self.read(name)
+        if not data:
+            return
+        with tarfile.open(fileobj=io.BytesIO(gzip.decompress(data))) as tar:
+            heads = tar.getmembers()
+            found = {it.name: tar.extractfile(it).read() for it in heads}
+        self.demand({it.mtime for it in heads} == {499162500}, f"{name}: npm's own date isn't that of each file")
+        wanted = {f"package/{it}" for it in ("README.md", "package.json", "subsetter.d.mts", "subsetter.mjs", "subsetter.wasm")}
+        self.demand({*found} == wanted, f"{name}: it holds {sorted(found)}")
+        said = found.get("package/package.json", b"").decode()
+        self.demand(f'"version": "{self.npm_version}"' in said and self.licensed(said, '"license": "'), f"{name}: package.json")
+        self.packed += [(name, path, data) for path, data in found.items()]
+
+    def traces(self):
+        """Nothing that is packed names a place of this machine, or who worked on it."""
+        places = [ROOT, os.path.expanduser("~") + "/", tempfile.gettempdir() + "/", "/opt/rattle", "/placeholder", socket.gethostname()]
+        for name, path, data in self.packed:
+            for place in places:
+                if len(place) > 3:
+                    self.demand(place.encode() not in data, f"{name}: {path} names {place}")
+
+
+def look(folder, skip, version, licence):
+    """What is wrong with the files of a folder, as a list of texts, and how many files it looked at."""
+    it = Looker(folder, skip, version, licence)
+    there = it.names()
+    it.sums(there)
+    it.proved()
+    libraries = {}
+    for target in it.targets:
+        found = it.linux(target)
+        libraries[target] = found.get("lib/libsubsetter.a")
+        it.wheel(target, found.get(f"lib/libsubsetter.so.{version.replace('+', '.')}", b""))
+    it.crate(libraries)
+    if "js" not in skip:
+        it.js()
+    it.traces()
+    return it.wrong, len(it.packed)
