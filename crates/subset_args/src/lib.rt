@@ -1,4 +1,4 @@
-//! What the words after the name of `subset_font` ask for, and the lists of glyphs that they name.
+//! What the arguments after the name of `subset_font` ask for, and the lists of glyphs that they name.
 #![tactic(auto)]
 
 mod jobs;

@@ -1,4 +1,4 @@
-//! How far a charstring may run, as the words say it.
+//! How far a charstring may run, as the arguments say it.
 
 ghost use Rattle.std.specs.Prelude.{◌≡◌, ◌≤◌, MatchOption};
 
