@@ -500,6 +500,8 @@ def check_streams(table, room):
             table.demand((got.returncode, got.stderr) == (3, b"cannot write standard output\n"), words, got)
         got = subprocess.run([table.program, "in", "-", "0", "2"], cwd=room, stdout=full, stderr=subprocess.PIPE)
         table.demand((got.returncode, got.stderr) == (3, b"cannot write -\n"), "OUT is standard output, which is full", got)
+        got = subprocess.run([table.program, "in", "-", "0", "2"], cwd=room, stdout=subprocess.PIPE, stderr=full)
+        table.demand((got.returncode, got.stdout) == (3, table.same["simple 2"]), "the lines go to standard error, which is full", got)
     with open(os.path.join(room, "said"), "wb") as file:
         got = subprocess.run([table.program, "in", "out", "0", "2"], cwd=room, stdout=file, stderr=subprocess.PIPE)
     table.demand(take(os.path.join(room, "said")) == lines((2, 1)) and got.stderr == b"", "standard output is a file beside OUT", got)

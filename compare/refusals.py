@@ -1,5 +1,5 @@
 #!/usr/bin/python3
-"""Refuses each request for memory and fails each call for files, one at a time: refusals.py [--no-build] [--more]
+"""Refuses each request for memory and fails each call for files, one at a time: refusals.py [--no-build] [--more] [--program]
 
 It builds refuse.c, and but for --no-build the programs (`rt run`) and the tests of `subset_rows` (`rt test`), and runs
 them, each time with the next request refused or the next call failed, until a run ends in which nothing was. Then it prints
@@ -16,7 +16,8 @@ At the first disagreement it tells it, and ends with status 1. What is demanded:
                   fails, and where the program does without the call. No other file is left
     given back    no block of memory is held at the end that isn't held at the end of a run without a refusal
 
-The fonts are small ones of made.py; with --more also some of Debian's (fonts.py).
+The fonts are small ones of made.py; with --more also some of Debian's (fonts.py). With --program only what is said of
+subset_font and files is looked at.
 """
 import argparse
 import itertools
@@ -178,12 +179,16 @@ def check_mapper(room):
 # ---- the program
 
 OLD = b"what stood there before"
+# `A` is glyph 1: a `cmap` of one table of format 4, with a segment for it and the last one.
+CMAP = made.u16s(0, 1, 0, 3, 0, 12) + made.u16s(4, 32, 0, 4, 0, 0, 0, 65, 65535, 0, 65, 65535, 65536 - 64, 1, 0, 0)
+WITH_CMAP = made.truetype([b"", bytes(12), bytes(11)], [("cmap", CMAP)])
 
 
 def run_font(room, glyphs, front=(), **wishes):
     """Runs the program on `in`, with an OUT that is there already. The glyphs are words, or a file lists them."""
     put(room, "out", OLD)
-    words = ["--gids-file", "list", "in", "out", "0"] if "--gids-file" in front else ["in", "out", "0", glyphs]
+    words = ["--gids-file", "list", "in", "out", "0"] if "--gids-file" in front else ["in", "out", "0"]
+    words += [] if {"--gids-file", "--text"} & set(front) else [glyphs]
     put(room, "list", glyphs.encode())
     got = run([FONT, *(it for it in front if it != "--gids-file"), *words], room, **wishes)
     beside = [name for name in os.listdir(room) if name.startswith("out.")]
@@ -276,37 +281,56 @@ def main():
     words = argparse.ArgumentParser(usage=__doc__)
     words.add_argument("--no-build", action="store_true")
     words.add_argument("--more", action="store_true")
+    words.add_argument("--program", action="store_true")
     given = words.parse_args()
     build.preload("refuse.c", to="refuse.so")
     if not given.no_build:
         build_all()
-    for needed in (REFUSE, BENCH, FONT, TESTS):
+    for needed in (REFUSE, FONT) if given.program else (REFUSE, BENCH, FONT, TESTS):
         if not os.path.exists(needed):
             sys.exit(f"refusals.py: no {needed}")
-    cases = [(name, *it) for name, it in made.WORKED.items()] + (list(debian_fonts()) if given.more else [])
+    check(given, cases_of(given))
+
+
+def cases_of(given):
+    return [(name, *it) for name, it in made.WORKED.items()] + (list(debian_fonts()) if given.more else [])
+
+
+def check_library(cases, room):
+    """How many requests were refused."""
     refused = 0
-    with tempfile.TemporaryDirectory(prefix="refusals-") as room:
-        for name, data, glyphs in cases:
-            count = check_subset(name, put(room, "font", data), glyphs, room)
-            print(f"subset, {name}: {count} requests refused")
-            refused += count
-        count = check_mapper(room)
-        print(f"the calls of a mapper: {count} requests refused")
+    for name, data, glyphs in cases:
+        count = check_subset(name, put(room, "font", data), glyphs, room)
+        print(f"subset, {name}: {count} requests refused")
         refused += count
-        print(f"without memory: {check_without_memory(room)} fonts are refused as ever, and the calls that take none answer")
-        for name, data, glyphs in cases:
-            counts = check_program(name, data, glyphs, room)
-            print(f"subset_font, {name}: {sum(counts.values())} requests refused, {counts}")
-            refused += sum(counts.values())
-        for front in (["--json", "--gids-file"], ["--quiet", "--no-names", "--gids-file"]):
-            name, data, glyphs = cases[0]
-            counts = check_program(name, data, glyphs, room, front)
-            print(f"subset_font {' '.join(front)}, {name}: {sum(counts.values())} requests refused, {counts}")
-            refused += sum(counts.values())
-        for name, data, glyphs in cases:
-            many = ",".join([glyphs] * 400)
-            print(f"subset_font, {name}: failed calls {check_files(name, data, many, room)}")
-        check_silence(room)
+    count = check_mapper(room)
+    print(f"the calls of a mapper: {count} requests refused")
+    print(f"without memory: {check_without_memory(room)} fonts are refused as ever, and the calls that take none answer")
+    return refused + count
+
+
+def check_all_of_program(cases, room):
+    """How many requests were refused."""
+    refused = 0
+    name, data, glyphs = cases[0]
+    runs = [(*case, ()) for case in cases]
+    runs += [(name, data, glyphs, front) for front in (["--json", "--gids-file"], ["--quiet", "--no-names", "--gids-file"])]
+    runs += [("a font with cmap", WITH_CMAP, "", ["--text", "A"])]
+    for name, data, glyphs, front in runs:
+        counts = check_program(name, data, glyphs, room, front)
+        print(f"{' '.join(['subset_font', *front])}, {name}: {sum(counts.values())} requests refused, {counts}")
+        refused += sum(counts.values())
+    for name, data, glyphs in cases:
+        many = ",".join([glyphs] * 400)
+        print(f"subset_font, {name}: failed calls {check_files(name, data, many, room)}")
+    check_silence(room)
+    return refused
+
+
+def check(given, cases):
+    with tempfile.TemporaryDirectory(prefix="refusals-") as room:
+        refused = 0 if given.program else check_library(cases, room)
+        refused += check_all_of_program(cases, room)
     print(f"{refused} requests for memory were refused. All ended as they should, and all memory was given back.")
 
 

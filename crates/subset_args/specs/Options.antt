@@ -11,7 +11,7 @@ use Rattle.subset_args.specs.declared.options.Kind.{Kind}
 use Rattle.subset_args.specs.declared.options.Kind.TheVariants.{Switch as IsSwitch, Setting as IsSetting, Help, Version, End, Place}
 use Rattle.subset_args.specs.declared.options.Switches.{Switches}
 
--- the option of one word that a word is
+-- the option without a value that an argument is
 abbrev pub switch_of : List ℕ → Option Switch
 switch_of word =
     if bytes_eq word (codes "--widths") then Some Widths
@@ -22,7 +22,7 @@ switch_of word =
     else if bytes_eq word (codes "--quiet") then Some Quiet
     else None
 
--- the option that a value follows, which a word is
+-- the option that a value follows, which an argument is
 abbrev pub setting_of : List ℕ → Option Setting
 setting_of word =
     if bytes_eq word (codes "--limits") then Some Limits
@@ -30,7 +30,7 @@ setting_of word =
     else if bytes_eq word (codes "--text") then Some Text
     else None
 
--- what a word that is neither is
+-- what an argument that is neither is
 abbrev pub other_kind : List ℕ → Kind
 other_kind word =
     if bytes_eq word (codes "--help") then Help
@@ -39,7 +39,7 @@ other_kind word =
     else if bytes_eq word (codes "--") then End
     else Place
 
--- what a word in front of IN is
+-- what an argument in front of IN is
 abbrev pub first_of : Option Switch → Option Setting → Kind → Kind
 first_of (Some switch) setting other = IsSwitch switch
 first_of None (Some setting) other = IsSetting setting
@@ -48,7 +48,7 @@ first_of None None other = other
 abbrev pub kind_of : List ℕ → Kind
 kind_of word = first_of (switch_of word) (setting_of word) (other_kind word)
 
--- whether an option of one word was given
+-- whether an option without a value was given
 abbrev pub is_on : Switch → Switches → Bool
 is_on Widths all = all.widths
 is_on NoHinting all = all.no_hinting
@@ -66,7 +66,7 @@ switched_on NoGlyphNames all = record all { no_glyph_names = true }
 switched_on Json all = record all { json = true }
 switched_on Quiet all = record all { quiet = true }
 
--- where the glyphs are found that no word lists: in the list of a file, or by the characters of a text
+-- where the glyphs are found that no argument lists: in the list of a file, or by the characters of a text
 pub data GlyphSource : Type 0 where
   in_file : List ℕ → GlyphSource
   by_text : List ℕ → GlyphSource
@@ -81,7 +81,7 @@ pub record Choice : Type 0 where
 abbrev pub no_choice : Choice
 no_choice = record { switches = record { widths = false; no_hinting = false; no_names = false; no_glyph_names = false; json = false; quiet = false }; limits = None; source = None }
 
--- with an option of one word; none where it was given before
+-- with an option without a value; none where it was given before
 abbrev pub with_switch : Switch → Choice → Option Choice
 with_switch switch choice = if is_on switch choice.switches then None else Some (record choice { switches = switched_on switch choice.switches })
 
@@ -99,13 +99,13 @@ with_setting Limits value choice = with_limits value choice
 with_setting GidsFile value choice = with_source (in_file value) choice
 with_setting Text value choice = with_source (by_text value) choice
 
--- what the words with options in front say: that help or the version is wanted, or what is chosen, and the words behind the options
+-- what the arguments with options in front say: that help or the version is wanted, or what is chosen, and the arguments behind the options
 pub data Options : Type 0 where
   helped : Options
   versioned : Options
   chosen : Choice → List (List ℕ) → Options
 
--- the same for words behind an option that wants a value, where there is one, besides what is chosen already; none where an option is given twice, or a value is missing or isn't as it should be
+-- the same for arguments behind an option that wants a value, where there is one, besides what is chosen already; none where an option is given twice, or a value is missing or isn't as it should be
 abbrev pub parsed : Option Setting → Choice → List (List ℕ) → Option Options
 parsed (Some setting) choice [] = None
 parsed (Some setting) choice (value ∷ words) = option_and_then (λ more. parsed None more words) (with_setting setting value choice)

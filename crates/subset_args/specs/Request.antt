@@ -1,4 +1,4 @@
--- What the words after the program's name ask for.
+-- What the arguments after the program's name ask for.
 use Rattle.std.specs.Prelude.{ℕ, Bool, false, ◌&&◌, ◌==◌, if◌then◌else◌, List, [], ◌∷◌, map, Option, Some, None, codes}
 use Rattle.std.specs.Option.{option_map, option_and_then}
 use Rattle.std.specs.List.{slice_split}
@@ -37,14 +37,14 @@ pub data Command : Type 0 where
   version : Command
   subset : Request → Command
 
--- which glyphs the words behind INDEX ask for: one word that lists them, or none where they are found elsewhere
+-- which glyphs the arguments behind INDEX ask for: one argument that lists them, or none where they are found elsewhere
 abbrev pub asked : Option GlyphSource → List (List ℕ) → Option Asked
 asked None (list ∷ []) = option_map listed (glyph_list list)
 asked None _ = None
 asked (Some source) [] = Some (from source)
 asked (Some source) (word ∷ words) = None
 
--- whether a word means standard input or output
+-- whether an argument means standard input or output
 abbrev pub is_stream : List ℕ → Bool
 is_stream word = bytes_eq word (codes "-")
 
@@ -58,17 +58,17 @@ lists_in_stream (from (by_text text)) = false
 abbrev pub request_of : Choice → List ℕ → List ℕ → ℕ → Asked → Option Request
 request_of choice input output index glyphs = if is_stream input && lists_in_stream glyphs then None else Some (record { switches = choice.switches; limits = choice.limits; input = input; output = output; index = index; glyphs = glyphs })
 
--- what the words `IN OUT INDEX GID[,GID..]` ask for with these choices, or `IN OUT INDEX` where the glyphs are found elsewhere; none where their count is another, or one isn't as it should be
+-- what the arguments `IN OUT INDEX GID[,GID..]` ask for with these choices, or `IN OUT INDEX` where the glyphs are found elsewhere; none where their count is another, or one isn't as it should be
 abbrev pub request_with : Choice → List (List ℕ) → Option Request
 request_with choice (input ∷ output ∷ index ∷ words) = option_and_then (λ i. option_and_then (request_of choice input output i) (asked choice.source words)) (number_in_bits 32 index)
 request_with choice _ = None
 
--- what the options and the words behind them ask for
+-- what the options and the arguments behind them ask for
 abbrev pub command_of : Options → Option Command
 command_of helped = Some help
 command_of versioned = Some version
 command_of (chosen choice words) = option_map subset (request_with choice words)
 
--- what the words `[OPTIONS] IN OUT INDEX [GID[,GID..]]` ask for
+-- what the arguments `[OPTIONS] IN OUT INDEX [GID[,GID..]]` ask for
 abbrev pub command : List (List ℕ) → Option Command
 command words = option_and_then command_of (parsed None no_choice words)

@@ -1,4 +1,4 @@
--- What was read of the words, as the definitions name it.
+-- What was read of the arguments, as the definitions name it.
 use Rattle.std.specs.Prelude.{ℕ, List, map, string_bytes}
 use Rattle.std.specs.Option.{option_map}
 use Rattle.subset_args.specs.Limits.{limits_view}

@@ -11,7 +11,7 @@ use crate::options::{Chosen, Parsed, Source, Switches, parse_options};
 use std::alloc::{AllocError, Global};
 use subsetter_words::{parts_of, u16_of, u32_of};
 
-/// Why the words ask for nothing.
+/// Why the arguments ask for nothing.
 #[derive(Clone, Copy, PartialEq, Eq, Debug)]
 pub enum ArgsError {
     /// They aren't as the usage says.
@@ -55,7 +55,7 @@ pub struct Job {
     pub glyphs: Glyphs,
     /// How far the charstring of a glyph may run, where it is said.
     pub limits: Option<RunLimits>,
-    /// The options of one word that were given.
+    /// The options without a value that were given.
     pub switches: Switches,
 }
 
@@ -84,7 +84,7 @@ fn glyphs_of(alloc: Global, list: &str) -> Result<Vec<u16>, ArgsError>
     Ok(glyphs)
 }
 
-/// Which glyphs the words behind INDEX ask for.
+/// Which glyphs the arguments behind INDEX ask for.
 fn read_glyphs(
     alloc: Global,
     source: Option<Source<'_>>,
@@ -101,7 +101,7 @@ fn read_glyphs(
     }
 }
 
-/// Whether a word means standard input or output.
+/// Whether an argument means standard input or output.
 pub fn is_stream(word: &str) -> bool
     ensures { result ≡ is_stream word.now }
 {
@@ -118,7 +118,7 @@ fn lists_in_stream(glyphs: &Glyphs) -> bool
     }
 }
 
-/// What the words `IN OUT INDEX GID[,GID..]` ask for, or `IN OUT INDEX` where the glyphs are found elsewhere.
+/// What the arguments `IN OUT INDEX GID[,GID..]` ask for, or `IN OUT INDEX` where the glyphs are found elsewhere.
 ///
 /// `Usage` where their count is another, where INDEX or a GID isn't one or more ASCII digits whose value fits `u32` or
 /// `u16`, or where standard input is to be read twice.
@@ -144,10 +144,10 @@ fn read_job(alloc: Global, chosen: Chosen<'_>, words: &[String]) -> Result<Job, 
     })
 }
 
-/// What the words after the program's name ask for: `[OPTIONS] IN OUT INDEX GID[,GID..]`, where the last word is left out
-/// with `--gids-file` and `--text`.
+/// What the arguments after the program's name ask for: `[OPTIONS] IN OUT INDEX GID[,GID..]`, where the last one is left
+/// out with `--gids-file` and `--text`.
 ///
-/// `Usage` where an option is given twice or isn't followed by its value, where the count of the other words is another,
+/// `Usage` where an option is given twice or isn't followed by its value, where the count of the other arguments is another,
 /// where INDEX or a GID isn't one or more ASCII digits whose value fits `u32` or `u16`, where the limits aren't such
 /// numbers that fit `u32` and `u8`, or the depth is 0, or where standard input is to be read twice.
 pub fn read_words(alloc: Global, words: &[String]) -> Result<Command, ArgsError>

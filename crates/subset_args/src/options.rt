@@ -9,7 +9,7 @@ ghost use Rattle.subset_args.specs.View.{source_view, chosen_view, parsed_view};
 use crate::limits::RunLimits;
 use subsetter_words::{u8_of, u32_of};
 
-/// An option that is one word.
+/// An option without a value.
 #[derive(Clone, Copy, Debug)]
 pub enum Switch {
     /// `--widths`
@@ -37,7 +37,7 @@ pub enum Setting {
     Text,
 }
 
-/// Where the glyphs are found that no word lists.
+/// Where the glyphs are found that no argument lists.
 #[derive(Clone, Copy, Debug)]
 pub enum Source<'a> {
     /// In the list that the file of this name holds.
@@ -46,7 +46,7 @@ pub enum Source<'a> {
     Text(&'a str),
 }
 
-/// What a word in front of IN is.
+/// What an argument in front of IN is.
 #[derive(Clone, Copy, Debug)]
 pub enum Kind {
     Switch(Switch),
@@ -61,7 +61,7 @@ pub enum Kind {
     Place,
 }
 
-/// The options of one word that were given.
+/// The options without a value that were given.
 #[derive(Clone, Copy, PartialEq, Eq, Debug)]
 pub struct Switches {
     pub widths: bool,
@@ -117,7 +117,7 @@ impl Switches {
 /// What the options in front of IN choose.
 #[derive(Clone, Copy, Debug)]
 pub struct Chosen<'a> {
-    /// The options of one word.
+    /// The options without a value.
     pub switches: Switches,
     /// How far the charstring of a glyph may run, where it is said.
     pub limits: Option<RunLimits>,
@@ -133,7 +133,7 @@ impl<'a> Chosen<'a> {
         source: None,
     };
 
-    /// With an option of one word, which is given once.
+    /// With an option without a value, which is given once.
     fn with_switch(self, switch: Switch) -> Option<Chosen<'a>>
         ensures { option_map chosen_view result ≡ with_switch switch (chosen_view self.entry) }
     {
@@ -187,7 +187,7 @@ impl<'a> Chosen<'a> {
     }
 }
 
-/// The limits that a word `TOKENS,DEPTH` writes.
+/// The limits that an argument `TOKENS,DEPTH` writes.
 fn limits_of(word: &str) -> Option<RunLimits>
     ensures { option_map limits_view result ≡ limits_in word.now }
 {
@@ -195,7 +195,7 @@ fn limits_of(word: &str) -> Option<RunLimits>
     RunLimits::new(u32_of(tokens)?, u8_of(depth)?)
 }
 
-/// The option of one word that a word is.
+/// The option without a value that an argument is.
 fn switch_of(word: &str) -> Option<Switch>
     ensures { result ≡ switch_of word.now }
 {
@@ -210,7 +210,7 @@ fn switch_of(word: &str) -> Option<Switch>
     }
 }
 
-/// The option that a value follows, which a word is.
+/// The option that a value follows, which an argument is.
 fn setting_of(word: &str) -> Option<Setting>
     ensures { result ≡ setting_of word.now }
 {
@@ -222,7 +222,7 @@ fn setting_of(word: &str) -> Option<Setting>
     }
 }
 
-/// What a word in front of IN is.
+/// What an argument in front of IN is.
 fn kind_of(word: &str) -> Kind
     ensures { result ≡ kind_of word.now }
 {
@@ -247,7 +247,7 @@ pub enum Parsed<'a> {
     Help,
     /// The version is wanted.
     Version,
-    /// What is chosen, and the words behind the options.
+    /// What is chosen, and the arguments behind the options.
     Chosen(Chosen<'a>, &'a [String]),
 }
 

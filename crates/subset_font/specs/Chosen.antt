@@ -47,7 +47,7 @@ IsListFor (InText text) list = Unit {0}
 IsListFor (InFile name) (Some list) = Unit {0}
 IsListFor (InFile name) None = ⊥
 
--- those that the words list, or the file that was read for it
+-- those that the arguments list, or the file that was read for it
 abbrev pub wanted_for : Glyphs → Option GlyphList → Wanted
 wanted_for (Listed glyphs) list = these glyphs.items
 wanted_for (InText text) list = by_text (string_bytes text)

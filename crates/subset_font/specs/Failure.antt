@@ -3,7 +3,7 @@ use Rattle.std.specs.Prelude.{ℕ, Result, Ok, Err}
 use Rattle.subset_font.specs.declared.failure.Failure.{Failure}
 use Rattle.subset_font.specs.declared.failure.Failure.TheVariants.{Error, NoMapping, Usage, List, Read, ReadList, Write, Output}
 
--- 1 for a refusal, 2 for wrong words, 3 for a file that failed
+-- 1 for a refusal, 2 for wrong arguments, 3 for a file that failed
 abbrev pub status_of : Failure → ℕ
 status_of (Error e) = 1
 status_of NoMapping = 1

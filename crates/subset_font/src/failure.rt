@@ -16,7 +16,7 @@ pub enum Failure {
     /// The face has no table by which Unicode characters have glyphs.
     #[error("no Unicode cmap in font")]
     NoMapping,
-    /// The words after the program's name aren't as the usage says.
+    /// The arguments after the program's name aren't as the usage says.
     #[error("usage: subset_font IN OUT INDEX GID[,GID..]")]
     Usage,
     /// The file of glyphs isn't a list of them.
@@ -55,7 +55,7 @@ impl Failure {
 pub struct Told<'a> {
     /// Why the run failed.
     pub failure: &'a Failure,
-    /// What the run was to do, if the words said it.
+    /// What the run was to do, if the arguments said it.
     pub job: Option<&'a Job>,
 }
 

@@ -23,7 +23,7 @@ use std::{env, io};
 use subset_args::{ArgsError, Command, GlyphList, Glyphs, Job, read_list, read_words};
 use subsetter::{Error, Options};
 
-/// The words after the program's name, which is the first.
+/// The arguments after the program's name, which is the first.
 fn after_name(alloc: Global, all: env::Args) -> Result<Vec<String>, Failure>
     ensures ok { IfOk result (λ words. words.items ≡ drop 1 (into_iter_items all)) }
     ensures err { IfErr result (λ e. e ≡ Refused OutOfMemory) }
@@ -34,7 +34,7 @@ fn after_name(alloc: Global, all: env::Args) -> Result<Vec<String>, Failure>
     }
 }
 
-/// The words after the program's name. One that isn't UTF-8 is a wrong word.
+/// The arguments after the program's name. One that isn't UTF-8 is a wrong argument.
 fn words<R: Env + AllocGlobal>(rt: &R) -> Result<Vec<String>, Failure>
     ensures { IfErr result (λ e. (e ≡ Refused OutOfMemory) ⊎ (e ≡ Usage)) }
 {
@@ -45,7 +45,7 @@ fn words<R: Env + AllocGlobal>(rt: &R) -> Result<Vec<String>, Failure>
     }
 }
 
-/// What the words after the program's name ask for.
+/// What the arguments after the program's name ask for.
 fn command<R: Env + AllocGlobal>(rt: &R) -> Result<Command, Failure>
     ensures { IfErr result (λ e. (e ≡ Refused OutOfMemory) ⊎ (e ≡ Usage)) }
 {

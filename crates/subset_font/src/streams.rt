@@ -43,7 +43,7 @@ pub enum Target<'a, R: Files + Print> {
 }
 
 impl<'a, R: Files + Print + AllocGlobal> Target<'a, R> {
-    /// What a word names. No file is made yet.
+    /// What the argument OUT names. No file is made yet.
     pub fn new(rt: &'a R, name: &'a str) -> Self {
         if is_stream(name) {
             return Target::Standard(rt);
