@@ -1,10 +1,10 @@
-//! The words of a run.
+//! The arguments of a run.
 
 use crate::request::read_request;
 use std::test::Fail;
 
 #[test]
-fn words_ask_for_glyphs_at_a_place(rt: HostRuntime) -> Result<(), Fail> {
+fn arguments_ask_for_glyphs_at_a_place(rt: HostRuntime) -> Result<(), Fail> {
     let a = rt.alloc();
     let request = read_request(
         a,
