@@ -2,7 +2,7 @@
 """The points of instances of variable TrueType fonts, by the port, beside HarfBuzz, FreeType and fontTools.
 
     compare/instance.py [FOLDER ..] [--places N] [--glyphs N] [--seed S] [--only WORD] [--program FILE] [--jobs J]
-                        [--to FILE] [--no-install]
+                        [--to FILE] [--results FOLDER] [--no-install]
 
 It needs Debian (it installs the Inter fonts, libharfbuzz0b, python3-freetype and python3-fonttools by apt-get, which wants
 root, unless --no-install), and instance_parts, which `rt run` builds in crates/instance_parts (--program names another).
@@ -24,7 +24,8 @@ or all). Axes of one tag are given one coordinate. It compares
                  be equal to them
 
 A glyph that the port refuses is listed, with the error, and has to be refused or passed over by fontTools too. It prints a
-table with the commit; the status is 1 where a difference isn't within these bounds, or nothing was compared.
+table with the commit, which --to writes to a file and --results as instance.csv into a folder; the status is 1 where a
+difference isn't within these bounds, or nothing was compared.
 """
 import argparse
 import collections
@@ -483,6 +484,20 @@ def summary(words, reports):
     return lines
 
 
+def write_results(folder, words, reports):
+    """The table of the fonts as instance.csv, with the commit in front (`compare/results`)."""
+    kinds = ["equal", "within 1", "more"]
+    names = [f"{row.replace(', before rounding', '').replace(', rounded', '')} {kind}" for row in ROWS for kind in kinds]
+    os.makedirs(folder, exist_ok=True)
+    with open(os.path.join(folder, "instance.csv"), "w") as file:
+        file.write(f"# compare/instance.py, commit {commit()}; {versions()}; seed {words.seed}, {words.places} places, at most {words.glyphs} glyphs at each\n")
+        file.write(",".join(["font", "points", *names, "HarfBuzz largest", "refused", "out of bounds"]) + "\n")
+        for report in reports:
+            counts = [report.rows[row].apart[kind] for row in ROWS for kind in range(3)]
+            figures = [report.points, *counts, f"{report.rows[ROWS[4]].worst:.6f}", len(report.refused), len(report.wrong)]
+            file.write(",".join(map(str, [report.label, *figures])) + "\n")
+
+
 def main():
     parser = argparse.ArgumentParser(description=__doc__, formatter_class=argparse.RawDescriptionHelpFormatter)
     parser.add_argument("folders", nargs="*", metavar="FOLDER")
@@ -493,6 +508,7 @@ def main():
     parser.add_argument("--program", default=build.PARTS)
     parser.add_argument("--jobs", type=int, default=2)
     parser.add_argument("--to")
+    parser.add_argument("--results", metavar="FOLDER")
     parser.add_argument("--no-install", action="store_true")
     words = parser.parse_args()
     if not words.no_install:
@@ -510,6 +526,8 @@ def main():
     if words.to:
         with open(words.to, "w") as file:
             file.write(text)
+    if words.results:
+        write_results(words.results, words, reports)
     compared = sum(sum(report.rows[ROWS[6]].apart.values()) for report in reports)
     if not compared:
         print("nothing was compared")

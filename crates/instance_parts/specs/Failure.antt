@@ -4,7 +4,7 @@ use Rattle.subsetter_base.specs.Texts.{error_text}
 use Rattle.instance_parts.specs.declared.failure.Failure.{Failure}
 use Rattle.instance_parts.specs.declared.failure.Failure.TheVariants.{Error, Usage, Read, Write, Memory}
 
--- 2 for wrong words, 1 for anything else that failed
+-- 2 for wrong arguments, 1 for anything else that failed
 abbrev pub status_of : Failure → ℕ
 status_of (Error e) = 1
 status_of Usage = 2

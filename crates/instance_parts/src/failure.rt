@@ -13,7 +13,7 @@ use subsetter_base::Error;
 pub enum Failure {
     /// The font is refused.
     Error(Error),
-    /// The words aren't as the usage says.
+    /// The arguments aren't as the usage says.
     Usage,
     /// The file can't be read.
     Read,

@@ -18,7 +18,7 @@ pub struct Request {
     pub settings: Vec<(Tag, i32)>,
 }
 
-/// The numbers of a list, as `3,10,12`.
+/// The numbers of a list, as `3,10,12`; `Usage` where a part is none of 16 bits.
 fn numbers_of(alloc: Global, list: &str) -> Result<Vec<u16>, Failure> {
     let mut numbers = Vec::new(alloc);
     for part in &parts_of(alloc, list)? {
@@ -27,26 +27,26 @@ fn numbers_of(alloc: Global, list: &str) -> Result<Vec<u16>, Failure> {
     Ok(numbers)
 }
 
-/// The setting of a word `TAG=VALUE`.
-fn setting_of(word: &str) -> Option<(Tag, i32)> {
-    let (tag, value) = word.split_once('=')?;
+/// The setting of an argument `TAG=VALUE`.
+fn setting_of(argument: &str) -> Option<(Tag, i32)> {
+    let (tag, value) = argument.split_once('=')?;
     let tag = tag.parse::<Tag>().ok()?;
     let bits = u32_of(value)?;
     Some((tag, bits.cast_signed()))
 }
 
-/// The settings of words.
-fn settings_of(alloc: Global, words: &[&str]) -> Result<Vec<(Tag, i32)>, Failure> {
+/// The settings of arguments; `Usage` where one is none.
+fn settings_of(alloc: Global, arguments: &[&str]) -> Result<Vec<(Tag, i32)>, Failure> {
     let mut settings = Vec::new(alloc);
-    for word in words {
-        settings.push(setting_of(word).ok_or(Failure::Usage)?)?;
+    for argument in arguments {
+        settings.push(setting_of(argument).ok_or(Failure::Usage)?)?;
     }
     Ok(settings)
 }
 
-/// Reads what the words `FONT INDEX GLYPHS [TAG=VALUE ..]` ask for; `Usage` where they are others.
-pub fn read_request(alloc: Global, words: &[&str]) -> Result<Request, Failure> {
-    let [font, index, glyphs, settings @ ..] = words else {
+/// Reads what the arguments `FONT INDEX GLYPHS [TAG=VALUE ..]` ask for; `Usage` where they are others.
+pub fn read_request(alloc: Global, arguments: &[&str]) -> Result<Request, Failure> {
+    let [font, index, glyphs, settings @ ..] = arguments else {
         return Err(Failure::Usage);
     };
     Ok(Request {

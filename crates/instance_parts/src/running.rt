@@ -77,12 +77,12 @@ fn print_font<R: Print>(
     Ok(())
 }
 
-/// Does what the words behind the program's name ask for.
-fn perform_words<R: Env + Files + Print + AllocGlobal>(rt: &R) -> Result<(), Failure> {
-    let words = env::args(rt).map_err(|_| Failure::Usage)?;
-    let words: Vec<String> = words.skip(1).collect(rt.alloc())?;
-    let words: Vec<&str> = words.iter().map(|word| word.as_str()).collect(rt.alloc())?;
-    let request = read_request(rt.alloc(), &words)?;
+/// Does what the arguments ask for.
+fn perform<R: Env + Files + Print + AllocGlobal>(rt: &R) -> Result<(), Failure> {
+    let arguments = env::args(rt).map_err(|_| Failure::Usage)?;
+    let arguments: Vec<String> = arguments.skip(1).collect(rt.alloc())?;
+    let arguments: Vec<&str> = arguments.iter().map(|argument| argument.as_str()).collect(rt.alloc())?;
+    let request = read_request(rt.alloc(), &arguments)?;
     let font = fs::read(rt, request.font.as_str()).map_err(|_| Failure::Read)?;
     print_font(rt, rt.alloc(), &font, &request)
 }
@@ -100,9 +100,9 @@ fn report<R: Print + Eprint>(rt: &R, ended: &Result<(), Failure>) -> u8
     status_of_run(ended)
 }
 
-/// Runs the program, and answers its status: 0 where all is printed, 1 where something failed, 2 where the words are wrong.
+/// Runs the program, and answers its status: 0 where all is printed, 1 where something failed, 2 where the arguments are wrong.
 pub fn run<R: Env + Files + Print + Eprint + AllocGlobal>(rt: &R) -> u8
     ensures { result ≤ 2 }
 {
-    report(rt, &perform_words(rt))
+    report(rt, &perform(rt))
 }

@@ -4,7 +4,7 @@ use crate::request::read_request;
 use std::test::Fail;
 
 #[test]
-fn words_ask_for_glyphs_at_a_place(rt: HostRuntime) -> Result<(), Fail> {
+fn arguments_ask_for_glyphs_at_a_place(rt: HostRuntime) -> Result<(), Fail> {
     let a = rt.alloc();
     let request = read_request(
         a,

@@ -2,6 +2,7 @@ pub mod Ascending
 pub mod Between
 pub mod Bounds
 pub mod Contours
+pub mod Defaults
 pub mod Listed
 pub mod ListedDeltas
 pub mod Lying

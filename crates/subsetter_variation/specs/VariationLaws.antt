@@ -1,12 +1,13 @@
 -- Laws of how far tuples count, and of what they move.
-use Rattle.std.specs.Prelude.{◌≡◌, ◌+◌, ◌≤◌, ℕ, ℤ, pos, ◌*ℤ◌, false, List, [], ◌∷◌, length, map, slice_get, Option, Some, Ok, All}
+use Rattle.std.specs.Prelude.{◌≡◌, ◌+◌, ◌≤◌, ℕ, zero, suc, ℤ, pos, ◌*ℤ◌, Bool, false, List, [], ◌∷◌, length, map, slice_get, Option, Some, Ok, All}
 use Rattle.subsetter_variation.specs.declared.inference.Point.{Point}
 use Rattle.subsetter_variation.specs.declared.region.RegionAxis.{RegionAxis}
 use Rattle.subsetter_variation.specs.Inferred.{moved}
 use Rattle.subsetter_variation.specs.Packed.{point_numbers}
 use Rattle.subsetter_variation.specs.Region.{is_ignored, scalar, unit}
-use Rattle.subsetter_variation.specs.Tuples.{Gvar, TupleHeader, TupleHeaders, next_header}
+use Rattle.subsetter_variation.specs.Tuples.{Gvar, TupleHeader, TupleHeaders, next_header, shared_numbers, tuple_headers, variations_of}
 use Rattle.subsetter_variation.specs.Movement.{Outline, Walk, next_walk, moved_points}
+use Rattle.subsetter_variation.specs.Varied.{in_units}
 
 -- at the default a region counts nothing if one of its axes isn't ignored
 abbrev pub IsNothingAtDefault : Type 0
@@ -15,6 +16,23 @@ IsNothingAtDefault = (region : List RegionAxis) (at : List ℤ) (k : ℕ) (t : R
 -- a tuple whose scalar is 0 leaves all points where they are
 abbrev pub IsPassedOver : Type 0
 IsPassedOver = (t : Gvar) (o : Outline) (shared : Option (List ℕ)) (at : List ℤ) (w v : Walk) (h : TupleHeader) (rest : TupleHeaders) → next_header t w.headers ≡ Some (h, rest) → scalar h.region at ≡ pos 0 → next_walk t o shared at w ≡ Ok v → (v.xs ≡ w.xs) × (v.ys ≡ w.ys)
+
+-- one axis of a region isn't ignored
+abbrev pub HasAxis : List RegionAxis → Type 0
+HasAxis region = (k : ℕ) × (t : RegionAxis) × (slice_get region k ≡ Some t) × (is_ignored t ≡ false)
+
+-- each of the next n tuples has a region on so many axes, one of which isn't ignored
+abbrev pub HaveAxes : Gvar → ℕ → ℕ → TupleHeaders → Type 0
+HaveAxes t axes zero r = Unit {0}
+HaveAxes t axes (suc n) r = (next : TupleHeader × TupleHeaders) → next_header t r ≡ Some next → (length next.0.region ≡ axes) × HasAxis next.0.region × HaveAxes t axes n next.1
+
+-- the same of all tuples of a glyph
+abbrev pub HasBoundTuples : Gvar → ℕ → Outline → ℕ → Type 0
+HasBoundTuples t g o axes = (bytes : List ℕ) (all : Bool × TupleHeaders) (shared : Option (List ℕ) × TupleHeaders) → variations_of t g ≡ Some bytes → tuple_headers bytes ≡ Some all → shared_numbers (length o.xs) all.0 all.1 ≡ Some shared → HaveAxes t axes shared.1.left shared.1
+
+-- at the default the points of a glyph stay where they are, if each of its tuples has an axis that isn't ignored
+abbrev pub StaysAtDefault : Type 0
+StaysAtDefault = (t : Gvar) (g : ℕ) (o : Outline) (at : List ℤ) (steps : ℕ) (a : List ℤ × List ℤ × ℕ) → All (λ c. c ≡ pos 0) at → HasBoundTuples t g o (length at) → moved_points t g o at steps ≡ Ok a → (a.0 ≡ in_units o.xs) × (a.1 ≡ in_units o.ys)
 
 -- at its peak a tuple moves each point that it gives a delta by exactly that delta
 abbrev pub IsExactAtPeak : Type 0

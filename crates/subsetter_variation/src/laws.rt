@@ -1,7 +1,7 @@
 //! The laws of variations, which name no code: how far a tuple counts, and what it moves the points of a contour by.
 
 ghost use Rattle.subsetter_variation.specs.Moves.{IsShift, IsStill, IsTurned, LiesBetween};
-ghost use Rattle.subsetter_variation.specs.VariationLaws.{AreAscending, IsExactAtPeak, IsFreeOfPlace, IsNothingAtDefault, IsPassedOver, IsSameAtAnySteps};
+ghost use Rattle.subsetter_variation.specs.VariationLaws.{AreAscending, IsExactAtPeak, IsFreeOfPlace, IsNothingAtDefault, IsPassedOver, IsSameAtAnySteps, StaysAtDefault};
 
 /// At the scalar 0 nothing moves.
 pub fn is_still()
@@ -26,6 +26,11 @@ pub fn lies_between()
 /// At the default a region counts nothing.
 pub fn is_nothing_at_default()
     ensures { IsNothingAtDefault }
+{}
+
+/// At the default the points of a glyph stay where they are.
+pub fn stays_at_default()
+    ensures { StaysAtDefault }
 {}
 
 /// A tuple that doesn't count moves nothing.
