@@ -16,7 +16,7 @@ ALLOWED = {
     ("subsetter_c", "status_of"): (1, "its status"),
     ("cid_embed", "write_width"): (1, "`write!` tells a refused request as fmt::Error, and a number's text has no other error"),
     ("subset_rows", "status_of"): (1, "its status"),
-    ("subset_rows", "fmt"): (1, "its text"),
+    ("subset_rows", "fmt"): (1, "the list of all errors, in which a status is looked up"),
     ("subset_args", "enum ArgsError"): (1, "the case itself"),
     ("subset_args", "glyphs_of"): (1, "`push` takes memory and has no other error"),
     ("subset_font", "no_memory"): (2, "its argument is an allocator's refusal"),
