@@ -20,6 +20,7 @@ ghost use Rattle.subsetter_base.specs.declared.error.Error.TheVariants.{OutOfMem
 mod component;
 pub mod f2dot14;
 pub mod outlines;
+mod pieces;
 #[cfg(test)]
 mod tests;
 
@@ -119,26 +120,26 @@ fn find_outlines<'a>(
     Ok(outlines)
 }
 
-/// Puts outlines last, each with its components under their new numbers, and with its instructions if they are asked for. `heads` is room for their first bytes.
+/// Puts outlines last, each with its components under their new numbers. `heads` is room for their first bytes.
 /// `MalformedFont` where one isn't there, has one byte or is a composite that is cut.
 fn keep_block<'a>(
     list: &mut OutlineList<'a>,
     heads: &mut Vec<u8>,
     block: &[Option<&'a [u8]>],
     order: &GlyphRemapper,
-    hinting: bool,
 ) -> Result<(), Error>
-    ensures ok { OnOk result (with_outlines list.old (kept_outlines hinting order.now (map option_copied block.now)) ≡ Ok list.new) }
-    ensures err { IfErr result (λ e. Fails e (with_outlines list.old (kept_outlines hinting order.now (map option_copied block.now)))) }
+    ensures ok { OnOk result (with_outlines list.old.items (kept_outlines list.old.hinting order.now (map option_copied block.now)) ≡ Ok list.new.items) }
+    ensures same { OnOk result (list.new.hinting ≡ list.old.hinting) }
+    ensures err { IfErr result (λ e. Fails e (with_outlines list.old.items (kept_outlines list.old.hinting order.now (map option_copied block.now)))) }
 {
     read_first_bytes(heads, block)?;
     let mut place: usize = 0;
     for outline in block {
         let outline = outline.ok_or(Error::MalformedFont)?;
         if is_composite(heads[place]) {
-            list.push_composite(outline, order, hinting)?;
+            list.push_composite(outline, order)?;
         } else {
-            list.push_simple(outline, hinting)?;
+            list.push_simple(outline)?;
         }
         place += 1;
     }
@@ -154,20 +155,14 @@ pub fn subset<'a>(
     order: &GlyphRemapper,
     hinting: bool,
 ) -> Result<OutlineList<'a>, Error>
-    ensures { Gives (λ list. list) result (kept_outlines hinting order.now (map option_copied found.entry.items)) }
+    ensures { Gives (λ list. list.items) result (kept_outlines hinting order.now (map option_copied found.entry.items)) }
 {
-    let mut list = OutlineList::with_capacity(alloc, found.len())?;
+    let mut list = OutlineList::with_capacity(alloc, found.len(), hinting)?;
     let mut heads = Vec::with_capacity(alloc, found.len().min(BLOCK))?;
     let mut at: usize = 0;
     while at < found.len() {
         let count = (found.len() - at).min(BLOCK);
-        keep_block(
-            &mut list,
-            &mut heads,
-            &found[at..at + count],
-            order,
-            hinting,
-        )?;
+        keep_block(&mut list, &mut heads, &found[at..at + count], order)?;
         at += count;
     }
     list.shrink_to_fit();

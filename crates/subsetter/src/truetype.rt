@@ -35,8 +35,8 @@ pub struct Made<'a> {
 
 /// `OverflowError` where `glyf` has 2^32 bytes or more. No memory is taken.
 fn check_len(outlines: &OutlineList<'_>, long: bool) -> Result<(), Error>
-    ensures ok { OnOk result (length (glyf_bytes long outlines.now) < 2 ^ 32) }
-    ensures err { IfErr result (λ e. (e ≡ OverflowError) × (2 ^ 32 ≤ length (glyf_bytes long outlines.now))) }
+    ensures ok { OnOk result (length (glyf_bytes long outlines.now.items) < 2 ^ 32) }
+    ensures err { IfErr result (λ e. (e ≡ OverflowError) × (2 ^ 32 ≤ length (glyf_bytes long outlines.now.items))) }
 {
     if outlines_len(outlines, long) > 0xffff_ffff {
         return Err(Error::OverflowError);
@@ -47,8 +47,8 @@ fn check_len(outlines: &OutlineList<'_>, long: bool) -> Result<(), Error>
 /// `loca` of outlines. `OverflowError` where `glyf` has 2^32 bytes or more.
 #[tactic(auto, unfolding(crate::specs::Truetype::Plain::located))]
 fn locate(alloc: Global, outlines: &OutlineList<'_>, long: bool) -> Result<Vec<u8>, Error>
-    requires { long ≡ is_long outlines.now }
-    ensures { Gives (λ v. v.items) result (located outlines.now) }
+    requires { long ≡ is_long outlines.now.items }
+    ensures { Gives (λ v. v.items) result (located outlines.now.items) }
 {
     check_len(outlines, long)?;
     loca::subset(alloc, outlines, long)
@@ -65,7 +65,7 @@ pub fn make<'a>(
 ) -> Result<Made<'a>, Error>
     requires { AreFound (seen table.now) order.now found.items }
     ensures exact { Gives made_seen result (made_of (asked face.now.extras (table_in face.now.«data».now face.now.records.now)) (seen table.now) order.now) }
-    ensures long { IfOk result (λ m. m.long ≡ is_long m.outlines) }
+    ensures long { IfOk result (λ m. m.long ≡ is_long m.outlines.items) }
 {
     let outlines = glyf::subset(alloc, found, order, table.hinting)?;
     let long = loca::is_long(&outlines);
@@ -81,7 +81,7 @@ pub fn make<'a>(
 
 /// The tables of the new font.
 pub fn font_tables<'b, 'a>(face: &Face<'a>, made: &'b Made<'a>) -> FontTables<TableData<'b, 'a>>
-    requires { made.now.long ≡ is_long made.now.outlines }
+    requires { made.now.long ≡ is_long made.now.outlines.items }
     ensures { font_seen result ≡ font_of (asked face.now.extras (table_in face.now.«data».now face.now.records.now)) (made_seen made.now) }
 {
     let mut tables = shared::font_tables(&made.shared);

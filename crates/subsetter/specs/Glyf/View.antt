@@ -1,6 +1,9 @@
--- What the code's tables of outlines are.
+-- What the code's values of outlines stand for.
+use Rattle.std.specs.Prelude.{ℕ, List, ◌∷◌, ◌++◌}
 use Rattle.subsetter.specs.declared.glyf.OutlineTables.{OutlineTables}
 use Rattle.subsetter.specs.declared.glyf.component.Component.{Component}
+use Rattle.subsetter.specs.declared.glyf.pieces.Outline.{Outline}
+use Rattle.subsetter.specs.declared.glyf.pieces.Outline.TheVariants.{Whole, InPieces}
 use Rattle.subsetter.specs.Glyf.Read.{Outlines}
 use Rattle.subsetter.specs.Glyf.Parts as parts
 
@@ -9,3 +12,8 @@ seen t = record { loca = t.loca.now; glyf = t.glyf.now; head = t.head.now; long 
 
 abbrev pub component_seen : Component → parts.Component
 component_seen c = record { flags = c.flags; glyph = c.glyph; rest = c.rest.now }
+
+-- the bytes of an outline that is written: one piece, or two with a length of 0 between them
+abbrev pub outline_bytes : Outline → List ℕ
+outline_bytes (Whole bytes) = bytes.now
+outline_bytes (InPieces bare) = bare.front.now ++ 0 ∷ 0 ∷ bare.behind.now

@@ -4,4 +4,4 @@ use Rattle.subsetter.specs.Shared.View.{shared_seen}
 use Rattle.subsetter.specs.Truetype.Plain.{Made}
 
 abbrev pub made_seen : MadeTables → Made
-made_seen m = record { outlines = m.outlines; loca = m.loca.items; shared = shared_seen m.shared }
+made_seen m = record { outlines = m.outlines.items; loca = m.loca.items; shared = shared_seen m.shared }

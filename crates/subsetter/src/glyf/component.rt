@@ -2,11 +2,11 @@
 
 ghost use Rattle.std.specs.Prelude.{◌≡◌, ◌+◌, ◌-◌, ◌≤◌, [], ◌∷◌, ◌++◌, length, take, drop, if◌then◌else◌, ◌&&◌, nat_le, Some, Ok, OnOk, OnErr, IfErr};
 ghost use Rattle.std.specs.Int.{w16, to_be_bytes};
-ghost use Rattle.std.specs.Option.{option_map, unwrap_or};
+ghost use Rattle.std.specs.Option.{option_map};
 ghost use Rattle.subsetter_base.specs.Gives.{Fails};
 ghost use Rattle.subsetter.specs.Glyf.View.{component_seen};
 ghost use Rattle.subsetter.specs.Glyf.Parts.{rest_size, has_more, has_instructions, component_at, numbers_at, component_numbers};
-ghost use Rattle.subsetter.specs.Glyf.Bare.{flags_asked, bare_simple};
+ghost use Rattle.subsetter.specs.Glyf.Bare.{flags_asked};
 ghost use Rattle.subsetter.specs.Glyf.Plain.{new_number, written_behind, rewritten_composite};
 
 use std::marker::Model;
@@ -251,37 +251,4 @@ pub fn rewrite_composite(
             return Ok(());
         }
     }
-}
-
-/// A simple outline in two pieces: what stands before the length of its instructions, and what stands behind them.
-#[derive(Clone, Copy)]
-pub struct Bare<'a> {
-    pub front: &'a [u8],
-    pub behind: &'a [u8],
-}
-
-/// The pieces of a simple outline that has instructions, all of which are there.
-#[tactic(auto, using(crate::proofs::GlyfLaws::Bare::stays_bare), unfolding(crate::specs::Glyf::Bare::bare_simple))]
-pub fn bare_pieces(outline: &[u8]) -> Option<Bare<'_>>
-    ensures { unwrap_or (option_map (λ b. b.front.now ++ 0 ∷ 0 ∷ b.behind.now) result) outline.now ≡ bare_simple outline.now }
-{
-    if outline.len() < 2 {
-        return None;
-    }
-    let at = 10 + 2 * usize::from(u16_at(outline, 0));
-    if outline.len() < at + 2 {
-        return None;
-    }
-    let size = usize::from(u16_at(outline, at));
-    if size == 0 {
-        return None;
-    }
-    let end = at + 2 + size;
-    if outline.len() < end {
-        return None;
-    }
-    Some(Bare {
-        front: &outline[..at],
-        behind: &outline[end..],
-    })
 }
