@@ -11,7 +11,7 @@ use crate::head::NewHead;
 use crate::hmtx::NewMetrics;
 use crate::maxp::NewMaxp;
 use crate::name::NewNames;
-use subsetter_cff::NewCffTable;
+use subsetter_cff::CffPieces;
 use subsetter_sfnt::checksum::checksum;
 use subsetter_sfnt::room::put;
 use subsetter_sfnt::tables::TableBytes;
@@ -27,7 +27,7 @@ pub enum TableData<'b, 'a> {
         long: bool,
     },
     /// `CFF ` in two pieces: what stands before the charstrings' data, and that data.
-    Pieces(&'b NewCffTable),
+    Pieces(&'b CffPieces),
     /// `head`.
     Head(&'b NewHead<'a>),
     /// `hhea`.
