@@ -124,8 +124,8 @@ written_is front b all slice start same parts at =
 -- ---- one outline of a block
 
 -- its first byte
-pub head_at : (block : List (Option (Bor (List ℕ)))) (heads : List ℕ) (i : ℕ) (d : Option (Bor (List ℕ))) (e : ℕ) → heads ≡ map (λ o. first_byte_in (option_copied o)) block → i < length block → get_or heads i e ≡ first_byte_in (option_copied (get_or block i d))
-head_at block heads i d e is lt = ap (λ (l : List ℕ). get_or l i e) is ∙ get_or-map (λ o. first_byte_in (option_copied o)) block i d e lt
+pub first_byte_at : (block : List (Option (Bor (List ℕ)))) (first_bytes : List ℕ) (i : ℕ) (d : Option (Bor (List ℕ))) (e : ℕ) → first_bytes ≡ map (λ o. first_byte_in (option_copied o)) block → i < length block → get_or first_bytes i e ≡ first_byte_in (option_copied (get_or block i d))
+first_byte_at block first_bytes i d e is lt = ap (λ (l : List ℕ). get_or l i e) is ∙ get_or-map (λ o. first_byte_in (option_copied o)) block i d e lt
 
 -- a composite is written anew
 pub kept_composite : (hint : Bool) (order : List ℕ) (o : Option (Bor (List ℕ))) (b : Bor (List ℕ)) (first : ℕ) → o ≡ Some b → first ≡ first_byte_in (option_copied o) → 128 ≤ first → kept_outline hint order (option_copied o) ≡ rewritten_composite hint order b.now

@@ -1,13 +1,13 @@
 -- What the code's values of outlines stand for.
 use Rattle.std.specs.Prelude.{ℕ, List, ◌∷◌, ◌++◌}
-use Rattle.subsetter.specs.declared.glyf.OutlineTables.{OutlineTables}
+use Rattle.subsetter.specs.declared.glyf.GlyfTables.{GlyfTables}
 use Rattle.subsetter.specs.declared.glyf.component.Component.{Component}
 use Rattle.subsetter.specs.declared.glyf.pieces.Outline.{Outline}
 use Rattle.subsetter.specs.declared.glyf.pieces.Outline.TheVariants.{Whole, InPieces}
 use Rattle.subsetter.specs.Glyf.Read.{Outlines}
 use Rattle.subsetter.specs.Glyf.Parts as parts
 
-abbrev pub seen : OutlineTables → Outlines
+abbrev pub seen : GlyfTables → Outlines
 seen t = record { loca = t.loca.now; glyf = t.glyf.now; head = t.head.now; long = t.long; hinting = t.hinting }
 
 abbrev pub component_seen : Component → parts.Component

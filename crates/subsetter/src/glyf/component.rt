@@ -143,13 +143,13 @@ impl<'a> Iterator for Components<'a> {
             return None;
         }
         let flags = u16_at(bytes, 0);
-        self.rest = behind(bytes, flags);
+        self.rest = next_component(bytes, flags);
         Some(u16_at(bytes, 2))
     }
 }
 
 /// What stands behind the component at the front, which has these flags.
-fn after(bytes: &[u8], flags: u16) -> &[u8]
+fn skip_component(bytes: &[u8], flags: u16) -> &[u8]
     ensures { result.now ≡ drop (4 + rest_size flags) bytes.now }
 {
     let size = 4 + rest_size(flags);
@@ -161,18 +161,18 @@ fn after(bytes: &[u8], flags: u16) -> &[u8]
 }
 
 /// The components behind the one at the front, which has these flags.
-fn behind(bytes: &[u8], flags: u16) -> &[u8]
+fn next_component(bytes: &[u8], flags: u16) -> &[u8]
     ensures { result.now ≡ (if has_more flags then drop (4 + rest_size flags) bytes.now else []) }
 {
     if has_more(flags) {
-        after(bytes, flags)
+        skip_component(bytes, flags)
     } else {
         &[]
     }
 }
 
 /// What stands behind a component at the front.
-fn behind_component<'a>(bytes: &'a [u8], component: Component<'_>) -> &'a [u8]
+fn rest_after<'a>(bytes: &'a [u8], component: Component<'_>) -> &'a [u8]
     requires { component_at bytes.now ≡ Some (component_seen component) }
     ensures { result.now ≡ drop (4 + rest_size component.entry.flags) bytes.now }
 {
@@ -245,7 +245,7 @@ pub fn rewrite_composite(
         };
         let at = out.len() - rest.len();
         renumber(out, at, order, component, hinting);
-        rest = behind_component(rest, component);
+        rest = rest_after(rest, component);
         if !has_more(component.flags) {
             cut_tail(out, component.flags, rest.len(), hinting);
             return Ok(());

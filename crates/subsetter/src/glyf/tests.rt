@@ -1,7 +1,7 @@
 //! Which glyphs follow the given ones, and in which order: no clause says it.
 
 use crate::GlyphRemapper;
-use crate::glyf::{OutlineTables, closure};
+use crate::glyf::{GlyfTables, closure};
 use std::alloc::Global;
 use std::test::*;
 
@@ -29,7 +29,7 @@ const ITSELF: [u8; 28] = [
 
 /// The order of the glyphs for some given ones, of outlines in the short format.
 fn order_of(alloc: Global, loca: &[u8], glyf: &[u8], given: &[u16]) -> Result<Vec<u16>, Fail> {
-    let table = OutlineTables {
+    let table = GlyfTables {
         loca,
         glyf,
         head: &[0; 54],
