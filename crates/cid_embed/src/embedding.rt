@@ -1,5 +1,6 @@
 //! The subset of a font with the CIDs and the widths of its glyphs.
 
+ghost use Rattle.subsetter_sfnt.specs.FontAt.{font_at};
 ghost use Rattle.std.specs.Prelude.{◌≡◌, ◌≢◌, ◌⊎◌, ℕ, List, map, All, IfOk, IfErr, OnOk, IsSome, Some, Err};
 ghost use Rattle.subsetter_base.specs.Places.{place, HasAllAboveZero};
 ghost use Rattle.subsetter_base.specs.declared.error.Error.{Error as SpecError};
@@ -55,9 +56,9 @@ pub fn mapper_for(
 ) -> Result<GlyphRemapper, Error>
     ensures ok { IfOk result (λ mapper. mapper ≡ numbering glyphs.now) }
     ensures room { OnOk result (HasAllAboveZero glyphs.now → ⊥) }
-    ensures err { IfErr result (λ why. (why ≡ OutOfMemory) ⊎ HasMapperFault (record { bytes = «data».now; index = index; extras = extras }) glyphs.now why) }
+    ensures err { IfErr result (λ why. (why ≡ OutOfMemory) ⊎ HasMapperFault (font_at «data».now index extras) glyphs.now why) }
     // Where a fault stands that is found before memory is taken, the answer isn't out of memory.
-    ensures before_memory { (e : SpecError) → HasOpeningFault (record { bytes = «data».now; index = index; extras = extras }) e → result ≢ Err OutOfMemory }
+    ensures before_memory { (e : SpecError) → HasOpeningFault (font_at «data».now index extras) e → result ≢ Err OutOfMemory }
 {
     match GlyphRemapper::new_from_glyphs(alloc, glyphs) {
         Ok(mapper) => Ok(mapper),
@@ -85,18 +86,18 @@ pub fn mapper_for(
 /// Unless memory runs out they are looked for in this order.
 pub fn embed(alloc: Global, data: &[u8], index: u32, glyphs: &[u16]) -> Result<Embedded, Error>
     // What is answered is a subset with CIDs and widths.
-    ensures ok { IfOk result (λ e. IsEmbedded token_limit depth_limit (record { bytes = «data».now; index = index; extras = all_extras }) glyphs.now e) }
+    ensures ok { IfOk result (λ e. IsEmbedded token_limit depth_limit (font_at «data».now index all_extras) glyphs.now e) }
     // And then no fault stands in the source, the size limits being judged for the answer's order of glyphs.
-    ensures clean { IfOk result (λ e. (s : IsEmbedded token_limit depth_limit (record { bytes = «data».now; index = index; extras = all_extras }) glyphs.now e) × ((why : SpecError) → ¬ (HasEmbedFault token_limit depth_limit (record { bytes = «data».now; index = index; extras = all_extras }) glyphs.now s.subset.keeps.order why))) }
+    ensures clean { IfOk result (λ e. (s : IsEmbedded token_limit depth_limit (font_at «data».now index all_extras) glyphs.now e) × ((why : SpecError) → ¬ (HasEmbedFault token_limit depth_limit (font_at «data».now index all_extras) glyphs.now s.subset.keeps.order why))) }
     // Its font is the one that `subset` answers.
-    ensures exact { IfOk result (λ e. IsAnswer token_limit depth_limit (record { bytes = «data».now; index = index; extras = all_extras }) (numbering glyphs.now) e.font.items) }
-    ensures same { IfOk result (λ e. IsTheAnswer (record { bytes = «data».now; index = index; extras = all_extras }) (numbering glyphs.now) e.font.items) }
+    ensures exact { IfOk result (λ e. IsAnswer token_limit depth_limit (font_at «data».now index all_extras) (numbering glyphs.now) e.font.items) }
+    ensures same { IfOk result (λ e. IsTheAnswer (font_at «data».now index all_extras) (numbering glyphs.now) e.font.items) }
     // What is refused has a fault of that name.
-    ensures err { IfErr result (λ why. (why ≡ OutOfMemory) ⊎ ((order : List ℕ) × HasEmbedFault token_limit depth_limit (record { bytes = «data».now; index = index; extras = all_extras }) glyphs.now order why)) }
+    ensures err { IfErr result (λ why. (why ≡ OutOfMemory) ⊎ ((order : List ℕ) × HasEmbedFault token_limit depth_limit (font_at «data».now index all_extras) glyphs.now order why)) }
     // And, unless memory ran out, it has no answer: no call answers it within these limits.
-    ensures no_answer { IfErr result (λ why. (why ≡ OutOfMemory) ⊎ HasNoEmbedding token_limit depth_limit (record { bytes = «data».now; index = index; extras = all_extras }) glyphs.now) }
+    ensures no_answer { IfErr result (λ why. (why ≡ OutOfMemory) ⊎ HasNoEmbedding token_limit depth_limit (font_at «data».now index all_extras) glyphs.now) }
     // Where a fault stands that is found before memory is taken, the answer isn't out of memory.
-    ensures before_memory { (e : SpecError) → HasOpeningFault (record { bytes = «data».now; index = index; extras = all_extras }) e → result ≢ Err OutOfMemory }
+    ensures before_memory { (e : SpecError) → HasOpeningFault (font_at «data».now index all_extras) e → result ≢ Err OutOfMemory }
 {
     embed_with_limits(alloc, data, index, glyphs, &Limits::default())
 }
@@ -114,18 +115,18 @@ pub fn embed_with_limits(
     limits: &Limits,
 ) -> Result<Embedded, Error>
     // What is answered is a subset with CIDs and widths.
-    ensures ok { IfOk result (λ e. IsEmbedded limits.now.tokens limits.now.depth (record { bytes = «data».now; index = index; extras = all_extras }) glyphs.now e) }
+    ensures ok { IfOk result (λ e. IsEmbedded limits.now.tokens limits.now.depth (font_at «data».now index all_extras) glyphs.now e) }
     // And then no fault stands in the source, the size limits being judged for the answer's order of glyphs.
-    ensures clean { IfOk result (λ e. (s : IsEmbedded limits.now.tokens limits.now.depth (record { bytes = «data».now; index = index; extras = all_extras }) glyphs.now e) × ((why : SpecError) → ¬ (HasEmbedFault limits.now.tokens limits.now.depth (record { bytes = «data».now; index = index; extras = all_extras }) glyphs.now s.subset.keeps.order why))) }
+    ensures clean { IfOk result (λ e. (s : IsEmbedded limits.now.tokens limits.now.depth (font_at «data».now index all_extras) glyphs.now e) × ((why : SpecError) → ¬ (HasEmbedFault limits.now.tokens limits.now.depth (font_at «data».now index all_extras) glyphs.now s.subset.keeps.order why))) }
     // Its font is the one that `subset_with_limits` answers.
-    ensures exact { IfOk result (λ e. IsAnswer limits.now.tokens limits.now.depth (record { bytes = «data».now; index = index; extras = all_extras }) (numbering glyphs.now) e.font.items) }
-    ensures same { IfOk result (λ e. IsTheAnswer (record { bytes = «data».now; index = index; extras = all_extras }) (numbering glyphs.now) e.font.items) }
+    ensures exact { IfOk result (λ e. IsAnswer limits.now.tokens limits.now.depth (font_at «data».now index all_extras) (numbering glyphs.now) e.font.items) }
+    ensures same { IfOk result (λ e. IsTheAnswer (font_at «data».now index all_extras) (numbering glyphs.now) e.font.items) }
     // What is refused has a fault of that name.
-    ensures err { IfErr result (λ why. (why ≡ OutOfMemory) ⊎ ((order : List ℕ) × HasEmbedFault limits.now.tokens limits.now.depth (record { bytes = «data».now; index = index; extras = all_extras }) glyphs.now order why)) }
+    ensures err { IfErr result (λ why. (why ≡ OutOfMemory) ⊎ ((order : List ℕ) × HasEmbedFault limits.now.tokens limits.now.depth (font_at «data».now index all_extras) glyphs.now order why)) }
     // And, unless memory ran out, it has no answer: no call answers it within these limits.
-    ensures no_answer { IfErr result (λ why. (why ≡ OutOfMemory) ⊎ HasNoEmbedding limits.now.tokens limits.now.depth (record { bytes = «data».now; index = index; extras = all_extras }) glyphs.now) }
+    ensures no_answer { IfErr result (λ why. (why ≡ OutOfMemory) ⊎ HasNoEmbedding limits.now.tokens limits.now.depth (font_at «data».now index all_extras) glyphs.now) }
     // Where a fault stands that is found before memory is taken, the answer isn't out of memory.
-    ensures before_memory { (e : SpecError) → HasOpeningFault (record { bytes = «data».now; index = index; extras = all_extras }) e → result ≢ Err OutOfMemory }
+    ensures before_memory { (e : SpecError) → HasOpeningFault (font_at «data».now index all_extras) e → result ≢ Err OutOfMemory }
 {
     let options = Options {
         limits: *limits,
@@ -148,18 +149,18 @@ pub fn embed_with_options(
     options: &Options,
 ) -> Result<Embedded, Error>
     // What is answered is a subset with CIDs and widths.
-    ensures ok { IfOk result (λ e. IsEmbedded options.now.limits.tokens options.now.limits.depth (record { bytes = «data».now; index = index; extras = options.now.extras }) glyphs.now e) }
+    ensures ok { IfOk result (λ e. IsEmbedded options.now.limits.tokens options.now.limits.depth (font_at «data».now index options.now.extras) glyphs.now e) }
     // And then no fault stands in the source, the size limits being judged for the answer's order of glyphs.
-    ensures clean { IfOk result (λ e. (s : IsEmbedded options.now.limits.tokens options.now.limits.depth (record { bytes = «data».now; index = index; extras = options.now.extras }) glyphs.now e) × ((why : SpecError) → ¬ (HasEmbedFault options.now.limits.tokens options.now.limits.depth (record { bytes = «data».now; index = index; extras = options.now.extras }) glyphs.now s.subset.keeps.order why))) }
+    ensures clean { IfOk result (λ e. (s : IsEmbedded options.now.limits.tokens options.now.limits.depth (font_at «data».now index options.now.extras) glyphs.now e) × ((why : SpecError) → ¬ (HasEmbedFault options.now.limits.tokens options.now.limits.depth (font_at «data».now index options.now.extras) glyphs.now s.subset.keeps.order why))) }
     // Its font is the one that `subset_with_options` answers.
-    ensures exact { IfOk result (λ e. IsAnswer options.now.limits.tokens options.now.limits.depth (record { bytes = «data».now; index = index; extras = options.now.extras }) (numbering glyphs.now) e.font.items) }
-    ensures same { IfOk result (λ e. IsTheAnswer (record { bytes = «data».now; index = index; extras = options.now.extras }) (numbering glyphs.now) e.font.items) }
+    ensures exact { IfOk result (λ e. IsAnswer options.now.limits.tokens options.now.limits.depth (font_at «data».now index options.now.extras) (numbering glyphs.now) e.font.items) }
+    ensures same { IfOk result (λ e. IsTheAnswer (font_at «data».now index options.now.extras) (numbering glyphs.now) e.font.items) }
     // What is refused has a fault of that name.
-    ensures err { IfErr result (λ why. (why ≡ OutOfMemory) ⊎ ((order : List ℕ) × HasEmbedFault options.now.limits.tokens options.now.limits.depth (record { bytes = «data».now; index = index; extras = options.now.extras }) glyphs.now order why)) }
+    ensures err { IfErr result (λ why. (why ≡ OutOfMemory) ⊎ ((order : List ℕ) × HasEmbedFault options.now.limits.tokens options.now.limits.depth (font_at «data».now index options.now.extras) glyphs.now order why)) }
     // And, unless memory ran out, it has no answer: no call answers it within these limits.
-    ensures no_answer { IfErr result (λ why. (why ≡ OutOfMemory) ⊎ HasNoEmbedding options.now.limits.tokens options.now.limits.depth (record { bytes = «data».now; index = index; extras = options.now.extras }) glyphs.now) }
+    ensures no_answer { IfErr result (λ why. (why ≡ OutOfMemory) ⊎ HasNoEmbedding options.now.limits.tokens options.now.limits.depth (font_at «data».now index options.now.extras) glyphs.now) }
     // Where a fault stands that is found before memory is taken, the answer isn't out of memory.
-    ensures before_memory { (e : SpecError) → HasOpeningFault (record { bytes = «data».now; index = index; extras = options.now.extras }) e → result ≢ Err OutOfMemory }
+    ensures before_memory { (e : SpecError) → HasOpeningFault (font_at «data».now index options.now.extras) e → result ≢ Err OutOfMemory }
 {
     let mapper = mapper_for(alloc, data, index, glyphs, options.extras)?;
     let font = subset_with_options(alloc, data, index, &mapper, options)?;

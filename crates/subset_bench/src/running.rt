@@ -1,5 +1,6 @@
 //! A run of the program.
 
+ghost use Rattle.subsetter_sfnt.specs.FontAt.{font_at};
 ghost use Rattle.std.specs.Prelude.{◌≡◌, ◌≤◌, [], ◌∷◌, IfOk};
 ghost use Rattle.subsetter_sfnt.specs.Extras.{all_extras};
 ghost use Rattle.subsetter.specs.Limits.{token_limit, depth_limit};
@@ -27,7 +28,7 @@ fn measure_call<R: Clock>(
     index: u32,
     mapper: &GlyphRemapper,
 ) -> Result<(u64, Vec<u8>), Failure>
-    ensures { IfOk result (λ call. IsSubset token_limit depth_limit (record { bytes = font.now; index = index; extras = all_extras }) mapper.now call.1.items) }
+    ensures { IfOk result (λ call. IsSubset token_limit depth_limit (font_at font.now index all_extras) mapper.now call.1.items) }
 {
     let start = Instant::now(rt).map_err(|_| Failure::Clock)?;
     let output = subset(alloc, font, index, mapper)?;
@@ -43,7 +44,7 @@ fn measure<R: Clock>(
     task: &Task,
 ) -> Result<(Times, Vec<u8>), Failure>
     // What is measured is the subset of the font that the task asks for.
-    ensures { IfOk result (λ measured. IsSubset token_limit depth_limit (record { bytes = font.now; index = task.now.index; extras = all_extras }) (with_glyphs (0 ∷ []) task.now.glyphs.items) measured.1.items) }
+    ensures { IfOk result (λ measured. IsSubset token_limit depth_limit (font_at font.now task.now.index all_extras) (with_glyphs (0 ∷ []) task.now.glyphs.items) measured.1.items) }
 {
     let mapper = GlyphRemapper::new_from_glyphs(alloc, &task.glyphs)?;
     let mut times = Vec::new(alloc);

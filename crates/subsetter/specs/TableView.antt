@@ -14,7 +14,7 @@ use Rattle.subsetter.specs.Glyf.Written.{glyf_bytes}
 -- the bytes of a table, which is whole, a list of outlines, two pieces, or what a module writes
 abbrev pub table_bytes : TableData → List ℕ
 table_bytes (Whole bytes) = bytes.now
-table_bytes (Outlines outlines long) = glyf_bytes long outlines.now
+table_bytes (Outlines outlines long) = glyf_bytes long outlines.now.items
 table_bytes (Pieces table) = piece_bytes table.now
 table_bytes (Head head) = head.now
 table_bytes (Hhea metrics) = metrics.now.hhea

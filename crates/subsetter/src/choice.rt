@@ -1,5 +1,8 @@
 //! What a caller chooses of a subset.
 
+ghost use Rattle.std.specs.Prelude.{◌≡◌};
+ghost use Rattle.subsetter_sfnt.specs.Extras.{all_extras};
+
 use subsetter_sfnt::extras::Extras;
 use subsetter_type2::limits::Limits;
 
@@ -8,4 +11,17 @@ use subsetter_type2::limits::Limits;
 pub struct Options {
     pub limits: Limits,
     pub extras: Extras,
+}
+
+impl Options {
+    /// All extras, within these limits.
+    pub fn keeping_all(limits: Limits) -> Self
+        ensures limits { result.limits ≡ limits }
+        ensures extras { result.extras ≡ all_extras }
+    {
+        Self {
+            limits,
+            extras: Extras::ALL,
+        }
+    }
 }

@@ -18,9 +18,8 @@ ghost use Rattle.std.specs.Prelude.{◌≡◌, ◌+◌, ◌<◌, ◌≤◌, ◌^
 ghost use Rattle.std.specs.Option.{option_copied};
 ghost use Rattle.subsetter_base.specs.Gives.{Gives, Fails};
 ghost use Rattle.subsetter_base.specs.Places.{IsWithoutRepeats};
-ghost use Rattle.subsetter.specs.Glyf.Closure.{first_byte_in, AreFound, EndsWith, IsTaken, components_in, others_in, lacks_head, LacksParts, IsFaulty, IsFull, IsVisited, StopsClosure, Finds};
-ghost use Rattle.subsetter_sfnt.specs.Read.{table_in};
-ghost use Rattle.subsetter_sfnt.specs.Extras.{asked};
+ghost use Rattle.subsetter.specs.Glyf.Closure.{first_byte_in, AreFound, EndsWith, IsTaken, components_in, others_in, lacks_glyph_header, LacksParts, IsFaulty, IsFull, IsVisited, StopsClosure, Finds};
+ghost use Rattle.subsetter_sfnt.specs.FontAt.{tables_of};
 ghost use Rattle.subsetter.specs.Glyf.Read.{offset, outline_in};
 ghost use Rattle.subsetter.specs.Glyf.View.{seen};
 ghost use Rattle.subsetter.specs.Glyf.Plain.{outlines_read, kept_outlines, with_outlines};
@@ -30,6 +29,7 @@ ghost use Rattle.subsetter_base.specs.declared.error.Error.TheVariants.{OutOfMem
 mod component;
 pub mod f2dot14;
 pub mod outlines;
+mod pieces;
 
 use crate::glyf::component::{Components, is_composite};
 use crate::glyf::outlines::OutlineList;
@@ -41,7 +41,7 @@ use subsetter_sfnt::face::Face;
 
 /// The tables that outlines are read from.
 #[derive(Clone, Copy)]
-pub struct OutlineTables<'a> {
+pub struct GlyfTables<'a> {
     pub loca: &'a [u8],
     pub glyf: &'a [u8],
     pub head: &'a [u8],
@@ -50,12 +50,12 @@ pub struct OutlineTables<'a> {
     pub hinting: bool,
 }
 
-impl<'a> OutlineTables<'a> {
+impl<'a> GlyfTables<'a> {
     /// The tables of a font. `MalformedFont` where one is missing, or `head` has fewer than 52 bytes.
     #[tactic(auto, unfolding(crate::specs::Glyf::Read::outlines_in))]
     pub fn new(face: &Face<'a>) -> Result<Self, Error>
-        ensures ok { IfOk result (λ t. outlines_read face.now.extras.hinting (asked face.now.extras (table_in face.now.«data».now face.now.records.now)) ≡ Ok (seen t)) }
-        ensures err { IfErr result (λ e. outlines_read face.now.extras.hinting (asked face.now.extras (table_in face.now.«data».now face.now.records.now)) ≡ Err e) }
+        ensures ok { IfOk result (λ t. outlines_read face.now.extras.hinting (tables_of face.now) ≡ Ok (seen t)) }
+        ensures err { IfErr result (λ e. outlines_read face.now.extras.hinting (tables_of face.now) ≡ Err e) }
         ensures head { IfOk result (λ t. 52 ≤ length t.head.now) }
     {
         let loca = face.table(Tag::LOCA).ok_or(Error::MalformedFont)?;
@@ -103,18 +103,18 @@ impl<'a> OutlineTables<'a> {
 
 /// The order of the glyphs of a subset, and the outline of each as it is looked up, if it is there.
 #[derive(Drop)]
-pub struct Reached<'a> {
+pub struct GlyphClosure<'a> {
     pub order: GlyphRemapper,
     pub outlines: Vec<Option<&'a [u8]>>,
 }
 
 /// How many outlines are begun at a time.
-const BLOCK: usize = 64;
+const PREFETCH_BLOCK: usize = 64;
 
 /// The outlines of a remapper's glyphs, each if it is there.
 fn find_outlines<'a>(
     alloc: Global,
-    table: &OutlineTables<'a>,
+    table: &GlyfTables<'a>,
     mapper: &GlyphRemapper,
 ) -> Result<Vec<Option<&'a [u8]>>, Error>
     ensures ok { IfOk result (λ v. AreFound (seen table.now) mapper.now v.items) }
@@ -127,26 +127,26 @@ fn find_outlines<'a>(
     Ok(outlines)
 }
 
-/// Puts outlines last, each with its components under their new numbers, and with its instructions if they are asked for. `heads` is room for their first bytes.
+/// Puts outlines last, each with its components under their new numbers. `first_bytes` is room for their first bytes.
 /// `MalformedFont` where one isn't there, has one byte or is a composite that is cut.
 fn keep_block<'a>(
     list: &mut OutlineList<'a>,
-    heads: &mut Vec<u8>,
+    first_bytes: &mut Vec<u8>,
     block: &[Option<&'a [u8]>],
     order: &GlyphRemapper,
-    hinting: bool,
 ) -> Result<(), Error>
-    ensures ok { OnOk result (with_outlines list.old (kept_outlines hinting order.now (map option_copied block.now)) ≡ Ok list.new) }
-    ensures err { IfErr result (λ e. Fails e (with_outlines list.old (kept_outlines hinting order.now (map option_copied block.now)))) }
+    ensures ok { OnOk result (with_outlines list.old.items (kept_outlines list.old.hinting order.now (map option_copied block.now)) ≡ Ok list.new.items) }
+    ensures same { OnOk result (list.new.hinting ≡ list.old.hinting) }
+    ensures err { IfErr result (λ e. Fails e (with_outlines list.old.items (kept_outlines list.old.hinting order.now (map option_copied block.now)))) }
 {
-    read_first_bytes(heads, block)?;
+    read_first_bytes(first_bytes, block)?;
     let mut place: usize = 0;
     for outline in block {
         let outline = outline.ok_or(Error::MalformedFont)?;
-        if is_composite(heads[place]) {
-            list.push_composite(outline, order, hinting)?;
+        if is_composite(first_bytes[place]) {
+            list.push_composite(outline, order)?;
         } else {
-            list.push_simple(outline, hinting)?;
+            list.push_simple(outline)?;
         }
         place += 1;
     }
@@ -162,20 +162,14 @@ pub fn subset<'a>(
     order: &GlyphRemapper,
     hinting: bool,
 ) -> Result<OutlineList<'a>, Error>
-    ensures { Gives (λ list. list) result (kept_outlines hinting order.now (map option_copied found.entry.items)) }
+    ensures { Gives (λ list. list.items) result (kept_outlines hinting order.now (map option_copied found.entry.items)) }
 {
-    let mut list = OutlineList::with_capacity(alloc, found.len())?;
-    let mut heads = Vec::with_capacity(alloc, found.len().min(BLOCK))?;
+    let mut list = OutlineList::with_capacity(alloc, found.len(), hinting)?;
+    let mut first_bytes = Vec::with_capacity(alloc, found.len().min(PREFETCH_BLOCK))?;
     let mut at: usize = 0;
     while at < found.len() {
-        let count = (found.len() - at).min(BLOCK);
-        keep_block(
-            &mut list,
-            &mut heads,
-            &found[at..at + count],
-            order,
-            hinting,
-        )?;
+        let count = (found.len() - at).min(PREFETCH_BLOCK);
+        keep_block(&mut list, &mut first_bytes, &found[at..at + count], order)?;
         at += count;
     }
     list.shrink_to_fit();
@@ -183,9 +177,9 @@ pub fn subset<'a>(
 }
 
 /// Whether an outline has one byte, or is a composite that is shorter than its head.
-#[tactic(auto, unfolding(crate::specs::Glyf::Closure::lacks_head))]
-fn lacks_head(outline: &[u8]) -> bool
-    ensures { result ≡ lacks_head outline.now }
+#[tactic(auto, unfolding(crate::specs::Glyf::Closure::lacks_glyph_header))]
+fn lacks_glyph_header(outline: &[u8]) -> bool
+    ensures { result ≡ lacks_glyph_header outline.now }
 {
     match outline {
         [] => false,
@@ -207,7 +201,7 @@ fn push_components(
     let Some(outline) = outline else {
         return Ok(());
     };
-    if lacks_head(outline) {
+    if lacks_glyph_header(outline) {
         return Err(Error::MalformedFont);
     }
     for component in Components::new(outline) {
@@ -240,7 +234,7 @@ fn follow(
 /// Takes a glyph that waited: a new one goes last in the order, its outline last, and its components wait.
 /// `OverflowError` where there is no room for it; otherwise the errors of its components.
 fn visit<'a>(
-    table: &OutlineTables<'a>,
+    table: &GlyfTables<'a>,
     order: &mut GlyphRemapper,
     outlines: &mut Vec<Option<&'a [u8]>>,
     waiting: &mut Vec<u16>,
@@ -265,13 +259,16 @@ fn visit<'a>(
     Ok(())
 }
 
-/// The first byte of an outline, 0 where there is none. A glyph of one byte counts as a composite: the closure finds it
-/// faulty.
+/// Stands for the first byte of an outline that has no other one, so that it counts as a composite. The closure follows it
+/// then, and finds it faulty. (A byte and no enum: the first bytes of a block are read without a step that waits for one.)
+const ONLY_BYTE: u8 = 255;
+
+/// The first byte of an outline, 0 where there is none.
 fn first_byte(outline: Option<&[u8]>) -> u8
     ensures { result ≡ first_byte_in (option_copied outline.entry) }
 {
     match outline {
-        Some([_]) => 255,
+        Some([_]) => ONLY_BYTE,
         Some([first, ..]) => *first,
         _ => 0,
     }
@@ -280,31 +277,31 @@ fn first_byte(outline: Option<&[u8]>) -> u8
 /// Reads the first bytes of outlines.
 ///
 /// No step waits for one of them, so that many are fetched from memory at a time.
-fn read_first_bytes(heads: &mut Vec<u8>, outlines: &[Option<&[u8]>]) -> Result<(), Error>
-    ensures ok { OnOk result (heads.new.items ≡ map (λ o. first_byte_in (option_copied o)) outlines.now) }
+fn read_first_bytes(first_bytes: &mut Vec<u8>, outlines: &[Option<&[u8]>]) -> Result<(), Error>
+    ensures ok { OnOk result (first_bytes.new.items ≡ map (λ o. first_byte_in (option_copied o)) outlines.now) }
     ensures err { IfErr result (λ e. e ≡ OutOfMemory) }
 {
-    heads.clear();
+    first_bytes.clear();
     for outline in outlines {
-        heads.push(first_byte(*outline))?;
+        first_bytes.push(first_byte(*outline))?;
     }
     Ok(())
 }
 
-/// Takes the first byte of the last of some outlines, where `heads` are the first bytes of those at the end.
+/// Takes the first byte of the last of some outlines, where `first_bytes` are the first bytes of those at the end.
 /// Where there are none, a block of them is read.
-fn take_head(heads: &mut Vec<u8>, outlines: &[Option<&[u8]>]) -> Result<u8, Error>
+fn pop_first_byte(first_bytes: &mut Vec<u8>, outlines: &[Option<&[u8]>]) -> Result<u8, Error>
     requires some { 1 ≤ length outlines.now }
-    requires ends { EndsWith (map (λ o. first_byte_in (option_copied o)) outlines.now) heads.old.items }
-    ensures ok { IfOk result (λ first. IsTaken (map (λ o. first_byte_in (option_copied o)) outlines.now) first heads.new.items) }
+    requires ends { EndsWith (map (λ o. first_byte_in (option_copied o)) outlines.now) first_bytes.old.items }
+    ensures ok { IfOk result (λ first. IsTaken (map (λ o. first_byte_in (option_copied o)) outlines.now) first first_bytes.new.items) }
     ensures err { IfErr result (λ e. e ≡ OutOfMemory) }
 {
-    if let Some(first) = heads.pop() {
+    if let Some(first) = first_bytes.pop() {
         return Ok(first);
     }
-    let start = outlines.len().saturating_sub(BLOCK);
-    read_first_bytes(heads, &outlines[start..])?;
-    Ok(heads.pop().unwrap_or(0))
+    let start = outlines.len().saturating_sub(PREFETCH_BLOCK);
+    read_first_bytes(first_bytes, &outlines[start..])?;
+    Ok(first_bytes.pop().unwrap_or(0))
 }
 
 /// The mapper's glyphs, and then each further one that they reach through components, with the outlines of all.
@@ -315,9 +312,9 @@ fn take_head(heads: &mut Vec<u8>, outlines: &[Option<&[u8]>]) -> Result<u8, Erro
 /// one byte or is a composite that is shorter than its head.
 pub fn closure<'a>(
     alloc: Global,
-    table: &OutlineTables<'a>,
+    table: &GlyfTables<'a>,
     mapper: &GlyphRemapper,
-) -> Result<Reached<'a>, Error>
+) -> Result<GlyphClosure<'a>, Error>
     ensures ok { IfOk result (λ r. IsGlyphOrderBy (outline_in (seen table.now)) mapper.now r.order) }
     ensures found { IfOk result (λ r. Finds (seen table.now) r.order mapper.now [] mapper.now) }
     ensures outlines { IfOk result (λ r. AreFound (seen table.now) r.order r.outlines.items) }
@@ -326,15 +323,15 @@ pub fn closure<'a>(
     let mut order = mapper.clone()?;
     let mut outlines = find_outlines(alloc, table, mapper)?;
     let mut left = mapper.num_gids() as usize;
-    let mut heads = Vec::with_capacity(alloc, left.min(BLOCK))?;
+    let mut first_bytes = Vec::with_capacity(alloc, left.min(PREFETCH_BLOCK))?;
     let mut waiting = Vec::new(alloc);
     while left > 0 {
-        let first = take_head(&mut heads, &outlines[..left])?;
+        let first = pop_first_byte(&mut first_bytes, &outlines[..left])?;
         left -= 1;
         follow(first, outlines[left], &order, &mut waiting)?;
         while let Some(component) = waiting.pop() {
             visit(table, &mut order, &mut outlines, &mut waiting, component)?;
         }
     }
-    Ok(Reached { order, outlines })
+    Ok(GlyphClosure { order, outlines })
 }

@@ -8,14 +8,14 @@ ghost use Rattle.std.specs.Prelude.{◌≡◌, ◌<◌, ◌^◌, ◌++◌, lengt
 ghost use Rattle.subsetter_base.specs.declared.error.Error.TheVariants.{OutOfMemory};
 ghost use Rattle.subsetter.specs.Glyf.Written.{is_long, glyf_bytes, offset_bytes, loca_bytes};
 
-use crate::glyf::outlines::{OutlineList, outlines_len, padded_len};
+use crate::glyf::outlines::{OutlineList, outlines_len};
 use std::alloc::Global;
 use subsetter_base::Error;
 use subsetter_base::write::Writer;
 
 /// Whether the offsets need the long format: halves of them don't fit 16 bits.
 pub fn is_long(outlines: &OutlineList<'_>) -> bool
-    ensures { result ≡ is_long outlines.now }
+    ensures { result ≡ is_long outlines.now.items }
 {
     outlines_len(outlines, false) > 131_070
 }
@@ -35,8 +35,8 @@ fn write_offset(w: &mut Writer, long: bool, offset: usize) -> Result<(), Error>
 
 /// `loca`: where each outline begins, and where the last one ends.
 pub fn subset(alloc: Global, outlines: &OutlineList<'_>, long: bool) -> Result<Vec<u8>, Error>
-    requires { length (glyf_bytes long outlines.now) < (if long then 2 ^ 32 else 2 ^ 17) }
-    ensures ok { IfOk result (λ v. v.items ≡ loca_bytes long 0 outlines.now) }
+    requires { length (glyf_bytes long outlines.now.items) < (if long then 2 ^ 32 else 2 ^ 17) }
+    ensures ok { IfOk result (λ v. v.items ≡ loca_bytes long 0 outlines.now.items) }
     ensures err { IfErr result (λ e. e ≡ OutOfMemory) }
 {
     let entry = if long { 4 } else { 2 };
@@ -45,7 +45,7 @@ pub fn subset(alloc: Global, outlines: &OutlineList<'_>, long: bool) -> Result<V
     let mut offset: usize = 0;
     for outline in outlines.iter() {
         write_offset(&mut w, long, offset)?;
-        offset += padded_len(outline, long);
+        offset += outline.padded_len(long);
     }
     write_offset(&mut w, long, offset)?;
     Ok(w.finish())

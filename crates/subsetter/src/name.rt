@@ -10,9 +10,9 @@
 
 ghost use Rattle.std.specs.HashMap.{get, IsUnchanged};
 ghost use Rattle.std.specs.Str.{bytes_eq};
-ghost use Rattle.std.specs.Prelude.{ℕ, List, nat_le, ◌&&◌, ◌≡◌, ◌+◌, ◌*◌, ◌%◌, ◌<◌, ◌≤◌, ◌^◌, ◌++◌, [], length, filter, flat_map, false, vec_capacity, if◌then◌else◌, None, Some, OnOk, OnErr, IfOk, IfErr, IfNone, IfSome};
+ghost use Rattle.std.specs.Prelude.{ℕ, List, nat_le, ◌&&◌, ◌≡◌, ◌+◌, ◌*◌, ◌%◌, ◌<◌, ◌≤◌, ◌^◌, ◌++◌, [], length, filter, flat_map, false, vec_capacity, if◌then◌else◌, None, Some, Ok, OnOk, OnErr, IfOk, IfErr, IfNone, IfSome};
 ghost use Rattle.std.specs.Option.{option_copied, option_map, ok_or};
-ghost use Rattle.subsetter_base.specs.Gives.{Gives};
+ghost use Rattle.subsetter_base.specs.Gives.{Gives, Fails};
 ghost use Rattle.subsetter_base.specs.declared.error.Error.TheVariants.{OutOfMemory};
 ghost use Rattle.subsetter.specs.Name.Read.{name_record_bytes, name_parts, is_unicode, is_kept_record, string_of, among, with_string, string_place, joined};
 ghost use Rattle.subsetter.specs.Name.Plain.{placed, placed_string, name_of_table, new_name, header_bytes, laid_behind, few_laid, laid_bytes, kept_bytes};
@@ -105,14 +105,14 @@ impl Writeable for NameRecord {
 }
 
 /// How many strings are looked through one by one.
-const NEAR: usize = 32;
+const LINEAR_MAX: usize = 32;
 
 /// Distinct strings, which are to stand one after another.
 #[derive(Drop)]
 struct Strings<'a> {
     strings: Vec<&'a [u8]>,
     /// Where the strings begin that stand behind the first 32, and of these none.
-    far: HashMap<Text<'a>, u16>,
+    hashed: HashMap<Text<'a>, u16>,
     size: usize,
 }
 
@@ -128,14 +128,14 @@ impl<'a> Model for Strings<'a> {
     ghost view = { λ s. nows s.strings.items };
 
     ghost invariant = { λ s. record {
-      far_are : (q : List ℕ) → among (take 32 (nows s.strings.items)) q ≡ false → get bytes_eq s.far q ≡ (if among (nows s.strings.items) q then Some (string_place (nows s.strings.items) q) else None);
+      hashed_are : (q : List ℕ) → among (take 32 (nows s.strings.items)) q ≡ false → get bytes_eq s.hashed q ≡ (if among (nows s.strings.items) q then Some (string_place (nows s.strings.items) q) else None);
       size_is : s.size ≡ length (joined (nows s.strings.items));
       fits : s.size < 2 ^ 64;
     } };
 }
 
 /// Where a string begins among some that stand one after another.
-fn near_place(strings: &[&[u8]], string: &[u8]) -> Option<usize>
+fn linear_place(strings: &[&[u8]], string: &[u8]) -> Option<usize>
     requires { length (joined (nows strings.now)) < 2 ^ 64 }
     ensures { result ≡ (if among (nows strings.now) string.now then Some (string_place (nows strings.now) string.now) else None) }
 {
@@ -150,20 +150,20 @@ fn near_place(strings: &[&[u8]], string: &[u8]) -> Option<usize>
 }
 
 /// Keeps where a string begins that stands behind so many, if these are 32 or more.
-fn keep_far<'a>(
-    far: &mut HashMap<Text<'a>, u16>,
+fn remember_hashed<'a>(
+    hashed: &mut HashMap<Text<'a>, u16>,
     count: usize,
     string: &'a [u8],
     place: u16,
 ) -> Result<(), Error>
-    ensures ok { OnOk result ((q : List ℕ) → get bytes_eq far.new q ≡ (if nat_le 32 count && bytes_eq string.now q then Some place else get bytes_eq far.old q)) }
+    ensures ok { OnOk result ((q : List ℕ) → get bytes_eq hashed.new q ≡ (if nat_le 32 count && bytes_eq string.now q then Some place else get bytes_eq hashed.old q)) }
     ensures err { IfErr result (λ e. e ≡ OutOfMemory) }
-    ensures unchanged { OnErr result (IsUnchanged far.old far.new) }
+    ensures unchanged { OnErr result (IsUnchanged hashed.old hashed.new) }
 {
-    if count < NEAR {
+    if count < LINEAR_MAX {
         return Ok(());
     }
-    far.insert(Text::new(string), place)?;
+    hashed.insert(Text::new(string), place)?;
     Ok(())
 }
 
@@ -175,7 +175,7 @@ impl<'a> Strings<'a> {
     {
         Ok(Self {
             strings: Vec::with_capacity(alloc, count)?,
-            far: HashMap::new(alloc),
+            hashed: HashMap::new(alloc),
             size: 0,
         })
     }
@@ -185,12 +185,12 @@ impl<'a> Strings<'a> {
         ensures { result ≡ (if among self.now string.now then Some (string_place self.now string.now) else None) }
     {
         let strings = self.strings.as_slice();
-        if strings.len() <= NEAR {
-            return near_place(strings, string);
+        if strings.len() <= LINEAR_MAX {
+            return linear_place(strings, string);
         }
-        match near_place(&strings[..NEAR], string) {
+        match linear_place(&strings[..LINEAR_MAX], string) {
             Some(place) => Some(place),
-            None => match self.far.get(&Text::new(string)) {
+            None => match self.hashed.get(&Text::new(string)) {
                 Some(place) => Some(usize::from(*place)),
                 None => None,
             },
@@ -205,7 +205,7 @@ impl<'a> Strings<'a> {
         ensures err { IfErr result (λ e. e ≡ OutOfMemory) }
     {
         self.strings.reserve(1)?;
-        keep_far(&mut self.far, self.strings.len(), string, place)?;
+        remember_hashed(&mut self.hashed, self.strings.len(), string, place)?;
         self.strings.push(string).unwrap();
         self.size += string.len();
         Ok(())
@@ -315,21 +315,6 @@ impl Writeable for Table<'_> {
     }
 }
 
-/// Records as they are written, and the strings that are to stand behind them.
-#[derive(Drop)]
-struct Collected<'a> {
-    records: Vec<u8>,
-    strings: Strings<'a>,
-}
-
-impl<'a> Model for Collected<'a> {
-    ghost use Rattle.subsetter.specs.Name.Plain.{Laid};
-
-    ghost Value = { Laid };
-
-    ghost view = { λ c. record { bytes = c.records.items; strings = c.strings } };
-}
-
 /// The names that a subset keeps: at most 5460 records as they are written, and the strings that stand behind them.
 #[derive(Drop)]
 pub struct NewNames<'a> {
@@ -384,18 +369,18 @@ fn write_header(out: &mut Vec<u8>, count: usize)
     put(out, &[0, 0, a, b, c, d]);
 }
 
-/// Writes the records that a subset keeps behind others, and takes their strings, each once in the order of first use.
+/// Writes the records that a subset keeps, and takes their strings, each once in the order of first use. `SubsetError`
+/// where a string isn't inside the storage, or begins past 65535 in the new one.
 fn collect_names<'a>(
     table: &Table<'a>,
-    records: Writer,
-    strings: Strings<'a>,
-) -> Result<Collected<'a>, Error>
-    requires records { records ≡ [] }
-    requires strings { strings ≡ [] }
-    ensures { Gives (λ laid. laid) result (laid_behind [] (placed table.now.storage.now [] (filter is_kept_record (seen_table table.now).records))) }
+    front: &mut Writer,
+    strings: &mut Strings<'a>,
+) -> Result<(), Error>
+    requires front { front.old ≡ [] }
+    requires strings { strings.old ≡ [] }
+    ensures ok { OnOk result (laid_behind [] (placed table.now.storage.now [] (filter is_kept_record (seen_table table.now).records)) ≡ Ok (record { bytes = front.new; strings = strings.new })) }
+    ensures err { IfErr result (λ e. Fails e (laid_behind [] (placed table.now.storage.now [] (filter is_kept_record (seen_table table.now).records)))) }
 {
-    let mut front = records;
-    let mut strings = strings;
     for record in table.records.iter() {
         if record.is_kept() {
             let string = record.string(table.storage).ok_or(Error::SubsetError)?;
@@ -406,10 +391,7 @@ fn collect_names<'a>(
             })?;
         }
     }
-    Ok(Collected {
-        records: front.finish(),
-        strings,
-    })
+    Ok(())
 }
 
 /// No bytes, and room for so many.
@@ -420,11 +402,10 @@ fn no_bytes(alloc: Global, count: usize) -> Result<Writer, Error>
     Writer::with_capacity(alloc, count)
 }
 
-/// The records that a subset keeps, unless they are more than 5460, of twelve bytes each.
-fn few_names<'a>(collected: Collected<'a>) -> Result<NewNames<'a>, Error>
-    ensures { Gives (λ names. names) result (few_laid collected.entry) }
+/// The names of records as they are written, unless these are more than 5460, of twelve bytes each.
+fn few_names<'a>(records: Vec<u8>, strings: Strings<'a>) -> Result<NewNames<'a>, Error>
+    ensures { Gives (λ names. names) result (few_laid (record { bytes = records.items; strings = strings.entry })) }
 {
-    let Collected { records, strings } = collected;
     if records.len() > 65520 {
         return Err(Error::SubsetError);
     }
@@ -435,11 +416,11 @@ fn few_names<'a>(collected: Collected<'a>) -> Result<NewNames<'a>, Error>
 fn laid_names<'a>(alloc: Global, table: &Table<'a>) -> Result<NewNames<'a>, Error>
     ensures { Gives (λ names. names) result (laid_bytes (seen_table table.now)) }
 {
-    let count = usize::from(table.records.len()).min(NEAR);
-    let records = no_bytes(alloc, 12 * count)?;
-    let strings = Strings::with_capacity(alloc, count)?;
-    let collected = collect_names(table, records, strings)?;
-    few_names(collected)
+    let count = usize::from(table.records.len()).min(LINEAR_MAX);
+    let mut front = no_bytes(alloc, 12 * count)?;
+    let mut strings = Strings::with_capacity(alloc, count)?;
+    collect_names(table, &mut front, &mut strings)?;
+    few_names(front.finish(), strings)
 }
 
 /// The records that a subset keeps, and their strings, each once in the order of first use. `SubsetError` where a string is not inside the storage or begins past 65535 in the new one, and for more than 5460 records.

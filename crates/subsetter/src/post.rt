@@ -25,6 +25,13 @@ use subsetter_base::read::{LazyArray16, Reader};
 use subsetter_base::write::Writer;
 use subsetter_base::{Error, GlyphRemapper};
 
+/// How many glyphs have standard Macintosh names, whose indexes are the numbers below.
+const STANDARD_NAMES: u16 = 258;
+/// The index of the first of a font's own names.
+const FIRST_CUSTOM: usize = STANDARD_NAMES as usize;
+/// How many own names have an index of 16 bits.
+const CUSTOM_MAX: usize = 65_278;
+
 /// Names, each behind its length byte. An empty name is a name; a cut one ends them.
 #[derive(Drop)]
 pub struct Names<'a> {
@@ -183,6 +190,13 @@ fn from_place(bytes: &[u8], at: usize) -> &[u8]
     &bytes[at..]
 }
 
+/// The bytes from a name on, and how many names are to be passed over.
+#[derive(Clone, Copy)]
+struct Mark<'a> {
+    bytes: &'a [u8],
+    count: usize,
+}
+
 /// Names by their numbers. They stand one behind another, so the places of some are kept.
 #[derive(Drop)]
 struct NameList<'a> {
@@ -222,13 +236,19 @@ impl<'a> NameList<'a> {
         Ok(Self { all, marks })
     }
 
-    /// The bytes from a name on from which a name is found, and how many names to pass over.
-    fn from_mark(&self, number: usize) -> (&'a [u8], usize)
-        ensures { drop result.1 (names_in result.0.now) ≡ drop number self.now }
+    /// The mark from which the name with a number is found.
+    fn from_mark(&self, number: usize) -> Mark<'a>
+        ensures { drop result.count (names_in result.bytes.now) ≡ drop number self.now }
     {
         match self.marks.get(number / 8) {
-            Some(mark) => (from_place(self.all, *mark as usize), number % 8),
-            None => (self.all, number),
+            Some(mark) => Mark {
+                bytes: from_place(self.all, *mark as usize),
+                count: number % 8,
+            },
+            None => Mark {
+                bytes: self.all,
+                count: number,
+            },
         }
     }
 
@@ -236,7 +256,7 @@ impl<'a> NameList<'a> {
     fn name(&self, number: usize) -> &'a [u8]
         ensures { result.now ≡ get_or self.now number [] }
     {
-        let (bytes, count) = self.from_mark(number);
+        let Mark { bytes, count } = self.from_mark(number);
         let at = skip(bytes, 0, count);
         let mut names = Names { rest: &bytes[at..] };
         match names.next() {
@@ -252,22 +272,22 @@ fn count_custom(indexes: &[u16]) -> usize
 {
     let mut count: usize = 0;
     for index in indexes {
-        if *index >= 258 {
+        if *index >= STANDARD_NAMES {
             count += 1;
         }
     }
     count
 }
 
-/// The least number above those of all own names that the indexes name.
-fn own_limit(indexes: &[u16]) -> usize
+/// The least number above those of all custom names that the indexes name.
+fn custom_limit(indexes: &[u16]) -> usize
     ensures above { (k : ℕ) → k < length indexes.now → slice_index indexes.now k < 258 + result }
     ensures least { (n : ℕ) → ((k : ℕ) → k < length indexes.now → slice_index indexes.now k < 258 + n) → result ≤ n }
 {
     let mut limit: usize = 0;
     for index in indexes {
-        if usize::from(*index) >= 258 + limit {
-            limit = usize::from(*index) - 257;
+        if usize::from(*index) >= FIRST_CUSTOM + limit {
+            limit = usize::from(*index) - FIRST_CUSTOM + 1;
         }
     }
     limit
@@ -281,10 +301,10 @@ fn write_indexes(w: &mut Writer, indexes: &[u16]) -> Result<(), Error>
 {
     let mut custom: usize = 0;
     for index in indexes {
-        if *index < 258 {
+        if *index < STANDARD_NAMES {
             w.write(index)?;
         } else {
-            w.write(&((258 + custom) as u16))?;
+            w.write(&((FIRST_CUSTOM + custom) as u16))?;
             custom += 1;
         }
     }
@@ -307,8 +327,8 @@ fn write_names(w: &mut Writer, indexes: &[u16], names: &NameList<'_>) -> Result<
     ensures err { IfErr result (λ e. e ≡ OutOfMemory) }
 {
     for index in indexes {
-        if *index >= 258 {
-            let place = usize::from(*index) - 258;
+        if *index >= STANDARD_NAMES {
+            let place = usize::from(*index) - FIRST_CUSTOM;
             write_name(w, names.name(place))?;
         }
     }
@@ -328,7 +348,7 @@ fn write_table(
     requires names { names.now ≡ names_in table.now.names_data.now }
     ensures { Gives (λ v. v.items) result (post_of_indexes (seen_post table.now) indexes.now) }
 {
-    if count_custom(indexes) > 65278 {
+    if count_custom(indexes) > CUSTOM_MAX {
         return Err(Error::OverflowError);
     }
     let mut w = Writer::with_capacity(alloc, 34 + 2 * indexes.len())?;
@@ -361,7 +381,7 @@ pub fn subset<'a>(
     }
     let table = Version2Table::parse(bytes).ok_or(Error::MalformedFont)?;
     let indexes = table.indexes(alloc, mapper)?;
-    let names = NameList::new(alloc, table.names_data, own_limit(&indexes))?;
+    let names = NameList::new(alloc, table.names_data, custom_limit(&indexes))?;
     let new = write_table(alloc, &table, mapper.num_gids(), &indexes, &names)?;
     Ok(Some(CowSlice::Owned(new)))
 }

@@ -4,8 +4,7 @@ ghost use Rattle.std.specs.Prelude.{◌≡◌};
 ghost use Rattle.std.specs.Cow.{cow_slice_items};
 ghost use Rattle.std.specs.Option.{option_map};
 ghost use Rattle.subsetter_base.specs.Gives.{Gives};
-ghost use Rattle.subsetter_sfnt.specs.Read.{table_in};
-ghost use Rattle.subsetter_sfnt.specs.Extras.{asked};
+ghost use Rattle.subsetter_sfnt.specs.FontAt.{tables_of};
 ghost use Rattle.subsetter.specs.TableView.{table_bytes, font_seen};
 ghost use Rattle.subsetter.specs.Name.View.{name_seen};
 ghost use Rattle.subsetter.specs.Post.Plain.{post_of};
@@ -41,7 +40,7 @@ fn glyph_names<'a>(
     face: &Face<'a>,
     order: &GlyphRemapper,
 ) -> Result<Option<CowSlice<'a, u8>>, Error>
-    ensures { Gives (option_map cow_slice_items) result (post_of (asked face.now.extras (table_in face.now.«data».now face.now.records.now)) order.now) }
+    ensures { Gives (option_map cow_slice_items) result (post_of (tables_of face.now) order.now) }
 {
     let post = face.stored(Tag::POST);
     if face.extras.glyph_names {
@@ -51,30 +50,33 @@ fn glyph_names<'a>(
     }
 }
 
-/// Makes the shared tables for an order of the glyphs. `long` says whether `loca` has the long format.
-#[tactic(auto, unfolding(crate::specs::Shared::Plain::shared_of))]
-pub fn make<'a>(
-    alloc: Global,
-    face: &Face<'a>,
-    flavor: FontFlavor,
-    long: bool,
-    order: &GlyphRemapper,
-) -> Result<SharedTables<'a>, Error>
-    ensures { Gives shared_seen result (shared_of (asked face.now.extras (table_in face.now.«data».now face.now.records.now)) flavor long order.now) }
-{
-    let head = head::subset(face.table(Tag::HEAD), long)?;
-    let metrics = hmtx::subset(alloc, face.table(Tag::HHEA), face.table(Tag::HMTX), order)?;
-    let count = order.num_gids();
-    let maxp = maxp::subset(face.table(Tag::MAXP), flavor, count)?;
-    let name = name::subset(alloc, face.table(Tag::NAME))?;
-    let post = glyph_names(alloc, face, order)?;
-    Ok(SharedTables {
-        head,
-        metrics,
-        maxp,
-        name,
-        post,
-    })
+impl<'a> SharedTables<'a> {
+    /// Makes the shared tables for an order of the glyphs. `long` says whether `loca` has the long format. The errors are
+    /// those of `head`, `hmtx`, `maxp`, `name` and `post`, of the first that has one.
+    #[tactic(auto, unfolding(crate::specs::Shared::Plain::shared_of))]
+    pub fn build(
+        alloc: Global,
+        face: &Face<'a>,
+        flavor: FontFlavor,
+        long: bool,
+        order: &GlyphRemapper,
+    ) -> Result<Self, Error>
+        ensures { Gives shared_seen result (shared_of (tables_of face.now) flavor long order.now) }
+    {
+        let head = head::subset(face.table(Tag::HEAD), long)?;
+        let metrics = hmtx::subset(alloc, face.table(Tag::HHEA), face.table(Tag::HMTX), order)?;
+        let count = order.num_gids();
+        let maxp = maxp::subset(face.table(Tag::MAXP), flavor, count)?;
+        let name = name::subset(alloc, face.table(Tag::NAME))?;
+        let post = glyph_names(alloc, face, order)?;
+        Ok(Self {
+            head,
+            metrics,
+            maxp,
+            name,
+            post,
+        })
+    }
 }
 
 /// `head` as a table of the new font.
@@ -88,18 +90,26 @@ fn head_data<'b, 'a>(head: &'b Option<NewHead<'a>>) -> Option<TableData<'b, 'a>>
 }
 
 /// `hhea` and `hmtx` as tables of the new font.
-fn metrics_data<'b, 'a>(
-    metrics: &'b Option<NewMetrics<'a>>,
-) -> (Option<TableData<'b, 'a>>, Option<TableData<'b, 'a>>)
-    ensures hhea { option_map table_bytes result.0 ≡ option_map (λ m. m.hhea) metrics.now }
-    ensures hmtx { option_map table_bytes result.1 ≡ option_map (λ m. m.hmtx) metrics.now }
+#[derive(Clone, Copy)]
+struct MetricsData<'b, 'a> {
+    hhea: Option<TableData<'b, 'a>>,
+    hmtx: Option<TableData<'b, 'a>>,
+}
+
+/// `hhea` and `hmtx` as tables of the new font, both or none.
+fn metrics_data<'b, 'a>(metrics: &'b Option<NewMetrics<'a>>) -> MetricsData<'b, 'a>
+    ensures hhea { option_map table_bytes result.hhea ≡ option_map (λ m. m.hhea) metrics.now }
+    ensures hmtx { option_map table_bytes result.hmtx ≡ option_map (λ m. m.hmtx) metrics.now }
 {
     match metrics {
-        Some(metrics) => (
-            Some(TableData::Hhea(metrics)),
-            Some(TableData::Hmtx(metrics)),
-        ),
-        None => (None, None),
+        Some(metrics) => MetricsData {
+            hhea: Some(TableData::Hhea(metrics)),
+            hmtx: Some(TableData::Hmtx(metrics)),
+        },
+        None => MetricsData {
+            hhea: None,
+            hmtx: None,
+        },
     }
 }
 
@@ -138,7 +148,7 @@ fn post_data<'b, 'a>(post: &'b Option<CowSlice<'a, u8>>) -> Option<TableData<'b,
 pub fn font_tables<'b, 'a>(shared: &'b SharedTables<'a>) -> FontTables<TableData<'b, 'a>>
     ensures { font_seen result ≡ with_shared (shared_seen shared.now) }
 {
-    let (hhea, hmtx) = metrics_data(&shared.metrics);
+    let MetricsData { hhea, hmtx } = metrics_data(&shared.metrics);
     FontTables {
         cff: None,
         cvt: None,

@@ -6,8 +6,9 @@ ghost use Rattle.subsetter_base.specs.declared.error.Error.TheVariants.{OutOfMem
 ghost use Rattle.subsetter_base.specs.declared.error.Error.{Error as SpecError};
 ghost use Rattle.subsetter_base.specs.Gives.{Gives};
 ghost use Rattle.subsetter.specs.Cff.Plain.{cff_file};
-ghost use Rattle.subsetter_sfnt.specs.Read.{as_font, table_in};
-ghost use Rattle.subsetter_sfnt.specs.Extras.{all_extras, asked};
+ghost use Rattle.subsetter_sfnt.specs.Read.{as_font};
+ghost use Rattle.subsetter_sfnt.specs.Extras.{all_extras};
+ghost use Rattle.subsetter_sfnt.specs.FontAt.{font_at, tables_of};
 ghost use Rattle.subsetter.specs.Glyf.Instructions.{HasNoInstructions};
 ghost use Rattle.subsetter.specs.Truetype.Answered.{IsAnswered, IsRefused};
 ghost use Rattle.subsetter.specs.Fault.{HasFault};
@@ -16,10 +17,10 @@ ghost use Rattle.subsetter.specs.Limits.{token_limit, depth_limit};
 ghost use Rattle.subsetter.specs.Subset.{IsSubset};
 ghost use Rattle.subsetter.specs.Answer.{IsAnswer, HasNoAnswer, IsTheAnswer};
 
-use crate::cff;
+use crate::cff::{self, CffTables};
 use crate::choice::Options;
-use crate::glyf::{self, OutlineTables, Reached};
-use crate::truetype::{font_tables, make};
+use crate::glyf::{self, GlyfTables, GlyphClosure};
+use crate::truetype::{self, TrueTypeTables};
 use std::alloc::Global;
 use subsetter_base::{Error, GlyphRemapper, Tag};
 use subsetter_sfnt::construct::finish;
@@ -31,34 +32,34 @@ use subsetter_sfnt::tables::in_order;
 use subsetter_type2::limits::Limits;
 
 /// A subset of a TrueType font.
-fn truetype(alloc: Global, face: &Face<'_>, mapper: &GlyphRemapper) -> Result<Vec<u8>, Error>
-    ensures ok { IfOk result (λ v. IsAnswered face.now.extras.hinting (asked face.now.extras (table_in face.now.«data».now face.now.records.now)) mapper.now v.items) }
-    ensures err { IfErr result (λ e. IsRefused face.now.extras.hinting (asked face.now.extras (table_in face.now.«data».now face.now.records.now)) mapper.now e) }
+fn subset_truetype(alloc: Global, face: &Face<'_>, mapper: &GlyphRemapper) -> Result<Vec<u8>, Error>
+    ensures ok { IfOk result (λ v. IsAnswered face.now.extras.hinting (tables_of face.now) mapper.now v.items) }
+    ensures err { IfErr result (λ e. IsRefused face.now.extras.hinting (tables_of face.now) mapper.now e) }
 {
-    let table = OutlineTables::new(face)?;
+    let table = GlyfTables::new(face)?;
     let reached = glyf::closure(alloc, &table, mapper)?;
-    let Reached { order, outlines } = reached;
+    let GlyphClosure { order, outlines } = reached;
     // What `num_gids` says of the order, that it has fewer than 65536 glyphs, is a premise of the proof.
     let _count = order.num_gids();
-    let made = make(alloc, face, &table, outlines, &order)?;
+    let made = TrueTypeTables::build(alloc, face, &table, outlines, &order)?;
     // Its memory is free before room for the output is taken.
     drop(order);
-    let list = in_order(alloc, font_tables(face, &made))?;
+    let list = in_order(alloc, truetype::font_tables(face, &made))?;
     finish(alloc, FontFlavor::TrueType, &list)
 }
 
 /// A subset of a font with a CFF table.
 #[tactic(auto, unfolding(crate::specs::Cff::Plain::cff_file))]
-fn charstrings(
+fn subset_cff(
     alloc: Global,
     face: &Face<'_>,
     limits: Limits,
     mapper: &GlyphRemapper,
 ) -> Result<Vec<u8>, Error>
-    ensures { Gives (λ v. v.items) result (cff_file (asked face.now.extras (table_in face.now.«data».now face.now.records.now)) limits.tokens limits.depth mapper.now) }
+    ensures { Gives (λ v. v.items) result (cff_file (tables_of face.now) limits.tokens limits.depth mapper.now) }
 {
     let source = face.table(Tag::CFF).ok_or(Error::MalformedFont)?;
-    let made = cff::make(alloc, face, source, limits, mapper)?;
+    let made = CffTables::build(alloc, face, source, limits, mapper)?;
     let list = in_order(alloc, cff::font_tables(&made))?;
     finish(alloc, FontFlavor::Cff, &list)
 }
@@ -70,7 +71,7 @@ fn charstrings(
 ///
 /// # Errors
 ///
-/// Each names what stands in the source (`HasFault`); a font in which nothing stands is refused only for want of memory.
+/// Each names what stands in the source (`HasFault`); a font in which nothing stands is refused only when out of memory.
 /// Where several faults stand, any of their names may come. The *reached* glyphs are the mapper's and those that they
 /// lead to through components; a charstring leads to no other glyph. What is said of `CFF ` counts where there is no
 /// `glyf`, and what is said of `loca` where there is one.
@@ -128,18 +129,18 @@ pub fn subset(
     mapper: &GlyphRemapper,
 ) -> Result<Vec<u8>, Error>
     // What is answered is a subset of the font.
-    ensures ok { IfOk result (λ out. IsSubset token_limit depth_limit (record { bytes = «data».now; index = index; extras = all_extras }) mapper.now out.items) }
+    ensures ok { IfOk result (λ out. IsSubset token_limit depth_limit (font_at «data».now index all_extras) mapper.now out.items) }
     // And then no fault stands in the source, the size limits being judged for the answer's order of glyphs.
-    ensures clean { IfOk result (λ out. (s : IsSubset token_limit depth_limit (record { bytes = «data».now; index = index; extras = all_extras }) mapper.now out.items) × ((e : SpecError) → ¬ (HasFault token_limit depth_limit (record { bytes = «data».now; index = index; extras = all_extras }) mapper.now s.keeps.order e))) }
+    ensures clean { IfOk result (λ out. (s : IsSubset token_limit depth_limit (font_at «data».now index all_extras) mapper.now out.items) × ((e : SpecError) → ¬ (HasFault token_limit depth_limit (font_at «data».now index all_extras) mapper.now s.keeps.order e))) }
     // Its glyphs stand in the order in which they are found, so that there is one answer.
-    ensures exact { IfOk result (λ out. IsAnswer token_limit depth_limit (record { bytes = «data».now; index = index; extras = all_extras }) mapper.now out.items) }
-    ensures same { IfOk result (λ out. IsTheAnswer (record { bytes = «data».now; index = index; extras = all_extras }) mapper.now out.items) }
+    ensures exact { IfOk result (λ out. IsAnswer token_limit depth_limit (font_at «data».now index all_extras) mapper.now out.items) }
+    ensures same { IfOk result (λ out. IsTheAnswer (font_at «data».now index all_extras) mapper.now out.items) }
     // What is refused has a fault of that name.
-    ensures err { IfErr result (λ e. (e ≡ OutOfMemory) ⊎ ((order : List ℕ) × HasFault token_limit depth_limit (record { bytes = «data».now; index = index; extras = all_extras }) mapper.now order e)) }
-    // And, but for want of memory, it has no answer: no call answers it within these limits.
-    ensures no_answer { IfErr result (λ e. (e ≡ OutOfMemory) ⊎ HasNoAnswer token_limit depth_limit (record { bytes = «data».now; index = index; extras = all_extras }) mapper.now) }
-    // Where a fault stands that is found before memory is taken, the answer isn't want of memory.
-    ensures before_memory { (e : SpecError) → HasOpeningFault (record { bytes = «data».now; index = index; extras = all_extras }) e → result ≢ Err OutOfMemory }
+    ensures err { IfErr result (λ e. (e ≡ OutOfMemory) ⊎ ((order : List ℕ) × HasFault token_limit depth_limit (font_at «data».now index all_extras) mapper.now order e)) }
+    // And, unless out of memory, it has no answer: no call answers it within these limits.
+    ensures no_answer { IfErr result (λ e. (e ≡ OutOfMemory) ⊎ HasNoAnswer token_limit depth_limit (font_at «data».now index all_extras) mapper.now) }
+    // Where a fault stands that is found before memory is taken, the answer isn't out of memory.
+    ensures before_memory { (e : SpecError) → HasOpeningFault (font_at «data».now index all_extras) e → result ≢ Err OutOfMemory }
 {
     subset_with_limits(alloc, data, index, mapper, &Limits::default())
 }
@@ -161,23 +162,20 @@ pub fn subset_with_limits(
     limits: &Limits,
 ) -> Result<Vec<u8>, Error>
     // What is answered is a subset of the font.
-    ensures ok { IfOk result (λ out. IsSubset limits.now.tokens limits.now.depth (record { bytes = «data».now; index = index; extras = all_extras }) mapper.now out.items) }
+    ensures ok { IfOk result (λ out. IsSubset limits.now.tokens limits.now.depth (font_at «data».now index all_extras) mapper.now out.items) }
     // And then no fault stands in the source, the size limits being judged for the answer's order of glyphs.
-    ensures clean { IfOk result (λ out. (s : IsSubset limits.now.tokens limits.now.depth (record { bytes = «data».now; index = index; extras = all_extras }) mapper.now out.items) × ((e : SpecError) → ¬ (HasFault limits.now.tokens limits.now.depth (record { bytes = «data».now; index = index; extras = all_extras }) mapper.now s.keeps.order e))) }
+    ensures clean { IfOk result (λ out. (s : IsSubset limits.now.tokens limits.now.depth (font_at «data».now index all_extras) mapper.now out.items) × ((e : SpecError) → ¬ (HasFault limits.now.tokens limits.now.depth (font_at «data».now index all_extras) mapper.now s.keeps.order e))) }
     // Its glyphs stand in the order in which they are found, so that there is one answer, whatever the limits.
-    ensures exact { IfOk result (λ out. IsAnswer limits.now.tokens limits.now.depth (record { bytes = «data».now; index = index; extras = all_extras }) mapper.now out.items) }
-    ensures same { IfOk result (λ out. IsTheAnswer (record { bytes = «data».now; index = index; extras = all_extras }) mapper.now out.items) }
+    ensures exact { IfOk result (λ out. IsAnswer limits.now.tokens limits.now.depth (font_at «data».now index all_extras) mapper.now out.items) }
+    ensures same { IfOk result (λ out. IsTheAnswer (font_at «data».now index all_extras) mapper.now out.items) }
     // What is refused has a fault of that name.
-    ensures err { IfErr result (λ e. (e ≡ OutOfMemory) ⊎ ((order : List ℕ) × HasFault limits.now.tokens limits.now.depth (record { bytes = «data».now; index = index; extras = all_extras }) mapper.now order e)) }
-    // And, but for want of memory, it has no answer: no call answers it within these limits.
-    ensures no_answer { IfErr result (λ e. (e ≡ OutOfMemory) ⊎ HasNoAnswer limits.now.tokens limits.now.depth (record { bytes = «data».now; index = index; extras = all_extras }) mapper.now) }
-    // Where a fault stands that is found before memory is taken, the answer isn't want of memory.
-    ensures before_memory { (e : SpecError) → HasOpeningFault (record { bytes = «data».now; index = index; extras = all_extras }) e → result ≢ Err OutOfMemory }
+    ensures err { IfErr result (λ e. (e ≡ OutOfMemory) ⊎ ((order : List ℕ) × HasFault limits.now.tokens limits.now.depth (font_at «data».now index all_extras) mapper.now order e)) }
+    // And, unless out of memory, it has no answer: no call answers it within these limits.
+    ensures no_answer { IfErr result (λ e. (e ≡ OutOfMemory) ⊎ HasNoAnswer limits.now.tokens limits.now.depth (font_at «data».now index all_extras) mapper.now) }
+    // Where a fault stands that is found before memory is taken, the answer isn't out of memory.
+    ensures before_memory { (e : SpecError) → HasOpeningFault (font_at «data».now index all_extras) e → result ≢ Err OutOfMemory }
 {
-    let options = Options {
-        limits: *limits,
-        extras: Extras::ALL,
-    };
+    let options = Options::keeping_all(*limits);
     subset_with_options(alloc, data, index, mapper, &options)
 }
 
@@ -201,18 +199,18 @@ pub fn subset_with_options(
     options: &Options,
 ) -> Result<Vec<u8>, Error>
     // What is answered is a subset of the font.
-    ensures ok { IfOk result (λ out. IsSubset options.now.limits.tokens options.now.limits.depth (record { bytes = «data».now; index = index; extras = options.now.extras }) mapper.now out.items) }
+    ensures ok { IfOk result (λ out. IsSubset options.now.limits.tokens options.now.limits.depth (font_at «data».now index options.now.extras) mapper.now out.items) }
     // And then no fault stands in the source, the size limits being judged for the answer's order of glyphs.
-    ensures clean { IfOk result (λ out. (s : IsSubset options.now.limits.tokens options.now.limits.depth (record { bytes = «data».now; index = index; extras = options.now.extras }) mapper.now out.items) × ((e : SpecError) → ¬ (HasFault options.now.limits.tokens options.now.limits.depth (record { bytes = «data».now; index = index; extras = options.now.extras }) mapper.now s.keeps.order e))) }
+    ensures clean { IfOk result (λ out. (s : IsSubset options.now.limits.tokens options.now.limits.depth (font_at «data».now index options.now.extras) mapper.now out.items) × ((e : SpecError) → ¬ (HasFault options.now.limits.tokens options.now.limits.depth (font_at «data».now index options.now.extras) mapper.now s.keeps.order e))) }
     // Its glyphs stand in the order in which they are found, so that there is one answer, whatever the limits.
-    ensures exact { IfOk result (λ out. IsAnswer options.now.limits.tokens options.now.limits.depth (record { bytes = «data».now; index = index; extras = options.now.extras }) mapper.now out.items) }
-    ensures same { IfOk result (λ out. IsTheAnswer (record { bytes = «data».now; index = index; extras = options.now.extras }) mapper.now out.items) }
+    ensures exact { IfOk result (λ out. IsAnswer options.now.limits.tokens options.now.limits.depth (font_at «data».now index options.now.extras) mapper.now out.items) }
+    ensures same { IfOk result (λ out. IsTheAnswer (font_at «data».now index options.now.extras) mapper.now out.items) }
     // What is refused has a fault of that name.
-    ensures err { IfErr result (λ e. (e ≡ OutOfMemory) ⊎ ((order : List ℕ) × HasFault options.now.limits.tokens options.now.limits.depth (record { bytes = «data».now; index = index; extras = options.now.extras }) mapper.now order e)) }
-    // And, but for want of memory, it has no answer: no call answers it within these limits.
-    ensures no_answer { IfErr result (λ e. (e ≡ OutOfMemory) ⊎ HasNoAnswer options.now.limits.tokens options.now.limits.depth (record { bytes = «data».now; index = index; extras = options.now.extras }) mapper.now) }
-    // Where a fault stands that is found before memory is taken, the answer isn't want of memory.
-    ensures before_memory { (e : SpecError) → HasOpeningFault (record { bytes = «data».now; index = index; extras = options.now.extras }) e → result ≢ Err OutOfMemory }
+    ensures err { IfErr result (λ e. (e ≡ OutOfMemory) ⊎ ((order : List ℕ) × HasFault options.now.limits.tokens options.now.limits.depth (font_at «data».now index options.now.extras) mapper.now order e)) }
+    // And, unless out of memory, it has no answer: no call answers it within these limits.
+    ensures no_answer { IfErr result (λ e. (e ≡ OutOfMemory) ⊎ HasNoAnswer options.now.limits.tokens options.now.limits.depth (font_at «data».now index options.now.extras) mapper.now) }
+    // Where a fault stands that is found before memory is taken, the answer isn't out of memory.
+    ensures before_memory { (e : SpecError) → HasOpeningFault (font_at «data».now index options.now.extras) e → result ≢ Err OutOfMemory }
     // Without hinting the new font has no instructions, read afresh.
     ensures bare { IfOk result (λ out. OnFalse options.now.extras.hinting (HasNoInstructions (as_font out.items))) }
 {
@@ -222,8 +220,8 @@ pub fn subset_with_options(
     let _depth = options.limits.depth();
     let face = parse(data, index, options.extras)?;
     match flavor(&face)? {
-        FontFlavor::TrueType => truetype(alloc, &face, mapper),
-        FontFlavor::Cff => charstrings(alloc, &face, options.limits, mapper),
+        FontFlavor::TrueType => subset_truetype(alloc, &face, mapper),
+        FontFlavor::Cff => subset_cff(alloc, &face, options.limits, mapper),
     }
 }
 
@@ -237,9 +235,9 @@ pub fn subset_with_options(
 /// - `Unimplemented`: the outlines are those of `CFF2`.
 pub fn check_opening(data: &[u8], index: u32, extras: Extras) -> Result<(), Error>
     // In a font that can be opened no such fault stands.
-    ensures ok { OnOk result ((e : SpecError) → ¬ (HasOpeningFault (record { bytes = «data».now; index = index; extras = extras }) e)) }
+    ensures ok { OnOk result ((e : SpecError) → ¬ (HasOpeningFault (font_at «data».now index extras) e)) }
     // What can't be opened has a fault of that name.
-    ensures err { IfErr result (λ e. HasOpeningFault (record { bytes = «data».now; index = index; extras = extras }) e) }
+    ensures err { IfErr result (λ e. HasOpeningFault (font_at «data».now index extras) e) }
 {
     let face = parse(data, index, extras)?;
     flavor(&face)?;

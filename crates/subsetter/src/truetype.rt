@@ -7,8 +7,7 @@
 ghost use Rattle.std.specs.Prelude.{◌≡◌, ◌<◌, ◌≤◌, ◌^◌, length, IfOk, IfErr, OnOk};
 ghost use Rattle.subsetter_base.specs.declared.error.Error.TheVariants.{OverflowError};
 ghost use Rattle.subsetter_base.specs.Gives.{Gives};
-ghost use Rattle.subsetter_sfnt.specs.Read.{table_in};
-ghost use Rattle.subsetter_sfnt.specs.Extras.{asked};
+ghost use Rattle.subsetter_sfnt.specs.FontAt.{tables_of};
 ghost use Rattle.subsetter.specs.TableView.{font_seen};
 ghost use Rattle.subsetter.specs.Glyf.Closure.{AreFound};
 ghost use Rattle.subsetter.specs.Glyf.View.{seen};
@@ -17,7 +16,7 @@ ghost use Rattle.subsetter.specs.Truetype.Plain.{located, made_of, font_of};
 ghost use Rattle.subsetter.specs.Truetype.View.{made_seen};
 
 use crate::glyf::outlines::{OutlineList, outlines_len};
-use crate::glyf::{self, OutlineTables};
+use crate::glyf::{self, GlyfTables};
 use crate::loca;
 use crate::shared::{self, SharedTables};
 use crate::tables::{TableData, borrowed};
@@ -29,7 +28,7 @@ use subsetter_sfnt::tables::FontTables;
 
 /// What is made for the new font; its programs are the source's.
 #[derive(Drop)]
-pub struct Made<'a> {
+pub struct TrueTypeTables<'a> {
     pub outlines: OutlineList<'a>,
     /// Whether `loca` has the long format.
     pub long: bool,
@@ -39,8 +38,8 @@ pub struct Made<'a> {
 
 /// `OverflowError` where `glyf` has 2^32 bytes or more. No memory is taken.
 fn check_len(outlines: &OutlineList<'_>, long: bool) -> Result<(), Error>
-    ensures ok { OnOk result (length (glyf_bytes long outlines.now) < 2 ^ 32) }
-    ensures err { IfErr result (λ e. (e ≡ OverflowError) × (2 ^ 32 ≤ length (glyf_bytes long outlines.now))) }
+    ensures ok { OnOk result (length (glyf_bytes long outlines.now.items) < 2 ^ 32) }
+    ensures err { IfErr result (λ e. (e ≡ OverflowError) × (2 ^ 32 ≤ length (glyf_bytes long outlines.now.items))) }
 {
     if outlines_len(outlines, long) > 0xffff_ffff {
         return Err(Error::OverflowError);
@@ -51,42 +50,48 @@ fn check_len(outlines: &OutlineList<'_>, long: bool) -> Result<(), Error>
 /// `loca` of outlines. `OverflowError` where `glyf` has 2^32 bytes or more.
 #[tactic(auto, unfolding(crate::specs::Truetype::Plain::located))]
 fn locate(alloc: Global, outlines: &OutlineList<'_>, long: bool) -> Result<Vec<u8>, Error>
-    requires { long ≡ is_long outlines.now }
-    ensures { Gives (λ v. v.items) result (located outlines.now) }
+    requires { long ≡ is_long outlines.now.items }
+    ensures { Gives (λ v. v.items) result (located outlines.now.items) }
 {
     check_len(outlines, long)?;
     loca::subset(alloc, outlines, long)
 }
 
-/// Makes the tables that depend on the glyphs of the new font.
-#[tactic(auto, using(crate::proofs::GlyfLaws::KeptList::all_by_outlines), unfolding(crate::specs::Truetype::Plain::made_of))]
-pub fn make<'a>(
-    alloc: Global,
-    face: &Face<'a>,
-    table: &OutlineTables<'a>,
-    found: Vec<Option<&'a [u8]>>,
-    order: &GlyphRemapper,
-) -> Result<Made<'a>, Error>
-    requires { AreFound (seen table.now) order.now found.items }
-    ensures exact { Gives made_seen result (made_of (asked face.now.extras (table_in face.now.«data».now face.now.records.now)) (seen table.now) order.now) }
-    ensures long { IfOk result (λ m. m.long ≡ is_long m.outlines) }
-{
-    let outlines = glyf::subset(alloc, found, order, table.hinting)?;
-    let long = loca::is_long(&outlines);
-    let loca = locate(alloc, &outlines, long)?;
-    let shared = shared::make(alloc, face, FontFlavor::TrueType, long, order)?;
-    Ok(Made {
-        outlines,
-        long,
-        loca,
-        shared,
-    })
+impl<'a> TrueTypeTables<'a> {
+    /// Makes the tables that depend on the glyphs of the new font. `MalformedFont` where an outline isn't there or is cut,
+    /// `OverflowError` where `glyf` has 2^32 bytes or more, and the errors of `SharedTables::build`.
+    #[tactic(auto, using(crate::proofs::GlyfLaws::KeptList::all_by_outlines), unfolding(crate::specs::Truetype::Plain::made_of))]
+    pub fn build(
+        alloc: Global,
+        face: &Face<'a>,
+        table: &GlyfTables<'a>,
+        found: Vec<Option<&'a [u8]>>,
+        order: &GlyphRemapper,
+    ) -> Result<Self, Error>
+        requires { AreFound (seen table.now) order.now found.items }
+        ensures exact { Gives made_seen result (made_of (tables_of face.now) (seen table.now) order.now) }
+        ensures long { IfOk result (λ m. m.long ≡ is_long m.outlines.items) }
+    {
+        let outlines = glyf::subset(alloc, found, order, table.hinting)?;
+        let long = loca::is_long(&outlines);
+        let loca = locate(alloc, &outlines, long)?;
+        let shared = SharedTables::build(alloc, face, FontFlavor::TrueType, long, order)?;
+        Ok(Self {
+            outlines,
+            long,
+            loca,
+            shared,
+        })
+    }
 }
 
 /// The tables of the new font.
-pub fn font_tables<'b, 'a>(face: &Face<'a>, made: &'b Made<'a>) -> FontTables<TableData<'b, 'a>>
-    requires { made.now.long ≡ is_long made.now.outlines }
-    ensures { font_seen result ≡ font_of (asked face.now.extras (table_in face.now.«data».now face.now.records.now)) (made_seen made.now) }
+pub fn font_tables<'b, 'a>(
+    face: &Face<'a>,
+    made: &'b TrueTypeTables<'a>,
+) -> FontTables<TableData<'b, 'a>>
+    requires { made.now.long ≡ is_long made.now.outlines.items }
+    ensures { font_seen result ≡ font_of (tables_of face.now) (made_seen made.now) }
 {
     let mut tables = shared::font_tables(&made.shared);
     tables.cvt = borrowed(face.table(Tag::CVT));

@@ -9,3 +9,4 @@ pub mod Weights
 pub mod Rows
 pub mod View
 pub mod Fault
+pub mod FontAt

@@ -18,7 +18,7 @@ use Rattle.subsetter_base.specs.declared.error.Error.TheVariants.{OutOfMemory, M
 use Rattle.subsetter_base.proofs.Lists.{Contains-later}
 use Rattle.subsetter_base.proofs.Options.{none_of}
 use Rattle.subsetter.proofs.GlyfLaws.Components.{components_few, components_simple}
-use Rattle.subsetter.specs.Glyf.Closure.{first_byte_in, AreFound, components_in, others_in, lacks_head, IsFaulty, IsFull, IsVisited, StopsClosure, no_memory, faulty_glyph, all_reached}
+use Rattle.subsetter.specs.Glyf.Closure.{first_byte_in, AreFound, components_in, others_in, lacks_glyph_header, IsFaulty, IsFull, IsVisited, StopsClosure, no_memory, faulty_glyph, all_reached}
 
 -- ---- members of a list
 
@@ -263,8 +263,8 @@ stops_visit t glyphs left before waiting order g e is f h =
     ]
 
 -- an outline that lacks its head has no parts
-pub headless : (bytes : List ℕ) → lacks_head bytes ≡ true → outline_parts bytes ≡ None
-unfolding lacks_head outline_parts
+pub headless : (bytes : List ℕ) → lacks_glyph_header bytes ≡ true → outline_parts bytes ≡ None
+unfolding lacks_glyph_header outline_parts
 headless [] h = absurd cc
 headless (a ∷ []) h = refl
 headless (a ∷ b ∷ bytes) h = by (ltb a 128) (ltb (length (a ∷ b ∷ bytes)) 10) refl h

@@ -1,5 +1,5 @@
 -- The length of outlines, as it is counted.
-use Rattle.std.proofs.Common.{◌≡◌, ℕ, ◌+◌, ◌-◌, ◌<◌, ◌≤◌, ◌^◌, Bool, true, false, ltb, List, [], ◌∷◌, ◌++◌, length, refl, sym, ap, ◌∙◌, arith}
+use Rattle.std.proofs.Common.{◌≡◌, ℕ, ◌+◌, ◌-◌, ◌<◌, ◌≤◌, ◌^◌, Bool, true, false, ltb, List, [], ◌∷◌, ◌++◌, length, refl, sym, ap, subst, ◌∙◌, arith}
 use Rattle.std.specs.Prelude.{min}
 use Rattle.std.proofs.lemmas.Bool.{lt-ltb, ltb-true, ltb-false}
 use Rattle.std.proofs.lemmas.List.{length-append, append-nil}
@@ -29,6 +29,16 @@ counted_more long all after o counted n next c is size so =
         let past = ltb-false (length (glyf_bytes long all)) (2 ^ 32) e in
         let more = c.1 past in
         (λ lt. absurd (omega (arith, len, lt, past)), λ le. omega (arith, more, so))
+
+-- an empty outline more
+pub counted_empty : (long : Bool) (all after : List (List ℕ)) (counted : ℕ) → IsCounted counted (length (glyf_bytes long all)) → after ≡ all ++ [] ∷ [] → IsCounted counted (length (glyf_bytes long after))
+counted_empty long all after counted c is =
+    let len : length (glyf_bytes long after) ≡ length (glyf_bytes long all) = ap (λ l. length (glyf_bytes long l)) is ∙ length-glyf_push long all [] ∙ omega (arith, none long) in
+    subst (λ n. IsCounted counted n) (sym len) c
+  where
+    none : (b : Bool) → length (padded b []) ≡ 0
+    none true = refl
+    none false = refl
 
 -- the format by the counted length
 pub long_by_count : (bs : List (List ℕ)) (counted : ℕ) → (length (glyf_bytes false bs) < 2 ^ 32 → counted ≡ length (glyf_bytes false bs)) → (2 ^ 32 ≤ length (glyf_bytes false bs) → 2 ^ 32 ≤ counted) → ltb 131070 counted ≡ is_long bs

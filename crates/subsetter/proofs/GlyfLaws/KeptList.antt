@@ -36,11 +36,11 @@ ends errors.CFFError t order front g gs total h so_far = sym so_far ∙ rw h ref
 outlines_on : (hint : Bool) (order : List ℕ) (front : List (List ℕ)) (o : Option (List ℕ)) (os : List (Option (List ℕ))) (b : List ℕ) (total : Result (List (List ℕ)) Error) → kept_outline hint order o ≡ Ok b → with_outlines front (kept_outlines hint order (o ∷ os)) ≡ total → with_outlines (front ++ b ∷ []) (kept_outlines hint order os) ≡ total
 outlines_on hint order front o os b total h so_far = sym (regroup front b (kept_outlines hint order os)) ∙ rw h at so_far
 
-pub outlines_next : (hint : Bool) (order : List ℕ) (front after : List (List ℕ)) (o : Option (List ℕ)) (os : List (Option (List ℕ))) (total : Result (List (List ℕ)) Error) → with_last front (kept_outline hint order o) ≡ Ok after → with_outlines front (kept_outlines hint order (o ∷ os)) ≡ total → with_outlines after (kept_outlines hint order os) ≡ total
-outlines_next hint order front after o os total h so_far =
+pub outlines_next : (hint hint_after : Bool) (order : List ℕ) (front after : List (List ℕ)) (o : Option (List ℕ)) (os : List (Option (List ℕ))) (total : Result (List (List ℕ)) Error) → hint_after ≡ hint → with_last front (kept_outline hint order o) ≡ Ok after → with_outlines front (kept_outlines hint order (o ∷ os)) ≡ total → with_outlines after (kept_outlines hint_after order os) ≡ total
+outlines_next hint hint_after order front after o os total hinted h so_far =
     let k = bind_ok (kept_outline hint order o) (λ b. Ok (front ++ b ∷ [])) after h in
     let same : front ++ k.0 ∷ [] ≡ after = done_is (front ++ k.0 ∷ []) after k.2 in
-    ap (λ (l : List (List ℕ)). with_outlines l (kept_outlines hint order os)) (sym same) ∙ outlines_on hint order front o os k.0 total k.1 so_far
+    ap (λ (b : Bool). with_outlines after (kept_outlines b order os)) hinted ∙ ap (λ (l : List (List ℕ)). with_outlines l (kept_outlines hint order os)) (sym same) ∙ outlines_on hint order front o os k.0 total k.1 so_far
 
 -- some outlines and then others
 pub outlines_apart : (hint : Bool) (order : List ℕ) (front : List (List ℕ)) (os rest : List (Option (List ℕ))) → with_outlines front (kept_outlines hint order (os ++ rest)) ≡ (with_outlines front (kept_outlines hint order os) >>= λ more. with_outlines more (kept_outlines hint order rest))
@@ -124,8 +124,8 @@ written_is front b all slice start same parts at =
 -- ---- one outline of a block
 
 -- its first byte
-pub head_at : (block : List (Option (Bor (List ℕ)))) (heads : List ℕ) (i : ℕ) (d : Option (Bor (List ℕ))) (e : ℕ) → heads ≡ map (λ o. first_byte_in (option_copied o)) block → i < length block → get_or heads i e ≡ first_byte_in (option_copied (get_or block i d))
-head_at block heads i d e is lt = ap (λ (l : List ℕ). get_or l i e) is ∙ get_or-map (λ o. first_byte_in (option_copied o)) block i d e lt
+pub first_byte_at : (block : List (Option (Bor (List ℕ)))) (first_bytes : List ℕ) (i : ℕ) (d : Option (Bor (List ℕ))) (e : ℕ) → first_bytes ≡ map (λ o. first_byte_in (option_copied o)) block → i < length block → get_or first_bytes i e ≡ first_byte_in (option_copied (get_or block i d))
+first_byte_at block first_bytes i d e is lt = ap (λ (l : List ℕ). get_or l i e) is ∙ get_or-map (λ o. first_byte_in (option_copied o)) block i d e lt
 
 -- a composite is written anew
 pub kept_composite : (hint : Bool) (order : List ℕ) (o : Option (Bor (List ℕ))) (b : Bor (List ℕ)) (first : ℕ) → o ≡ Some b → first ≡ first_byte_in (option_copied o) → 128 ≤ first → kept_outline hint order (option_copied o) ≡ rewritten_composite hint order b.now

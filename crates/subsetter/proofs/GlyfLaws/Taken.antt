@@ -27,21 +27,21 @@ taken_read all before rest first e w = record {
 }
 
 -- or from a block that was read
-pub block_read : (outlines : List (Option (Bor (List ℕ)))) (start : ℕ) (heads : List ℕ) → heads ≡ map head_of (drop start outlines) → EndsWith (map head_of outlines) heads
-block_read outlines start heads is = record {
+pub block_read : (outlines : List (Option (Bor (List ℕ)))) (start : ℕ) (first_bytes : List ℕ) → first_bytes ≡ map head_of (drop start outlines) → EndsWith (map head_of outlines) first_bytes
+block_read outlines start first_bytes is = record {
   front = map head_of (take start outlines);
   is = ap (map head_of) (sym (take-append-drop start outlines)) ∙ map-append head_of (take start outlines) (drop start outlines) ∙ ap (λ (l : List ℕ). map head_of (take start outlines) ++ l) (sym is);
 }
 
 -- and then the last of them is taken
-pub taken_new : (all heads rest : List ℕ) (o : Option ℕ) (first d n m : ℕ) → heads ≡ rest ++ option_to_list o → rest ≡ take (n - 1) heads → MatchOption o ((n ≡ 0) × (m ≡ 0)) (λ x. m + 1 ≡ n) → 1 ≤ length heads → first ≡ unwrap_or o d → EndsWith all heads → IsTaken all first rest
-taken_new all heads rest (Some b) first d n m parts cut cases some is w = taken_read all heads rest first (parts ∙ ap (λ (x : ℕ). rest ++ x ∷ []) (sym is)) w
-taken_new all heads rest None first d n m parts cut cases some is w =
-    let none : rest ≡ [] = cut ∙ ap (λ k. take (k - 1) heads) cases.0 in
+pub taken_new : (all first_bytes rest : List ℕ) (o : Option ℕ) (first d n m : ℕ) → first_bytes ≡ rest ++ option_to_list o → rest ≡ take (n - 1) first_bytes → MatchOption o ((n ≡ 0) × (m ≡ 0)) (λ x. m + 1 ≡ n) → 1 ≤ length first_bytes → first ≡ unwrap_or o d → EndsWith all first_bytes → IsTaken all first rest
+taken_new all first_bytes rest (Some b) first d n m parts cut cases some is w = taken_read all first_bytes rest first (parts ∙ ap (λ (x : ℕ). rest ++ x ∷ []) (sym is)) w
+taken_new all first_bytes rest None first d n m parts cut cases some is w =
+    let none : rest ≡ [] = cut ∙ ap (λ k. take (k - 1) first_bytes) cases.0 in
     absurd (omega (arith, ap length parts, length-append rest [], ap length none, some))
 
-pub some_read : (outlines : List (Option (Bor (List ℕ)))) (start : ℕ) (heads : List ℕ) → heads ≡ map head_of (drop start outlines) → start < length outlines → 1 ≤ length heads
-some_read outlines start heads is lt = omega (arith, ap length is, length-map (drop start outlines) head_of, length-drop start outlines, lt)
+pub some_read : (outlines : List (Option (Bor (List ℕ)))) (start : ℕ) (first_bytes : List ℕ) → first_bytes ≡ map head_of (drop start outlines) → start < length outlines → 1 ≤ length first_bytes
+some_read outlines start first_bytes is lt = omega (arith, ap length is, length-map (drop start outlines) head_of, length-drop start outlines, lt)
 
 -- ---- the outlines of the given glyphs
 
@@ -74,8 +74,8 @@ pub one_taken : (glyphs : List ℕ) (before n : ℕ) → n < length glyphs → b
 one_taken glyphs before n lt e = ap (λ k. take k glyphs) e ∙ take_more glyphs n 0 lt
 
 -- its first byte, and those of the glyphs before it
-pub head_taken : (t : Outlines) (glyphs all rest : List ℕ) (before n first : ℕ) → n < length glyphs → before ≡ n + 1 → all ≡ heads_in t (take before glyphs) → IsTaken all first rest → (first ≡ first_byte_in (outline_in t (get_or glyphs n 0))) × EndsWith (heads_in t (take n glyphs)) rest
-head_taken t glyphs all rest before n first lt e is taken =
+pub first_byte_taken : (t : Outlines) (glyphs all rest : List ℕ) (before n first : ℕ) → n < length glyphs → before ≡ n + 1 → all ≡ heads_in t (take before glyphs) → IsTaken all first rest → (first ≡ first_byte_in (outline_in t (get_or glyphs n 0))) × EndsWith (heads_in t (take n glyphs)) rest
+first_byte_taken t glyphs all rest before n first lt e is taken =
     let g = get_or glyphs n 0 in
     let parts : heads_in t (take before glyphs) ≡ heads_in t (take n glyphs) ++ first_byte_in (outline_in t g) ∷ [] =
     ap (heads_in t) (one_taken glyphs before n lt e) ∙ map-append (λ q. first_byte_in (outline_in t q)) (take n glyphs) (g ∷ []) in

@@ -41,10 +41,10 @@ pub record IsTaken (all : List ℕ) (last : ℕ) (end : List ℕ) : Type 0 where
   pub ends : EndsWith front end
 
 -- one byte, or a composite of fewer than ten bytes
-unfoldable pub lacks_head : List ℕ → Bool
-lacks_head [] = false
-lacks_head (a ∷ []) = true
-lacks_head (a ∷ b ∷ bytes) = not (nat_lt a 128) && nat_lt (length (a ∷ b ∷ bytes)) 10
+unfoldable pub lacks_glyph_header : List ℕ → Bool
+lacks_glyph_header [] = false
+lacks_glyph_header (a ∷ []) = true
+lacks_glyph_header (a ∷ b ∷ bytes) = not (nat_lt a 128) && nat_lt (length (a ∷ b ∷ bytes)) 10
 
 -- there is an outline, but it has no parts
 pub record LacksParts (outline : Option (List ℕ)) : Type 0 where

@@ -1,12 +1,18 @@
 -- A list of outlines of which some are borrowed and the others stand one after another.
-use Rattle.std.specs.Prelude.{◌≡◌, ◌≤◌, ◌<◌, ◌^◌, ℕ, List, [], ◌∷◌, length, take, drop}
+use Rattle.std.specs.Prelude.{◌≡◌, ◌≤◌, ◌<◌, ◌^◌, ℕ, Bool, List, [], ◌∷◌, length, take, drop}
+use Rattle.subsetter.specs.Glyf.Bare.{simple_asked}
 
--- the outlines: a borrowed one stands for itself, and no bytes stand for the next of the others, which has the next of the sizes
-abbrev pub woven : List (List ℕ) → List ℕ → List ℕ → List (List ℕ)
-woven [] sizes bytes = []
-woven ([] ∷ kept) [] bytes = []
-woven ([] ∷ kept) (n ∷ sizes) bytes = take n bytes ∷ woven kept sizes (drop n bytes)
-woven ((x ∷ xs) ∷ kept) sizes bytes = (x ∷ xs) ∷ woven kept sizes bytes
+-- a list of outlines, and whether instructions are asked for
+pub record Listed : Type 0 where
+  pub hinting : Bool
+  pub items : List (List ℕ)
+
+-- the outlines: a borrowed one is a simple outline of the source and stands for itself as far as it is asked for; no bytes stand for the next of the others, which has the next of the sizes
+abbrev pub woven : Bool → List (List ℕ) → List ℕ → List ℕ → List (List ℕ)
+woven hinting [] sizes bytes = []
+woven hinting ([] ∷ kept) [] bytes = []
+woven hinting ([] ∷ kept) (n ∷ sizes) bytes = take n bytes ∷ woven hinting kept sizes (drop n bytes)
+woven hinting ((x ∷ xs) ∷ kept) sizes bytes = simple_asked hinting (x ∷ xs) ∷ woven hinting kept sizes bytes
 
 -- there is a size for each of the others, and their bytes are there, and no more
 abbrev pub AreWoven : List (List ℕ) → List ℕ → List ℕ → Type 0

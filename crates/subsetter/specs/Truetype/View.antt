@@ -1,7 +1,7 @@
 -- What the code's parts of a TrueType subset stand for.
-use Rattle.subsetter.specs.declared.truetype.Made.{Made as MadeTables}
+use Rattle.subsetter.specs.declared.truetype.TrueTypeTables.{TrueTypeTables}
 use Rattle.subsetter.specs.Shared.View.{shared_seen}
 use Rattle.subsetter.specs.Truetype.Plain.{Made}
 
-abbrev pub made_seen : MadeTables → Made
-made_seen m = record { outlines = m.outlines; loca = m.loca.items; shared = shared_seen m.shared }
+abbrev pub made_seen : TrueTypeTables → Made
+made_seen m = record { outlines = m.outlines.items; loca = m.loca.items; shared = shared_seen m.shared }

@@ -6,11 +6,11 @@
 
 ghost use Rattle.std.specs.Prelude.{◌≡◌, ◌+◌, ◌-◌, ◌≤◌, [], ◌∷◌, ◌++◌, length, take, drop, if◌then◌else◌, ◌&&◌, nat_le, Some, Ok, OnOk, OnErr, IfErr};
 ghost use Rattle.std.specs.Int.{w16, to_be_bytes};
-ghost use Rattle.std.specs.Option.{option_map, unwrap_or};
+ghost use Rattle.std.specs.Option.{option_map};
 ghost use Rattle.subsetter_base.specs.Gives.{Fails};
 ghost use Rattle.subsetter.specs.Glyf.View.{component_seen};
 ghost use Rattle.subsetter.specs.Glyf.Parts.{rest_size, has_more, has_instructions, component_at, numbers_at, component_numbers};
-ghost use Rattle.subsetter.specs.Glyf.Bare.{flags_asked, bare_simple};
+ghost use Rattle.subsetter.specs.Glyf.Bare.{flags_asked};
 ghost use Rattle.subsetter.specs.Glyf.Plain.{new_number, written_behind, rewritten_composite};
 
 use std::marker::Model;
@@ -147,13 +147,13 @@ impl<'a> Iterator for Components<'a> {
             return None;
         }
         let flags = u16_at(bytes, 0);
-        self.rest = behind(bytes, flags);
+        self.rest = next_component(bytes, flags);
         Some(u16_at(bytes, 2))
     }
 }
 
 /// What stands behind the component at the front, which has these flags.
-fn after(bytes: &[u8], flags: u16) -> &[u8]
+fn skip_component(bytes: &[u8], flags: u16) -> &[u8]
     ensures { result.now ≡ drop (4 + rest_size flags) bytes.now }
 {
     let size = 4 + rest_size(flags);
@@ -165,18 +165,18 @@ fn after(bytes: &[u8], flags: u16) -> &[u8]
 }
 
 /// The components behind the one at the front, which has these flags.
-fn behind(bytes: &[u8], flags: u16) -> &[u8]
+fn next_component(bytes: &[u8], flags: u16) -> &[u8]
     ensures { result.now ≡ (if has_more flags then drop (4 + rest_size flags) bytes.now else []) }
 {
     if has_more(flags) {
-        after(bytes, flags)
+        skip_component(bytes, flags)
     } else {
         &[]
     }
 }
 
 /// What stands behind a component at the front.
-fn behind_component<'a>(bytes: &'a [u8], component: Component<'_>) -> &'a [u8]
+fn rest_after<'a>(bytes: &'a [u8], component: Component<'_>) -> &'a [u8]
     requires { component_at bytes.now ≡ Some (component_seen component) }
     ensures { result.now ≡ drop (4 + rest_size component.entry.flags) bytes.now }
 {
@@ -249,43 +249,10 @@ pub fn rewrite_composite(
         };
         let at = out.len() - rest.len();
         renumber(out, at, order, component, hinting);
-        rest = behind_component(rest, component);
+        rest = rest_after(rest, component);
         if !has_more(component.flags) {
             cut_tail(out, component.flags, rest.len(), hinting);
             return Ok(());
         }
     }
-}
-
-/// A simple outline in two pieces: what stands before the length of its instructions, and what stands behind them.
-#[derive(Clone, Copy)]
-pub struct Bare<'a> {
-    pub front: &'a [u8],
-    pub behind: &'a [u8],
-}
-
-/// The pieces of a simple outline that has instructions, all of which are there.
-#[tactic(auto, using(crate::proofs::GlyfLaws::Bare::stays_bare), unfolding(crate::specs::Glyf::Bare::bare_simple))]
-pub fn bare_pieces(outline: &[u8]) -> Option<Bare<'_>>
-    ensures { unwrap_or (option_map (λ b. b.front.now ++ 0 ∷ 0 ∷ b.behind.now) result) outline.now ≡ bare_simple outline.now }
-{
-    if outline.len() < 2 {
-        return None;
-    }
-    let at = 10 + 2 * usize::from(u16_at(outline, 0));
-    if outline.len() < at + 2 {
-        return None;
-    }
-    let size = usize::from(u16_at(outline, at));
-    if size == 0 {
-        return None;
-    }
-    let end = at + 2 + size;
-    if outline.len() < end {
-        return None;
-    }
-    Some(Bare {
-        front: &outline[..at],
-        behind: &outline[end..],
-    })
 }

@@ -6,17 +6,19 @@
 //! is whole after an error too. The zero byte after an odd outline, in the short format, is written with the output and
 //! not kept here.
 
-ghost use Rattle.std.specs.Prelude.{◌≡◌, ◌+◌, ◌<◌, ◌≤◌, ◌^◌, ◌++◌, ◌∷◌, [], length, vec_capacity, Ok, OnOk, OnErr, IfOk, IfErr};
-ghost use Rattle.std.specs.Iterator.{YieldsFirstRef, item_count};
+ghost use Rattle.std.specs.Prelude.{◌≡◌, ◌+◌, ◌<◌, ◌≤◌, ◌^◌, ◌++◌, ◌∷◌, [], length, vec_capacity, Ok, OnOk, IfOk, IfErr};
+ghost use Rattle.std.specs.Iterator.{YieldsFirstBy, item_count};
 ghost use Rattle.subsetter_base.specs.Gives.{Fails};
 ghost use Rattle.subsetter_base.specs.declared.error.Error.TheVariants.{OutOfMemory};
-ghost use Rattle.subsetter.specs.Glyf.Bare.{bare_simple, simple_asked};
+ghost use Rattle.subsetter.specs.Glyf.Bare.{simple_asked};
 ghost use Rattle.subsetter.specs.Glyf.Plain.{rewritten_composite, with_last};
 ghost use Rattle.subsetter.specs.Glyf.Unfold.{padded};
+ghost use Rattle.subsetter.specs.Glyf.View.{outline_bytes};
 ghost use Rattle.subsetter.specs.Glyf.Written.{glyf_bytes};
 ghost use Rattle.subsetter_sfnt.specs.Checksum.{checksum};
 
-use crate::glyf::component::{Bare, bare_pieces, rewrite_composite};
+use crate::glyf::component::rewrite_composite;
+use crate::glyf::pieces::Outline;
 use std::alloc::Global;
 use std::marker::Model;
 use subsetter_base::{Error, GlyphRemapper};
@@ -25,8 +27,13 @@ use subsetter_sfnt::room::put;
 
 /// A list of outlines, in less room than a `CowSlice` each: borrowed ones stay in the source, and those that are made
 /// anew stand one after another.
+///
+/// A borrowed outline is whole here. Where instructions aren't asked for, its pieces without them are found each time
+/// that it is looked at: when it is counted, for its entry of `loca`, and where it is written.
 #[derive(Drop)]
 pub struct OutlineList<'a> {
+    /// Whether instructions are asked for.
+    hinting: bool,
     /// The borrowed outlines; no bytes stand for the next of those that were made.
     kept: Vec<&'a [u8]>,
     /// How many bytes each outline that was made has. An empty one counts as made.
@@ -40,30 +47,30 @@ pub struct OutlineList<'a> {
 }
 
 impl<'a> Model for OutlineList<'a> {
-    ghost use Rattle.std.specs.Prelude.{ℕ, List};
+    ghost use Rattle.std.specs.Prelude.{ℕ, List, true, false, length};
     ghost use Rattle.subsetter.specs.Name.View.{nows};
-    ghost use Rattle.std.specs.Prelude.{true, false, length};
-    ghost use Rattle.subsetter.specs.Glyf.Woven.{woven, AreWoven, IsCounted};
+    ghost use Rattle.subsetter.specs.Glyf.Woven.{Listed, woven, AreWoven, IsCounted};
     ghost use Rattle.subsetter.specs.Glyf.Written.{glyf_bytes};
 
-    ghost Value = { List (List ℕ) };
+    ghost Value = { Listed };
 
-    ghost view = { λ o. woven (nows o.kept.items) o.sizes.items o.made.items };
+    ghost view = { λ o. record { hinting = o.hinting; items = woven o.hinting (nows o.kept.items) o.sizes.items o.made.items } };
 
     ghost invariant = { λ o. record {
       parts : AreWoven (nows o.kept.items) o.sizes.items o.made.items;
-      counted : IsCounted o.size (length (glyf_bytes true (woven (nows o.kept.items) o.sizes.items o.made.items)));
-      even : IsCounted o.even_size (length (glyf_bytes false (woven (nows o.kept.items) o.sizes.items o.made.items)));
+      counted : IsCounted o.size (length (glyf_bytes true (woven o.hinting (nows o.kept.items) o.sizes.items o.made.items)));
+      even : IsCounted o.even_size (length (glyf_bytes false (woven o.hinting (nows o.kept.items) o.sizes.items o.made.items)));
     } };
 }
 
 impl<'a> OutlineList<'a> {
     /// No outlines, and room for so many.
-    pub fn with_capacity(alloc: Global, count: usize) -> Result<Self, Error>
-        ensures ok { IfOk result (λ list. list ≡ []) }
+    pub fn with_capacity(alloc: Global, count: usize, hinting: bool) -> Result<Self, Error>
+        ensures ok { IfOk result (λ list. list ≡ record { hinting = hinting; items = [] }) }
         ensures err { IfErr result (λ e. e ≡ OutOfMemory) }
     {
         Ok(Self {
+            hinting,
             kept: Vec::with_capacity(alloc, count)?,
             sizes: Vec::new(alloc),
             made: Vec::new(alloc),
@@ -74,21 +81,17 @@ impl<'a> OutlineList<'a> {
 
     /// Puts a composite last, with its components under their new numbers, and its instructions if they are asked for.
     /// `MalformedFont` where it is cut.
-    pub fn push_composite(
-        &mut self,
-        outline: &[u8],
-        order: &GlyphRemapper,
-        hinting: bool,
-    ) -> Result<(), Error>
-        ensures ok { OnOk result (with_last self.old (rewritten_composite hinting order.now outline.now) ≡ Ok self.new) }
-        ensures err { IfErr result (λ e. Fails e (with_last self.old (rewritten_composite hinting order.now outline.now))) }
+    pub fn push_composite(&mut self, outline: &[u8], order: &GlyphRemapper) -> Result<(), Error>
+        ensures ok { OnOk result (with_last self.old.items (rewritten_composite self.old.hinting order.now outline.now) ≡ Ok self.new.items) }
+        ensures same { OnOk result (self.new.hinting ≡ self.old.hinting) }
+        ensures err { IfErr result (λ e. Fails e (with_last self.old.items (rewritten_composite self.old.hinting order.now outline.now))) }
     {
         self.kept.reserve(1)?;
         self.sizes.reserve(1)?;
         let start = self.made.len();
-        rewrite_composite(&mut self.made, outline, order, hinting)?;
-        let written = &self.made[start..];
-        let (long_len, short_len) = (padded_len(written, true), padded_len(written, false));
+        rewrite_composite(&mut self.made, outline, order, self.hinting)?;
+        let written = Outline::Whole(&self.made[start..]);
+        let (long_len, short_len) = (written.padded_len(true), written.padded_len(false));
         self.kept.push(&[]).unwrap();
         self.sizes.push(long_len).unwrap();
         self.size = self.size.saturating_add(long_len);
@@ -97,75 +100,41 @@ impl<'a> OutlineList<'a> {
     }
 
     /// Puts a simple outline of the source last, with its instructions if they are asked for.
-    pub fn push_simple(&mut self, outline: &'a [u8], hinting: bool) -> Result<(), Error>
-        ensures ok { OnOk result (self.new ≡ self.old ++ simple_asked hinting outline.now ∷ []) }
-        ensures err { IfErr result (λ e. e ≡ OutOfMemory) }
-    {
-        if hinting {
-            self.push_kept(outline)
-        } else {
-            self.push_bare(outline)
-        }
-    }
-
-    /// Puts an outline of the source last.
-    fn push_kept(&mut self, outline: &'a [u8]) -> Result<(), Error>
-        ensures ok { OnOk result (self.new ≡ self.old ++ outline.now ∷ []) }
+    pub fn push_simple(&mut self, outline: &'a [u8]) -> Result<(), Error>
+        ensures ok { OnOk result (self.new.items ≡ self.old.items ++ simple_asked self.old.hinting outline.now ∷ []) }
+        ensures same { OnOk result (self.new.hinting ≡ self.old.hinting) }
         ensures err { IfErr result (λ e. e ≡ OutOfMemory) }
     {
         match outline {
-            [] => self.push_made(outline),
-            [_, ..] => {
-                self.kept.push(outline)?;
-                self.size = self.size.saturating_add(padded_len(outline, true));
-                self.even_size = self.even_size.saturating_add(padded_len(outline, false));
-                Ok(())
-            }
+            [] => self.push_empty(),
+            [_, ..] => self.push_kept(outline),
         }
     }
 
-    /// Puts a simple outline of the source last, without its instructions. Where it has none, it is borrowed.
-    fn push_bare(&mut self, outline: &'a [u8]) -> Result<(), Error>
-        ensures ok { OnOk result (self.new ≡ self.old ++ bare_simple outline.now ∷ []) }
+    /// Puts a simple outline that isn't empty last. It is borrowed.
+    fn push_kept(&mut self, outline: &'a [u8]) -> Result<(), Error>
+        requires { 1 ≤ length outline.now }
+        ensures ok { OnOk result (self.new.items ≡ self.old.items ++ simple_asked self.old.hinting outline.now ∷ []) }
+        ensures same { OnOk result (self.new.hinting ≡ self.old.hinting) }
         ensures err { IfErr result (λ e. e ≡ OutOfMemory) }
     {
-        match bare_pieces(outline) {
-            Some(pieces) => self.push_pieces(pieces),
-            None => self.push_kept(outline),
-        }
-    }
-
-    /// Puts two pieces last, with a length of 0 between them.
-    fn push_pieces(&mut self, pieces: Bare<'_>) -> Result<(), Error>
-        ensures ok { OnOk result (self.new ≡ self.old ++ (pieces.entry.front.now ++ 0 ∷ 0 ∷ pieces.entry.behind.now) ∷ []) }
-        ensures err { IfErr result (λ e. e ≡ OutOfMemory) }
-    {
-        self.kept.reserve(1)?;
-        self.sizes.reserve(1)?;
-        let start = self.made.len();
-        write_pieces(&mut self.made, pieces)?;
-        let written = &self.made[start..];
-        let (long_len, short_len) = (padded_len(written, true), padded_len(written, false));
-        self.kept.push(&[]).unwrap();
-        self.sizes.push(long_len).unwrap();
+        self.kept.push(outline)?;
+        let pieces = Outline::simple(outline, self.hinting);
+        let (long_len, short_len) = (pieces.padded_len(true), pieces.padded_len(false));
         self.size = self.size.saturating_add(long_len);
         self.even_size = self.even_size.saturating_add(short_len);
         Ok(())
     }
 
-    /// Puts a copy of an outline last.
-    fn push_made(&mut self, outline: &[u8]) -> Result<(), Error>
-        ensures ok { OnOk result (self.new ≡ self.old ++ outline.now ∷ []) }
+    /// Puts an empty outline last. It counts as made.
+    fn push_empty(&mut self) -> Result<(), Error>
+        ensures ok { OnOk result (self.new.items ≡ self.old.items ++ [] ∷ []) }
+        ensures same { OnOk result (self.new.hinting ≡ self.old.hinting) }
         ensures err { IfErr result (λ e. e ≡ OutOfMemory) }
     {
         self.kept.reserve(1)?;
-        self.sizes.reserve(1)?;
-        self.made.reserve(outline.len())?;
+        self.sizes.push(0)?;
         self.kept.push(&[]).unwrap();
-        self.sizes.push(outline.len()).unwrap();
-        self.made.extend_from_slice(outline).unwrap();
-        self.size = self.size.saturating_add(padded_len(outline, true));
-        self.even_size = self.even_size.saturating_add(padded_len(outline, false));
         Ok(())
     }
 
@@ -179,9 +148,10 @@ impl<'a> OutlineList<'a> {
 
     /// The outlines, in order.
     pub fn iter(&self) -> OutlineIter<'_>
-        ensures { result ≡ self.now }
+        ensures { result ≡ self.now.items }
     {
         OutlineIter {
+            hinting: self.hinting,
             kept: &self.kept,
             sizes: &self.sizes,
             made: &self.made,
@@ -190,33 +160,16 @@ impl<'a> OutlineList<'a> {
 
     /// How many outlines there are.
     pub fn len(&self) -> usize
-        ensures { result ≡ length self.now }
+        ensures { result ≡ length self.now.items }
     {
         self.kept.as_slice().len()
     }
 }
 
-/// Writes two pieces with a length of 0 between them. Where there is no room, nothing is written.
-fn write_pieces(out: &mut Vec<u8>, pieces: Bare<'_>) -> Result<(), Error>
-    ensures ok { OnOk result (out.new.items ≡ out.old.items ++ (pieces.entry.front.now ++ 0 ∷ 0 ∷ pieces.entry.behind.now)) }
-    ensures err { IfErr result (λ e. e ≡ OutOfMemory) }
-    ensures unchanged { OnErr result (out.new.items ≡ out.old.items) }
-{
-    let room = pieces
-        .front
-        .len()
-        .saturating_add(2)
-        .saturating_add(pieces.behind.len());
-    out.reserve(room)?;
-    out.extend_from_slice(pieces.front).unwrap();
-    out.extend_from_slice(&[0, 0]).unwrap();
-    out.extend_from_slice(pieces.behind).unwrap();
-    Ok(())
-}
-
 /// The outlines of a list, in order.
 #[derive(Drop)]
 pub struct OutlineIter<'a> {
+    hinting: bool,
     kept: &'a [&'a [u8]],
     sizes: &'a [usize],
     made: &'a [u8],
@@ -229,24 +182,24 @@ impl<'a> Model for OutlineIter<'a> {
 
     ghost Value = { List (List ℕ) };
 
-    ghost view = { λ s. woven (nows s.kept.now) s.sizes.now s.made.now };
+    ghost view = { λ s. woven s.hinting (nows s.kept.now) s.sizes.now s.made.now };
 
     ghost invariant = { λ s. AreWoven (nows s.kept.now) s.sizes.now s.made.now };
 }
 
 impl<'a> Iterator for OutlineIter<'a> {
-    type Item = &'a [u8];
+    type Item = Outline<'a>;
 
-    ghost next_gives = { YieldsFirstRef (λ rest. rest) };
+    ghost next_gives = { YieldsFirstBy outline_bytes (λ rest. rest) };
 
     ghost remaining = { item_count (λ rest. rest) };
 
-    fn next(&mut self) -> Option<&'a [u8]> {
+    fn next(&mut self) -> Option<Outline<'a>> {
         let kept = self.kept;
         let first = *kept.first()?;
         if !first.is_empty() {
             self.kept = &kept[1..];
-            return Some(first);
+            return Some(Outline::simple(first, self.hinting));
         }
         let sizes = self.sizes;
         let size = *sizes.first()?;
@@ -254,25 +207,14 @@ impl<'a> Iterator for OutlineIter<'a> {
         self.kept = &kept[1..];
         self.sizes = &sizes[1..];
         self.made = made;
-        Some(outline)
-    }
-}
-
-/// How many bytes an outline takes: in the short format of `loca` an even number.
-pub fn padded_len(outline: &[u8], long: bool) -> usize
-    ensures { result ≡ length (padded long outline.now) }
-{
-    if long {
-        outline.len()
-    } else {
-        outline.len() + outline.len() % 2
+        Some(Outline::Whole(outline))
     }
 }
 
 /// How many bytes the outlines take; where these are 2^32 or more, some number from 2^32 on.
 pub fn outlines_len(outlines: &OutlineList<'_>, long: bool) -> usize
-    ensures exact { length (glyf_bytes long outlines.now) < 2 ^ 32 → result ≡ length (glyf_bytes long outlines.now) }
-    ensures past { 2 ^ 32 ≤ length (glyf_bytes long outlines.now) → 2 ^ 32 ≤ result }
+    ensures exact { length (glyf_bytes long outlines.now.items) < 2 ^ 32 → result ≡ length (glyf_bytes long outlines.now.items) }
+    ensures past { 2 ^ 32 ≤ length (glyf_bytes long outlines.now.items) → 2 ^ 32 ≤ result }
 {
     if long {
         outlines.size
@@ -281,13 +223,29 @@ pub fn outlines_len(outlines: &OutlineList<'_>, long: bool) -> usize
     }
 }
 
-/// Writes an outline.
-fn write_outline(out: &mut Vec<u8>, outline: &[u8], long: bool)
-    requires { length out.old.items + length (padded long outline.now) ≤ vec_capacity out.old }
-    ensures items { out.new.items ≡ out.old.items ++ padded long outline.now }
+/// Writes the pieces of an outline.
+fn write_pieces(out: &mut Vec<u8>, outline: Outline<'_>)
+    requires { length out.old.items + length (outline_bytes outline) ≤ vec_capacity out.old }
+    ensures items { out.new.items ≡ out.old.items ++ outline_bytes outline.entry }
     ensures capacity { vec_capacity out.old ≤ vec_capacity out.new }
 {
-    put(out, outline);
+    match outline {
+        Outline::Whole(bytes) => put(out, bytes),
+        Outline::InPieces(bare) => {
+            put(out, bare.front);
+            put(out, &[0, 0]);
+            put(out, bare.behind);
+        }
+    }
+}
+
+/// Writes an outline, in the short format of `loca` with a zero byte behind an odd one.
+fn write_outline(out: &mut Vec<u8>, outline: Outline<'_>, long: bool)
+    requires { length out.old.items + length (padded long (outline_bytes outline)) ≤ vec_capacity out.old }
+    ensures items { out.new.items ≡ out.old.items ++ padded long (outline_bytes outline.entry) }
+    ensures capacity { vec_capacity out.old ≤ vec_capacity out.new }
+{
+    write_pieces(out, outline);
     if !long && outline.len() % 2 == 1 {
         put(out, &[0]);
     }
@@ -296,10 +254,10 @@ fn write_outline(out: &mut Vec<u8>, outline: &[u8], long: bool)
 /// Writes the outlines one after another, and answers the checksum of what it wrote.
 /// They are summed in pieces, while these are at hand.
 pub fn write_outlines(out: &mut Vec<u8>, outlines: &OutlineList<'_>, long: bool) -> u32
-    requires { length out.old.items + length (glyf_bytes long outlines.now) ≤ vec_capacity out.old }
-    ensures items { out.new.items ≡ out.old.items ++ glyf_bytes long outlines.now }
+    requires { length out.old.items + length (glyf_bytes long outlines.now.items) ≤ vec_capacity out.old }
+    ensures items { out.new.items ≡ out.old.items ++ glyf_bytes long outlines.now.items }
     ensures capacity { vec_capacity out.old ≤ vec_capacity out.new }
-    ensures sum { result ≡ checksum (glyf_bytes long outlines.now) }
+    ensures sum { result ≡ checksum (glyf_bytes long outlines.now.items) }
 {
     let start = out.len();
     let mut sum = Sum::new();

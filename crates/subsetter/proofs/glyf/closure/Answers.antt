@@ -10,7 +10,7 @@ use Rattle.subsetter.specs.Glyf.Read.{outline_in}
 use Rattle.subsetter.specs.Glyf.View.{seen}
 use Rattle.subsetter.proofs.GlyfLaws.Closure.{Follows, start, followed, visited_next, finished, stops_memory, stops_given, stops_visit}
 use Rattle.subsetter.proofs.GlyfLaws.Found.{FoundFrom, found_start, found_followed, found_visited, found_last}
-use Rattle.subsetter.proofs.GlyfLaws.Taken.{heads_in, outlines_left, heads_left, head_taken, found_at, one_taken}
+use Rattle.subsetter.proofs.GlyfLaws.Taken.{heads_in, outlines_left, heads_left, first_byte_taken, found_at, one_taken}
 use Rattle.subsetter.proofs.glyf.closure.Goals as goal
 
 pub returns-in_err-order-clause-err : goal.returns-in_err-order-clause-err
@@ -30,27 +30,27 @@ loop-left-init c =
     let all : take c.num_gids-left.result glyphs ≡ glyphs = ap (λ n. take n glyphs) c.num_gids-left.ensures.count ∙ take-length glyphs in
     record {
       within = omega (arith, c.num_gids-left.ensures.count);
-      heads = record { front = heads_in t (take c.num_gids-left.result glyphs); is = sym (append-nil _) ∙ ap (λ (l : List ℕ). heads_in t (take c.num_gids-left.result glyphs) ++ l) (sym c.in_ok-heads.ensures.items) };
+      first_bytes = record { front = heads_in t (take c.num_gids-left.result glyphs); is = sym (append-nil _) ∙ ap (λ (l : List ℕ). heads_in t (take c.num_gids-left.result glyphs) ++ l) (sym c.in_ok-first_bytes.ensures.items) };
       follows = start t glyphs _ c.in_ok-order.order all c.in_ok-order.ensures.ok c.num_gids-left.ensures.once (omega (arith, c.num_gids-left.ensures.few));
       none_waits = c.new-waiting.ensures.items;
       outlines = c.in_ok-outlines.ensures.ok ∙ ap (map (outline_in t)) (sym c.in_ok-order.ensures.ok);
       found = found_start t glyphs _ c.in_ok-order.order all c.in_ok-order.ensures.ok;
     }
 
-pub slice_bounds-take_head-end : goal.slice_bounds-take_head-end
-slice_bounds-take_head-end c =
+pub slice_bounds-pop_first_byte-end : goal.slice_bounds-pop_first_byte-end
+slice_bounds-pop_first_byte-end c =
     let i = c.loop-left.invariant in
     sym (length-take-le c.loop-left.left c.deref.result.now (outlines_left (seen c.args.table.now) c.args.mapper.now i.follows.others c.loop-left.order c.loop-left.outlines.items c.deref.result.now c.loop-left.left i.outlines i.follows.begins i.within c.deref.ensures.value))
 
-pub take_head-requires-clause-some : goal.take_head-requires-clause-some
-take_head-requires-clause-some c =
+pub pop_first_byte-requires-clause-some : goal.pop_first_byte-requires-clause-some
+pop_first_byte-requires-clause-some c =
     let i = c.loop-left.invariant in
     omega (arith, c.loop-left-test.true, length-take-le c.loop-left.left c.deref.result.now (outlines_left (seen c.args.table.now) c.args.mapper.now i.follows.others c.loop-left.order c.loop-left.outlines.items c.deref.result.now c.loop-left.left i.outlines i.follows.begins i.within c.deref.ensures.value))
 
-pub take_head-requires-clause-ends : goal.take_head-requires-clause-ends
-take_head-requires-clause-ends c =
+pub pop_first_byte-requires-clause-ends : goal.pop_first_byte-requires-clause-ends
+pop_first_byte-requires-clause-ends c =
     let i = c.loop-left.invariant in
-    subst (λ (l : List ℕ). EndsWith l c.loop-left.heads.items) (sym (heads_left (seen c.args.table.now) c.args.mapper.now i.follows.others c.loop-left.order c.loop-left.outlines.items _ c.loop-left.left (ap (take c.loop-left.left) c.deref.ensures.value) i.outlines i.follows.begins i.within)) i.heads
+    subst (λ (l : List ℕ). EndsWith l c.loop-left.first_bytes.items) (sym (heads_left (seen c.args.table.now) c.args.mapper.now i.follows.others c.loop-left.order c.loop-left.outlines.items _ c.loop-left.left (ap (take c.loop-left.left) c.deref.ensures.value) i.outlines i.follows.begins i.within)) i.first_bytes
 
 pub returns-in_err-first-clause-err : goal.returns-in_err-first-clause-err
 returns-in_err-first-clause-err c =
@@ -70,7 +70,7 @@ follow-requires c =
     let n = c.loop-left.left - 1 in
     let lt : n < length glyphs = omega (arith, c.loop-left-test.true, i.within) in
     let all = heads_left t glyphs i.follows.others c.loop-left.order c.loop-left.outlines.items _ c.loop-left.left (ap (take c.loop-left.left) c.deref.ensures.value) i.outlines i.follows.begins i.within in
-    let taken = head_taken t glyphs _ c.take_head.new.heads.items c.loop-left.left n c.in_ok-first.first lt (omega (arith, c.loop-left-test.true)) all c.in_ok-first.ensures.ok in
+    let taken = first_byte_taken t glyphs _ c.pop_first_byte.new.first_bytes.items c.loop-left.left n c.in_ok-first.first lt (omega (arith, c.loop-left-test.true)) all c.in_ok-first.ensures.ok in
     let here = ap option_copied c.index.ensures ∙ found_at t glyphs i.follows.others c.loop-left.order c.loop-left.outlines.items n c.index.result.now i.outlines i.follows.begins lt in
     taken.0 ∙ ap first_byte_in (sym here)
 
@@ -128,12 +128,12 @@ loop-left-preserved c =
     let n = c.loop-left.left - 1 in
     let lt : n < length glyphs = omega (arith, c.loop-left-test.true, i.within) in
     let all = heads_left t glyphs i.follows.others c.loop-left.order c.loop-left.outlines.items _ c.loop-left.left (ap (take c.loop-left.left) c.deref.ensures.value) i.outlines i.follows.begins i.within in
-    let taken = head_taken t glyphs _ c.take_head.new.heads.items c.loop-left.left n c.in_ok-first.first lt (omega (arith, c.loop-left-test.true)) all c.in_ok-first.ensures.ok in
+    let taken = first_byte_taken t glyphs _ c.pop_first_byte.new.first_bytes.items c.loop-left.left n c.in_ok-first.first lt (omega (arith, c.loop-left-test.true)) all c.in_ok-first.ensures.ok in
     let waiting = c.loop-component.waiting.items in
     let none : waiting ≡ [] = c.in_default.ensures.items ∙ ap (λ (l : List ℕ). l ++ []) (c.in_default.ensures.rest ∙ ap (λ k. take (k - 1) waiting) c.in_default.ensures.cases.0) in
     record {
       within = omega (arith, lt);
-      heads = taken.1;
+      first_bytes = taken.1;
       follows = subst (λ (l : List ℕ). Follows t glyphs (take n glyphs) l c.loop-component.order) none c.loop-component.invariant.follows;
       none_waits = c.in_default.ensures.rest ∙ ap (λ k. take (k - 1) waiting) c.in_default.ensures.cases.0;
       outlines = c.loop-component.invariant.outlines;
@@ -155,7 +155,7 @@ returns-clause-found c =
 pub returns-clause-outlines : goal.returns-clause-outlines
 returns-clause-outlines c = c.loop-left.invariant.outlines
 
-pub returns-in_err-heads-clause-err : goal.returns-in_err-heads-clause-err
-returns-in_err-heads-clause-err c =
-    let p = err_from_is_err_and c.from_residual-in_err-heads.result c.from_residual-in_err-heads.ensures.1 in
+pub returns-in_err-first_bytes-clause-err : goal.returns-in_err-first_bytes-clause-err
+returns-in_err-first_bytes-clause-err c =
+    let p = err_from_is_err_and c.from_residual-in_err-first_bytes.result c.from_residual-in_err-first_bytes.ensures.1 in
     rw p.1 (stops_memory (seen c.args.table.now) c.args.mapper.now p.0 p.2)

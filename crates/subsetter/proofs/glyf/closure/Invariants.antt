@@ -9,7 +9,7 @@ use Rattle.subsetter.proofs.glyf.closure.Given as goal
 abbrev pub invariant-loop-left : goal.invariant-loop-left
 invariant-loop-left l = record {
   within : l.left ≤ length l.mapper;
-  heads : EndsWith (heads_in (seen l.table) (take l.left l.mapper)) l.heads.items;
+  first_bytes : EndsWith (heads_in (seen l.table) (take l.left l.mapper)) l.first_bytes.items;
   follows : Follows (seen l.table) l.mapper (take l.left l.mapper) [] l.order;
   none_waits : l.waiting.items ≡ [];
   outlines : AreFound (seen l.table) l.order l.outlines.items;

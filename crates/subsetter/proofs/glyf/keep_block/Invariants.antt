@@ -7,7 +7,8 @@ use Rattle.subsetter.proofs.glyf.keep_block.Given as goal
 
 abbrev pub invariant-loop-outline : goal.invariant-loop-outline
 invariant-loop-outline l = record {
-  kept : with_outlines l.list (kept_outlines l.hinting l.order (map option_copied (drop l.outline-index l.block))) ≡ with_outlines l.fn.list (kept_outlines l.hinting l.order (map option_copied l.block));
+  kept : with_outlines l.list.items (kept_outlines l.list.hinting l.order (map option_copied (drop l.outline-index l.block))) ≡ with_outlines l.fn.list.items (kept_outlines l.fn.list.hinting l.order (map option_copied l.block));
+  same : l.list.hinting ≡ l.fn.list.hinting;
   place : l.place ≡ l.outline-index;
-  heads : l.heads.items ≡ map (λ o. first_byte_in (option_copied o)) l.block;
+  first_bytes : l.first_bytes.items ≡ map (λ o. first_byte_in (option_copied o)) l.block;
 }

@@ -5,4 +5,4 @@ use Rattle.subsetter.specs.Glyf.Closure.{first_byte_in}
 use Rattle.subsetter.proofs.glyf.read_first_bytes.Given as goal
 
 abbrev pub invariant-loop-outline : goal.invariant-loop-outline
-invariant-loop-outline l = l.heads.items ++ map (λ o. first_byte_in (option_copied o)) (drop l.outline-index l.outlines) ≡ map (λ o. first_byte_in (option_copied o)) l.outlines
+invariant-loop-outline l = l.first_bytes.items ++ map (λ o. first_byte_in (option_copied o)) (drop l.outline-index l.outlines) ≡ map (λ o. first_byte_in (option_copied o)) l.outlines

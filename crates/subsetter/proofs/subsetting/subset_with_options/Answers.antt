@@ -74,22 +74,22 @@ pub returns-in-TrueType-clause-exact : goal.returns-in-TrueType-clause-exact
 returns-in-TrueType-clause-exact c =
     let font : Font = record { bytes = c.args.«data».now; index = c.args.index; extras = c.args.options.now.extras } in
     let f = same_flavor c.in_ok-face.face.«data».now c.args.«data».now c.in_ok-face.face.records.now c.in_ok-face.face.extras c.args.options.now.extras (Ok c.in_ok-flavor.field-0) c.in_ok-face.ensures.ok.0 c.in_ok-face.ensures.extras c.in_ok-flavor.ensures ∙ ap (λ (x : FontFlavor). Ok x) c.in-TrueType.is in
-    for_ok c.truetype.result (λ v. IsAnswered c.in_ok-face.face.extras.hinting (asked c.in_ok-face.face.extras (table_in c.in_ok-face.face.«data».now c.in_ok-face.face.records.now)) c.args.mapper.now v.items) (λ v. IsAnswer c.args.options.now.limits.tokens c.args.options.now.limits.depth font c.args.mapper.now v.items)
+    for_ok c.subset_truetype.result (λ v. IsAnswered c.in_ok-face.face.extras.hinting (asked c.in_ok-face.face.extras (table_in c.in_ok-face.face.«data».now c.in_ok-face.face.records.now)) c.args.mapper.now v.items) (λ v. IsAnswer c.args.options.now.limits.tokens c.args.options.now.limits.depth font c.args.mapper.now v.items)
     (λ v a. truetype_subset c.args.options.now.limits.tokens c.args.options.now.limits.depth font c.args.mapper.now c.in_ok-face.face.records.now c.in_ok-face.ensures.ok.1 f v.items c.parse.ensures.bytes c.num_gids-count.ensures.first
-    (moved (λ (hinting : Bool) (find : List ℕ → Option (List ℕ)). IsAnswered hinting find c.args.mapper.now v.items) c.in_ok-face.face.«data».now c.args.«data».now c.in_ok-face.face.records.now c.in_ok-face.face.extras c.args.options.now.extras c.in_ok-face.ensures.ok.0 c.in_ok-face.ensures.extras a)) c.truetype.ensures.ok
+    (moved (λ (hinting : Bool) (find : List ℕ → Option (List ℕ)). IsAnswered hinting find c.args.mapper.now v.items) c.in_ok-face.face.«data».now c.args.«data».now c.in_ok-face.face.records.now c.in_ok-face.face.extras c.args.options.now.extras c.in_ok-face.ensures.ok.0 c.in_ok-face.ensures.extras a)) c.subset_truetype.ensures.ok
 
 pub returns-in-TrueType-clause-ok : goal.returns-in-TrueType-clause-ok
 returns-in-TrueType-clause-ok c =
     let font : Font = record { bytes = c.args.«data».now; index = c.args.index; extras = c.args.options.now.extras } in
-    for_ok c.truetype.result (λ v. IsAnswer c.args.options.now.limits.tokens c.args.options.now.limits.depth font c.args.mapper.now v.items) (λ v. IsSubset c.args.options.now.limits.tokens c.args.options.now.limits.depth font c.args.mapper.now v.items) (λ v a. a.subset) (returns-in-TrueType-clause-exact c)
+    for_ok c.subset_truetype.result (λ v. IsAnswer c.args.options.now.limits.tokens c.args.options.now.limits.depth font c.args.mapper.now v.items) (λ v. IsSubset c.args.options.now.limits.tokens c.args.options.now.limits.depth font c.args.mapper.now v.items) (λ v a. a.subset) (returns-in-TrueType-clause-exact c)
 
 pub returns-in-TrueType-clause-err : goal.returns-in-TrueType-clause-err
 returns-in-TrueType-clause-err c =
     let font : Font = record { bytes = c.args.«data».now; index = c.args.index; extras = c.args.options.now.extras } in
     let f = same_flavor c.in_ok-face.face.«data».now c.args.«data».now c.in_ok-face.face.records.now c.in_ok-face.face.extras c.args.options.now.extras (Ok c.in_ok-flavor.field-0) c.in_ok-face.ensures.ok.0 c.in_ok-face.ensures.extras c.in_ok-flavor.ensures ∙ ap (λ (x : FontFlavor). Ok x) c.in-TrueType.is in
-    for_err c.truetype.result (λ e. IsRefused c.in_ok-face.face.extras.hinting (asked c.in_ok-face.face.extras (table_in c.in_ok-face.face.«data».now c.in_ok-face.face.records.now)) c.args.mapper.now e) (λ e. (e ≡ OutOfMemory) ⊎ Stands c.args.options.now.limits.tokens c.args.options.now.limits.depth font c.args.mapper.now e)
+    for_err c.subset_truetype.result (λ e. IsRefused c.in_ok-face.face.extras.hinting (asked c.in_ok-face.face.extras (table_in c.in_ok-face.face.«data».now c.in_ok-face.face.records.now)) c.args.mapper.now e) (λ e. (e ≡ OutOfMemory) ⊎ Stands c.args.options.now.limits.tokens c.args.options.now.limits.depth font c.args.mapper.now e)
     (λ e r. truetype_refused c.args.options.now.limits.tokens c.args.options.now.limits.depth font c.args.mapper.now c.in_ok-face.face.records.now c.in_ok-face.ensures.ok.1 f e
-    (moved (λ (hinting : Bool) (find : List ℕ → Option (List ℕ)). IsRefused hinting find c.args.mapper.now e) c.in_ok-face.face.«data».now c.args.«data».now c.in_ok-face.face.records.now c.in_ok-face.face.extras c.args.options.now.extras c.in_ok-face.ensures.ok.0 c.in_ok-face.ensures.extras r)) c.truetype.ensures.err
+    (moved (λ (hinting : Bool) (find : List ℕ → Option (List ℕ)). IsRefused hinting find c.args.mapper.now e) c.in_ok-face.face.«data».now c.args.«data».now c.in_ok-face.face.records.now c.in_ok-face.face.extras c.args.options.now.extras c.in_ok-face.ensures.ok.0 c.in_ok-face.ensures.extras r)) c.subset_truetype.ensures.err
 
 pub returns-in-TrueType-clause-before_memory : goal.returns-in-TrueType-clause-before_memory
 returns-in-TrueType-clause-before_memory c = λ e g k.
@@ -105,20 +105,20 @@ pub returns-in-Cff-clause-exact : goal.returns-in-Cff-clause-exact
 returns-in-Cff-clause-exact c =
     let font : Font = record { bytes = c.args.«data».now; index = c.args.index; extras = c.args.options.now.extras } in
     let f = same_flavor c.in_ok-face.face.«data».now c.args.«data».now c.in_ok-face.face.records.now c.in_ok-face.face.extras c.args.options.now.extras (Ok c.in_ok-flavor.field-0) c.in_ok-face.ensures.ok.0 c.in_ok-face.ensures.extras c.in_ok-flavor.ensures ∙ ap (λ (x : FontFlavor). Ok x) c.in-Cff.is in
-    gave_ok (λ v. v.items) c.charstrings.result (cff_file (asked c.in_ok-face.face.extras (table_in c.in_ok-face.face.«data».now c.in_ok-face.face.records.now)) c.args.options.now.limits.tokens c.args.options.now.limits.depth c.args.mapper.now) (IsAnswer c.args.options.now.limits.tokens c.args.options.now.limits.depth font c.args.mapper.now) c.charstrings.ensures
+    gave_ok (λ v. v.items) c.subset_cff.result (cff_file (asked c.in_ok-face.face.extras (table_in c.in_ok-face.face.«data».now c.in_ok-face.face.records.now)) c.args.options.now.limits.tokens c.args.options.now.limits.depth c.args.mapper.now) (IsAnswer c.args.options.now.limits.tokens c.args.options.now.limits.depth font c.args.mapper.now) c.subset_cff.ensures
     (λ out h. cff_answered c.args.options.now.limits.tokens c.args.options.now.limits.depth font c.args.mapper.now c.in_ok-face.face.records.now c.in_ok-face.ensures.ok.1 f out c.parse.ensures.bytes (omega (arith, c.depth-depth.ensures.above, c.depth-depth.ensures.value)) c.num_gids-count.ensures.first c.num_gids-count.ensures.few c.num_gids-count.ensures.once
     (same_file c.args.options.now.limits.tokens c.args.options.now.limits.depth c.in_ok-face.face.«data».now c.args.«data».now c.in_ok-face.face.records.now c.args.mapper.now c.in_ok-face.face.extras c.args.options.now.extras (Ok out) c.in_ok-face.ensures.ok.0 c.in_ok-face.ensures.extras h))
 
 pub returns-in-Cff-clause-ok : goal.returns-in-Cff-clause-ok
 returns-in-Cff-clause-ok c =
     let font : Font = record { bytes = c.args.«data».now; index = c.args.index; extras = c.args.options.now.extras } in
-    for_ok c.charstrings.result (λ v. IsAnswer c.args.options.now.limits.tokens c.args.options.now.limits.depth font c.args.mapper.now v.items) (λ v. IsSubset c.args.options.now.limits.tokens c.args.options.now.limits.depth font c.args.mapper.now v.items) (λ v a. a.subset) (returns-in-Cff-clause-exact c)
+    for_ok c.subset_cff.result (λ v. IsAnswer c.args.options.now.limits.tokens c.args.options.now.limits.depth font c.args.mapper.now v.items) (λ v. IsSubset c.args.options.now.limits.tokens c.args.options.now.limits.depth font c.args.mapper.now v.items) (λ v a. a.subset) (returns-in-Cff-clause-exact c)
 
 pub returns-in-Cff-clause-err : goal.returns-in-Cff-clause-err
 returns-in-Cff-clause-err c =
     let font : Font = record { bytes = c.args.«data».now; index = c.args.index; extras = c.args.options.now.extras } in
     let f = same_flavor c.in_ok-face.face.«data».now c.args.«data».now c.in_ok-face.face.records.now c.in_ok-face.face.extras c.args.options.now.extras (Ok c.in_ok-flavor.field-0) c.in_ok-face.ensures.ok.0 c.in_ok-face.ensures.extras c.in_ok-flavor.ensures ∙ ap (λ (x : FontFlavor). Ok x) c.in-Cff.is in
-    gave_err (λ v. v.items) c.charstrings.result (cff_file (asked c.in_ok-face.face.extras (table_in c.in_ok-face.face.«data».now c.in_ok-face.face.records.now)) c.args.options.now.limits.tokens c.args.options.now.limits.depth c.args.mapper.now) (λ e. (e ≡ OutOfMemory) ⊎ Stands c.args.options.now.limits.tokens c.args.options.now.limits.depth font c.args.mapper.now e) c.charstrings.ensures (inl refl)
+    gave_err (λ v. v.items) c.subset_cff.result (cff_file (asked c.in_ok-face.face.extras (table_in c.in_ok-face.face.«data».now c.in_ok-face.face.records.now)) c.args.options.now.limits.tokens c.args.options.now.limits.depth c.args.mapper.now) (λ e. (e ≡ OutOfMemory) ⊎ Stands c.args.options.now.limits.tokens c.args.options.now.limits.depth font c.args.mapper.now e) c.subset_cff.ensures (inl refl)
     (λ e h. cff_refused c.args.options.now.limits.tokens c.args.options.now.limits.depth font c.args.mapper.now c.in_ok-face.face.records.now c.in_ok-face.ensures.ok.1 f e c.num_gids-count.ensures.once
     (same_file c.args.options.now.limits.tokens c.args.options.now.limits.depth c.in_ok-face.face.«data».now c.args.«data».now c.in_ok-face.face.records.now c.args.mapper.now c.in_ok-face.face.extras c.args.options.now.extras (Err e) c.in_ok-face.ensures.ok.0 c.in_ok-face.ensures.extras h))
 
@@ -131,25 +131,25 @@ returns-in-Cff-clause-before_memory c = λ e g k.
 pub returns-in-TrueType-clause-clean : goal.returns-in-TrueType-clause-clean
 returns-in-TrueType-clause-clean c =
     let font : Font = record { bytes = c.args.«data».now; index = c.args.index; extras = c.args.options.now.extras } in
-    for_ok c.truetype.result (λ v. IsAnswer c.args.options.now.limits.tokens c.args.options.now.limits.depth font c.args.mapper.now v.items)
+    for_ok c.subset_truetype.result (λ v. IsAnswer c.args.options.now.limits.tokens c.args.options.now.limits.depth font c.args.mapper.now v.items)
     (λ v. (s : IsSubset c.args.options.now.limits.tokens c.args.options.now.limits.depth font c.args.mapper.now v.items) × ((e : Error) → HasFault c.args.options.now.limits.tokens c.args.options.now.limits.depth font c.args.mapper.now s.keeps.order e → ⊥)) (λ v a. (a.subset, a.clean)) (returns-in-TrueType-clause-exact c)
 
 pub returns-in-TrueType-clause-same : goal.returns-in-TrueType-clause-same
 returns-in-TrueType-clause-same c =
     let font : Font = record { bytes = c.args.«data».now; index = c.args.index; extras = c.args.options.now.extras } in
-    for_ok c.truetype.result (λ v. IsAnswer c.args.options.now.limits.tokens c.args.options.now.limits.depth font c.args.mapper.now v.items) (λ v. IsTheAnswer font c.args.mapper.now v.items)
+    for_ok c.subset_truetype.result (λ v. IsAnswer c.args.options.now.limits.tokens c.args.options.now.limits.depth font c.args.mapper.now v.items) (λ v. IsTheAnswer font c.args.mapper.now v.items)
     (λ v a tokens depth other b. one_answer font c.args.mapper.now c.args.options.now.limits.tokens c.args.options.now.limits.depth tokens depth v.items other a b) (returns-in-TrueType-clause-exact c)
 
 pub returns-in-Cff-clause-clean : goal.returns-in-Cff-clause-clean
 returns-in-Cff-clause-clean c =
     let font : Font = record { bytes = c.args.«data».now; index = c.args.index; extras = c.args.options.now.extras } in
-    for_ok c.charstrings.result (λ v. IsAnswer c.args.options.now.limits.tokens c.args.options.now.limits.depth font c.args.mapper.now v.items)
+    for_ok c.subset_cff.result (λ v. IsAnswer c.args.options.now.limits.tokens c.args.options.now.limits.depth font c.args.mapper.now v.items)
     (λ v. (s : IsSubset c.args.options.now.limits.tokens c.args.options.now.limits.depth font c.args.mapper.now v.items) × ((e : Error) → HasFault c.args.options.now.limits.tokens c.args.options.now.limits.depth font c.args.mapper.now s.keeps.order e → ⊥)) (λ v a. (a.subset, a.clean)) (returns-in-Cff-clause-exact c)
 
 pub returns-in-Cff-clause-same : goal.returns-in-Cff-clause-same
 returns-in-Cff-clause-same c =
     let font : Font = record { bytes = c.args.«data».now; index = c.args.index; extras = c.args.options.now.extras } in
-    for_ok c.charstrings.result (λ v. IsAnswer c.args.options.now.limits.tokens c.args.options.now.limits.depth font c.args.mapper.now v.items) (λ v. IsTheAnswer font c.args.mapper.now v.items)
+    for_ok c.subset_cff.result (λ v. IsAnswer c.args.options.now.limits.tokens c.args.options.now.limits.depth font c.args.mapper.now v.items) (λ v. IsTheAnswer font c.args.mapper.now v.items)
     (λ v a tokens depth other b. one_answer font c.args.mapper.now c.args.options.now.limits.tokens c.args.options.now.limits.depth tokens depth v.items other a b) (returns-in-Cff-clause-exact c)
 
 pub returns-in_err-face-clause-no_answer : goal.returns-in_err-face-clause-no_answer
@@ -169,26 +169,26 @@ pub returns-in-TrueType-clause-no_answer : goal.returns-in-TrueType-clause-no_an
 returns-in-TrueType-clause-no_answer c =
     let font : Font = record { bytes = c.args.«data».now; index = c.args.index; extras = c.args.options.now.extras } in
     let f = same_flavor c.in_ok-face.face.«data».now c.args.«data».now c.in_ok-face.face.records.now c.in_ok-face.face.extras c.args.options.now.extras (Ok c.in_ok-flavor.field-0) c.in_ok-face.ensures.ok.0 c.in_ok-face.ensures.extras c.in_ok-flavor.ensures ∙ ap (λ (x : FontFlavor). Ok x) c.in-TrueType.is in
-    for_err c.truetype.result (λ e. IsRefused c.in_ok-face.face.extras.hinting (asked c.in_ok-face.face.extras (table_in c.in_ok-face.face.«data».now c.in_ok-face.face.records.now)) c.args.mapper.now e) (λ e. (e ≡ OutOfMemory) ⊎ HasNoAnswer c.args.options.now.limits.tokens c.args.options.now.limits.depth font c.args.mapper.now)
+    for_err c.subset_truetype.result (λ e. IsRefused c.in_ok-face.face.extras.hinting (asked c.in_ok-face.face.extras (table_in c.in_ok-face.face.«data».now c.in_ok-face.face.records.now)) c.args.mapper.now e) (λ e. (e ≡ OutOfMemory) ⊎ HasNoAnswer c.args.options.now.limits.tokens c.args.options.now.limits.depth font c.args.mapper.now)
     (λ e r. truetype_no_answer c.args.options.now.limits.tokens c.args.options.now.limits.depth font c.args.mapper.now c.in_ok-face.face.records.now c.in_ok-face.ensures.ok.1 f e
-    (moved (λ (hinting : Bool) (find : List ℕ → Option (List ℕ)). IsRefused hinting find c.args.mapper.now e) c.in_ok-face.face.«data».now c.args.«data».now c.in_ok-face.face.records.now c.in_ok-face.face.extras c.args.options.now.extras c.in_ok-face.ensures.ok.0 c.in_ok-face.ensures.extras r)) c.truetype.ensures.err
+    (moved (λ (hinting : Bool) (find : List ℕ → Option (List ℕ)). IsRefused hinting find c.args.mapper.now e) c.in_ok-face.face.«data».now c.args.«data».now c.in_ok-face.face.records.now c.in_ok-face.face.extras c.args.options.now.extras c.in_ok-face.ensures.ok.0 c.in_ok-face.ensures.extras r)) c.subset_truetype.ensures.err
 
 pub returns-in-Cff-clause-no_answer : goal.returns-in-Cff-clause-no_answer
 returns-in-Cff-clause-no_answer c =
     let font : Font = record { bytes = c.args.«data».now; index = c.args.index; extras = c.args.options.now.extras } in
     let f = same_flavor c.in_ok-face.face.«data».now c.args.«data».now c.in_ok-face.face.records.now c.in_ok-face.face.extras c.args.options.now.extras (Ok c.in_ok-flavor.field-0) c.in_ok-face.ensures.ok.0 c.in_ok-face.ensures.extras c.in_ok-flavor.ensures ∙ ap (λ (x : FontFlavor). Ok x) c.in-Cff.is in
-    gave_err (λ v. v.items) c.charstrings.result (cff_file (asked c.in_ok-face.face.extras (table_in c.in_ok-face.face.«data».now c.in_ok-face.face.records.now)) c.args.options.now.limits.tokens c.args.options.now.limits.depth c.args.mapper.now) (λ e. (e ≡ OutOfMemory) ⊎ HasNoAnswer c.args.options.now.limits.tokens c.args.options.now.limits.depth font c.args.mapper.now) c.charstrings.ensures (inl refl)
+    gave_err (λ v. v.items) c.subset_cff.result (cff_file (asked c.in_ok-face.face.extras (table_in c.in_ok-face.face.«data».now c.in_ok-face.face.records.now)) c.args.options.now.limits.tokens c.args.options.now.limits.depth c.args.mapper.now) (λ e. (e ≡ OutOfMemory) ⊎ HasNoAnswer c.args.options.now.limits.tokens c.args.options.now.limits.depth font c.args.mapper.now) c.subset_cff.ensures (inl refl)
     (λ e h. cff_no_answer c.args.options.now.limits.tokens c.args.options.now.limits.depth font c.args.mapper.now c.in_ok-face.face.records.now c.in_ok-face.ensures.ok.1 f e c.num_gids-count.ensures.once
     (same_file c.args.options.now.limits.tokens c.args.options.now.limits.depth c.in_ok-face.face.«data».now c.args.«data».now c.in_ok-face.face.records.now c.args.mapper.now c.in_ok-face.face.extras c.args.options.now.extras (Err e) c.in_ok-face.ensures.ok.0 c.in_ok-face.ensures.extras h))
 
 pub returns-in-TrueType-clause-bare : goal.returns-in-TrueType-clause-bare
 returns-in-TrueType-clause-bare c =
     let font : Font = record { bytes = c.args.«data».now; index = c.args.index; extras = c.args.options.now.extras } in
-    for_ok c.truetype.result (λ v. IsAnswer c.args.options.now.limits.tokens c.args.options.now.limits.depth font c.args.mapper.now v.items) (λ v. OnFalse font.extras.hinting (HasNoInstructions (as_font v.items)))
+    for_ok c.subset_truetype.result (λ v. IsAnswer c.args.options.now.limits.tokens c.args.options.now.limits.depth font c.args.mapper.now v.items) (λ v. OnFalse font.extras.hinting (HasNoInstructions (as_font v.items)))
     (λ v a. as_asked c.args.options.now.limits.tokens c.args.options.now.limits.depth font c.args.mapper.now v.items c.parse.ensures.bytes a.subset) (returns-in-TrueType-clause-exact c)
 
 pub returns-in-Cff-clause-bare : goal.returns-in-Cff-clause-bare
 returns-in-Cff-clause-bare c =
     let font : Font = record { bytes = c.args.«data».now; index = c.args.index; extras = c.args.options.now.extras } in
-    for_ok c.charstrings.result (λ v. IsAnswer c.args.options.now.limits.tokens c.args.options.now.limits.depth font c.args.mapper.now v.items) (λ v. OnFalse font.extras.hinting (HasNoInstructions (as_font v.items)))
+    for_ok c.subset_cff.result (λ v. IsAnswer c.args.options.now.limits.tokens c.args.options.now.limits.depth font c.args.mapper.now v.items) (λ v. OnFalse font.extras.hinting (HasNoInstructions (as_font v.items)))
     (λ v a. as_asked c.args.options.now.limits.tokens c.args.options.now.limits.depth font c.args.mapper.now v.items c.parse.ensures.bytes a.subset) (returns-in-Cff-clause-exact c)

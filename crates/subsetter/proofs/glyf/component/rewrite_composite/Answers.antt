@@ -39,7 +39,7 @@ returns-then-not-has_more-clause-ok c =
     let left = length c.loop-component.rest.now in
     let at = c.len.result - left in
     let place : at ≡ length c.loop-component.out.items - left = omega (arith, c.len.ensures) in
-    let is = underway_ends c.args.hinting order c.loop-component.out.items c.loop-component.rest.now at (component_seen c.in-Some.component) c.renumber.new.out.items c.behind_component-rest.result.now c.cut_tail.new.out.items total c.loop-component.invariant.written place (sym c.in-Some.ensures) c.renumber.ensures c.behind_component-rest.ensures (sym c.if-not-has_more.ensures) c.cut_tail.ensures in
+    let is = underway_ends c.args.hinting order c.loop-component.out.items c.loop-component.rest.now at (component_seen c.in-Some.component) c.renumber.new.out.items c.rest_after-rest.result.now c.cut_tail.new.out.items total c.loop-component.invariant.written place (sym c.in-Some.ensures) c.renumber.ensures c.rest_after-rest.ensures (sym c.if-not-has_more.ensures) c.cut_tail.ensures in
     composite_behind c.args.hinting before order outline (omega arith) ∙ ap (λ (o : Option (List ℕ)). ok_or o MalformedFont) is
 
 pub loop-component-preserved : goal.loop-component-preserved
@@ -53,7 +53,7 @@ loop-component-preserved c =
     let at = c.len.result - left in
     let place : at ≡ length c.loop-component.out.items - left = omega (arith, c.len.ensures) in
     record {
-      written = underway_next c.args.hinting order c.loop-component.out.items c.loop-component.rest.now at component c.renumber.new.out.items c.behind_component-rest.result.now total c.loop-component.invariant.written place (sym c.in-Some.ensures) c.renumber.ensures c.behind_component-rest.ensures (sym c.if-not-has_more.ensures);
+      written = underway_next c.args.hinting order c.loop-component.out.items c.loop-component.rest.now at component c.renumber.new.out.items c.rest_after-rest.result.now total c.loop-component.invariant.written place (sym c.in-Some.ensures) c.renumber.ensures c.rest_after-rest.ensures (sym c.if-not-has_more.ensures);
       start = c.loop-component.invariant.start;
-      behind = behind_next c.args.hinting before order c.loop-component.out.items c.loop-component.rest.now at component c.renumber.new.out.items c.behind_component-rest.result.now c.loop-component.invariant.behind place (sym c.in-Some.ensures) c.renumber.ensures c.behind_component-rest.ensures;
+      behind = behind_next c.args.hinting before order c.loop-component.out.items c.loop-component.rest.now at component c.renumber.new.out.items c.rest_after-rest.result.now c.loop-component.invariant.behind place (sym c.in-Some.ensures) c.renumber.ensures c.rest_after-rest.ensures;
     }

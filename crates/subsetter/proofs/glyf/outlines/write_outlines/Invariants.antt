@@ -6,7 +6,7 @@ use Rattle.subsetter.proofs.glyf.outlines.write_outlines.Given as goal
 
 abbrev pub invariant-loop-outline : goal.invariant-loop-outline
 invariant-loop-outline l = record {
-  written : l.out.items ++ glyf_bytes l.long l.outline-iterator ≡ l.fn.out.items ++ glyf_bytes l.long l.outlines;
+  written : l.out.items ++ glyf_bytes l.long l.outline-iterator ≡ l.fn.out.items ++ glyf_bytes l.long l.outlines.items;
   room : length l.out.items + length (glyf_bytes l.long l.outline-iterator) ≤ vec_capacity l.out;
   capacity : vec_capacity l.fn.out ≤ vec_capacity l.out;
   start : l.start ≡ length l.fn.out.items;

@@ -19,8 +19,8 @@ invariant_of-self-2 c =
     let count : c.len.result ≡ length ts = omega (arith, c.len.ensures, ap length c.reserve.ensures.items, length-map bs (λ (b : Bor (List ℕ)). b.now)) in
     let now : nows c.push.new.self.items ≡ ts ++ s ∷ [] = ap nows (pushed (c.args.string ∷ []) c.reserve.ensures.items c.unwrap.ensures c.push.ensures.items) ∙ nows-push bs c.args.string in
     rw now (record {
-      far_are = λ q h. far_more ts s q c.args.place (get bytes_eq c.self.inside.far q) (get bytes_eq c.keep_far.new.far q) absent place
-          (c.in_ok-keep_far.ensures.ok q ∙ ap (λ (n : ℕ). cond (leb 32 n && bytes_eq s q) (Some c.args.place) (get bytes_eq c.self.inside.far q)) count) (c.self.invariant.far_are q) h;
+      hashed_are = λ q h. far_more ts s q c.args.place (get bytes_eq c.self.inside.hashed q) (get bytes_eq c.remember_hashed.new.hashed q) absent place
+          (c.in_ok-remember_hashed.ensures.ok q ∙ ap (λ (n : ℕ). cond (leb 32 n && bytes_eq s q) (Some c.args.place) (get bytes_eq c.self.inside.hashed q)) count) (c.self.invariant.hashed_are q) h;
       size_is = ap (λ (n : ℕ). n + length s) c.self.invariant.size_is ∙ sym (joined-push ts s);
       fits = omega arith;
     })

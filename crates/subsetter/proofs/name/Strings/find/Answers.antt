@@ -8,16 +8,16 @@ use Rattle.subsetter.specs.Name.View.{nows}
 use Rattle.subsetter.proofs.NameLaws.Written.{is_new, nows-take, joined-take, near_is}
 use Rattle.subsetter.proofs.name.Strings.find.Goals as goal
 
-pub near_place-requires : goal.near_place-requires
-near_place-requires c = omega (arith, ap (λ (bs : List (Bor (List ℕ))). length (joined (nows bs))) c.as_slice-strings.ensures.value, c.self.invariant.size_is, c.self.invariant.fits)
+pub linear_place-requires : goal.linear_place-requires
+linear_place-requires c = omega (arith, ap (λ (bs : List (Bor (List ℕ))). length (joined (nows bs))) c.as_slice-strings.ensures.value, c.self.invariant.size_is, c.self.invariant.fits)
 
-pub slice_bounds-near_place-end : goal.slice_bounds-near_place-end
-slice_bounds-near_place-end c =
-    let within : 32 ≤ length c.as_slice-strings.result.now = omega (arith, c.if-strings-le-NEAR.false) in
+pub slice_bounds-linear_place-end : goal.slice_bounds-linear_place-end
+slice_bounds-linear_place-end c =
+    let within : 32 ≤ length c.as_slice-strings.result.now = omega (arith, c.if-strings-le-LINEAR_MAX.false) in
     sym (length-take-le 32 c.as_slice-strings.result.now within)
 
-pub near_place-requires-2 : goal.near_place-requires-2
-near_place-requires-2 c =
+pub linear_place-requires-2 : goal.linear_place-requires-2
+linear_place-requires-2 c =
     let bs = c.as_slice-strings.result.now in
     omega (arith, ap (λ (x : List (Bor (List ℕ))). length (joined (nows x))) c.as_slice-strings.ensures.value, ap (λ (x : List (List ℕ)). length (joined x)) (nows-take 32 bs), joined-take 32 (nows bs), c.self.invariant.size_is, c.self.invariant.fits)
 
@@ -34,7 +34,7 @@ returns-in-Some-get c =
     let bs = c.as_slice-strings.result.now in
     let absent : among (take 32 (nows bs)) s ≡ false = ap (λ (l : List (List ℕ)). among l s) (sym (nows-take 32 bs)) ∙ is_new _ _ (sym c.in-None.ensures) in
     let near : among (take 32 (nows c.self.inside.strings.items)) s ≡ false = ap (λ (x : List (Bor (List ℕ))). among (take 32 (nows x)) s) (sym c.as_slice-strings.ensures.value) ∙ absent in
-    ap Some c.from.ensures ∙ c.in-Some-get.ensures.value ∙ ap (λ (k : List ℕ). get bytes_eq c.self.inside.far k) c.new.ensures ∙ c.self.invariant.far_are s near ∙ ap (λ (l : List (List ℕ)). cond (among l s) (Some (string_place l s)) None) c.self.view_is
+    ap Some c.from.ensures ∙ c.in-Some-get.ensures.value ∙ ap (λ (k : List ℕ). get bytes_eq c.self.inside.hashed k) c.new.ensures ∙ c.self.invariant.hashed_are s near ∙ ap (λ (l : List (List ℕ)). cond (among l s) (Some (string_place l s)) None) c.self.view_is
 
 pub returns-in-None-get : goal.returns-in-None-get
 returns-in-None-get c =
@@ -42,4 +42,4 @@ returns-in-None-get c =
     let bs = c.as_slice-strings.result.now in
     let absent : among (take 32 (nows bs)) s ≡ false = ap (λ (l : List (List ℕ)). among l s) (sym (nows-take 32 bs)) ∙ is_new _ _ (sym c.in-None.ensures) in
     let near : among (take 32 (nows c.self.inside.strings.items)) s ≡ false = ap (λ (x : List (Bor (List ℕ))). among (take 32 (nows x)) s) (sym c.as_slice-strings.ensures.value) ∙ absent in
-    c.in-None-get.ensures.value ∙ ap (λ (k : List ℕ). get bytes_eq c.self.inside.far k) c.new.ensures ∙ c.self.invariant.far_are s near ∙ ap (λ (l : List (List ℕ)). cond (among l s) (Some (string_place l s)) None) c.self.view_is
+    c.in-None-get.ensures.value ∙ ap (λ (k : List ℕ). get bytes_eq c.self.inside.hashed k) c.new.ensures ∙ c.self.invariant.hashed_are s near ∙ ap (λ (l : List (List ℕ)). cond (among l s) (Some (string_place l s)) None) c.self.view_is

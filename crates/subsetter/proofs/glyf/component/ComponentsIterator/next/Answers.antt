@@ -9,7 +9,7 @@ returns-then-bytes-lt4-clause-steps c =
     (none, none)
 
 pub returns-clause-steps : goal.returns-clause-steps
-returns-clause-steps c = sym c.self.view_is ∙ numbers_next c.self.inside.rest.now c.behind-self-inside.result.now c.u16_at-flags.result c.u16_at.result (omega arith) c.u16_at-flags.ensures c.u16_at.ensures c.behind-self-inside.ensures
+returns-clause-steps c = sym c.self.view_is ∙ numbers_next c.self.inside.rest.now c.next_component-self-inside.result.now c.u16_at-flags.result c.u16_at.result (omega arith) c.u16_at-flags.ensures c.u16_at.ensures c.next_component-self-inside.ensures
 
 pub returns-clause-goes : goal.returns-clause-goes
 returns-clause-goes c = record { on = λ _. (tt, tt, omega (arith, ap length (returns-clause-steps c))); keeps = tt; rests = λ _. tt }

@@ -1,7 +1,7 @@
 use Rattle.std.proofs.Common.{◌≡◌, ◌+◌, cond, drop, length, Some, None}
 use Rattle.subsetter.specs.Name.Read.{among, string_place, joined}
 use Rattle.subsetter.specs.Name.View.{nows}
-use Rattle.subsetter.proofs.name.near_place.Given as goal
+use Rattle.subsetter.proofs.name.linear_place.Given as goal
 
 abbrev pub invariant-loop-known : goal.invariant-loop-known
 invariant-loop-known l = record {

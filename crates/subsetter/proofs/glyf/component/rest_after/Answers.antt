@@ -2,7 +2,7 @@ use Rattle.std.proofs.Common.{◌+◌, ℕ, drop, ap, ◌∙◌, arith}
 use Rattle.subsetter_base.proofs.Lists.{rest_of}
 use Rattle.subsetter.specs.Glyf.View.{component_seen}
 use Rattle.subsetter.proofs.GlyfLaws.Chains.{is_component}
-use Rattle.subsetter.proofs.glyf.component.behind_component.Goals as goal
+use Rattle.subsetter.proofs.glyf.component.rest_after.Goals as goal
 
 pub slice_bounds-result-start : goal.slice_bounds-result-start
 slice_bounds-result-start c =

@@ -5,7 +5,7 @@ use Rattle.subsetter_sfnt.specs.Rows.{FontTables, rows, present}
 use Rattle.subsetter.specs.TableView.{views}
 use Rattle.subsetter.specs.Cff.View.{made_seen}
 use Rattle.subsetter.proofs.CffLaws.Steps.{few_tables, all_tables}
-use Rattle.subsetter.proofs.subsetting.charstrings.Goals as goal
+use Rattle.subsetter.proofs.subsetting.subset_cff.Goals as goal
 
 pub finish-requires-clause-few : goal.finish-requires-clause-few
 finish-requires-clause-few c = few_tables (made_seen c.in_ok-made.made) c.deref.result.now (ap views c.deref.ensures.value ∙ c.in_ok-list.ensures.ok ∙ ap (λ (t : FontTables). present (rows t)) c.font_tables.ensures)

@@ -3,7 +3,7 @@ use Rattle.std.specs.Borrow.{Bor}
 use Rattle.std.proofs.lemmas.List.{drop_more}
 use Rattle.subsetter.specs.Name.View.{nows}
 use Rattle.subsetter.proofs.NameLaws.Written.{found_first, found_later, joined-first}
-use Rattle.subsetter.proofs.name.near_place.Goals as goal
+use Rattle.subsetter.proofs.name.linear_place.Goals as goal
 
 pub returns-then-eq : goal.returns-then-eq
 returns-then-eq c =

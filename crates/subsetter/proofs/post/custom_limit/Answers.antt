@@ -1,7 +1,7 @@
 use Rattle.std.proofs.Common.{arith}
 use Rattle.std.proofs.lemmas.Grind.{common_steps}
-use Rattle.subsetter.proofs.post.own_limit.Goals.{then-from-limit, else-from-limit}
-use Rattle.subsetter.proofs.post.own_limit.Goals as goal
+use Rattle.subsetter.proofs.post.custom_limit.Goals.{then-from-limit, else-from-limit}
+use Rattle.subsetter.proofs.post.custom_limit.Goals as goal
 
 pub loop-index-preserved : goal.loop-index-preserved
 loop-index-preserved c =

@@ -11,7 +11,7 @@ use Rattle.subsetter_sfnt.specs.Rows.{FontTables, rows, present}
 use Rattle.subsetter_sfnt.specs.Written.{kind_word}
 use Rattle.subsetter_sfnt.specs.declared.flavor.FontFlavor.TheVariants.{TrueType}
 use Rattle.subsetter.proofs.TruetypeLaws.PlainAnswers.{gave_ok, gave_err, refused_made, few_tables, all_tables, answered, refused_file}
-use Rattle.subsetter.proofs.subsetting.truetype.Goals as goal
+use Rattle.subsetter.proofs.subsetting.subset_truetype.Goals as goal
 
 pub returns-in_err-table-clause-err : goal.returns-in_err-table-clause-err
 returns-in_err-table-clause-err c =
