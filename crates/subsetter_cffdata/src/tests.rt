@@ -80,9 +80,9 @@ fn charstring_numbers(rt: HostRuntime) {
     let fixed = [255, 154, 104, 120, 40];
     writes(&rt, alloc, &CharStringNumber::Fixed(-1704429528), &fixed);
     match charstring_number::read_number(&fixed) {
-        Some((number, rest)) => {
-            assert!(rt; number == CharStringNumber::Fixed(-1704429528));
-            assert!(rt; rest.is_empty());
+        Some(read) => {
+            assert!(rt; read.number == CharStringNumber::Fixed(-1704429528));
+            assert!(rt; read.rest.is_empty());
         }
         None => assert!(rt; false),
     }
