@@ -31,34 +31,6 @@ pub refusal_is : (xs : List StoredNumber) → first_refusal (λ x. cond (is_too_
 refusal_is [] = refl
 refusal_is (x ∷ xs) = refused_or (is_too_long (number_of x)) (list_any is_too_long (map number_of xs)) _ (refusal_is xs)
 
-operands_are : (xs : List StoredNumber) → flat_map (λ x. number (number_of x)) xs ≡ flat_map operand (map Plain (map number_of xs))
-operands_are [] = refl
-operands_are (x ∷ xs) = ap (λ (l : List ℕ). number (number_of x) ++ l) (operands_are xs)
-
-abbrev none : Option Error
-none = None
-
-not_refused : (b : Bool) → cond b (Some OverflowError) none ≡ none → b ≡ false
-not_refused true e = absurd (none-some OverflowError (sym e))
-not_refused false e = refl
-
-pub entry_written : (front mid new operator : List ℕ) (xs : List StoredNumber) → first_refusal (λ x. cond (is_too_long (number_of x)) (Some OverflowError) None) xs ≡ None
-    → mid ≡ front ++ flat_map (λ x. number (number_of x)) xs → new ≡ mid ++ operator → behind front (written_entry operator (map number_of xs)) ≡ Ok new
-unfolding written_entry
-entry_written front mid new operator xs accepted m n =
-    rw (not_refused (list_any is_too_long (map number_of xs)) (sym (refusal_is xs) ∙ accepted))
-    (ap (λ (l : List ℕ). Ok l) (ap (λ (l : List ℕ). front ++ (l ++ operator)) (sym (operands_are xs)) ∙ sym (append_assoc front (flat_map (λ x. number (number_of x)) xs) operator) ∙ ap (λ (l : List ℕ). l ++ operator) (sym m) ∙ sym n))
-
-by_refusal : (b : Bool) (front operator : List ℕ) (xs : List Number) (e : Error) → list_any is_too_long xs ≡ b → IsOutOfMemoryOr (cond b (Some OverflowError) None) e → Fails e (behind front (written_entry operator xs))
-unfolding written_entry
-by_refusal false front operator xs e is h = rw h tt
-by_refusal true front operator xs e is (inl h) = rw h tt
-by_refusal true front operator xs e is (inr h) = rw (h, is) refl
-
-pub entry_refused : (front operator : List ℕ) (xs : List StoredNumber) (e : Error) → IsOutOfMemoryOr (first_refusal (λ x. cond (is_too_long (number_of x)) (Some OverflowError) None) xs) e
-    → Fails e (behind front (written_entry operator (map number_of xs)))
-entry_refused front operator xs e h = by_refusal (list_any is_too_long (map number_of xs)) front operator (map number_of xs) e refl (rw refusal_is at h)
-
 -- ---- an entry in front of others
 in_front : (b c : Bool) (front here more : List ℕ) → behind front (cond (b || c) (Err OverflowError) (Ok (here ++ more)))
     ≡ (behind front (cond b (Err OverflowError) (Ok here)) >>= λ new. behind new (cond c (Err OverflowError) (Ok more)))

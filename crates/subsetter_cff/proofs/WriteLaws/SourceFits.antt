@@ -23,7 +23,7 @@ use Rattle.subsetter_cff.specs.Write.WrittenNumbers.{any_long, entry_numbers}
 use Rattle.subsetter_cffdata.specs.Operands.{string_operand}
 use Rattle.subsetter_cff.proofs.WriteLaws.Keeping.{in_i32_is}
 use Rattle.subsetter_cff.proofs.WriteLaws.Sizes.{plain_fits}
-use Rattle.subsetter_cff.proofs.ReadLaws.Locals.{step}
+use Rattle.subsetter_cffdata.proofs.Options.{step}
 use Rattle.subsetter_cff.proofs.ReadLaws.Plains.{PlainDecimal, text_fits, decimal_plain, thousandfold_plain}
 use Rattle.subsetter_cff.proofs.ReadLaws.ReadNumbers.{IsWritable, all_writable}
 use Rattle.subsetter_cff.proofs.ReadLaws.SourceBytes.{Fitting, AreWritable}

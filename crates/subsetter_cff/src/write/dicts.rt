@@ -56,7 +56,7 @@ pub fn place_behind(place: usize, size: usize) -> Result<usize, Error>
     Ok(end)
 }
 
-// Writes a private dict. A real that is too long is `OverflowError`.
+/// Writes a private dict. A real that is too long is `OverflowError`.
 #[tactic(auto, using(crate::proofs::WriteLaws::DictsWritten::private_written, crate::proofs::WriteLaws::DictsWritten::private_checked))]
 fn write_private(dict: &FontDictParts<'_>, w: &mut Writer) -> Result<(), Error>
     ensures ok { OnOk result (w.new ≡ w.old ++ private_bytes (font_dict_view dict.now)) }
@@ -65,7 +65,7 @@ fn write_private(dict: &FontDictParts<'_>, w: &mut Writer) -> Result<(), Error>
     rewrite_private_dict(w, dict.private)
 }
 
-// A font dict whose private dict of a size stands at a place. A real that is too long is `OverflowError`.
+/// A font dict whose private dict of a size stands at a place. A real that is too long is `OverflowError`.
 fn font_dict_text(
     alloc: Global,
     remapper: &SidRemapper<'_>,
@@ -89,7 +89,7 @@ fn font_dict_text(
     Ok(w.finish())
 }
 
-// Puts a font dict behind others, whose private dicts stand from a place on.
+/// Puts a font dict behind others, whose private dicts stand from a place on.
 #[tactic(auto, using(crate::proofs::WriteLaws::DictsWritten::size_is), unfolding(crate::specs::Write::TableLimits::dict_limits))]
 fn put_dict(
     alloc: Global,

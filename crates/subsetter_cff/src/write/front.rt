@@ -38,7 +38,7 @@ pub struct FrontDraft {
     pub size: usize,
 }
 
-// What the top dict says.
+/// What the top dict says.
 fn new_top_dict<'a>(table: &'a TableParts<'_>, remapper: &SidRemapper<'_>) -> TopDict<'a>
     ensures { top_dict_of result ≡ top_by remapper.now.texts table.now }
 {
@@ -51,7 +51,7 @@ fn new_top_dict<'a>(table: &'a TableParts<'_>, remapper: &SidRemapper<'_>) -> To
     }
 }
 
-// The lines of the top dict without offsets. A real that is too long is `OverflowError`.
+/// The lines of the top dict without offsets. A real that is too long is `OverflowError`.
 fn draft_top(
     alloc: Global,
     table: &TableParts<'_>,
@@ -65,7 +65,7 @@ fn draft_top(
     Ok(named)
 }
 
-// The String INDEX and the Global Subr INDEX. An INDEX that is too large is `OverflowError`.
+/// The String INDEX and the Global Subr INDEX. An INDEX that is too large is `OverflowError`.
 fn draft_tail(alloc: Global, remapper: &SidRemapper<'_>) -> Result<Writer, Error>
     ensures value { IfOk result (λ w. w ≡ tail_by remapper.now.texts) }
     ensures checked { Gives (λ _. tt) result (limit (has_index remapper.now.texts)) }
@@ -76,7 +76,7 @@ fn draft_tail(alloc: Global, remapper: &SidRemapper<'_>) -> Result<Writer, Error
     Ok(tail)
 }
 
-// The size of a front. One that passes 2147483647 is `OverflowError`.
+/// The size of a front. One that passes 2147483647 is `OverflowError`.
 fn sum_front(names: usize, top: usize, tail: usize) -> Result<usize, Error>
     ensures value { IfOk result (λ n. n ≡ 4 + (names + (top + tail))) }
     ensures small { IfOk result (λ n. n < 2 ^ 31) }
@@ -103,7 +103,7 @@ pub fn draft_front(
     Ok(FrontDraft { named, tail, size })
 }
 
-// Writes the INDEX of the one top dict.
+/// Writes the INDEX of the one top dict.
 fn rewrite_top_dict_index(named: &Writer, places: &Offsets, w: &mut Writer) -> Result<(), Error>
     requires places { AreOffsets places.now }
     requires small { length named.now + 33 < 2 ^ 31 }

@@ -47,14 +47,14 @@ pub struct Offsets {
     pub select: u32,
 }
 
-// Adobe, Identity, 0: the first two strings, and no supplement.
+/// Adobe, Identity, 0: the first two strings, and no supplement.
 #[tactic(auto, using(crate::proofs::WriteLaws::WrittenLines::registry_is))]
 fn write_registry(w: &mut Writer) -> Result<(), Error>
     ensures ok { OnOk result (w.new ≡ w.old ++ line registry_line) }
     ensures err { IfErr result (λ e. e ≡ OutOfMemory) }
 {
-    w.write(&IntegerNumber(391))?;
-    w.write(&IntegerNumber(392))?;
+    w.write(&IntegerNumber(i32::from(StringId::STANDARD_STRING_LEN)))?;
+    w.write(&IntegerNumber(i32::from(StringId::STANDARD_STRING_LEN + 1)))?;
     w.write(&IntegerNumber(0))?;
     w.write(&ROS)
 }

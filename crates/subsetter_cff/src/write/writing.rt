@@ -42,7 +42,7 @@ pub struct CffPieces {
     pub char_strings: Vec<u8>,
 }
 
-// The pieces behind a front of a size.
+/// The pieces behind a front of a size.
 #[tactic(auto, unfolding(crate::specs::Write::TableLimits::pieces_limits))]
 fn write_pieces(
     alloc: Global,
@@ -67,7 +67,7 @@ fn write_pieces(
     })
 }
 
-// Where the pieces stand behind a front of a size.
+/// Where the pieces stand behind a front of a size.
 #[tactic(auto, unfolding(crate::specs::Write::TableLimits::places_limits))]
 fn find_places(size: usize, pieces: &Pieces) -> Result<Offsets, Error>
     ensures offsets { IfOk result AreOffsets }
@@ -86,7 +86,7 @@ fn find_places(size: usize, pieces: &Pieces) -> Result<Offsets, Error>
     })
 }
 
-// What stands before the charstrings' INDEX, by the draft of its front. Room is taken for that INDEX's offsets too.
+/// What stands before the charstrings' INDEX, by the draft of its front. Room is taken for that INDEX's offsets too.
 #[tactic(auto, unfolding(crate::specs::Write::TableLimits::laid_limits))]
 fn write_laid(
     alloc: Global,
