@@ -12,12 +12,12 @@ use Rattle.subsetter_base.specs.declared.error.Error.{Error}
 use Rattle.subsetter_base.specs.declared.error.Error.TheVariants.{OverflowError}
 use Rattle.subsetter_cffdata.specs.declared.number.Number.{Number as StoredNumber}
 use Rattle.subsetter_cffdata.specs.Numbers.{Number, number, is_too_long}
-use Rattle.subsetter_cffdata.specs.Dict.{Entry, Plain, operand, line, dict, entry_at, entries, kept, operand_limit}
+use Rattle.subsetter_cffdata.specs.Dict.{Entry, Plain, operand, entry_bytes, dict, entry_at, entries, kept, operand_limit}
 use Rattle.subsetter_cffdata.specs.Operands.{operands_at}
 use Rattle.subsetter_cffdata.specs.Tokens.{operator_part}
 use Rattle.subsetter_cffdata.specs.Views.{number_of}
 use Rattle.subsetter_cffdata.proofs.Entries.{entries_step, entry_shorter}
-use Rattle.subsetter_cff.specs.Write.Layout.{plain_line, private_lines}
+use Rattle.subsetter_cff.specs.Write.Layout.{plain_entry, rewritten_entries}
 use Rattle.subsetter_cff.specs.Read.Lookup.{without}
 use Rattle.subsetter_cff.specs.Read.Operators.{subroutines_operator}
 use Rattle.subsetter_cff.specs.Write.Rewritten.{is_refused, behind, written_entries, written_entry, written_if_there}
@@ -40,7 +40,7 @@ in_front false false front here more = ap (λ (l : List ℕ). Ok l) (sym (append
 
 pub entry_in_front : (front : List ℕ) (e : Entry) (es : List Entry) → behind front (written_entries (e ∷ es)) ≡ (behind front (written_entry e.operator e.operands) >>= λ new. behind new (written_entries es))
 unfolding written_entries written_entry
-entry_in_front front e es = in_front (is_refused e) (list_any is_refused es) front (line (plain_line e.operator e.operands)) (dict (private_lines es))
+entry_in_front front e es = in_front (is_refused e) (list_any is_refused es) front (entry_bytes (plain_entry e.operator e.operands)) (dict (rewritten_entries es))
 
 pub no_entries : (front : List ℕ) → behind front (written_entries []) ≡ Ok front
 unfolding written_entries

@@ -12,11 +12,11 @@ use Rattle.std.proofs.lemmas.Option.{none-some, same_Some}
 use Rattle.subsetter_cffdata.specs.Decimals.{Decimal, real_text, text_limit}
 use Rattle.subsetter_cffdata.specs.Numbers.{Number, Integer, Real, Fixed, FitsDict, is_too_long, in_i32}
 use Rattle.subsetter_cffdata.specs.Values.{value, thousandfold, held, thousand, by_1000}
-use Rattle.subsetter_cffdata.specs.Dict.{Entry, FitsLine}
+use Rattle.subsetter_cffdata.specs.Dict.{Entry, FitsNewEntry}
 use Rattle.subsetter_cffdata.proofs.PlainDigits.{digits_are_all}
 use Rattle.subsetter_cff.specs.Read.Strings.{FontString, Custom, standard_strings, string_of, string_by}
 use Rattle.subsetter_cff.specs.Read.Matrices.{thousandth, thousandth_matrix, unit_matrix, zero_box}
-use Rattle.subsetter_cff.specs.Write.Layout.{private_lines}
+use Rattle.subsetter_cff.specs.Write.Layout.{rewritten_entries}
 use Rattle.subsetter_cff.specs.Write.Fits.{FitNumbers, FitsString}
 use Rattle.subsetter_cff.specs.Write.Made.{new_matrix}
 use Rattle.subsetter_cff.specs.Write.WrittenNumbers.{any_long, entry_numbers}
@@ -150,7 +150,7 @@ string_fits ss None t e = subst FitsString (same_Some _ _ e) tt
 string_fits ss (Some xs) t e = named ss (string_operand xs) t e
 
 -- ---- entries
-pub private_fit : (es : List Entry) → Fitting es → any_long (entry_numbers es) ≡ false → AllByRecursion FitsLine (private_lines es)
+pub private_fit : (es : List Entry) → Fitting es → any_long (entry_numbers es) ≡ false → AllByRecursion FitsNewEntry (rewritten_entries es)
 private_fit [] all e = tt
 private_fit (x ∷ es) all e = (
   plain_fits x.operator x.operands all.0.operator (numbers_fit x.operands (record { each = all_writable x.operands all.0.operands; few = all.0.few }) (short_front x.operands (entry_numbers es) e)),

@@ -70,8 +70,8 @@ fn put_digits(bytes: &mut Vec<u8>, digits: &str) -> Result<(), Error> {
 /// The bytes that these lines of digits stand for.
 pub fn hex(alloc: Global, lines: &[&str]) -> Result<Vec<u8>, Error> {
     let mut bytes = Vec::new(alloc);
-    for line in lines {
-        put_digits(&mut bytes, line)?;
+    for entry_bytes in lines {
+        put_digits(&mut bytes, entry_bytes)?;
     }
     Ok(bytes)
 }

@@ -8,7 +8,7 @@ ghost use Rattle.subsetter_cff.specs.Read.Operators.{subroutines_operator};
 ghost use Rattle.subsetter_cff.specs.Write.Rewritten.{behind, rewritten_private};
 
 use crate::read::operators::same_operator;
-use crate::write::lines::write_numbers;
+use crate::write::entries::write_numbers;
 use subsetter_base::error::Error;
 use subsetter_base::write::Writer;
 use subsetter_cffdata::dict::DictionaryParser;

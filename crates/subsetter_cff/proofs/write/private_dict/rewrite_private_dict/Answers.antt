@@ -3,9 +3,9 @@ use Rattle.std.proofs.lemmas.Result.{err_from_is_err_and}
 use Rattle.subsetter_cffdata.specs.Operands.{operands_at}
 use Rattle.subsetter_cffdata.specs.ParserView.{left}
 use Rattle.subsetter_cffdata.specs.Views.{number_of, operator_of}
-use Rattle.subsetter_cffdata.specs.Dict.{line}
+use Rattle.subsetter_cffdata.specs.Dict.{entry_bytes}
 use Rattle.subsetter_cffdata.specs.Numbers.{Number}
-use Rattle.subsetter_cff.specs.Write.Layout.{plain_line}
+use Rattle.subsetter_cff.specs.Write.Layout.{plain_entry}
 use Rattle.subsetter_cff.specs.Write.Rewritten.{behind, written_entry, rewritten_private}
 use Rattle.subsetter_cff.specs.Write.TableLimits.{limit, short}
 use Rattle.subsetter_cff.proofs.WriteLaws.Checked.{entry_checked}
@@ -14,7 +14,7 @@ use Rattle.subsetter_cff.proofs.WriteLaws.Rewriting.{shorter, left_out, taken_by
 use Rattle.subsetter_cff.proofs.write.private_dict.rewrite_private_dict.Goals as goal
 
 -- an entry whose numbers keep the limit is written
-entry_is_written : (front operator : List ℕ) (xs : List Number) (new : List ℕ) → limit (short xs) ≡ Ok tt → new ≡ front ++ line (plain_line operator xs) → behind front (written_entry operator xs) ≡ Ok new
+entry_is_written : (front operator : List ℕ) (xs : List Number) (new : List ℕ) → limit (short xs) ≡ Ok tt → new ≡ front ++ entry_bytes (plain_entry operator xs) → behind front (written_entry operator xs) ≡ Ok new
 entry_is_written front operator xs new kept same = sym (goes_on _ _ _ tt (entry_checked front operator xs) kept) ∙ ap (λ (l : List ℕ). Ok l) (sym same)
 
 pub loop-operator-smaller-in-Continue-1 : goal.loop-operator-smaller-in-Continue-1
