@@ -13,7 +13,7 @@ pub mod StringCount
 pub mod KeptSteps
 pub mod FontDictSteps
 pub mod MadeOf
-pub mod WrittenLines
+pub mod WrittenEntries
 pub mod Powers
 pub mod SourceFits
 pub mod Headline

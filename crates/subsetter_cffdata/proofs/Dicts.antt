@@ -8,7 +8,7 @@ use Rattle.std.proofs.lemmas.List.{take_all, length-map}
 use Rattle.subsetter_cffdata.specs.Bytes.{byte, ReadAgain}
 use Rattle.subsetter_cffdata.specs.Decimals.{Decimal, real_at, real_text, packed}
 use Rattle.subsetter_cffdata.specs.Numbers.{Number, Integer, Real, Fixed, integer, offset, short_integer, integer_from, integer_at, dict_number_from, dict_number_at, number, FitsDict}
-use Rattle.subsetter_cffdata.specs.Dict.{Entry, is_operator, entry_in, entry_at, kept, entries_in, entries, operand_limit, Written, Plain, Long, operand, value, Line, line, dict, meaning, IsOperator, FitsOperand, FitsLine}
+use Rattle.subsetter_cffdata.specs.Dict.{Entry, is_operator, entry_in, entry_at, kept, entries_in, entries, operand_limit, Written, Plain, Long, operand, value, NewEntry, entry_bytes, dict, meaning, IsOperator, FitsOperand, FitsNewEntry}
 use Rattle.subsetter_cffdata.proofs.Cards.{byte_again}
 use Rattle.subsetter_cffdata.proofs.Integers.{integer_again, offset_again}
 use Rattle.subsetter_cffdata.proofs.Reals.{real_again}
@@ -108,20 +108,20 @@ operator_has_byte : (operator : List ℕ) → IsOperator operator → 1 ≤ leng
 operator_has_byte [] is = absurd is
 operator_has_byte (b ∷ more) is = omega arith
 
-line_has_byte : (l : Line) → FitsLine l → length l.operands + 1 ≤ length (line l)
-line_has_byte l fits = omega (arith, length-append (flat_map operand l.operands) l.operator, operands_have_bytes l.operands fits.operands, operator_has_byte l.operator fits.operator)
+entry_has_byte : (l : NewEntry) → FitsNewEntry l → length l.operands + 1 ≤ length (entry_bytes l)
+entry_has_byte l fits = omega (arith, length-append (flat_map operand l.operands) l.operator, operands_have_bytes l.operands fits.operands, operator_has_byte l.operator fits.operator)
 
--- a line is read again, whatever follows
-pub line_again : (l : Line) → FitsLine l → ReadAgain entry_at (line l) (meaning l)
+-- an entry is read again, whatever follows
+pub entry_again : (l : NewEntry) → FitsNewEntry l → ReadAgain entry_at (entry_bytes l) (meaning l)
 unfolding entry_at
-line_again l fits rest =
-    let l1 = length-append (line l) rest in
-    let l2 = line_has_byte l fits in
-    let steps : length (line l ++ rest) ≡ suc (length (line l ++ rest) - 1) = omega arith in
-    ap (λ (n : ℕ). entry_in n (line l ++ rest)) steps ∙ entry_in_again l.operands l.operator (length (line l ++ rest) - 1) rest fits.operands fits.operator (omega arith)
+entry_again l fits rest =
+    let l1 = length-append (entry_bytes l) rest in
+    let l2 = entry_has_byte l fits in
+    let steps : length (entry_bytes l ++ rest) ≡ suc (length (entry_bytes l ++ rest) - 1) = omega arith in
+    ap (λ (n : ℕ). entry_in n (entry_bytes l ++ rest)) steps ∙ entry_in_again l.operands l.operator (length (entry_bytes l ++ rest) - 1) rest fits.operands fits.operator (omega arith)
 
 -- ---- a whole DICT
-kept_all : (l : Line) → FitsLine l → kept (meaning l) ≡ meaning l
+kept_all : (l : NewEntry) → FitsNewEntry l → kept (meaning l) ≡ meaning l
 kept_all l fits = ap (λ (xs : List Number). record { operator = l.operator; operands = xs }) (take_all operand_limit (map value l.operands) (omega (arith, length-map l.operands value, fits.few)))
 
 no_entries : (steps : ℕ) → entries_in steps [] ≡ []
@@ -129,17 +129,17 @@ unfolding entries_in entry_at entry_in
 no_entries zero = refl
 no_entries (suc steps) = refl
 
-pub entries_in_again : (ls : List Line) → AllByRecursion FitsLine ls → (steps : ℕ) → length ls ≤ steps → entries_in steps (dict ls) ≡ map meaning ls
+pub entries_in_again : (ls : List NewEntry) → AllByRecursion FitsNewEntry ls → (steps : ℕ) → length ls ≤ steps → entries_in steps (dict ls) ≡ map meaning ls
 unfolding entries_in
 entries_in_again [] fits steps le = no_entries steps
 entries_in_again (l ∷ ls) fits zero le = absurd (omega arith)
 entries_in_again (l ∷ ls) fits (suc steps) le =
-    rw (line_again l fits.0 (dict ls), kept_all l fits.0, entries_in_again ls fits.1 steps (omega arith)) refl
+    rw (entry_again l fits.0 (dict ls), kept_all l fits.0, entries_in_again ls fits.1 steps (omega arith)) refl
 
-lines_have_bytes : (ls : List Line) → AllByRecursion FitsLine ls → length ls ≤ length (dict ls)
-lines_have_bytes [] fits = omega arith
-lines_have_bytes (l ∷ ls) fits = omega (arith, length-append (line l) (dict ls), line_has_byte l fits.0, lines_have_bytes ls fits.1)
+entries_have_bytes : (ls : List NewEntry) → AllByRecursion FitsNewEntry ls → length ls ≤ length (dict ls)
+entries_have_bytes [] fits = omega arith
+entries_have_bytes (l ∷ ls) fits = omega (arith, length-append (entry_bytes l) (dict ls), entry_has_byte l fits.0, entries_have_bytes ls fits.1)
 
-pub dict_again : (ls : List Line) → AllByRecursion FitsLine ls → entries (dict ls) ≡ map meaning ls
+pub dict_again : (ls : List NewEntry) → AllByRecursion FitsNewEntry ls → entries (dict ls) ≡ map meaning ls
 unfolding entries
-dict_again ls fits = entries_in_again ls fits (length (dict ls)) (lines_have_bytes ls fits)
+dict_again ls fits = entries_in_again ls fits (length (dict ls)) (entries_have_bytes ls fits)

@@ -66,18 +66,18 @@ abbrev pub value : Written → Number
 value (Plain x) = x
 value (Long n) = Integer (pos n)
 
-pub record Line : Type 0 where
+pub record NewEntry : Type 0 where
   pub operator : List ℕ
   pub operands : List Written
 
-abbrev pub line : Line → List ℕ
-line l = flat_map operand l.operands ++ l.operator
+abbrev pub entry_bytes : NewEntry → List ℕ
+entry_bytes l = flat_map operand l.operands ++ l.operator
 
-abbrev pub dict : List Line → List ℕ
-dict ls = flat_map line ls
+abbrev pub dict : List NewEntry → List ℕ
+dict ls = flat_map entry_bytes ls
 
--- what a line means
-abbrev pub meaning : Line → Entry
+-- what an entry means
+abbrev pub meaning : NewEntry → Entry
 meaning l = record { operator = l.operator; operands = map value l.operands }
 
 -- the bytes of an operator: one, or 12 and one more
@@ -92,7 +92,7 @@ FitsOperand (Plain x) = FitsDict x
 FitsOperand (Long n) = n < 2 ^ 31
 
 -- what can be written, and is read again with all its operands
-pub record FitsLine (l : Line) : Type 0 where
+pub record FitsNewEntry (l : NewEntry) : Type 0 where
   pub operator : IsOperator l.operator
   pub operands : AllByRecursion FitsOperand l.operands
   pub few : length l.operands ≤ operand_limit

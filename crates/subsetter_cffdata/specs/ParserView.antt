@@ -1,5 +1,5 @@
 -- Where a parser of a DICT stands.
-use Rattle.std.specs.Prelude.{ℕ, List, [], take, drop, map, length, Option}
+use Rattle.std.specs.Prelude.{◌≡◌, ℕ, List, [], take, drop, map, length, Option}
 use Rattle.std.specs.Option.{option_map_or}
 use Rattle.subsetter_cffdata.specs.declared.dict.DictionaryParser.{DictionaryParser}
 use Rattle.subsetter_cffdata.specs.Numbers.{Number}
@@ -21,6 +21,14 @@ shown p = map number_of (take p.operands_len p.operands.now)
 -- the operands of the entry, as many as are kept; none where no entry can be read
 abbrev pub operands_in : DictionaryParser → List Number
 operands_in p = option_map_or (λ xs. xs) (operands_at (length p.operands.now) (entry_of p)) []
+
+-- the operands of the entry are shown, and it stands where it stood
+pub record ShowsEntry (old now : DictionaryParser) : Type 0 where
+  pub shows : shown now ≡ operands_in old
+  pub entry : entry_of now ≡ entry_of old
+  pub behind : left now ≡ left old
+  pub same : now.data.now ≡ old.data.now
+  pub room : length now.operands.now ≡ length old.operands.now
 
 -- ---- what the entry's operands are, of as many as are kept
 abbrev pub string_in : DictionaryParser → Option ℕ

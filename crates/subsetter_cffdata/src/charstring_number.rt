@@ -54,16 +54,28 @@ impl NumberBytes {
     }
 }
 
+/// A number that was read, and the bytes after it.
+#[derive(Clone, Copy, Debug)]
+pub struct NumberRead<'a> {
+    /// The number.
+    pub number: CharStringNumber,
+    /// The bytes after it.
+    pub rest: &'a [u8],
+}
+
 /// The number at the front, and the bytes after it; None where no number stands there or it is cut short.
 #[inline(always)]
 #[tactic(auto, unfolding(crate::specs::CharStringNumber::number_at))]
-pub fn read_number(bytes: &[u8]) -> Option<(CharStringNumber, &[u8])>
-    ensures { MatchOption result (number_at bytes.now ≡ None) (λ r. number_at bytes.now ≡ Some (r.0, r.1.now)) }
+pub fn read_number(bytes: &[u8]) -> Option<NumberRead<'_>>
+    ensures { MatchOption result (number_at bytes.now ≡ None) (λ r. number_at bytes.now ≡ Some (r.number, r.rest.now)) }
 {
     match bytes {
         [first, rest @ ..] => match *first {
             28 => read_short(rest),
-            32..=246 => Some((CharStringNumber::Integer(*first as i16 - 139), rest)),
+            32..=246 => Some(NumberRead {
+                number: CharStringNumber::Integer(*first as i16 - 139),
+                rest,
+            }),
             247..=254 => read_middle(*first, rest),
             255 => read_fixed(rest),
             _ => None,
@@ -74,13 +86,16 @@ pub fn read_number(bytes: &[u8]) -> Option<(CharStringNumber, &[u8])>
 
 /// A whole number of two bytes.
 #[inline(always)]
-fn read_short(bytes: &[u8]) -> Option<(CharStringNumber, &[u8])>
-    ensures { MatchOption result (short_number bytes.now ≡ None) (λ r. short_number bytes.now ≡ Some (r.0, r.1.now)) }
+fn read_short(bytes: &[u8]) -> Option<NumberRead<'_>>
+    ensures { MatchOption result (short_number bytes.now ≡ None) (λ r. short_number bytes.now ≡ Some (r.number, r.rest.now)) }
 {
     match bytes {
         [high, low, rest @ ..] => {
             let bits = *high as u16 * 256 + *low as u16;
-            Some((CharStringNumber::Integer(bits.cast_signed()), rest))
+            Some(NumberRead {
+                number: CharStringNumber::Integer(bits.cast_signed()),
+                rest,
+            })
         }
         _ => None,
     }
@@ -88,18 +103,21 @@ fn read_short(bytes: &[u8]) -> Option<(CharStringNumber, &[u8])>
 
 /// A whole number of the first byte and one more.
 #[inline(always)]
-fn read_middle(first: u8, bytes: &[u8]) -> Option<(CharStringNumber, &[u8])>
+fn read_middle(first: u8, bytes: &[u8]) -> Option<NumberRead<'_>>
     requires low { 247 ≤ first }
     requires high { first < 255 }
-    ensures { MatchOption result (middle_number first bytes.now ≡ None) (λ r. middle_number first bytes.now ≡ Some (r.0, r.1.now)) }
+    ensures { MatchOption result (middle_number first bytes.now ≡ None) (λ r. middle_number first bytes.now ≡ Some (r.number, r.rest.now)) }
 {
     match bytes {
-        [second, rest @ ..] => Some((middle_of(first, *second), rest)),
+        [second, rest @ ..] => Some(NumberRead {
+            number: middle_of(first, *second),
+            rest,
+        }),
         [] => None,
     }
 }
 
-// The value of two bytes, the first of them 247 to 254.
+/// The value of two bytes, the first of them 247 to 254.
 #[inline(always)]
 fn middle_value(first: u8, second: u8) -> i16
     requires low { 247 ≤ first }
@@ -126,13 +144,16 @@ pub fn middle_of(first: u8, second: u8) -> CharStringNumber
 
 /// A number of 65536ths.
 #[inline(always)]
-fn read_fixed(bytes: &[u8]) -> Option<(CharStringNumber, &[u8])>
-    ensures { MatchOption result (fixed_number bytes.now ≡ None) (λ r. fixed_number bytes.now ≡ Some (r.0, r.1.now)) }
+fn read_fixed(bytes: &[u8]) -> Option<NumberRead<'_>>
+    ensures { MatchOption result (fixed_number bytes.now ≡ None) (λ r. fixed_number bytes.now ≡ Some (r.number, r.rest.now)) }
 {
     match bytes {
         [a, b, c, d, rest @ ..] => {
             let bits = *a as u32 * 16777216 + *b as u32 * 65536 + *c as u32 * 256 + *d as u32;
-            Some((CharStringNumber::Fixed(bits.cast_signed()), rest))
+            Some(NumberRead {
+                number: CharStringNumber::Fixed(bits.cast_signed()),
+                rest,
+            })
         }
         _ => None,
     }

@@ -27,7 +27,7 @@ impl<'a> DictionaryParser<'a> {
     ghost use Rattle.std.specs.Option.{option_map};
     ghost use Rattle.subsetter_cffdata.specs.Dict.{entry_at};
     ghost use Rattle.subsetter_cffdata.specs.Operands.{operands_at};
-    ghost use Rattle.subsetter_cffdata.specs.ParserView.{left, entry_of, shown, operands_in, string_in, offset_in, range_in, numbers_in};
+    ghost use Rattle.subsetter_cffdata.specs.ParserView.{left, entry_of, shown, ShowsEntry, string_in, offset_in, range_in, numbers_in};
     ghost use Rattle.subsetter_cffdata.specs.Tokens.{operator_part};
     ghost use Rattle.subsetter_cffdata.specs.Views.{number_of, operator_of};
 
@@ -59,12 +59,12 @@ impl<'a> DictionaryParser<'a> {
         ensures room { length self.new.operands.now ≡ length self.old.operands.now }
     {
         self.operands_offset = self.offset;
-        let (operator, end) = next_operator(self.data, self.offset)?;
-        self.offset = end;
-        Some(operator)
+        let read = next_operator(self.data, self.offset)?;
+        self.offset = read.end;
+        Some(read.operator)
     }
 
-    // Reads the operands of the entry at an offset, as many as the buffer holds; None where no entry can be read, and then none are shown.
+    /// Reads the operands of the entry at an offset, as many as the buffer holds; None where no entry can be read, and then none are shown.
     fn show_at(&mut self, offset: usize) -> Option<EntryRead>
         ensures shows { option_map (λ _. shown self.new) result ≡ operands_at (length self.old.operands.now) (drop offset self.old.data.now) }
         ensures none { IfNone result (shown self.new ≡ []) }
@@ -98,12 +98,8 @@ impl<'a> DictionaryParser<'a> {
 
     /// Reads the operands of the entry, as many as the buffer holds; None where no entry can be read, and then none are shown.
     pub fn parse_operands(&mut self) -> Option<()>
-        ensures shows { shown self.new ≡ operands_in self.old }
         ensures value { option_map (λ _. shown self.new) result ≡ operands_at (length self.old.operands.now) (entry_of self.old) }
-        ensures entry { entry_of self.new ≡ entry_of self.old }
-        ensures left { left self.new ≡ left self.old }
-        ensures same { self.new.data.now ≡ self.old.data.now }
-        ensures room { length self.new.operands.now ≡ length self.old.operands.now }
+        ensures shows { ShowsEntry self.old self.new }
     {
         self.show_at(self.operands_offset)?;
         Some(())
@@ -119,11 +115,7 @@ impl<'a> DictionaryParser<'a> {
     /// The entry's one string number; None where it has other operands.
     pub fn parse_sid(&mut self) -> Option<StringId>
         ensures value { option_map (λ s. s.0) result ≡ string_in self.old }
-        ensures shows { shown self.new ≡ operands_in self.old }
-        ensures entry { entry_of self.new ≡ entry_of self.old }
-        ensures left { left self.new ≡ left self.old }
-        ensures same { self.new.data.now ≡ self.old.data.now }
-        ensures room { length self.new.operands.now ≡ length self.old.operands.now }
+        ensures shows { ShowsEntry self.old self.new }
     {
         self.parse_operands()?;
         string_of(self.operands())
@@ -132,11 +124,7 @@ impl<'a> DictionaryParser<'a> {
     /// The entry's one offset; None where it has other operands.
     pub fn parse_offset(&mut self) -> Option<usize>
         ensures value { result ≡ offset_in self.old }
-        ensures shows { shown self.new ≡ operands_in self.old }
-        ensures entry { entry_of self.new ≡ entry_of self.old }
-        ensures left { left self.new ≡ left self.old }
-        ensures same { self.new.data.now ≡ self.old.data.now }
-        ensures room { length self.new.operands.now ≡ length self.old.operands.now }
+        ensures shows { ShowsEntry self.old self.new }
     {
         self.parse_operands()?;
         offset_of(self.operands())
@@ -145,11 +133,7 @@ impl<'a> DictionaryParser<'a> {
     /// The entry's four numbers; None where it has other operands.
     pub fn parse_font_bbox(&mut self) -> Option<[Number; 4]>
         ensures value { option_map (map number_of) result ≡ numbers_in 4 self.old }
-        ensures shows { shown self.new ≡ operands_in self.old }
-        ensures entry { entry_of self.new ≡ entry_of self.old }
-        ensures left { left self.new ≡ left self.old }
-        ensures same { self.new.data.now ≡ self.old.data.now }
-        ensures room { length self.new.operands.now ≡ length self.old.operands.now }
+        ensures shows { ShowsEntry self.old self.new }
     {
         self.parse_operands()?;
         four_of(self.operands())
@@ -158,11 +142,7 @@ impl<'a> DictionaryParser<'a> {
     /// The entry's six numbers; None where it has other operands.
     pub fn parse_font_matrix(&mut self) -> Option<[Number; 6]>
         ensures value { option_map (map number_of) result ≡ numbers_in 6 self.old }
-        ensures shows { shown self.new ≡ operands_in self.old }
-        ensures entry { entry_of self.new ≡ entry_of self.old }
-        ensures left { left self.new ≡ left self.old }
-        ensures same { self.new.data.now ≡ self.old.data.now }
-        ensures room { length self.new.operands.now ≡ length self.old.operands.now }
+        ensures shows { ShowsEntry self.old self.new }
     {
         self.parse_operands()?;
         six_of(self.operands())
@@ -171,11 +151,7 @@ impl<'a> DictionaryParser<'a> {
     /// The entry's length and offset, as a range; None where it has other operands.
     pub fn parse_range(&mut self) -> Option<Range<usize>>
         ensures value { option_map (λ r. (r.start, r.end)) result ≡ range_in self.old }
-        ensures shows { shown self.new ≡ operands_in self.old }
-        ensures entry { entry_of self.new ≡ entry_of self.old }
-        ensures left { left self.new ≡ left self.old }
-        ensures same { self.new.data.now ≡ self.old.data.now }
-        ensures room { length self.new.operands.now ≡ length self.old.operands.now }
+        ensures shows { ShowsEntry self.old self.new }
     {
         self.parse_operands()?;
         range_of(self.operands())

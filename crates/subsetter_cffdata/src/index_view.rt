@@ -3,7 +3,7 @@
 ghost use Rattle.std.specs.Prelude.{◌≤◌, ◌*◌, length};
 ghost use Rattle.subsetter_cffdata.specs.OffsetSizes.{size_of};
 
-use crate::card::{number_of, two_numbers};
+use crate::card::{TwoNumbers, number_of, two_numbers};
 use crate::index_iter::IndexIter;
 use crate::offset_size::OffsetSize;
 
@@ -50,7 +50,7 @@ impl<'a> VarOffsets<'a> {
         self.len == 0
     }
 
-    // Offset i, as it stands there.
+    /// Offset i, as it stands there.
     pub(crate) fn stored(&self, i: u32) -> u32
         requires { i < self.now.len }
         ensures { result ≡ offset_at (size_of self.now.offset_size) self.now.data.now i }
@@ -60,12 +60,12 @@ impl<'a> VarOffsets<'a> {
         number_of(&self.data[start..start + size])
     }
 
-    // Offset i and the next one, as they stand there.
+    /// Offset i and the next one, as they stand there.
     #[inline]
-    fn neighbours(&self, i: u32) -> (u32, u32)
+    fn neighbours(&self, i: u32) -> TwoNumbers
         requires { i + 1 < self.now.len }
-        ensures from { result.0 ≡ offset_at (size_of self.now.offset_size) self.now.data.now i }
-        ensures to { result.1 ≡ offset_at (size_of self.now.offset_size) self.now.data.now (i + 1) }
+        ensures from { result.first ≡ offset_at (size_of self.now.offset_size) self.now.data.now i }
+        ensures to { result.second ≡ offset_at (size_of self.now.offset_size) self.now.data.now (i + 1) }
     {
         let size = self.offset_size.to_usize();
         let start = i as usize * size;
@@ -114,7 +114,7 @@ impl<'a> Index<'a> {
         self.offsets.len.saturating_sub(1)
     }
 
-    // The data from one offset to the next, or None where it can't be read.
+    /// The data from one offset to the next, or None where it can't be read.
     fn range(&self, from: u32, to: u32) -> Option<&'a [u8]>
         ensures { option_map (λ x. x.now) result ≡ entry self.now.data.now from to }
     {
@@ -132,14 +132,14 @@ impl<'a> Index<'a> {
         Some(&self.data[from - 1..to - 1])
     }
 
-    // Entry i, from its offset to the next.
+    /// Entry i, from its offset to the next.
     #[inline]
     fn entry(&self, i: u32) -> Option<&'a [u8]>
         requires { i + 1 < self.now.offsets.len }
         ensures { option_map (λ x. x.now) result ≡ entry_at (size_of self.now.offsets.offset_size) self.now.offsets.data.now self.now.data.now i }
     {
-        let (from, to) = self.offsets.neighbours(i);
-        self.range(from, to)
+        let offsets = self.offsets.neighbours(i);
+        self.range(offsets.first, offsets.second)
     }
 
     /// Entry i, or None where it isn't there or can't be read.

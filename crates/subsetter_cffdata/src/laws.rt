@@ -5,7 +5,7 @@ ghost use Rattle.std.specs.Int.{w32};
 ghost use Rattle.std.specs.List.{AllByRecursion};
 ghost use Rattle.std.specs.Option.{option_map_or};
 ghost use Rattle.subsetter_cffdata.specs.Bytes.{ReadAgain};
-ghost use Rattle.subsetter_cffdata.specs.Dict.{Line, FitsLine, line, meaning, dict, entries, entry_at, kept};
+ghost use Rattle.subsetter_cffdata.specs.Dict.{NewEntry, FitsNewEntry, entry_bytes, meaning, dict, entries, entry_at, kept};
 ghost use Rattle.subsetter_cffdata.specs.Index.{index, index_at};
 ghost use Rattle.subsetter_cffdata.specs.Numbers.{Number, FitsDict, integer, integer_at, offset, number, dict_number_at};
 ghost use Rattle.subsetter_cffdata.specs.Owned.{FitIndex};
@@ -37,15 +37,15 @@ pub fn index_is_read_again()
 {}
 
 /// An entry of a DICT that is written is read again.
-#[tactic(auto, using(crate::proofs::Dicts::line_again))]
+#[tactic(auto, using(crate::proofs::Dicts::entry_again))]
 pub fn entry_is_read_again()
-    ensures { (l : Line) → FitsLine l → ReadAgain entry_at (line l) (meaning l) }
+    ensures { (l : NewEntry) → FitsNewEntry l → ReadAgain entry_at (entry_bytes l) (meaning l) }
 {}
 
 /// A DICT that is written is read again, entry by entry.
 #[tactic(auto, using(crate::proofs::Dicts::dict_again))]
 pub fn dict_is_read_again()
-    ensures { (ls : List Line) → AllByRecursion FitsLine ls → entries (dict ls) ≡ map meaning ls }
+    ensures { (ls : List NewEntry) → AllByRecursion FitsNewEntry ls → entries (dict ls) ≡ map meaning ls }
 {}
 
 /// The entries of a DICT are the one in front, and those behind it.

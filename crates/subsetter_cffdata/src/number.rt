@@ -38,7 +38,7 @@ impl IntegerNumber {
         Self::parse_from(b0, r)
     }
 
-    // The integer whose first byte was read.
+    /// The integer whose first byte was read.
     #[tactic(auto, unfolding(crate::specs::Numbers::integer_from))]
     fn parse_from(b0: u8, r: &mut Reader<'_>) -> Option<IntegerNumber>
         ensures value { Takes (λ x. x.0) result r.old r.new (integer_from b0) }
@@ -51,7 +51,7 @@ impl IntegerNumber {
         }
     }
 
-    // 32 to 246 stand for themselves less 139; 247 to 254 have one more byte.
+    /// 32 to 246 stand for themselves less 139; 247 to 254 have one more byte.
     #[tactic(auto, unfolding(crate::specs::Numbers::short_integer))]
     fn parse_short(b0: u8, r: &mut Reader<'_>) -> Option<IntegerNumber>
         ensures value { Takes (λ x. x.0) result r.old r.new (short_integer b0) }
@@ -84,7 +84,7 @@ impl IntegerNumber {
 }
 
 impl IntegerNumber {
-    // Every one fits.
+    /// Every one fits.
     #[tactic(auto, unfolding(crate::specs::Numbers::in_i32))]
     fn as_i32(&self) -> Option<i32>
         ensures { result ≡ in_i32 self.now.0 }
@@ -136,7 +136,7 @@ impl FixedNumber {
 }
 
 impl FixedNumber {
-    // The whole number that this is, where it has no fraction.
+    /// The whole number that this is, where it has no fraction.
     #[tactic(auto, unfolding(crate::specs::Numbers::in_i32))]
     fn as_i32(&self) -> Option<i32>
         ensures { result ≡ fixed_as_i32 self.now.0 }
@@ -195,11 +195,12 @@ impl Number {
         ensures same { r.new.bytes ≡ r.old.bytes }
     {
         let bytes = reading::tail(r);
-        let (number, rest) = read_number(bytes)?;
-        reading::pass(r, bytes.len() - rest.len());
-        Some(Self::of_charstring(number))
+        let read = read_number(bytes)?;
+        reading::pass(r, bytes.len() - read.rest.len());
+        Some(Self::of_charstring(read.number))
     }
 
+    /// A number of a charstring, of the same kind.
     fn of_charstring(number: CharStringNumber) -> Number
         ensures { number_of result ≡ as_number number }
     {

@@ -6,15 +6,24 @@ ghost use Rattle.subsetter_cffdata.specs.TextSteps.{shown, text_from};
 
 use crate::text::Text;
 
+/// A text that was read.
+#[derive(Clone, Copy)]
+pub struct TextRead {
+    /// The text.
+    pub text: Text,
+    /// How many bytes it takes.
+    pub len: usize,
+}
+
 /// The text up to its end, and how many bytes it takes.
-pub fn text_of(bytes: &[u8]) -> Option<(Text, usize)>
-    ensures text { option_map (λ x. (shown x.0, drop x.1 bytes.now)) result ≡ text_from [] bytes.now }
-    ensures len { IfSome result (λ x. x.1 ≤ length bytes.now) }
+pub fn text_of(bytes: &[u8]) -> Option<TextRead>
+    ensures text { option_map (λ x. (shown x.text, drop x.len bytes.now)) result ≡ text_from [] bytes.now }
+    ensures len { IfSome result (λ x. x.len ≤ length bytes.now) }
 {
     let mut text = Text::empty();
     for (i, b) in bytes.iter().enumerate() {
         if text.push_byte(*b)? {
-            return Some((text, i + 1));
+            return Some(TextRead { text, len: i + 1 });
         }
     }
     None

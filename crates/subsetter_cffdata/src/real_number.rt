@@ -61,12 +61,12 @@ impl RealNumber {
         ensures value { Takes decimal_of result r.old r.new real_at }
         ensures same { r.new.bytes ≡ r.old.bytes }
     {
-        let (text, len) = text_of(reading::tail(r))?;
-        reading::pass(r, len);
-        real_of_text(&text.characters[..text.len])
+        let read = text_of(reading::tail(r))?;
+        reading::pass(r, read.len);
+        real_of_text(&read.text.characters[..read.text.len])
     }
 
-    // The digits, the highest first.
+    /// The digits, the highest first.
     pub(crate) fn digits(&self) -> &[u8]
         ensures value { result.now ≡ take self.now.len self.now.digits }
         ensures len { length result.now ≡ self.now.len }
@@ -84,7 +84,7 @@ impl RealNumber {
         whole_of(self.negative, self.digits(), self.power as u32)
     }
 
-    // The text, where it has at most 64 characters.
+    /// The text, where it has at most 64 characters.
     pub(crate) fn text(&self) -> Option<Text>
         ensures value { option_map shown result ≡ fitting (real_text (decimal_of self.now)) }
         ensures characters { AllByRecursion (λ c. c < 16) (real_text (decimal_of self.now)) }

@@ -9,45 +9,85 @@ ghost use Rattle.subsetter_cffdata.specs.Views.{decimal_of};
 use crate::real_number::RealNumber;
 use crate::text::Text;
 
-// Whether a minus stands in front, and what follows.
-fn split_sign(text: &[u8]) -> (bool, &[u8])
-    ensures value { (result.0, result.1.now) ≡ sign text.now }
-    ensures len { length result.1.now ≤ length text.now }
+/// A sign that was read, and what follows.
+#[derive(Clone, Copy, Debug)]
+struct SignRead<'a> {
+    /// A minus stands in front.
+    negative: bool,
+    /// What follows.
+    rest: &'a [u8],
+}
+
+/// Digits that were read, and what follows.
+#[derive(Clone, Copy, Debug)]
+struct DigitsRead<'a> {
+    /// The digits.
+    digits: &'a [u8],
+    /// What follows.
+    rest: &'a [u8],
+}
+
+/// Digits without outer zeros.
+#[derive(Clone, Copy, Debug)]
+struct KeptDigits<'a> {
+    /// The digits.
+    digits: &'a [u8],
+    /// How many zeros stood at the end.
+    zeros: usize,
+}
+
+/// Whether a minus stands in front, and what follows.
+fn split_sign(text: &[u8]) -> SignRead<'_>
+    ensures value { (result.negative, result.rest.now) ≡ sign text.now }
+    ensures len { length result.rest.now ≤ length text.now }
 {
     match text {
-        [14, rest @ ..] => (true, rest),
-        _ => (false, text),
+        [14, rest @ ..] => SignRead {
+            negative: true,
+            rest,
+        },
+        _ => SignRead {
+            negative: false,
+            rest: text,
+        },
     }
 }
 
-// The digits in front, and what follows them.
-fn split_digits(text: &[u8]) -> (&[u8], &[u8])
-    ensures front { result.0.now ≡ digits text.now }
-    ensures digits { digits result.0.now ≡ result.0.now }
-    ensures behind { result.1.now ≡ after_digits text.now }
-    ensures len { length result.0.now + length result.1.now ≡ length text.now }
+/// The digits in front, and what follows them.
+fn split_digits(text: &[u8]) -> DigitsRead<'_>
+    ensures front { result.digits.now ≡ digits text.now }
+    ensures digits { digits result.digits.now ≡ result.digits.now }
+    ensures behind { result.rest.now ≡ after_digits text.now }
+    ensures len { length result.digits.now + length result.rest.now ≡ length text.now }
 {
     for (i, c) in text.iter().enumerate() {
         if *c >= 10 {
-            return text.split_at(i);
+            let (digits, rest) = text.split_at(i);
+            return DigitsRead { digits, rest };
         }
     }
-    (text, &[])
+    DigitsRead {
+        digits: text,
+        rest: &[],
+    }
 }
 
-// The digits behind a point, and what follows.
-fn split_fraction(text: &[u8]) -> (&[u8], &[u8])
-    ensures value { (result.0.now, result.1.now) ≡ fraction text.now }
-    ensures digits { digits result.0.now ≡ result.0.now }
-    ensures len { length result.0.now ≤ length text.now }
+/// The digits behind a point, and what follows.
+fn split_fraction(text: &[u8]) -> DigitsRead<'_>
+    ensures value { (result.digits.now, result.rest.now) ≡ fraction text.now }
+    ensures digits { digits result.digits.now ≡ result.digits.now }
+    ensures len { length result.digits.now ≤ length text.now }
 {
     match text {
         [10, rest @ ..] => split_digits(rest),
-        _ => (&[], text),
+        _ => DigitsRead {
+            digits: &[],
+            rest: text,
+        },
     }
 }
 
-// The number that digits are, up to 999.
+/// The number that digits are, up to 999.
 fn number_up_to_999(ds: &[u8]) -> Option<u16>
     ensures value { result ≡ small_number ds.now }
     ensures small { IfSome result (λ n. n ≤ 999) }
@@ -62,23 +102,24 @@ fn number_up_to_999(ds: &[u8]) -> Option<u16>
     Some(n)
 }
 
-// The exponent behind its mark and sign.
+/// The exponent behind its mark and sign.
 fn exponent_behind(negative: bool, text: &[u8]) -> Option<i32>
     ensures value { result ≡ exponent_value negative text.now }
     ensures low { IfSome result (λ z. negsuc 999 ≤ℤ z) }
     ensures high { IfSome result (λ z. z ≤ℤ pos 1000) }
 {
-    let (ds, after) = split_digits(text);
-    if ds.is_empty() {
+    let read = split_digits(text);
+    if read.digits.is_empty() {
         return None;
     }
-    if !after.is_empty() {
+    if !read.rest.is_empty() {
         return None;
     }
-    let n = i32::from(number_up_to_999(ds)?);
+    let n = i32::from(number_up_to_999(read.digits)?);
     if negative { Some(-n) } else { Some(n) }
 }
 
+/// The exponent that stands behind the digits: 0 where there is none.
 fn exponent_of(text: &[u8]) -> Option<i32>
     ensures value { result ≡ exponent text.now }
     ensures low { IfSome result (λ z. negsuc 999 ≤ℤ z) }
@@ -87,14 +128,14 @@ fn exponent_of(text: &[u8]) -> Option<i32>
     match text {
         [] => Some(0),
         [11, rest @ ..] => {
-            let (negative, rest) = split_sign(rest);
-            exponent_behind(negative, rest)
+            let read = split_sign(rest);
+            exponent_behind(read.negative, read.rest)
         }
         _ => None,
     }
 }
 
-// Digits behind a text.
+/// Digits behind a text.
 pub fn put_all(text: &mut Text, ds: &[u8])
     requires { text.old.len + length ds.now ≤ 64 }
     ensures after { shown text.new ≡ shown text.old ++ ds.now }
@@ -105,7 +146,7 @@ pub fn put_all(text: &mut Text, ds: &[u8])
     }
 }
 
-// How many digits are left without the zeros at the end.
+/// How many digits are left without the zeros at the end.
 fn trimmed_len(ds: &[u8]) -> usize
     ensures within { result ≤ length ds.now }
     ensures kept { take result ds.now ≡ trimmed ds.now }
@@ -117,7 +158,7 @@ fn trimmed_len(ds: &[u8]) -> usize
     len
 }
 
-// How many zeros stand in front.
+/// How many zeros stand in front.
 fn zeros_in_front(ds: &[u8]) -> usize
     ensures within { result ≤ length ds.now }
     ensures left { drop result ds.now ≡ stripped ds.now }
@@ -130,15 +171,18 @@ fn zeros_in_front(ds: &[u8]) -> usize
     ds.len()
 }
 
-// The digits without the zeros in front and at the end, and how many stood at the end.
-fn without_outer_zeros(ds: &[u8]) -> (&[u8], usize)
-    ensures kept { result.0.now ≡ stripped (trimmed ds.now) }
-    ensures zeros { result.1 ≡ length ds.now - length (trimmed ds.now) }
-    ensures within { length result.0.now + result.1 ≤ length ds.now }
+/// The digits without the zeros in front and at the end, and how many stood at the end.
+fn without_outer_zeros(ds: &[u8]) -> KeptDigits<'_>
+    ensures kept { result.digits.now ≡ stripped (trimmed ds.now) }
+    ensures zeros { result.zeros ≡ length ds.now - length (trimmed ds.now) }
+    ensures within { length result.digits.now + result.zeros ≤ length ds.now }
 {
     let end = trimmed_len(ds);
     let start = zeros_in_front(&ds[..end]);
-    (&ds[start..end], ds.len() - end)
+    KeptDigits {
+        digits: &ds[start..end],
+        zeros: ds.len() - end,
+    }
 }
 
 /// The decimal that plain digits are.
@@ -164,14 +208,14 @@ pub fn decimal_from(negative: bool, ds: &[u8], power: i32) -> RealNumber
     requires high { power ≤ℤ pos 2147483000 }
     ensures { decimal_of result ≡ decimal negative ds.now power }
 {
-    let (kept, zeros) = without_outer_zeros(ds);
-    if kept.len() == 0 {
+    let kept = without_outer_zeros(ds);
+    if kept.digits.len() == 0 {
         return plain_decimal(false, &[], 0);
     }
-    plain_decimal(negative, kept, power + zeros as i32)
+    plain_decimal(negative, kept.digits, power + kept.zeros as i32)
 }
 
-// The power of ten of the last of so many digits behind the point.
+/// The power of ten of the last of so many digits behind the point.
 fn last_power(exponent: i32, count: usize) -> i32
     requires low { negsuc 999 ≤ℤ exponent }
     requires high { exponent ≤ℤ pos 1000 }
@@ -181,7 +225,7 @@ fn last_power(exponent: i32, count: usize) -> i32
     exponent - count as i32
 }
 
-// The digits of both lists times a power of ten.
+/// The digits of both lists times a power of ten.
 fn decimal_of_both(negative: bool, front: &[u8], fraction: &[u8], exponent: i32) -> RealNumber
     requires front { digits front.now ≡ front.now }
     requires fraction { digits fraction.now ≡ fraction.now }
@@ -197,19 +241,19 @@ fn decimal_of_both(negative: bool, front: &[u8], fraction: &[u8], exponent: i32)
     decimal_from(negative, &all.characters[..all.len], power)
 }
 
-// The value of a text without a sign.
+/// The value of a text without a sign.
 #[tactic(auto, unfolding(crate::specs::Decimals::unsigned_real))]
 fn unsigned_of(negative: bool, text: &[u8]) -> Option<RealNumber>
     requires { length text.now ≤ 64 }
     ensures { option_map decimal_of result ≡ unsigned_real negative text.now }
 {
-    let (front, rest) = split_digits(text);
-    let (fraction, rest) = split_fraction(rest);
-    if front.len() + fraction.len() == 0 {
+    let front = split_digits(text);
+    let fraction = split_fraction(front.rest);
+    if front.digits.len() + fraction.digits.len() == 0 {
         return None;
     }
-    let exponent = exponent_of(rest)?;
-    Some(decimal_of_both(negative, front, fraction, exponent))
+    let exponent = exponent_of(fraction.rest)?;
+    Some(decimal_of_both(negative, front.digits, fraction.digits, exponent))
 }
 
 /// The value of a text.
@@ -218,6 +262,6 @@ pub fn real_of_text(text: &[u8]) -> Option<RealNumber>
     requires { length text.now ≤ 64 }
     ensures { option_map decimal_of result ≡ real_of text.now }
 {
-    let (negative, rest) = split_sign(text);
-    unsigned_of(negative, rest)
+    let read = split_sign(text);
+    unsigned_of(read.negative, read.rest)
 }

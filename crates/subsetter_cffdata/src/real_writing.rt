@@ -9,7 +9,7 @@ ghost use Rattle.subsetter_cffdata.specs.TextSteps.{shown, fitting};
 use crate::real_text::put_all;
 use crate::text::Text;
 
-// Zeros behind a text.
+/// Zeros behind a text.
 fn put_zeros(text: &mut Text, count: usize)
     requires { text.old.len + count ≤ 64 }
     ensures after { shown text.new ≡ shown text.old ++ replicate count 0 }
@@ -20,7 +20,7 @@ fn put_zeros(text: &mut Text, count: usize)
     }
 }
 
-// A sign, and four parts, where they aren't too long.
+/// A sign, and four parts, where they aren't too long.
 fn joined(negative: bool, front: &[u8], middle: &[u8], zeros: usize, back: &[u8]) -> Option<Text>
     requires front { length front.now ≤ 64 }
     requires middle { length middle.now ≤ 64 }

@@ -14,6 +14,7 @@ pub struct Text {
 impl Text {
     ghost use Rattle.subsetter_cffdata.specs.TextSteps.{shown, extended, byte_step};
 
+    /// No characters.
     pub fn empty() -> Text
         ensures value { shown result ≡ [] }
         ensures len { result.len ≡ 0 }
@@ -34,6 +35,7 @@ impl Text {
         self.len += 1;
     }
 
+    /// One character more; None where there are 64.
     fn push(&mut self, c: u8) -> Option<()>
         ensures some { OnSome result (shown self.new ≡ shown self.old ++ c ∷ []) }
         ensures none { IfNone result (length (shown self.old) ≡ 64) }
@@ -47,7 +49,7 @@ impl Text {
         Some(())
     }
 
-    // The characters of a nibble.
+    /// The characters of a nibble.
     #[tactic(auto, unfolding(crate::specs::TextSteps::extended))]
     pub fn push_nibble(&mut self, nibble: u8) -> Option<()>
         ensures { option_map (λ x. shown self.new) result ≡ extended (shown self.old) nibble }

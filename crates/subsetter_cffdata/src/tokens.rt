@@ -14,6 +14,7 @@ use crate::operator::{Operator, TWO_BYTE_OPERATOR_MARK};
 use crate::reading;
 use subsetter_base::read::Reader;
 
+/// Whether an operator begins with a byte, or a byte that is reserved stands there.
 fn begins_operator(b: u8) -> bool
     ensures { result ≡ is_operator b }
 {
@@ -26,7 +27,7 @@ fn begins_operator(b: u8) -> bool
     }
 }
 
-// The operator whose first byte was read.
+/// The operator whose first byte was read.
 fn operator_after(b: u8, r: &mut Reader<'_>) -> Option<Operator>
     ensures value { Takes operator_of result r.old r.new (operator_from b) }
     ensures same { r.new.bytes ≡ r.old.bytes }
@@ -38,13 +39,16 @@ fn operator_after(b: u8, r: &mut Reader<'_>) -> Option<Operator>
     Some(Operator::from_one_byte(b))
 }
 
+/// What stands in a DICT.
 #[derive(Clone, Copy, Debug)]
 enum Token {
+    /// An operand, which was put into a place of its own.
     Operand,
+    /// An operator.
     Operator(Operator),
 }
 
-// The next token. An operand is put into a place of its own, so that it is moved just once.
+/// The next token. An operand is put into a place of its own, so that it is moved just once.
 #[inline(always)]
 #[tactic(auto, unfolding(crate::specs::Dict::token_at))]
 fn next_token(r: &mut Reader<'_>, operand: &mut Number) -> Option<Token>
@@ -59,16 +63,28 @@ fn next_token(r: &mut Reader<'_>, operand: &mut Number) -> Option<Token>
     Some(Token::Operand)
 }
 
-// The operator of the entry at the offset, and where the next one begins.
+/// An operator that was read, and where the next entry begins.
+#[derive(Clone, Copy, Debug)]
+pub struct OperatorRead {
+    /// The operator.
+    pub operator: Operator,
+    /// Where the next entry begins.
+    pub end: usize,
+}
+
+/// The operator of the entry at the offset, and where the next one begins.
 #[inline(never)]
-pub fn next_operator(bytes: &[u8], offset: usize) -> Option<(Operator, usize)>
-    ensures { operator_part (entry_at (drop offset bytes.now)) ≡ option_map (λ x. (operator_of x.0, drop x.1 bytes.now)) result }
+pub fn next_operator(bytes: &[u8], offset: usize) -> Option<OperatorRead>
+    ensures { operator_part (entry_at (drop offset bytes.now)) ≡ option_map (λ x. (operator_of x.operator, drop x.end bytes.now)) result }
 {
     let mut r = Reader::new_at(bytes, offset);
     let mut operand = Number::zero();
     while let Some(found) = next_token(&mut r, &mut operand) {
         if let Token::Operator(operator) = found {
-            return Some((operator, r.offset()));
+            return Some(OperatorRead {
+                operator,
+                end: r.offset(),
+            });
         }
     }
     None
@@ -85,7 +101,7 @@ pub struct EntryRead {
     pub end: usize,
 }
 
-// The entry at the offset, with its operands, as many as the buffer holds; None where no entry can be read.
+/// The entry at the offset, with its operands, as many as the buffer holds; None where no entry can be read.
 #[tactic(auto, unfolding(crate::specs::Operands::operands_at))]
 pub fn read_entry(bytes: &[u8], offset: usize, buffer: &mut [Number]) -> Option<EntryRead>
     requires { 0 < length buffer.old }
@@ -107,8 +123,12 @@ pub fn read_entry(bytes: &[u8], offset: usize, buffer: &mut [Number]) -> Option<
             Token::Operand => {
                 len += 1;
                 if len == buffer.len() {
-                    let (operator, end) = next_operator(bytes, r.offset())?;
-                    return Some(EntryRead { operator, len, end });
+                    let read = next_operator(bytes, r.offset())?;
+                    return Some(EntryRead {
+                        operator: read.operator,
+                        len,
+                        end: read.end,
+                    });
                 }
             }
         }

@@ -12,10 +12,10 @@ use crate::real_number::RealNumber;
 use crate::real_text::decimal_from;
 use crate::text::Text;
 
-// What a 65536th is in units of 10 to the power -16: 5 to the power 16.
+/// What a 65536th is in units of 10 to the power -16: 5 to the power 16.
 const UNITS_OF_65536TH: u128 = 152587890625;
 
-// The digits of a whole number behind a text, none for 0.
+/// The digits of a whole number behind a text, none for 0.
 fn put_digits(text: &mut Text, n: u128)
     requires { text.old.len + length (digits_of 10 n) ≤ 64 }
     ensures after { shown text.new ≡ shown text.old ++ digits_of 10 n }
@@ -27,7 +27,7 @@ fn put_digits(text: &mut Text, n: u128)
     }
 }
 
-// A whole number times a power of ten.
+/// A whole number times a power of ten.
 fn decimal_of_number(negative: bool, n: u128, power: i32) -> RealNumber
     requires size { n < 10 ^ 39 }
     requires high { power ≤ℤ pos 2147483000 }

@@ -5,7 +5,7 @@ ghost use Rattle.subsetter_cffdata.specs.Decimals.{number, signed};
 ghost use Rattle.subsetter_cffdata.specs.Limited.{limited};
 ghost use Rattle.subsetter_cffdata.specs.Numbers.{in_i32};
 
-// The greatest size of a signed number of 32 bits.
+/// The greatest size of a signed number of 32 bits.
 const LIMIT: u64 = 2147483648;
 
 /// The number that digits are, up to the limit.

@@ -1,13 +1,14 @@
 //! Writing an INDEX (Technical Note 5176, section 5 "INDEX Data").
 
-ghost use Rattle.std.specs.Prelude.{◌≡◌, ◌≢◌, ◌+◌, ◌-◌, ◌*◌, ◌<◌, ◌≤◌, ◌^◌, ◌∷◌, ◌++◌, [], ◌⊎◌, length, OnOk, IfOk, IfErr, SomeIff};
+ghost use Rattle.std.specs.Prelude.{◌≡◌, ◌≢◌, ◌+◌, ◌-◌, ◌*◌, ◌<◌, ◌≤◌, ◌^◌, ◌∷◌, ◌++◌, [], ◌⊎◌, map, length, OnOk, IfOk, IfErr, SomeIff};
 ghost use Rattle.std.specs.Int.{bytes_high_first};
 ghost use Rattle.std.specs.List.{concat};
 ghost use Rattle.subsetter_base.specs.declared.error.Error.TheVariants.{OverflowError, OutOfMemory};
 ghost use Rattle.subsetter_cffdata.specs.Owned.{views, FitIndex};
 ghost use Rattle.subsetter_cffdata.specs.Index.{offset_size, offsets, numbers, header, index};
 
-use std::alloc::{AllocError, Global};
+use std::alloc::Global;
+use std::convert::AsSlice;
 use subsetter_base::error::Error;
 use subsetter_base::write::{Writeable, Writer};
 
@@ -44,8 +45,8 @@ impl Writeable for OwnedIndex {
     }
 }
 
-// How many bytes an offset takes.
-fn size_of_offset(n: u32) -> u8
+/// How many bytes an offset takes.
+pub fn size_of_offset(n: u32) -> u8
     ensures size { result ≡ offset_size n }
     ensures small { result ≤ 4 }
 {
@@ -60,41 +61,42 @@ fn size_of_offset(n: u32) -> u8
     }
 }
 
-// Writes the low bytes of a number.
+/// Writes the low bytes of a number.
 #[tactic(auto, using(crate::proofs::Writing::low_bytes))]
-fn put_number(w: &mut Vec<u8>, size: u8, n: u32) -> Result<(), AllocError>
+pub fn put_number(size: u8, n: usize, w: &mut Writer) -> Result<(), Error>
     requires { size ≤ 4 }
-    ensures { OnOk result (w.new.items ≡ w.old.items ++ bytes_high_first size n) }
+    ensures ok { OnOk result (w.new ≡ w.old ++ bytes_high_first size n) }
+    ensures err { IfErr result (λ e. e ≡ OutOfMemory) }
 {
     let bytes = n.to_be_bytes();
-    w.extend_from_slice(&bytes[4 - size as usize..])
+    w.extend(&bytes[8 - size as usize..])
 }
 
-// The length of all items together with one, where it fits.
-fn total(items: &[Vec<u8>]) -> Option<u32>
-    ensures { SomeIff result (length (concat (views items.now)) + 1 < 2 ^ 32) (length (concat (views items.now)) + 1) }
+/// The length of all items together with one, where it fits.
+fn total<T: AsSlice<u8>>(items: &[T]) -> Option<u32>
+    ensures { SomeIff result (length (concat (map T.items items.now)) + 1 < 2 ^ 32) (length (concat (map T.items items.now)) + 1) }
 {
     let mut sum: u32 = 1;
     for item in items {
-        let len = u32::try_from(item.len()).ok()?;
+        let len = u32::try_from(item.as_slice().len()).ok()?;
         sum = sum.checked_add(len)?;
     }
     Some(sum)
 }
 
-// How many items there are, and the length of all together with one.
+/// How many items there are, and the length of all together with one.
 #[derive(Drop)]
 struct Counts {
     items: u16,
     total: u32,
 }
 
-// Data of 4 GiB, or 65536 items, are `OverflowError`. It takes no memory.
-fn counts_of(items: &[Vec<u8>]) -> Result<Counts, Error>
+/// Data of 4 GiB, or 65536 items, are `OverflowError`. It takes no memory.
+fn counts_of<T: AsSlice<u8>>(items: &[T]) -> Result<Counts, Error>
     ensures items { IfOk result (λ c. c.items ≡ length items.now) }
-    ensures total { IfOk result (λ c. c.total ≡ length (concat (views items.now)) + 1) }
-    ensures fits { OnOk result (FitIndex (views items.now)) }
-    ensures err { IfErr result (λ e. (e ≡ OverflowError) × (FitIndex (views items.now) → ⊥)) }
+    ensures total { IfOk result (λ c. c.total ≡ length (concat (map T.items items.now)) + 1) }
+    ensures fits { OnOk result (FitIndex (map T.items items.now)) }
+    ensures err { IfErr result (λ e. (e ≡ OverflowError) × (FitIndex (map T.items items.now) → ⊥)) }
 {
     let Ok(count) = u16::try_from(items.len()) else {
         return Err(Error::OverflowError);
@@ -108,7 +110,7 @@ fn counts_of(items: &[Vec<u8>]) -> Result<Counts, Error>
     })
 }
 
-// How many bytes the INDEX has.
+/// How many bytes the INDEX has.
 fn index_room(counts: &Counts) -> usize
     ensures { result ≡ 3 + offset_size counts.now.total * (counts.now.items + 1) + counts.now.total }
 {
@@ -116,45 +118,68 @@ fn index_room(counts: &Counts) -> usize
     3 + width * (usize::from(counts.items) + 1) + counts.total as usize
 }
 
-// Writes the offset behind each item.
-fn put_offsets(w: &mut Vec<u8>, size: u8, items: &[Vec<u8>]) -> Result<(), AllocError>
+/// Writes the offset behind each item.
+fn put_offsets<T: AsSlice<u8>>(size: u8, items: &[T], w: &mut Writer) -> Result<(), Error>
     requires small { size ≤ 4 }
-    requires fits { length (concat (views items.now)) + 1 < 2 ^ 32 }
-    ensures { OnOk result (w.new.items ≡ w.old.items ++ numbers size (offsets 1 (views items.now))) }
+    requires fits { length (concat (map T.items items.now)) + 1 < 2 ^ 32 }
+    ensures ok { OnOk result (w.new ≡ w.old ++ numbers size (offsets 1 (map T.items items.now))) }
+    ensures err { IfErr result (λ e. e ≡ OutOfMemory) }
 {
-    let mut offset: u32 = 1;
+    let mut offset: usize = 1;
     for item in items {
-        offset += item.len() as u32;
-        put_number(w, size, offset)?;
+        offset += item.as_slice().len();
+        put_number(size, offset, w)?;
     }
     Ok(())
 }
 
-// Writes the items.
-fn put_items(w: &mut Vec<u8>, items: &[Vec<u8>]) -> Result<(), AllocError>
-    ensures { OnOk result (w.new.items ≡ w.old.items ++ concat (views items.now)) }
+/// Writes the items.
+fn put_items<T: AsSlice<u8>>(items: &[T], w: &mut Writer) -> Result<(), Error>
+    ensures ok { OnOk result (w.new ≡ w.old ++ concat (map T.items items.now)) }
+    ensures err { IfErr result (λ e. e ≡ OutOfMemory) }
 {
     for item in items {
-        w.extend_from_slice(item)?;
+        w.extend(item.as_slice())?;
     }
     Ok(())
 }
 
-// The count, the size of an offset and the offsets.
+/// The count, the size of an offset and the offsets.
 #[tactic(auto, unfolding(crate::specs::Index::header))]
-fn put_header(w: &mut Vec<u8>, items: &[Vec<u8>], count: u16, total: u32) -> Result<(), AllocError>
+fn put_header<T: AsSlice<u8>>(
+    items: &[T],
+    count: u16,
+    total: u32,
+    w: &mut Writer,
+) -> Result<(), Error>
     requires count { count ≡ length items.now }
-    requires total { total ≡ length (concat (views items.now)) + 1 }
-    ensures { OnOk result (w.new.items ≡ w.old.items ++ header (views items.now)) }
+    requires total { total ≡ length (concat (map T.items items.now)) + 1 }
+    ensures ok { OnOk result (w.new ≡ w.old ++ header (map T.items items.now)) }
+    ensures err { IfErr result (λ e. e ≡ OutOfMemory) }
 {
     let size = size_of_offset(total);
-    w.extend_from_slice(&count.to_be_bytes())?;
-    w.push(size)?;
-    put_number(w, size, 1)?;
-    put_offsets(w, size, items)
+    w.extend(&count.to_be_bytes())?;
+    w.extend(&[size])?;
+    put_number(size, 1, w)?;
+    put_offsets(size, items, w)
 }
 
-/// Writes an INDEX of the items.
+/// Writes an INDEX of the items. Data of 4 GiB, or 65536 items, are `OverflowError`.
+#[tactic(auto, unfolding(crate::specs::Index::index))]
+pub fn write_index<T: AsSlice<u8>>(items: &[T], w: &mut Writer) -> Result<(), Error>
+    ensures ok { OnOk result (w.new ≡ w.old ++ index (map T.items items.now)) }
+    ensures fits { OnOk result (FitIndex (map T.items items.now)) }
+    ensures err { IfErr result (λ e. (e ≡ OutOfMemory) ⊎ ((e ≡ OverflowError) × (FitIndex (map T.items items.now) → ⊥))) }
+{
+    let counts = counts_of(items)?;
+    if counts.items == 0 {
+        return w.extend(&[0, 0]);
+    }
+    put_header(items, counts.items, counts.total, w)?;
+    put_items(items, w)
+}
+
+/// Makes an INDEX of the items. Data of 4 GiB, or 65536 items, are `OverflowError`.
 #[tactic(auto, unfolding(crate::specs::Index::index))]
 pub fn create_index(alloc: Global, items: &[Vec<u8>]) -> Result<OwnedIndex, Error>
     ensures bytes { IfOk result (λ x. x.data.items ≡ index (views items.now)) }
@@ -166,9 +191,12 @@ pub fn create_index(alloc: Global, items: &[Vec<u8>]) -> Result<OwnedIndex, Erro
     if counts.items == 0 {
         return OwnedIndex::default(alloc);
     }
-    let mut data = Vec::with_capacity(alloc, index_room(&counts))?;
-    put_header(&mut data, items, counts.items, counts.total)?;
-    let header_size = data.len();
-    put_items(&mut data, items)?;
-    Ok(OwnedIndex { data, header_size })
+    let mut w = Writer::with_capacity(alloc, index_room(&counts))?;
+    put_header(items, counts.items, counts.total, &mut w)?;
+    let header_size = w.len();
+    put_items(items, &mut w)?;
+    Ok(OwnedIndex {
+        data: w.finish(),
+        header_size,
+    })
 }

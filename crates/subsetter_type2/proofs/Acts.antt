@@ -13,7 +13,7 @@ use Rattle.subsetter_type2.specs.declared.token.Effect.{Effect}
 use Rattle.subsetter_type2.specs.declared.token.Effect.TheVariants.{CountsStems, Draws, CallsLocal, CallsGlobal, Returns, Ends, Masks}
 use Rattle.subsetter_cffdata.specs.CharStringNumber.{NumberFits, FitsIn, number_at}
 use Rattle.subsetter_type2.specs.Token.{token_of, number_token, two_byte_token, effect_of, type_effect, one_byte_effect, two_byte_effect, one_byte}
-use Rattle.subsetter_type2.specs.Machine.{Library, Registers, Event, Act, Does, Fails, Lead, On, Into, Back, Over, draw, stems_after, take_mask, mask, enter, operate, act, act_on, act_at}
+use Rattle.subsetter_type2.specs.Machine.{Library, Registers, Event, Act, Does, Fails, Lead, On, Into, Back, Over, emit, stems_after, take_mask, mask, enter, operate, act, act_on, act_at}
 use Rattle.subsetter_cffdata.proofs.CharStringNumbers.{number_fits}
 use Rattle.subsetter_cffdata.specs.Views.{operator_of, type_bytes}
 use Rattle.subsetter_type2.specs.OutputView.{AllFit}
@@ -86,7 +86,7 @@ pub act_operator : (library : Library) (op : Operator) (eff : Effect) (rest : Li
 unfolding act_at
 act_operator library op eff rest r e = ap (λ t. act_on library t r) (token_operator op eff rest e) ∙ ap (λ f. operate library op f rest r) e
 
-take_again : (op : Operator) (rest x : List ℕ) (r : Registers) → nat_le r.mask_len (length rest) ≡ true → take_mask op (take r.mask_len rest ++ x) r ≡ draw op (take r.mask_len rest) (On x) r
+take_again : (op : Operator) (rest x : List ℕ) (r : Registers) → nat_le r.mask_len (length rest) ≡ true → take_mask op (take r.mask_len rest ++ x) r ≡ emit op (take r.mask_len rest) (On x) r
 take_again op rest x r h =
     let within : r.mask_len ≤ length rest = grind (arith, nat_tests) in
     let n : length (take r.mask_len rest) ≡ r.mask_len = length-take-le r.mask_len rest within in

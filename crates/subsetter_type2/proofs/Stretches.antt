@@ -63,18 +63,18 @@ middle_written first second low high small =
 
 -- ---- a token longer
 -- nothing is taken
-pub leads_nowhere : (text : List ℕ) (len tokens mask_len : ℕ) (w : Written) → len ≡ 0 → tokens ≡ 0 → LeadsOn text len tokens mask_len w w
-leads_nowhere text len tokens mask_len w l t = rw (l, t)
+pub leads_nowhere : (charstring : List ℕ) (len tokens mask_len : ℕ) (w : Written) → len ≡ 0 → tokens ≡ 0 → LeadsOn charstring len tokens mask_len w w
+leads_nowhere charstring len tokens mask_len w l t = rw (l, t)
     (λ front o library depth all left stems callers room e h.
     let same : all ≡ left = omega arith in
-    subst (λ n. ReachedBehind front o library depth n (record { rests = text ∷ callers; registers = registers_with w stems mask_len }) w.settled) same h)
+    subst (λ n. ReachedBehind front o library depth n (record { rests = charstring ∷ callers; registers = registers_with w stems mask_len }) w.settled) same h)
 
-pub comes_at_start : (text : List ℕ) (mask_len count : ℕ) (bytes : List ℕ) (settled : ℕ) (w : Written) → Stands bytes settled count w
-    → Comes text mask_len bytes settled w (record { len = 0; tokens = 0; settled = 0; count = count; last = 0 })
-comes_at_start text mask_len count bytes settled w h = record {
+pub comes_at_start : (charstring : List ℕ) (mask_len count : ℕ) (bytes : List ℕ) (settled : ℕ) (w : Written) → Stands bytes settled count w
+    → Comes charstring mask_len bytes settled w (record { len = 0; tokens = 0; settled = 0; count = count; last = 0 })
+comes_at_start charstring mask_len count bytes settled w h = record {
   now = w;
   stands = subst (λ (b : List ℕ). Stands b settled count w) (sym (append-nil bytes)) h;
-  leads = leads_nowhere text 0 0 mask_len w refl refl;
+  leads = leads_nowhere charstring 0 0 mask_len w refl refl;
   last = λ some _. absurd (omega arith);
 }
 
@@ -84,18 +84,18 @@ done_push library bytes rest n r settled e l =
     ap (λ (a : Act). done a settled) (act_push library bytes rest n r (token_number bytes n rest e) l)
     ∙ ap (λ (s : List ℕ). Ok (record { registers = record r { operands = r.operands ++ n ∷ [] }; settled = s; lead = On rest })) (append-nil settled)
 
-module _ (text : List ℕ) (mask_len : ℕ) (bytes : List ℕ) (settled : ℕ) (w : Written) (s : Stretch) (h : Comes text mask_len bytes settled w s) (inside : s.len < length text) where
+module _ (charstring : List ℕ) (mask_len : ℕ) (bytes : List ℕ) (settled : ℕ) (w : Written) (s : Stretch) (h : Comes charstring mask_len bytes settled w s) (inside : s.len < length charstring) where
   abbrev here : List ℕ
-  here = drop s.len text
+  here = drop s.len charstring
 
   some : 0 < length here
-  some = omega (arith, length-drop s.len text)
+  some = omega (arith, length-drop s.len charstring)
 
-  pub comes_by_number : (n : CharStringNumber) (size : ℕ) → number_at here ≡ Some (n, drop (s.len + size) text) → take (s.len + size) text ≡ take s.len text ++ written n → s.count < 48
-      → Comes text mask_len bytes settled w (record { len = s.len + size; tokens = s.tokens + 1; settled = s.settled; count = s.count + 1; last = s.len })
+  pub comes_by_number : (n : CharStringNumber) (size : ℕ) → number_at here ≡ Some (n, drop (s.len + size) charstring) → take (s.len + size) charstring ≡ take s.len charstring ++ written n → s.count < 48
+      → Comes charstring mask_len bytes settled w (record { len = s.len + size; tokens = s.tokens + 1; settled = s.settled; count = s.count + 1; last = s.len })
   comes_by_number n size e t few =
       let fits : NumberFits n = subst FitsIn e (number_fits here) in
-      let rest = drop (s.len + size) text in
+      let rest = drop (s.len + size) charstring in
       record {
         now = record { settled = h.now.settled; operands = h.now.operands ++ n ∷ [] };
         stands = stands_more _ _ _ _ _ h.now n h.stands fits (ap (λ (b : List ℕ). bytes ++ b) t ∙ sym (append_assoc bytes _ _)) refl;
@@ -104,7 +104,7 @@ module _ (text : List ℕ) (mask_len : ℕ) (bytes : List ℕ) (settled : ℕ) (
             let l : length h.now.operands < 48 = omega (arith, h.stands.many) in
             behind_more front o library depth (suc left) _ h.now.settled before here callers left refl (unended_front here callers some) _ (rest ∷ callers)
             (done_push library here rest n (registers_with h.now stems mask_len) h.now.settled e l) refl (omega arith);
-        last = λ _ _. last_of_more (bytes ++ take s.len text) _ s.count h.now n h.stands (length bytes + s.len) (omega (arith, length-append bytes (take s.len text), length-take-le s.len text (omega arith)));
+        last = λ _ _. last_of_more (bytes ++ take s.len charstring) _ s.count h.now n h.stands (length bytes + s.len) (omega (arith, length-append bytes (take s.len charstring), length-take-le s.len charstring (omega arith)));
       }
 
 place_behind : (n settled before : ℕ) → place_after (n + 1) settled before ≡ before + (n + 1)
@@ -116,16 +116,16 @@ unfolding effect_of
 done_draw library first rest r settled e =
     ap (λ (a : Act). done a settled) (act_operator library (one_byte first) Draws rest r e)
 
-module _ (text : List ℕ) (mask_len : ℕ) (bytes : List ℕ) (settled : ℕ) (w : Written) (s : Stretch) (h : Comes text mask_len bytes settled w s) (inside : s.len < length text) where
-  pub comes_by_operator : (first : ℕ) (rest : List ℕ) → drop s.len text ≡ first ∷ rest → rest ≡ drop (s.len + 1) text → take (s.len + 1) text ≡ take s.len text ++ first ∷ [] → one_byte_effect first ≡ Some Draws
-      → Comes text mask_len bytes settled w (record { len = s.len + 1; tokens = s.tokens + 1; settled = s.len + 1; count = 0; last = s.len })
+module _ (charstring : List ℕ) (mask_len : ℕ) (bytes : List ℕ) (settled : ℕ) (w : Written) (s : Stretch) (h : Comes charstring mask_len bytes settled w s) (inside : s.len < length charstring) where
+  pub comes_by_operator : (first : ℕ) (rest : List ℕ) → drop s.len charstring ≡ first ∷ rest → rest ≡ drop (s.len + 1) charstring → take (s.len + 1) charstring ≡ take s.len charstring ++ first ∷ [] → one_byte_effect first ≡ Some Draws
+      → Comes charstring mask_len bytes settled w (record { len = s.len + 1; tokens = s.tokens + 1; settled = s.len + 1; count = 0; last = s.len })
   comes_by_operator first rest d r t e =
-      let all = bytes ++ take (s.len + 1) text in
+      let all = bytes ++ take (s.len + 1) charstring in
       let is : all ≡ h.now.settled ++ (flat_operands h.now.operands ++ (first ∷ [])) =
       ap (λ (b : List ℕ). bytes ++ b) t ∙ sym (append_assoc bytes _ _) ∙ settles _ (first ∷ []) _ _ h.now h.stands in
       record {
         now = record { settled = all; operands = [] };
-        stands = stands_settled all (place_after (s.len + 1) settled (length bytes)) (place_behind s.len settled (length bytes) ∙ omega (arith, length-append bytes (take (s.len + 1) text), length-take-le (s.len + 1) text (omega arith)));
+        stands = stands_settled all (place_after (s.len + 1) settled (length bytes)) (place_behind s.len settled (length bytes) ∙ omega (arith, length-append bytes (take (s.len + 1) charstring), length-take-le (s.len + 1) charstring (omega arith)));
         leads = λ front o library depth all_tokens left stems callers room sum reached.
             let before = subst (λ (b : List ℕ). ReachedBehind front o library depth (suc left) (record { rests = b ∷ callers; registers = registers_with h.now stems mask_len }) h.now.settled) d
             (h.leads front o library depth all_tokens (suc left) stems callers room (omega arith) reached) in
@@ -144,21 +144,21 @@ done_mask library first rest r settled e z t =
 some_len : (n : ℕ) → (n ≡ 0 → ⊥) → (n == 0) ≡ false
 some_len n h = grind (arith, nat_tests)
 
-module _ (text : List ℕ) (mask_len : ℕ) (bytes : List ℕ) (settled : ℕ) (w : Written) (s : Stretch) (h : Comes text mask_len bytes settled w s) (inside : s.len + 1 + mask_len ≤ length text) where
-  pub comes_by_mask : (first : ℕ) (rest : List ℕ) → drop s.len text ≡ first ∷ rest → drop mask_len rest ≡ drop (s.len + 1 + mask_len) text → take (s.len + 1 + mask_len) text ≡ take s.len text ++ (first ∷ take mask_len rest) → one_byte_effect first ≡ Some Masks
+module _ (charstring : List ℕ) (mask_len : ℕ) (bytes : List ℕ) (settled : ℕ) (w : Written) (s : Stretch) (h : Comes charstring mask_len bytes settled w s) (inside : s.len + 1 + mask_len ≤ length charstring) where
+  pub comes_by_mask : (first : ℕ) (rest : List ℕ) → drop s.len charstring ≡ first ∷ rest → drop mask_len rest ≡ drop (s.len + 1 + mask_len) charstring → take (s.len + 1 + mask_len) charstring ≡ take s.len charstring ++ (first ∷ take mask_len rest) → one_byte_effect first ≡ Some Masks
       → (mask_len ≡ 0 → ⊥) → mask_len ≤ length rest
-      → Comes text mask_len bytes settled w (record { len = s.len + 1 + mask_len; tokens = s.tokens + 1; settled = s.len + 1 + mask_len; count = 0; last = s.last })
+      → Comes charstring mask_len bytes settled w (record { len = s.len + 1 + mask_len; tokens = s.tokens + 1; settled = s.len + 1 + mask_len; count = 0; last = s.last })
   comes_by_mask first rest d r t e some room_for =
       let len = s.len + 1 + mask_len in
       let mask = take mask_len rest in
-      let all = bytes ++ take len text in
+      let all = bytes ++ take len charstring in
       let is : all ≡ h.now.settled ++ (flat_operands h.now.operands ++ (first ∷ mask)) =
       ap (λ (b : List ℕ). bytes ++ b) t ∙ sym (append_assoc bytes _ _) ∙ settles _ (first ∷ mask) _ _ h.now h.stands in
       let len_is : s.len + mask_len + 1 ≡ len = omega arith in
       let place : place_after len settled (length bytes) ≡ length bytes + len = subst (λ (n : ℕ). place_after n settled (length bytes) ≡ length bytes + n) len_is (place_behind (s.len + mask_len) settled (length bytes)) in
       record {
         now = record { settled = all; operands = [] };
-        stands = stands_settled all (place_after len settled (length bytes)) (place ∙ omega (arith, length-append bytes (take len text), length-take-le len text (omega arith)));
+        stands = stands_settled all (place_after len settled (length bytes)) (place ∙ omega (arith, length-append bytes (take len charstring), length-take-le len charstring (omega arith)));
         leads = λ front o library depth all_tokens left stems callers room sum reached.
             let before = subst (λ (b : List ℕ). ReachedBehind front o library depth (suc left) (record { rests = b ∷ callers; registers = registers_with h.now stems mask_len }) h.now.settled) d
             (h.leads front o library depth all_tokens (suc left) stems callers room (omega arith) reached) in
@@ -169,35 +169,35 @@ module _ (text : List ℕ) (mask_len : ℕ) (bytes : List ℕ) (settled : ℕ) (
       }
 
 -- ---- the steps of the scan
-extends_small : (text : List ℕ) (mask_len : ℕ) (s : Stretch) → s.len < length text → 32 ≤ get_or text s.len 0 → get_or text s.len 0 < 247 → s.count < 48
-    → Extends text mask_len s (record { len = s.len + 1; tokens = s.tokens + 1; settled = s.settled; count = s.count + 1; last = s.len })
-extends_small text mask_len s inside low high few =
-    let first = get_or text s.len 0 in
-    let here : drop s.len text ≡ first ∷ drop (s.len + 1) text = drop-cons text s.len 0 inside ∙ ap (λ (k : ℕ). first ∷ drop k text) (sym (add-one s.len)) in
-    let t = (take_at_read text s.len 0 inside).1 ∙ ap (λ (b : List ℕ). take s.len text ++ b) (sym (small_written first low high)) in
-    record { step = λ bytes settled w h. comes_by_number text mask_len bytes settled w s h inside (Integer (pos first -ℤ pos 139)) 1 (ap number_at here ∙ small_number first (drop (s.len + 1) text) low high) t few }
+extends_small : (charstring : List ℕ) (mask_len : ℕ) (s : Stretch) → s.len < length charstring → 32 ≤ get_or charstring s.len 0 → get_or charstring s.len 0 < 247 → s.count < 48
+    → Extends charstring mask_len s (record { len = s.len + 1; tokens = s.tokens + 1; settled = s.settled; count = s.count + 1; last = s.len })
+extends_small charstring mask_len s inside low high few =
+    let first = get_or charstring s.len 0 in
+    let here : drop s.len charstring ≡ first ∷ drop (s.len + 1) charstring = drop-cons charstring s.len 0 inside ∙ ap (λ (k : ℕ). first ∷ drop k charstring) (sym (add-one s.len)) in
+    let t = (take_at_read charstring s.len 0 inside).1 ∙ ap (λ (b : List ℕ). take s.len charstring ++ b) (sym (small_written first low high)) in
+    record { step = λ bytes settled w h. comes_by_number charstring mask_len bytes settled w s h inside (Integer (pos first -ℤ pos 139)) 1 (ap number_at here ∙ small_number first (drop (s.len + 1) charstring) low high) t few }
 
-extends_middle : (text : List ℕ) (mask_len : ℕ) (s : Stretch) → s.len + 1 < length text → 247 ≤ get_or text s.len 0 → get_or text s.len 0 < 255 → get_or text (s.len + 1) 0 < 256 → s.count < 48
-    → Extends text mask_len s (record { len = s.len + 2; tokens = s.tokens + 1; settled = s.settled; count = s.count + 1; last = s.len })
-extends_middle text mask_len s inside low high small few =
-    let first = get_or text s.len 0 in
-    let second = get_or text (s.len + 1) 0 in
-    let within : s.len < length text = omega arith in
+extends_middle : (charstring : List ℕ) (mask_len : ℕ) (s : Stretch) → s.len + 1 < length charstring → 247 ≤ get_or charstring s.len 0 → get_or charstring s.len 0 < 255 → get_or charstring (s.len + 1) 0 < 256 → s.count < 48
+    → Extends charstring mask_len s (record { len = s.len + 2; tokens = s.tokens + 1; settled = s.settled; count = s.count + 1; last = s.len })
+extends_middle charstring mask_len s inside low high small few =
+    let first = get_or charstring s.len 0 in
+    let second = get_or charstring (s.len + 1) 0 in
+    let within : s.len < length charstring = omega arith in
     let two : suc (s.len + 1) ≡ s.len + 2 = omega arith in
     let more : s.len + 1 + 1 ≡ s.len + 2 = omega arith in
-    let here : drop s.len text ≡ first ∷ second ∷ drop (s.len + 2) text =
-    drop-cons text s.len 0 within ∙ ap (λ (k : ℕ). first ∷ drop k text) (sym (add-one s.len)) ∙ ap (λ (l : List ℕ). first ∷ l) (drop-cons text (s.len + 1) 0 inside ∙ ap (λ (k : ℕ). second ∷ drop k text) two) in
-    let t : take (s.len + 2) text ≡ take s.len text ++ written (Integer (middle_value first second)) =
-    ap (λ (k : ℕ). take k text) (sym more) ∙ (take_at_read text (s.len + 1) 0 inside).1 ∙ ap (λ (b : List ℕ). b ++ second ∷ []) (take_at_read text s.len 0 within).1
-    ∙ append_assoc (take s.len text) (first ∷ []) (second ∷ []) ∙ ap (λ (b : List ℕ). take s.len text ++ b) (sym (middle_written first second low high small)) in
-    record { step = λ bytes settled w h. comes_by_number text mask_len bytes settled w s h within (Integer (middle_value first second)) 2 (ap number_at here ∙ middle_read first second (drop (s.len + 2) text) low high small) t few }
+    let here : drop s.len charstring ≡ first ∷ second ∷ drop (s.len + 2) charstring =
+    drop-cons charstring s.len 0 within ∙ ap (λ (k : ℕ). first ∷ drop k charstring) (sym (add-one s.len)) ∙ ap (λ (l : List ℕ). first ∷ l) (drop-cons charstring (s.len + 1) 0 inside ∙ ap (λ (k : ℕ). second ∷ drop k charstring) two) in
+    let t : take (s.len + 2) charstring ≡ take s.len charstring ++ written (Integer (middle_value first second)) =
+    ap (λ (k : ℕ). take k charstring) (sym more) ∙ (take_at_read charstring (s.len + 1) 0 inside).1 ∙ ap (λ (b : List ℕ). b ++ second ∷ []) (take_at_read charstring s.len 0 within).1
+    ∙ append_assoc (take s.len charstring) (first ∷ []) (second ∷ []) ∙ ap (λ (b : List ℕ). take s.len charstring ++ b) (sym (middle_written first second low high small)) in
+    record { step = λ bytes settled w h. comes_by_number charstring mask_len bytes settled w s h within (Integer (middle_value first second)) 2 (ap number_at here ∙ middle_read first second (drop (s.len + 2) charstring) low high small) t few }
 
-extends_drawn : (text : List ℕ) (mask_len : ℕ) (s : Stretch) → s.len < length text → one_byte_effect (get_or text s.len 0) ≡ Some Draws
-    → Extends text mask_len s (record { len = s.len + 1; tokens = s.tokens + 1; settled = s.len + 1; count = 0; last = s.len })
-extends_drawn text mask_len s inside e =
-    let first = get_or text s.len 0 in
-    let here : drop s.len text ≡ first ∷ drop (s.len + 1) text = drop-cons text s.len 0 inside ∙ ap (λ (k : ℕ). first ∷ drop k text) (sym (add-one s.len)) in
-    record { step = λ bytes settled w h. comes_by_operator text mask_len bytes settled w s h inside first (drop (s.len + 1) text) here refl (take_at_read text s.len 0 inside).1 e }
+extends_drawn : (charstring : List ℕ) (mask_len : ℕ) (s : Stretch) → s.len < length charstring → one_byte_effect (get_or charstring s.len 0) ≡ Some Draws
+    → Extends charstring mask_len s (record { len = s.len + 1; tokens = s.tokens + 1; settled = s.len + 1; count = 0; last = s.len })
+extends_drawn charstring mask_len s inside e =
+    let first = get_or charstring s.len 0 in
+    let here : drop s.len charstring ≡ first ∷ drop (s.len + 1) charstring = drop-cons charstring s.len 0 inside ∙ ap (λ (k : ℕ). first ∷ drop k charstring) (sym (add-one s.len)) in
+    record { step = λ bytes settled w h. comes_by_operator charstring mask_len bytes settled w s h inside first (drop (s.len + 1) charstring) here refl (take_at_read charstring s.len 0 inside).1 e }
 
 draws_is : (effect : Option Effect) → draws effect ≡ true → effect ≡ Some Draws
 draws_is None e = absurd (cc)
@@ -227,98 +227,98 @@ short_written high low small above below =
     let l : (high * 256 + low) % 256 ≡ low = omega arith in
     short_bits (high * 256 + low) above below ∙ ap (λ (x : ℕ). 28 ∷ x ∷ (high * 256 + low) % 256 ∷ []) h ∙ ap (λ (x : ℕ). 28 ∷ high ∷ x ∷ []) l
 
-extends_short : (text : List ℕ) (mask_len : ℕ) (s : Stretch) → s.len + 2 < length text → get_or text s.len 0 ≡ 28 → get_or text (s.len + 2) 0 < 256
-    → 1132 ≤ get_or text (s.len + 1) 0 * 256 + get_or text (s.len + 2) 0 → get_or text (s.len + 1) 0 * 256 + get_or text (s.len + 2) 0 ≤ 64404 → s.count < 48
-    → Extends text mask_len s (record { len = s.len + 3; tokens = s.tokens + 1; settled = s.settled; count = s.count + 1; last = s.len })
-extends_short text mask_len s inside first small above below few =
-    let high = get_or text (s.len + 1) 0 in
-    let low = get_or text (s.len + 2) 0 in
+extends_short : (charstring : List ℕ) (mask_len : ℕ) (s : Stretch) → s.len + 2 < length charstring → get_or charstring s.len 0 ≡ 28 → get_or charstring (s.len + 2) 0 < 256
+    → 1132 ≤ get_or charstring (s.len + 1) 0 * 256 + get_or charstring (s.len + 2) 0 → get_or charstring (s.len + 1) 0 * 256 + get_or charstring (s.len + 2) 0 ≤ 64404 → s.count < 48
+    → Extends charstring mask_len s (record { len = s.len + 3; tokens = s.tokens + 1; settled = s.settled; count = s.count + 1; last = s.len })
+extends_short charstring mask_len s inside first small above below few =
+    let high = get_or charstring (s.len + 1) 0 in
+    let low = get_or charstring (s.len + 2) 0 in
     let n = Integer (to_z w16 (high * 256 + low)) in
-    let within : s.len < length text = omega arith in
-    let next : s.len + 1 < length text = omega arith in
+    let within : s.len < length charstring = omega arith in
+    let next : s.len + 1 < length charstring = omega arith in
     let one : suc s.len ≡ s.len + 1 = omega arith in
     let two : suc (s.len + 1) ≡ s.len + 2 = omega arith in
     let three : suc (s.len + 2) ≡ s.len + 3 = omega arith in
     let more : s.len + 1 + 1 ≡ s.len + 2 = omega arith in
     let most : s.len + 2 + 1 ≡ s.len + 3 = omega arith in
-    let third : drop (s.len + 2) text ≡ low ∷ drop (s.len + 3) text = drop-cons text (s.len + 2) 0 inside ∙ ap (λ (k : ℕ). low ∷ drop k text) three in
-    let second : drop (s.len + 1) text ≡ high ∷ low ∷ drop (s.len + 3) text = drop-cons text (s.len + 1) 0 next ∙ ap (λ (k : ℕ). high ∷ drop k text) two ∙ ap (λ (l : List ℕ). high ∷ l) third in
-    let here : drop s.len text ≡ 28 ∷ high ∷ low ∷ drop (s.len + 3) text =
-    drop-cons text s.len 0 within ∙ ap (λ (k : ℕ). get_or text s.len 0 ∷ drop k text) one ∙ ap (λ (l : List ℕ). get_or text s.len 0 ∷ l) second ∙ ap (λ (b : ℕ). b ∷ high ∷ low ∷ drop (s.len + 3) text) first in
-    let t1 : take (s.len + 1) text ≡ take s.len text ++ 28 ∷ [] = (take_at_read text s.len 0 within).1 ∙ ap (λ (b : ℕ). take s.len text ++ b ∷ []) first in
-    let t2 : take (s.len + 2) text ≡ (take s.len text ++ 28 ∷ []) ++ high ∷ [] = ap (λ (k : ℕ). take k text) (sym more) ∙ (take_at_read text (s.len + 1) 0 next).1 ∙ ap (λ (b : List ℕ). b ++ high ∷ []) t1 in
-    let t3 : take (s.len + 3) text ≡ ((take s.len text ++ 28 ∷ []) ++ high ∷ []) ++ low ∷ [] = ap (λ (k : ℕ). take k text) (sym most) ∙ (take_at_read text (s.len + 2) 0 inside).1 ∙ ap (λ (b : List ℕ). b ++ low ∷ []) t2 in
-    let t : take (s.len + 3) text ≡ take s.len text ++ written n =
-    t3 ∙ append_assoc (take s.len text ++ 28 ∷ []) (high ∷ []) (low ∷ []) ∙ append_assoc (take s.len text) (28 ∷ []) (high ∷ low ∷ []) ∙ ap (λ (b : List ℕ). take s.len text ++ b) (sym (short_written high low small above below)) in
-    record { step = λ bytes settled w h. comes_by_number text mask_len bytes settled w s h within n 3 (ap number_at here ∙ short_at high low (drop (s.len + 3) text)) t few }
+    let third : drop (s.len + 2) charstring ≡ low ∷ drop (s.len + 3) charstring = drop-cons charstring (s.len + 2) 0 inside ∙ ap (λ (k : ℕ). low ∷ drop k charstring) three in
+    let second : drop (s.len + 1) charstring ≡ high ∷ low ∷ drop (s.len + 3) charstring = drop-cons charstring (s.len + 1) 0 next ∙ ap (λ (k : ℕ). high ∷ drop k charstring) two ∙ ap (λ (l : List ℕ). high ∷ l) third in
+    let here : drop s.len charstring ≡ 28 ∷ high ∷ low ∷ drop (s.len + 3) charstring =
+    drop-cons charstring s.len 0 within ∙ ap (λ (k : ℕ). get_or charstring s.len 0 ∷ drop k charstring) one ∙ ap (λ (l : List ℕ). get_or charstring s.len 0 ∷ l) second ∙ ap (λ (b : ℕ). b ∷ high ∷ low ∷ drop (s.len + 3) charstring) first in
+    let t1 : take (s.len + 1) charstring ≡ take s.len charstring ++ 28 ∷ [] = (take_at_read charstring s.len 0 within).1 ∙ ap (λ (b : ℕ). take s.len charstring ++ b ∷ []) first in
+    let t2 : take (s.len + 2) charstring ≡ (take s.len charstring ++ 28 ∷ []) ++ high ∷ [] = ap (λ (k : ℕ). take k charstring) (sym more) ∙ (take_at_read charstring (s.len + 1) 0 next).1 ∙ ap (λ (b : List ℕ). b ++ high ∷ []) t1 in
+    let t3 : take (s.len + 3) charstring ≡ ((take s.len charstring ++ 28 ∷ []) ++ high ∷ []) ++ low ∷ [] = ap (λ (k : ℕ). take k charstring) (sym most) ∙ (take_at_read charstring (s.len + 2) 0 inside).1 ∙ ap (λ (b : List ℕ). b ++ low ∷ []) t2 in
+    let t : take (s.len + 3) charstring ≡ take s.len charstring ++ written n =
+    t3 ∙ append_assoc (take s.len charstring ++ 28 ∷ []) (high ∷ []) (low ∷ []) ∙ append_assoc (take s.len charstring) (28 ∷ []) (high ∷ low ∷ []) ∙ ap (λ (b : List ℕ). take s.len charstring ++ b) (sym (short_written high low small above below)) in
+    record { step = λ bytes settled w h. comes_by_number charstring mask_len bytes settled w s h within n 3 (ap number_at here ∙ short_at high low (drop (s.len + 3) charstring)) t few }
 
-extends_mask : (text : List ℕ) (mask_len : ℕ) (s : Stretch) → s.len + 1 + mask_len ≤ length text → one_byte_effect (get_or text s.len 0) ≡ Some Masks → (mask_len ≡ 0 → ⊥)
-    → Extends text mask_len s (record { len = s.len + 1 + mask_len; tokens = s.tokens + 1; settled = s.len + 1 + mask_len; count = 0; last = s.last })
-extends_mask text mask_len s inside e some =
-    let first = get_or text s.len 0 in
-    let within : s.len < length text = omega arith in
-    let here : drop s.len text ≡ first ∷ drop (s.len + 1) text = drop-cons text s.len 0 within ∙ ap (λ (k : ℕ). first ∷ drop k text) (sym (add-one s.len)) in
-    let r : drop mask_len (drop (s.len + 1) text) ≡ drop (s.len + 1 + mask_len) text = drop-drop mask_len (s.len + 1) text in
-    let t : take (s.len + 1 + mask_len) text ≡ take s.len text ++ (first ∷ take mask_len (drop (s.len + 1) text)) =
-    take-add (s.len + 1) mask_len text ∙ ap (λ (b : List ℕ). b ++ take mask_len (drop (s.len + 1) text)) (take_at_read text s.len 0 within).1 ∙ append_assoc (take s.len text) (first ∷ []) _ in
-    record { step = λ bytes settled w h. comes_by_mask text mask_len bytes settled w s h inside first (drop (s.len + 1) text) here r t e some (omega (arith, length-drop (s.len + 1) text)) }
+extends_mask : (charstring : List ℕ) (mask_len : ℕ) (s : Stretch) → s.len + 1 + mask_len ≤ length charstring → one_byte_effect (get_or charstring s.len 0) ≡ Some Masks → (mask_len ≡ 0 → ⊥)
+    → Extends charstring mask_len s (record { len = s.len + 1 + mask_len; tokens = s.tokens + 1; settled = s.len + 1 + mask_len; count = 0; last = s.last })
+extends_mask charstring mask_len s inside e some =
+    let first = get_or charstring s.len 0 in
+    let within : s.len < length charstring = omega arith in
+    let here : drop s.len charstring ≡ first ∷ drop (s.len + 1) charstring = drop-cons charstring s.len 0 within ∙ ap (λ (k : ℕ). first ∷ drop k charstring) (sym (add-one s.len)) in
+    let r : drop mask_len (drop (s.len + 1) charstring) ≡ drop (s.len + 1 + mask_len) charstring = drop-drop mask_len (s.len + 1) charstring in
+    let t : take (s.len + 1 + mask_len) charstring ≡ take s.len charstring ++ (first ∷ take mask_len (drop (s.len + 1) charstring)) =
+    take-add (s.len + 1) mask_len charstring ∙ ap (λ (b : List ℕ). b ++ take mask_len (drop (s.len + 1) charstring)) (take_at_read charstring s.len 0 within).1 ∙ append_assoc (take s.len charstring) (first ∷ []) _ in
+    record { step = λ bytes settled w h. comes_by_mask charstring mask_len bytes settled w s h inside first (drop (s.len + 1) charstring) here r t e some (omega (arith, length-drop (s.len + 1) charstring)) }
 
 -- the same, for what the code's calls answer
-pub by_short : (text : List ℕ) (mask_len : ℕ) (s longer : Stretch) (shortest : Bool) → longer ≡ record { len = s.len + 3; tokens = s.tokens + 1; settled = s.settled; count = s.count + 1; last = s.len } → s.len + 2 < length text → get_or text s.len 0 ≡ 28 → get_or text (s.len + 2) 0 < 256
-    → MatchBool shortest ((1132 ≤ get_or text (s.len + 1) 0 * 256 + get_or text (s.len + 2) 0) × (get_or text (s.len + 1) 0 * 256 + get_or text (s.len + 2) 0 ≤ 64404)) (Unit {0}) → shortest ≡ true → s.count < 48
-    → Extends text mask_len s longer
-by_short text mask_len s longer true e inside first small bounds t few = rw e (extends_short text mask_len s inside first small bounds.0 bounds.1 few)
-by_short text mask_len s longer false e inside first small bounds t few = absurd (cc)
+pub by_short : (charstring : List ℕ) (mask_len : ℕ) (s longer : Stretch) (shortest : Bool) → longer ≡ record { len = s.len + 3; tokens = s.tokens + 1; settled = s.settled; count = s.count + 1; last = s.len } → s.len + 2 < length charstring → get_or charstring s.len 0 ≡ 28 → get_or charstring (s.len + 2) 0 < 256
+    → MatchBool shortest ((1132 ≤ get_or charstring (s.len + 1) 0 * 256 + get_or charstring (s.len + 2) 0) × (get_or charstring (s.len + 1) 0 * 256 + get_or charstring (s.len + 2) 0 ≤ 64404)) (Unit {0}) → shortest ≡ true → s.count < 48
+    → Extends charstring mask_len s longer
+by_short charstring mask_len s longer true e inside first small bounds t few = rw e (extends_short charstring mask_len s inside first small bounds.0 bounds.1 few)
+by_short charstring mask_len s longer false e inside first small bounds t few = absurd (cc)
 
 plain_number : (first : ℕ) → is_plain first ≡ true → nat_lt first 32 ≡ false → nat_lt first 255 ≡ true
 unfolding is_plain
 plain_number first e low = let p : (if nat_lt first 32 then draws (one_byte_effect first) else nat_lt first 255) ≡ true = e in rw low at p
 
-longer_as : (text : List ℕ) (mask_len : ℕ) (s : Stretch) (len size : ℕ) (drawn two : Bool)
-    → nat_lt (get_or text s.len 0) 32 ≡ drawn → nat_lt (get_or text s.len 0) 247 ≡ two → s.len < length text → s.count < 48 → is_plain (get_or text s.len 0) ≡ true → len ≡ s.len + (if two then 1 else 2) → len ≤ length text → get_or text (s.len + 1) 0 < 256
-    → Extends text mask_len s (record { len = len; tokens = s.tokens + 1; settled = (if drawn then len else s.settled); count = (if drawn then 0 else s.count + 1); last = s.len })
-longer_as text mask_len s len size true true d t inside few plain e within small = rw e (extends_drawn text mask_len s inside (plain_operator (get_or text s.len 0) plain d))
-longer_as text mask_len s len size true false d t inside few plain e within small =
-    let low : get_or text s.len 0 < 32 = grind (arith, nat_tests) in
-    let high : 247 ≤ get_or text s.len 0 = grind (arith, nat_tests) in
+longer_as : (charstring : List ℕ) (mask_len : ℕ) (s : Stretch) (len size : ℕ) (drawn two : Bool)
+    → nat_lt (get_or charstring s.len 0) 32 ≡ drawn → nat_lt (get_or charstring s.len 0) 247 ≡ two → s.len < length charstring → s.count < 48 → is_plain (get_or charstring s.len 0) ≡ true → len ≡ s.len + (if two then 1 else 2) → len ≤ length charstring → get_or charstring (s.len + 1) 0 < 256
+    → Extends charstring mask_len s (record { len = len; tokens = s.tokens + 1; settled = (if drawn then len else s.settled); count = (if drawn then 0 else s.count + 1); last = s.len })
+longer_as charstring mask_len s len size true true d t inside few plain e within small = rw e (extends_drawn charstring mask_len s inside (plain_operator (get_or charstring s.len 0) plain d))
+longer_as charstring mask_len s len size true false d t inside few plain e within small =
+    let low : get_or charstring s.len 0 < 32 = grind (arith, nat_tests) in
+    let high : 247 ≤ get_or charstring s.len 0 = grind (arith, nat_tests) in
     absurd (omega arith)
-longer_as text mask_len s len size false true d t inside few plain e within small =
-    let low : 32 ≤ get_or text s.len 0 = grind (arith, nat_tests) in
-    let high : get_or text s.len 0 < 247 = grind (arith, nat_tests) in
-    rw e (extends_small text mask_len s inside low high few)
-longer_as text mask_len s len size false false d t inside few plain e within small =
-    let low : 247 ≤ get_or text s.len 0 = grind (arith, nat_tests) in
-    let below = plain_number (get_or text s.len 0) plain d in
-    let high : get_or text s.len 0 < 255 = grind (arith, nat_tests) in
-    rw e (extends_middle text mask_len s (omega arith) low high small few)
+longer_as charstring mask_len s len size false true d t inside few plain e within small =
+    let low : 32 ≤ get_or charstring s.len 0 = grind (arith, nat_tests) in
+    let high : get_or charstring s.len 0 < 247 = grind (arith, nat_tests) in
+    rw e (extends_small charstring mask_len s inside low high few)
+longer_as charstring mask_len s len size false false d t inside few plain e within small =
+    let low : 247 ≤ get_or charstring s.len 0 = grind (arith, nat_tests) in
+    let below = plain_number (get_or charstring s.len 0) plain d in
+    let high : get_or charstring s.len 0 < 255 = grind (arith, nat_tests) in
+    rw e (extends_middle charstring mask_len s (omega arith) low high small few)
 
 -- the same, for what the code's calls answer
-pub by_plain : (text : List ℕ) (mask_len : ℕ) (s longer : Stretch) (len size : ℕ) (drawn : Bool)
-    → longer ≡ record { len = len; tokens = s.tokens + 1; settled = (if drawn then len else s.settled); count = (if drawn then 0 else s.count + 1); last = s.len } → drawn ≡ nat_lt (get_or text s.len 0) 32
-    → size ≡ (if nat_lt (get_or text s.len 0) 247 then 1 else 2) → len ≡ s.len + size → s.len < length text → s.count < 48 → is_plain (get_or text s.len 0) ≡ true → len ≤ length text → get_or text (s.len + 1) 0 < 256
-    → Extends text mask_len s longer
-by_plain text mask_len s longer len size drawn l d z e inside few plain within small =
-    rw (l, d) (longer_as text mask_len s len size (nat_lt (get_or text s.len 0) 32) (nat_lt (get_or text s.len 0) 247) refl refl inside few plain (e ∙ ap (λ (k : ℕ). s.len + k) z) within small)
+pub by_plain : (charstring : List ℕ) (mask_len : ℕ) (s longer : Stretch) (len size : ℕ) (drawn : Bool)
+    → longer ≡ record { len = len; tokens = s.tokens + 1; settled = (if drawn then len else s.settled); count = (if drawn then 0 else s.count + 1); last = s.len } → drawn ≡ nat_lt (get_or charstring s.len 0) 32
+    → size ≡ (if nat_lt (get_or charstring s.len 0) 247 then 1 else 2) → len ≡ s.len + size → s.len < length charstring → s.count < 48 → is_plain (get_or charstring s.len 0) ≡ true → len ≤ length charstring → get_or charstring (s.len + 1) 0 < 256
+    → Extends charstring mask_len s longer
+by_plain charstring mask_len s longer len size drawn l d z e inside few plain within small =
+    rw (l, d) (longer_as charstring mask_len s len size (nat_lt (get_or charstring s.len 0) 32) (nat_lt (get_or charstring s.len 0) 247) refl refl inside few plain (e ∙ ap (λ (k : ℕ). s.len + k) z) within small)
 
-pub by_mask : (text : List ℕ) (mask_len : ℕ) (s longer : Stretch) (masks : Bool) → longer ≡ record { len = s.len + 1 + mask_len; tokens = s.tokens + 1; settled = s.len + 1 + mask_len; count = 0; last = s.last } → s.len + 1 + mask_len ≤ length text
-    → MatchBool masks (one_byte_effect (get_or text s.len 0) ≡ Some Masks) (Unit {0}) → masks ≡ true → (mask_len ≡ 0 → ⊥) → Extends text mask_len s longer
-by_mask text mask_len s longer true l inside e t some = rw l (extends_mask text mask_len s inside e some)
-by_mask text mask_len s longer false l inside e t some = absurd (cc)
+pub by_mask : (charstring : List ℕ) (mask_len : ℕ) (s longer : Stretch) (masks : Bool) → longer ≡ record { len = s.len + 1 + mask_len; tokens = s.tokens + 1; settled = s.len + 1 + mask_len; count = 0; last = s.last } → s.len + 1 + mask_len ≤ length charstring
+    → MatchBool masks (one_byte_effect (get_or charstring s.len 0) ≡ Some Masks) (Unit {0}) → masks ≡ true → (mask_len ≡ 0 → ⊥) → Extends charstring mask_len s longer
+by_mask charstring mask_len s longer true l inside e t some = rw l (extends_mask charstring mask_len s inside e some)
+by_mask charstring mask_len s longer false l inside e t some = absurd (cc)
 
 -- what is written behind a stretch, as the code joins it
-pub stretch_stands : (text : List ℕ) (mask_len : ℕ) (bytes all : List ℕ) (settled before after : ℕ) (w : Written) (s : Stretch) (h : Comes text mask_len bytes settled w s)
-    → all ≡ bytes ++ take s.len text → before ≡ length bytes → after ≡ place_after s.settled settled before → Stands all after s.count h.now
-stretch_stands text mask_len bytes all settled before after w s h a b p = rw (a, p, b) h.stands
+pub stretch_stands : (charstring : List ℕ) (mask_len : ℕ) (bytes all : List ℕ) (settled before after : ℕ) (w : Written) (s : Stretch) (h : Comes charstring mask_len bytes settled w s)
+    → all ≡ bytes ++ take s.len charstring → before ≡ length bytes → after ≡ place_after s.settled settled before → Stands all after s.count h.now
+stretch_stands charstring mask_len bytes all settled before after w s h a b p = rw (a, p, b) h.stands
 
-pub stretch_leads : (text : List ℕ) (mask_len : ℕ) (bytes all : List ℕ) (settled before after : ℕ) (w : Written) (s : Stretch) (h : Comes text mask_len bytes settled w s)
-    → all ≡ bytes ++ take s.len text → before ≡ length bytes → after ≡ place_after s.settled settled before → LeadsOn text s.len s.tokens mask_len w (written_at all after s.count)
-stretch_leads text mask_len bytes all settled before after w s h a b p =
-    subst (λ (x : Written). LeadsOn text s.len s.tokens mask_len w x) (sym (written_is all after s.count h.now (stretch_stands text mask_len bytes all settled before after w s h a b p))) h.leads
+pub stretch_leads : (charstring : List ℕ) (mask_len : ℕ) (bytes all : List ℕ) (settled before after : ℕ) (w : Written) (s : Stretch) (h : Comes charstring mask_len bytes settled w s)
+    → all ≡ bytes ++ take s.len charstring → before ≡ length bytes → after ≡ place_after s.settled settled before → LeadsOn charstring s.len s.tokens mask_len w (written_at all after s.count)
+stretch_leads charstring mask_len bytes all settled before after w s h a b p =
+    subst (λ (x : Written). LeadsOn charstring s.len s.tokens mask_len w x) (sym (written_is all after s.count h.now (stretch_stands charstring mask_len bytes all settled before after w s h a b p))) h.leads
 
-pub stretch_holds : (text : List ℕ) (mask_len : ℕ) (bytes all : List ℕ) (settled before after last : ℕ) (w : Written) (s : Stretch) (h : Comes text mask_len bytes settled w s)
-    → all ≡ bytes ++ take s.len text → before ≡ length bytes → after ≡ place_after s.settled settled before → last ≡ before + s.last → 1 ≤ s.tokens → Holds all after s.count last (written_at all after s.count)
-stretch_holds text mask_len bytes all settled before after last w s h a b p l some =
-    let stands = stretch_stands text mask_len bytes all settled before after w s h a b p in
+pub stretch_holds : (charstring : List ℕ) (mask_len : ℕ) (bytes all : List ℕ) (settled before after last : ℕ) (w : Written) (s : Stretch) (h : Comes charstring mask_len bytes settled w s)
+    → all ≡ bytes ++ take s.len charstring → before ≡ length bytes → after ≡ place_after s.settled settled before → last ≡ before + s.last → 1 ≤ s.tokens → Holds all after s.count last (written_at all after s.count)
+stretch_holds charstring mask_len bytes all settled before after last w s h a b p l some =
+    let stands = stretch_stands charstring mask_len bytes all settled before after w s h a b p in
     let known : 1 ≤ s.count → (last ≡ 0 → ⊥) → last ≡ last_place h.now = λ many _. l ∙ ap (λ (n : ℕ). n + s.last) b ∙ h.last some many in
     subst (λ (x : Written). Holds all after s.count last x) (sym (written_is all after s.count h.now stands)) (record { stands = stands; known = known })
 
@@ -328,36 +328,36 @@ some_tokens (suc tokens) len moves some = omega arith
 
 -- ---- a stretch of a run
 -- the innermost charstring that is not at its end stays that
-pub unended_again : (rests : List (List ℕ)) (text : List ℕ) (callers : List (List ℕ)) → unended rests ≡ text ∷ callers → unended (text ∷ callers) ≡ text ∷ callers
-unended_again [] text callers e = absurd (cc)
-unended_again ([] ∷ rests) text callers e = unended_again rests text callers e
-unended_again ((b ∷ bytes) ∷ rests) text callers e = subst (λ (l : List (List ℕ)). unended l ≡ l) e refl
+pub unended_again : (rests : List (List ℕ)) (charstring : List ℕ) (callers : List (List ℕ)) → unended rests ≡ charstring ∷ callers → unended (charstring ∷ callers) ≡ charstring ∷ callers
+unended_again [] charstring callers e = absurd (cc)
+unended_again ([] ∷ rests) charstring callers e = unended_again rests charstring callers e
+unended_again ((b ∷ bytes) ∷ rests) charstring callers e = subst (λ (l : List (List ℕ)). unended l ≡ l) e refl
 
-some_text : (text : List ℕ) (callers : List (List ℕ)) (rests : List (List ℕ)) → unended rests ≡ text ∷ callers → 0 < length text
+some_text : (charstring : List ℕ) (callers : List (List ℕ)) (rests : List (List ℕ)) → unended rests ≡ charstring ∷ callers → 0 < length charstring
 some_text [] callers [] e = absurd (cc)
 some_text [] callers ([] ∷ rests) e = some_text [] callers rests e
 some_text [] callers ((b ∷ bytes) ∷ rests) e = absurd (cc)
 some_text (b ∷ bytes) callers rests e = omega arith
 
-rest_of : (text : List ℕ) (len : ℕ) → take (length text - len) (drop len text) ≡ drop len text
-rest_of text len = take_all (length text - len) (drop len text) (omega (arith, length-drop len text))
+rest_of : (charstring : List ℕ) (len : ℕ) → take (length charstring - len) (drop len charstring) ≡ drop len charstring
+rest_of charstring len = take_all (length charstring - len) (drop len charstring) (omega (arith, length-drop len charstring))
 
-pub behind_stretch : (front : List ℕ) (o : Outcome) (library : Library) (depth tokens stems mask_len : ℕ) (rests callers : List (List ℕ)) (text : List ℕ) (len n : ℕ) (w now : Written)
-    → ReachedBehind front o library depth tokens (record { rests = rests; registers = registers_with w stems mask_len }) w.settled → unended rests ≡ text ∷ callers → LeadsOn text len n mask_len w now → length callers < depth → n ≤ tokens
-    → ReachedBehind front o library depth (tokens - n) (record { rests = take (length text - len) (drop len text) ∷ callers; registers = registers_with now stems mask_len }) now.settled
-behind_stretch front o library depth tokens stems mask_len rests callers text len n w now h e leads room few =
-    rw (rest_of text len)
+pub behind_stretch : (front : List ℕ) (o : Outcome) (library : Library) (depth tokens stems mask_len : ℕ) (rests callers : List (List ℕ)) (charstring : List ℕ) (len n : ℕ) (w now : Written)
+    → ReachedBehind front o library depth tokens (record { rests = rests; registers = registers_with w stems mask_len }) w.settled → unended rests ≡ charstring ∷ callers → LeadsOn charstring len n mask_len w now → length callers < depth → n ≤ tokens
+    → ReachedBehind front o library depth (tokens - n) (record { rests = take (length charstring - len) (drop len charstring) ∷ callers; registers = registers_with now stems mask_len }) now.settled
+behind_stretch front o library depth tokens stems mask_len rests callers charstring len n w now h e leads room few =
+    rw (rest_of charstring len)
     (leads front o library depth tokens (tokens - n) stems callers room (omega arith)
-    (behind_same front o library depth tokens (registers_with w stems mask_len) rests (text ∷ callers) w.settled h (e ∙ sym (unended_again rests text callers e))))
+    (behind_same front o library depth tokens (registers_with w stems mask_len) rests (charstring ∷ callers) w.settled h (e ∙ sym (unended_again rests charstring callers e))))
 
 -- each turn takes a token
-pub fewer_tokens : (rests callers : List (List ℕ)) (text : List ℕ) (len n tokens : ℕ) → unended rests ≡ text ∷ callers → (n ≡ 0 → len ≡ 0) → n ≤ tokens → length (take (length text - len) (drop len text)) ≡ 0 → tokens - n < tokens
-fewer_tokens rests callers text len zero tokens e moves few z =
-    let some = some_text text callers rests e in
+pub fewer_tokens : (rests callers : List (List ℕ)) (charstring : List ℕ) (len n tokens : ℕ) → unended rests ≡ charstring ∷ callers → (n ≡ 0 → len ≡ 0) → n ≤ tokens → length (take (length charstring - len) (drop len charstring)) ≡ 0 → tokens - n < tokens
+fewer_tokens rests callers charstring len zero tokens e moves few z =
+    let some = some_text charstring callers rests e in
     let none : len ≡ 0 = moves refl in
-    let left : length (drop len text) ≡ 0 = sym (ap length (rest_of text len)) ∙ z in
-    absurd (omega (arith, length-drop len text))
-fewer_tokens rests callers text len (suc n) tokens e moves few z = omega arith
+    let left : length (drop len charstring) ≡ 0 = sym (ap length (rest_of charstring len)) ∙ z in
+    absurd (omega (arith, length-drop len charstring))
+fewer_tokens rests callers charstring len (suc n) tokens e moves few z = omega arith
 
 pub length_rests : (rests : List (Bor (List ℕ))) → length (rests_of rests) ≡ length rests
 length_rests rests = length-map (reverse rests) (λ r. r.now) ∙ length-reverse rests

@@ -67,8 +67,8 @@ push number rest r =
     else Fails CFFError
 
 -- an operator that takes all operands, with its mask: an event
-abbrev pub draw : Operator → List ℕ → Lead → Registers → Act
-draw operator mask lead r =
+abbrev pub emit : Operator → List ℕ → Lead → Registers → Act
+emit operator mask lead r =
     Does (Some (record { operator = operator; operands = r.operands; mask = mask })) (record r { operands = [] }) lead
 
 -- the stems with those that the operands stand for, two for each
@@ -78,14 +78,14 @@ stems_after r = r.stems + length r.operands / 2
 abbrev pub count_stems : Operator → List ℕ → Registers → Act
 count_stems operator rest r =
     if nat_le (stems_after r) 65535
-    then draw operator [] (On rest) (record r { stems = stems_after r })
+    then emit operator [] (On rest) (record r { stems = stems_after r })
     else Fails CFFError
 
 -- a mask of `mask_len` bytes
 abbrev pub take_mask : Operator → List ℕ → Registers → Act
 take_mask operator rest r =
     if nat_le r.mask_len (length rest)
-    then draw operator (take r.mask_len rest) (On (drop r.mask_len rest)) r
+    then emit operator (take r.mask_len rest) (On (drop r.mask_len rest)) r
     else Fails CFFError
 
 -- the first mask counts its operands as stems; once the length is not 0 it stays
@@ -108,13 +108,13 @@ call entries rest r = enter (option_and_then (subroutine entries) (last_operand 
 
 -- the end of the glyph; with four operands or more it would put two glyphs together
 abbrev pub end : Operator → Registers → Act
-end operator r = if nat_lt (length r.operands) 4 then draw operator [] Over r else Fails Unimplemented
+end operator r = if nat_lt (length r.operands) 4 then emit operator [] Over r else Fails Unimplemented
 
 -- an operator, by its effect
 abbrev pub operate : Library → Operator → Option Effect → List ℕ → Registers → Act
 operate library operator None rest r = Fails CFFError
 operate library operator (Some CountsStems) rest r = count_stems operator rest r
-operate library operator (Some Draws) rest r = draw operator [] (On rest) r
+operate library operator (Some Draws) rest r = emit operator [] (On rest) r
 operate library operator (Some CallsLocal) rest r = call library.local rest r
 operate library operator (Some CallsGlobal) rest r = call library.global rest r
 operate library operator (Some Returns) rest r = Does None r Back

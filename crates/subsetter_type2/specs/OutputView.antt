@@ -2,6 +2,7 @@
 use Rattle.std.specs.Prelude.{◌≡◌, ℕ, zero, suc, ◌+◌, ◌≤◌, List, [], ◌∷◌, ◌++◌, length, take, drop, Option, Some, None, MatchOption}
 use Rattle.subsetter_cffdata.specs.declared.charstring_number.CharStringNumber.{CharStringNumber}
 use Rattle.subsetter_cffdata.specs.CharStringNumber.{NumberFits, number_at}
+use Rattle.subsetter_type2.specs.declared.last_number.LastNumber.{LastNumber}
 use Rattle.subsetter_type2.specs.Flat.{flat_operands}
 use Rattle.subsetter_type2.specs.Machine.{last_operand, but_last}
 use Rattle.subsetter_type2.specs.Output.{Written}
@@ -45,7 +46,7 @@ place_after zero settled before = settled
 place_after (suc end) settled before = before + suc end
 
 -- the last of these numbers, and how many bytes stand before it
-abbrev pub IsLast : List CharStringNumber → Option (CharStringNumber × ℕ) → Type 0
+abbrev pub IsLast : List CharStringNumber → Option LastNumber → Type 0
 IsLast numbers result =
     MatchOption result (numbers ≡ [])
-    (λ r. (last_operand numbers ≡ Some r.0) × (r.1 ≡ length (flat_operands (but_last numbers))))
+    (λ r. (last_operand numbers ≡ Some r.number) × (r.before ≡ length (flat_operands (but_last numbers))))

@@ -11,11 +11,11 @@ registers_with w stems mask_len = record { operands = w.operands; stems = stems;
 
 -- each run that comes to this text comes behind so many bytes of it by so many tokens, and this is written then
 abbrev pub LeadsOn : List ℕ → ℕ → ℕ → ℕ → Written → Written → Type 0
-LeadsOn text len tokens mask_len w now =
+LeadsOn charstring len tokens mask_len w now =
     (front : List ℕ) (o : Outcome) (library : Library) (depth all left stems : ℕ) (callers : List (List ℕ))
     → length callers < depth → all ≡ tokens + left
-    → ReachedBehind front o library depth all (record { rests = text ∷ callers; registers = registers_with w stems mask_len }) w.settled
-    → ReachedBehind front o library depth left (record { rests = drop len text ∷ callers; registers = registers_with now stems mask_len }) now.settled
+    → ReachedBehind front o library depth all (record { rests = charstring ∷ callers; registers = registers_with w stems mask_len }) w.settled
+    → ReachedBehind front o library depth left (record { rests = drop len charstring ∷ callers; registers = registers_with now stems mask_len }) now.settled
 
 -- each token has a byte, and each byte is one of a token
 pub record IsSound (s : Stretch) : Type 0 where
@@ -25,20 +25,20 @@ pub record IsSound (s : Stretch) : Type 0 where
   pub last : s.last ≤ s.len
 
 -- what is written behind a stretch whose bytes stand behind these, of which the operands begin at this place
-pub record Comes (text : List ℕ) (mask_len : ℕ) (bytes : List ℕ) (settled : ℕ) (w : Written) (s : Stretch) : Type 0 where
+pub record Comes (charstring : List ℕ) (mask_len : ℕ) (bytes : List ℕ) (settled : ℕ) (w : Written) (s : Stretch) : Type 0 where
   pub now : Written
-  pub stands : Stands (bytes ++ take s.len text) (place_after s.settled settled (length bytes)) s.count now
-  pub leads : LeadsOn text s.len s.tokens mask_len w now
+  pub stands : Stands (bytes ++ take s.len charstring) (place_after s.settled settled (length bytes)) s.count now
+  pub leads : LeadsOn charstring s.len s.tokens mask_len w now
   pub last : 1 ≤ s.tokens → 1 ≤ s.count → length bytes + s.last ≡ last_place now
 
 -- a stretch that goes further
-pub record Extends (text : List ℕ) (mask_len : ℕ) (s longer : Stretch) : Type 0 where
-  pub step : (bytes : List ℕ) (settled : ℕ) (w : Written) → Comes text mask_len bytes settled w s → Comes text mask_len bytes settled w longer
+pub record Extends (charstring : List ℕ) (mask_len : ℕ) (s longer : Stretch) : Type 0 where
+  pub step : (bytes : List ℕ) (settled : ℕ) (w : Written) → Comes charstring mask_len bytes settled w s → Comes charstring mask_len bytes settled w longer
 
 -- one token longer, with so many tokens at most
-pub record IsLonger (text : List ℕ) (most mask_len : ℕ) (s longer : Stretch) : Type 0 where
+pub record IsLonger (charstring : List ℕ) (most mask_len : ℕ) (s longer : Stretch) : Type 0 where
   pub sound : IsSound longer
-  pub extends : Extends text mask_len s longer
+  pub extends : Extends charstring mask_len s longer
   pub more : s.len < longer.len
-  pub inside : longer.len ≤ length text
+  pub inside : longer.len ≤ length charstring
   pub few : longer.tokens ≤ most

@@ -90,10 +90,12 @@ fn flatten_within<'a, const N: usize>(
     let mut rests: FixedStack<&'a [u8], N> = FixedStack::new(charstring);
     let mut running = charstring;
     let mut tokens = limits.tokens;
-    while let Some(text) = innermost(running, &mut rests) {
-        let stretch = machine.output.take_stretch(text, tokens, machine.mask_len)?;
+    while let Some(current) = innermost(running, &mut rests) {
+        let stretch = machine
+            .output
+            .take_stretch(current, tokens, machine.mask_len)?;
         tokens -= stretch.tokens as u32;
-        running = &text[stretch.len..];
+        running = &current[stretch.len..];
         if !running.is_empty() {
             if tokens == 0 {
                 return Err(Error::CFFError);

@@ -15,23 +15,35 @@ fn skip_numbers(bytes: &[u8], count: usize) -> Option<&[u8]>
 {
     let mut rest = bytes;
     for _ in 0..count {
-        let (_, behind) = read_number(rest)?;
-        rest = behind;
+        let read = read_number(rest)?;
+        rest = read.rest;
     }
     Some(rest)
 }
 
+/// The last of some numbers.
+#[derive(Clone, Copy, Debug)]
+pub struct LastNumber {
+    /// The number.
+    pub number: CharStringNumber,
+    /// How many bytes stand before it.
+    pub before: usize,
+}
+
 /// The last of so many numbers, which are all of these bytes, and how many bytes stand before it.
 #[inline(always)]
-pub fn find_last_number(bytes: &[u8], count: usize) -> Option<(CharStringNumber, usize)>
+pub fn find_last_number(bytes: &[u8], count: usize) -> Option<LastNumber>
     ensures some { IfSome result (λ last. 1 ≤ count) }
-    ensures inside { IfSome result (λ last. last.1 ≤ length bytes.now) }
+    ensures inside { IfSome result (λ last. last.before ≤ length bytes.now) }
     ensures last { (numbers : List CharStringNumber) → AllFit numbers → bytes.now ≡ flat_operands numbers → count ≡ length numbers → IsLast numbers result }
 {
     if count == 0 {
         return None;
     }
     let last = skip_numbers(bytes, count - 1)?;
-    let (number, _) = read_number(last)?;
-    Some((number, bytes.len() - last.len()))
+    let read = read_number(last)?;
+    Some(LastNumber {
+        number: read.number,
+        before: bytes.len() - last.len(),
+    })
 }

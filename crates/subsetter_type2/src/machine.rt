@@ -2,18 +2,19 @@
 
 ghost use Rattle.std.specs.Prelude.{◌≡◌, ◌<◌, ◌≤◌, [], IfOk, IfErr};
 ghost use Rattle.std.specs.Option.{option_copied};
-ghost use Rattle.subsetter_type2.specs.Machine.{subroutine, push, draw, On, stems_after, count_stems, mask, call, end, operate, act_on, act_at, push_at};
+ghost use Rattle.subsetter_type2.specs.Machine.{subroutine, push, emit, On, stems_after, count_stems, mask, call, end, operate, act_on, act_at, push_at};
 ghost use Rattle.subsetter_type2.specs.Token.{two_byte_token};
 ghost use Rattle.subsetter_cffdata.specs.CharStringNumber.{NumberFits};
 ghost use Rattle.subsetter_type2.specs.MachineView.{registers_of, library_of, Performs};
 
 use crate::argstack::MAX_OPERANDS;
+use crate::operators::first_byte;
 use crate::sink::Sink;
 use crate::subroutines::SubroutineHandler;
 use crate::token::{Effect, find_effect, one_byte_effect};
 use subsetter_base::error::Error;
 use subsetter_cffdata::charstring_number::{CharStringNumber, read_number};
-use subsetter_cffdata::operator::{Operator, OperatorType};
+use subsetter_cffdata::operator::{Operator, OperatorType, TWO_BYTE_OPERATOR_MARK};
 
 /// The subroutines that a charstring may call.
 #[derive(Drop)]
@@ -78,10 +79,10 @@ impl<'a, S: Sink<'a>> Machine<S> {
 
     /// An operator that takes all operands.
     #[inline(always)]
-    fn draw(&mut self, operator: Operator, rest: &'a [u8]) -> Result<Flow<'a>, Error>
-        ensures { Performs (draw operator [] (On rest.now) (registers_of S.written self.old)) S.written self.old self.new result }
+    fn emit(&mut self, operator: Operator, rest: &'a [u8]) -> Result<Flow<'a>, Error>
+        ensures { Performs (emit operator [] (On rest.now) (registers_of S.written self.old)) S.written self.old self.new result }
     {
-        self.output.draw(operator, &[])?;
+        self.output.emit(operator, &[])?;
         Ok(Flow::GoesOn(rest))
     }
 
@@ -92,7 +93,7 @@ impl<'a, S: Sink<'a>> Machine<S> {
         if self.output.count() >= 4 {
             return Err(Error::Unimplemented);
         }
-        self.output.draw(operator, &[])?;
+        self.output.emit(operator, &[])?;
         Ok(Flow::Ends)
     }
 
@@ -113,7 +114,7 @@ impl<'a, S: Sink<'a>> Machine<S> {
         ensures { Performs (count_stems operator rest.now (registers_of S.written self.old)) S.written self.old self.new result }
     {
         self.stems = self.stems_after()?;
-        self.draw(operator, rest)
+        self.emit(operator, rest)
     }
 
     /// A mask, with its bytes at the front of the rest.
@@ -128,7 +129,7 @@ impl<'a, S: Sink<'a>> Machine<S> {
         if rest.len() < len {
             return Err(Error::CFFError);
         }
-        self.output.draw(operator, &rest[..len])?;
+        self.output.emit(operator, &rest[..len])?;
         Ok(Flow::GoesOn(&rest[len..]))
     }
 
@@ -159,7 +160,7 @@ impl<'a, S: Sink<'a>> Machine<S> {
         match effect {
             None => Err(Error::CFFError),
             Some(Effect::CountsStems) => self.count_stems(operator, rest),
-            Some(Effect::Draws) => self.draw(operator, rest),
+            Some(Effect::Draws) => self.emit(operator, rest),
             Some(Effect::CallsLocal) => self.call(&subroutines.local, rest),
             Some(Effect::CallsGlobal) => self.call(&subroutines.global, rest),
             Some(Effect::Returns) => Ok(Flow::Returns),
@@ -191,8 +192,8 @@ impl<'a, S: Sink<'a>> Machine<S> {
     fn push_at(&mut self, bytes: &'a [u8]) -> Result<Flow<'a>, Error>
         ensures { Performs (push_at bytes.now (registers_of S.written self.old)) S.written self.old self.new result }
     {
-        let (number, rest) = read_number(bytes).ok_or(Error::CFFError)?;
-        self.push(number, rest)
+        let read = read_number(bytes).ok_or(Error::CFFError)?;
+        self.push(read.number, read.rest)
     }
 
     /// The token at the front of these bytes, which the first byte tells.
@@ -207,13 +208,13 @@ impl<'a, S: Sink<'a>> Machine<S> {
         let [first, rest @ ..] = bytes else {
             return Err(Error::CFFError);
         };
-        if *first >= 32 {
+        if *first >= first_byte::LEAST_NUMBER {
             return self.push_at(bytes);
         }
-        if *first == 28 {
+        if *first == first_byte::SHORT_INT {
             return self.push_at(bytes);
         }
-        if *first == 12 {
+        if *first == TWO_BYTE_OPERATOR_MARK {
             return self.operate_by_two(subroutines, rest);
         }
         let operator = Operator(OperatorType::OneByteOperator([*first]));
@@ -233,13 +234,13 @@ impl<'a, S: Sink<'a>> Machine<S> {
         let [first, rest @ ..] = bytes else {
             return Err(Error::CFFError);
         };
-        if *first == 11 {
+        if *first == first_byte::RETURN {
             return Ok(Flow::Returns);
         }
-        if *first == 10 {
+        if *first == first_byte::CALL_LOCAL_SUBROUTINE {
             return self.call(&subroutines.local, rest);
         }
-        if *first == 29 {
+        if *first == first_byte::CALL_GLOBAL_SUBROUTINE {
             return self.call(&subroutines.global, rest);
         }
         let flow = self.act_on_any(subroutines, bytes)?;

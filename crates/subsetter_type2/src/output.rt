@@ -60,7 +60,7 @@ impl<'a> Sink<'a> for Output {
 
     fn pop(&mut self) -> Option<CharStringNumber> {
         let place = self.find_last()?;
-        let (value, _) = read_number(&self.bytes[place..])?;
+        let value = read_number(&self.bytes[place..])?.number;
         self.bytes.truncate(place);
         self.count -= 1;
         self.last = 0;
@@ -68,7 +68,7 @@ impl<'a> Sink<'a> for Output {
     }
 
     #[inline(always)]
-    fn draw(&mut self, operator: Operator, mask: &'a [u8]) -> Result<(), Error> {
+    fn emit(&mut self, operator: Operator, mask: &'a [u8]) -> Result<(), Error> {
         append_operator(&mut self.bytes, operator)?;
         self.settled = self.bytes.len();
         self.count = 0;
@@ -103,30 +103,30 @@ impl Output {
         if self.last != 0 {
             return Some(self.last);
         }
-        let (_, before) = find_last_number(&self.bytes[self.settled..], self.count)?;
-        Some(self.settled + before)
+        let last = find_last_number(&self.bytes[self.settled..], self.count)?;
+        Some(self.settled + last.before)
     }
 
     /// Writes the stretch of so many tokens at most at the front of a charstring.
     #[inline(always)]
     pub fn take_stretch(
         &mut self,
-        text: &[u8],
+        charstring: &[u8],
         tokens: u32,
         mask_len: u16,
     ) -> Result<Stretch, Error>
-        ensures leads { IfOk result (λ s. LeadsOn text.now s.len s.tokens mask_len self.old self.new) }
+        ensures leads { IfOk result (λ s. LeadsOn charstring.now s.len s.tokens mask_len self.old self.new) }
         ensures moves { IfOk result (λ s. s.tokens ≡ 0 → s.len ≡ 0) }
-        ensures inside { IfOk result (λ s. s.len ≤ length text.now) }
+        ensures inside { IfOk result (λ s. s.len ≤ length charstring.now) }
         ensures few { IfOk result (λ s. s.tokens ≤ tokens) }
         ensures err { IfErr result (λ e. e ≡ OutOfMemory) }
     {
-        let stretch = find_stretch(text, tokens, mask_len, self.count);
+        let stretch = find_stretch(charstring, tokens, mask_len, self.count);
         if stretch.len == 0 {
             return Ok(stretch);
         }
         let before = self.bytes.len();
-        self.bytes.extend_from_slice(&text[..stretch.len])?;
+        self.bytes.extend_from_slice(&charstring[..stretch.len])?;
         self.settled = stretch.settled_after(self.settled, before);
         self.count = stretch.count;
         self.last = before + stretch.last;

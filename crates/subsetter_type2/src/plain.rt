@@ -5,6 +5,8 @@ ghost use Rattle.subsetter_type2.specs.Plain.{is_plain};
 ghost use Rattle.subsetter_type2.specs.Token.{one_byte_effect};
 ghost use Rattle.subsetter_type2.specs.declared.token.Effect.TheVariants.{Masks};
 
+use crate::operators::first_byte;
+
 /// Whether such a token begins with this byte: a number of one or two bytes, or an operator that takes all operands.
 static PLAIN: [bool; 256] = [
     false, false, false, false, true, true, true, true, true, false, false, false, false, false,
@@ -58,5 +60,5 @@ pub fn is_shortest(high: u8, low: u8) -> bool
 pub fn is_mask(first: u8) -> bool
     ensures { MatchBool result (one_byte_effect first ≡ Some Masks) (Unit {0}) }
 {
-    first == 19 || first == 20
+    first == first_byte::HINT_MASK || first == first_byte::COUNTER_MASK
 }

@@ -132,7 +132,7 @@ impl<'a> Sink<'a> for Draft<'a> {
         Some(value)
     }
 
-    fn draw(&mut self, operator: Operator, mask: &'a [u8]) -> Result<(), Error> {
+    fn emit(&mut self, operator: Operator, mask: &'a [u8]) -> Result<(), Error> {
         let _operands = self.operands.pop_all();
         self.program.push(Instruction::Operator(operator))?;
         if !mask.is_empty() {

@@ -10,27 +10,33 @@ ghost use Rattle.subsetter_type2.specs.OutputView.{Stands};
 ghost use Rattle.subsetter_type2.specs.Stretch.{Comes, IsSound, IsLonger};
 
 use crate::argstack::MAX_OPERANDS;
+use crate::operators::first_byte;
 use crate::plain::{begins_plain, is_mask, is_shortest, plain_size};
 use crate::stretch::Stretch;
 
 /// One token longer, where a whole number of three bytes follows in its shortest form.
 #[inline(always)]
-fn longer_by_short(stretch: Stretch, text: &[u8], most: usize, mask_len: u16) -> Option<Stretch>
+fn longer_by_short(
+    stretch: Stretch,
+    charstring: &[u8],
+    most: usize,
+    mask_len: u16,
+) -> Option<Stretch>
     requires here { stretch.len < most }
-    requires most { most ≤ length text.now }
+    requires most { most ≤ length charstring.now }
     requires sound { IsSound stretch }
-    ensures { IfSome result (IsLonger text.now most mask_len stretch) }
+    ensures { IfSome result (IsLonger charstring.now most mask_len stretch) }
 {
-    if text[stretch.len] != 28 {
+    if charstring[stretch.len] != first_byte::SHORT_INT {
         return None;
     }
     if stretch.count >= MAX_OPERANDS {
         return None;
     }
-    if stretch.len + 2 >= text.len() {
+    if stretch.len + 2 >= charstring.len() {
         return None;
     }
-    if !is_shortest(text[stretch.len + 1], text[stretch.len + 2]) {
+    if !is_shortest(charstring[stretch.len + 1], charstring[stretch.len + 2]) {
         return None;
     }
     Some(stretch.with_number(stretch.len + 3))
@@ -38,20 +44,25 @@ fn longer_by_short(stretch: Stretch, text: &[u8], most: usize, mask_len: u16) ->
 
 /// One token longer, where a mask of so many bytes follows, whose length is known: it isn't the first one.
 #[inline(always)]
-fn longer_by_mask(stretch: Stretch, text: &[u8], most: usize, mask_len: u16) -> Option<Stretch>
+fn longer_by_mask(
+    stretch: Stretch,
+    charstring: &[u8],
+    most: usize,
+    mask_len: u16,
+) -> Option<Stretch>
     requires here { stretch.len < most }
-    requires most { most ≤ length text.now }
+    requires most { most ≤ length charstring.now }
     requires sound { IsSound stretch }
-    ensures { IfSome result (IsLonger text.now most mask_len stretch) }
+    ensures { IfSome result (IsLonger charstring.now most mask_len stretch) }
 {
-    if !is_mask(text[stretch.len]) {
+    if !is_mask(charstring[stretch.len]) {
         return None;
     }
     if mask_len == 0 {
         return None;
     }
     let size = mask_len as usize;
-    if text.len() - stretch.len <= size {
+    if charstring.len() - stretch.len <= size {
         return None;
     }
     Some(stretch.with_operator(stretch.len + 1 + size))
@@ -59,52 +70,57 @@ fn longer_by_mask(stretch: Stretch, text: &[u8], most: usize, mask_len: u16) -> 
 
 /// One token longer, where a token follows that may stand in a stretch, though few of its kind do.
 #[inline(always)]
-fn longer_by_rare(stretch: Stretch, text: &[u8], most: usize, mask_len: u16) -> Option<Stretch>
+fn longer_by_rare(
+    stretch: Stretch,
+    charstring: &[u8],
+    most: usize,
+    mask_len: u16,
+) -> Option<Stretch>
     requires here { stretch.len < most }
-    requires most { most ≤ length text.now }
+    requires most { most ≤ length charstring.now }
     requires sound { IsSound stretch }
-    ensures { IfSome result (IsLonger text.now most mask_len stretch) }
+    ensures { IfSome result (IsLonger charstring.now most mask_len stretch) }
 {
-    if text[stretch.len] == 28 {
-        return longer_by_short(stretch, text, most, mask_len);
+    if charstring[stretch.len] == first_byte::SHORT_INT {
+        return longer_by_short(stretch, charstring, most, mask_len);
     }
-    longer_by_mask(stretch, text, most, mask_len)
+    longer_by_mask(stretch, charstring, most, mask_len)
 }
 
 /// One token longer, where a token follows that may stand in a stretch.
 #[inline(always)]
-fn longer(stretch: Stretch, text: &[u8], most: usize, mask_len: u16) -> Option<Stretch>
-    requires most { most ≤ length text.now }
+fn longer(stretch: Stretch, charstring: &[u8], most: usize, mask_len: u16) -> Option<Stretch>
+    requires most { most ≤ length charstring.now }
     requires sound { IsSound stretch }
-    ensures { IfSome result (IsLonger text.now most mask_len stretch) }
+    ensures { IfSome result (IsLonger charstring.now most mask_len stretch) }
 {
     if stretch.len >= most {
         return None;
     }
-    let first = text[stretch.len];
+    let first = charstring[stretch.len];
     if !begins_plain(first) {
-        return longer_by_rare(stretch, text, most, mask_len);
+        return longer_by_rare(stretch, charstring, most, mask_len);
     }
     if stretch.count >= MAX_OPERANDS {
         return None;
     }
     // No branch is made of a token's kind and size, which are hard to guess.
     let len = stretch.len + plain_size(first);
-    if len > text.len() {
+    if len > charstring.len() {
         return None;
     }
-    Some(stretch.with_token(len, first < 32))
+    Some(stretch.with_token(len, first < first_byte::LEAST_NUMBER))
 }
 
 /// The longest stretch of so many tokens at most at the front of a charstring, with so many operands on the stack.
 #[inline(always)]
-pub fn find_stretch(text: &[u8], tokens: u32, mask_len: u16, count: usize) -> Stretch
-    ensures comes { (bytes : List ℕ) (settled : ℕ) (w : Written) → Stands bytes settled count w → Comes text.now mask_len bytes settled w result }
+pub fn find_stretch(charstring: &[u8], tokens: u32, mask_len: u16, count: usize) -> Stretch
+    ensures comes { (bytes : List ℕ) (settled : ℕ) (w : Written) → Stands bytes settled count w → Comes charstring.now mask_len bytes settled w result }
     ensures sound { IsSound result }
-    ensures inside { result.len ≤ length text.now }
+    ensures inside { result.len ≤ length charstring.now }
     ensures few { result.tokens ≤ tokens }
 {
-    let most = text.len().min(tokens as usize);
+    let most = charstring.len().min(tokens as usize);
     let mut stretch = Stretch {
         len: 0,
         tokens: 0,
@@ -112,7 +128,7 @@ pub fn find_stretch(text: &[u8], tokens: u32, mask_len: u16, count: usize) -> St
         count,
         last: 0,
     };
-    while let Some(next) = longer(stretch, text, most, mask_len) {
+    while let Some(next) = longer(stretch, charstring, most, mask_len) {
         stretch = next;
     }
     stretch

@@ -35,7 +35,7 @@ pub trait Sink<'a> {
         ensures rest { written self.new ≡ record { settled = (written self.old).settled; operands = but_last (written self.old).operands } };
 
     /// An operator with its mask bytes, which takes all operands.
-    fn draw(&mut self, operator: Operator, mask: &'a [u8]) -> Result<(), Error>
+    fn emit(&mut self, operator: Operator, mask: &'a [u8]) -> Result<(), Error>
         ensures ok { OnOk result (written self.new ≡ record {
           settled = (written self.old).settled ++ flat_event (record { operator = operator; operands = (written self.old).operands; mask = mask.now });
           operands = [];

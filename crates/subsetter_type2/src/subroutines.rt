@@ -35,10 +35,8 @@ impl<'a> SubroutineCollection<'a> {
     pub fn get_handler(&self, font_dict: u8) -> Option<SubroutineHandler<'_>>
         ensures { result ≡ slice_get self.now font_dict }
     {
-        match self.containers.get(font_dict as usize) {
-            Some(container) => Some(container.get_handler()),
-            None => None,
-        }
+        let container = self.containers.get(font_dict as usize)?;
+        Some(container.get_handler())
     }
 }
 

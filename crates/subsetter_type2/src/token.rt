@@ -3,7 +3,8 @@
 ghost use Rattle.std.specs.Prelude.{◌≡◌};
 ghost use Rattle.subsetter_type2.specs.Token.{effect_of, one_byte_effect, two_byte_effect};
 
-use subsetter_cffdata::operator::{Operator, OperatorType};
+use crate::operators::first_byte;
+use subsetter_cffdata::operator::{Operator, OperatorType, TWO_BYTE_OPERATOR_MARK};
 
 /// What an operator does.
 #[derive(Clone, Copy, PartialEq, Eq, Debug)]
@@ -39,19 +40,28 @@ pub fn one_byte_effect(first: u8) -> Option<Effect>
     ensures { result ≡ one_byte_effect first }
 {
     match first {
-        // hstem, vstem, hstemhm, vstemhm
-        1 | 3 | 18 | 23 => Some(Effect::CountsStems),
-        // vmoveto, rlineto, hlineto, vlineto, rrcurveto, rmoveto, hmoveto
-        4..=8 | 21 | 22 => Some(Effect::Draws),
-        // rcurveline, rlinecurve, vvcurveto, hhcurveto, vhcurveto, hvcurveto
-        24..=27 | 30 | 31 => Some(Effect::Draws),
-        // callsubr, callgsubr, return, endchar
-        10 => Some(Effect::CallsLocal),
-        29 => Some(Effect::CallsGlobal),
-        11 => Some(Effect::Returns),
-        14 => Some(Effect::Ends),
-        // hintmask, cntrmask
-        19 | 20 => Some(Effect::Masks),
+        first_byte::HORIZONTAL_STEM
+        | first_byte::VERTICAL_STEM
+        | first_byte::HORIZONTAL_STEM_HINT_MASK
+        | first_byte::VERTICAL_STEM_HINT_MASK => Some(Effect::CountsStems),
+        first_byte::VERTICAL_MOVE_TO
+        | first_byte::LINE_TO
+        | first_byte::HORIZONTAL_LINE_TO
+        | first_byte::VERTICAL_LINE_TO
+        | first_byte::CURVE_TO
+        | first_byte::MOVE_TO
+        | first_byte::HORIZONTAL_MOVE_TO
+        | first_byte::CURVE_LINE
+        | first_byte::LINE_CURVE
+        | first_byte::VV_CURVE_TO
+        | first_byte::HH_CURVE_TO
+        | first_byte::VH_CURVE_TO
+        | first_byte::HV_CURVE_TO => Some(Effect::Draws),
+        first_byte::CALL_LOCAL_SUBROUTINE => Some(Effect::CallsLocal),
+        first_byte::CALL_GLOBAL_SUBROUTINE => Some(Effect::CallsGlobal),
+        first_byte::RETURN => Some(Effect::Returns),
+        first_byte::ENDCHAR => Some(Effect::Ends),
+        first_byte::HINT_MASK | first_byte::COUNTER_MASK => Some(Effect::Masks),
         _ => None,
     }
 }
@@ -63,7 +73,7 @@ fn two_byte_effect(mark: u8, second: u8) -> Option<Effect>
 {
     match (mark, second) {
         // hflex, flex, hflex1, flex1
-        (12, 34..=37) => Some(Effect::Draws),
+        (TWO_BYTE_OPERATOR_MARK, 34..=37) => Some(Effect::Draws),
         _ => None,
     }
 }

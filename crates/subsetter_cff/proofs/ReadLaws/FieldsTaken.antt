@@ -16,31 +16,59 @@ use Rattle.subsetter_cff.specs.Read.Opened.{meets}
 use Rattle.subsetter_cff.specs.Read.Operators.{notice_operator, font_box_operator, charset_operator, char_strings_operator, private_operator, copyright_operator, font_matrix_operator, registry_operator, font_dicts_operator, font_dict_select_operator, font_name_operator}
 use Rattle.subsetter_cff.specs.Read.Said.{Said, taken}
 
-pub taken_is : (s : Said) (o : List ℕ) (xs : List Number) → taken s o xs ≡ taken_as s (field_by o) xs
-taken_is s o xs =
+-- an operator that says nothing that is kept
+record IsOther (o : List ℕ) : Type 0 where
+  notice : bytes_eq o notice_operator ≡ false
+  copyright : bytes_eq o copyright_operator ≡ false
+  font_name : bytes_eq o font_name_operator ≡ false
+  charset : bytes_eq o charset_operator ≡ false
+  char_strings : bytes_eq o char_strings_operator ≡ false
+  font_dicts : bytes_eq o font_dicts_operator ≡ false
+  select : bytes_eq o font_dict_select_operator ≡ false
+  private : bytes_eq o private_operator ≡ false
+  font_matrix : bytes_eq o font_matrix_operator ≡ false
+  font_box : bytes_eq o font_box_operator ≡ false
+  registry : bytes_eq o registry_operator ≡ false
+
+-- what holds of the operator of each field, and of all others, holds of each operator
+by_field : (P : List ℕ → Field → Type 0)
+    → P notice_operator fields.Notice
+    → P copyright_operator fields.Copyright
+    → P font_name_operator fields.FontName
+    → P charset_operator fields.Charset
+    → P char_strings_operator fields.CharStrings
+    → P font_dicts_operator fields.FdArray
+    → P font_dict_select_operator fields.FdSelect
+    → P private_operator fields.Private
+    → P font_matrix_operator fields.FontMatrix
+    → P font_box_operator fields.FontBBox
+    → P registry_operator fields.Ros
+    → ((o : List ℕ) → IsOther o → P o fields.Other)
+    → (o : List ℕ) → P o (field_by o)
+by_field P p1 p2 p3 p4 p5 p6 p7 p8 p9 p10 p11 other o =
     elim (cases_Bool (bytes_eq o notice_operator)) [
-      | inl same ↦ rw (bytes_eq_is o notice_operator same) refl
-      | inr other ↦ rw other (elim (cases_Bool (bytes_eq o copyright_operator)) [
-        | inl same ↦ rw (bytes_eq_is o copyright_operator same) refl
-        | inr other ↦ rw other (elim (cases_Bool (bytes_eq o font_name_operator)) [
-          | inl same ↦ rw (bytes_eq_is o font_name_operator same) refl
-          | inr other ↦ rw other (elim (cases_Bool (bytes_eq o charset_operator)) [
-            | inl same ↦ rw (bytes_eq_is o charset_operator same) refl
-            | inr other ↦ rw other (elim (cases_Bool (bytes_eq o char_strings_operator)) [
-              | inl same ↦ rw (bytes_eq_is o char_strings_operator same) refl
-              | inr other ↦ rw other (elim (cases_Bool (bytes_eq o font_dicts_operator)) [
-                | inl same ↦ rw (bytes_eq_is o font_dicts_operator same) refl
-                | inr other ↦ rw other (elim (cases_Bool (bytes_eq o font_dict_select_operator)) [
-                  | inl same ↦ rw (bytes_eq_is o font_dict_select_operator same) refl
-                  | inr other ↦ rw other (elim (cases_Bool (bytes_eq o private_operator)) [
-                    | inl same ↦ rw (bytes_eq_is o private_operator same) refl
-                    | inr other ↦ rw other (elim (cases_Bool (bytes_eq o font_matrix_operator)) [
-                      | inl same ↦ rw (bytes_eq_is o font_matrix_operator same) refl
-                      | inr other ↦ rw other (elim (cases_Bool (bytes_eq o font_box_operator)) [
-                        | inl same ↦ rw (bytes_eq_is o font_box_operator same) refl
-                        | inr other ↦ rw other (elim (cases_Bool (bytes_eq o registry_operator)) [
-                          | inl same ↦ rw (bytes_eq_is o registry_operator same) refl
-                          | inr other ↦ rw other (refl)
+      | inl same ↦ rw (bytes_eq_is o notice_operator same) p1
+      | inr n1 ↦ rw n1 (elim (cases_Bool (bytes_eq o copyright_operator)) [
+        | inl same ↦ rw (bytes_eq_is o copyright_operator same) p2
+        | inr n2 ↦ rw n2 (elim (cases_Bool (bytes_eq o font_name_operator)) [
+          | inl same ↦ rw (bytes_eq_is o font_name_operator same) p3
+          | inr n3 ↦ rw n3 (elim (cases_Bool (bytes_eq o charset_operator)) [
+            | inl same ↦ rw (bytes_eq_is o charset_operator same) p4
+            | inr n4 ↦ rw n4 (elim (cases_Bool (bytes_eq o char_strings_operator)) [
+              | inl same ↦ rw (bytes_eq_is o char_strings_operator same) p5
+              | inr n5 ↦ rw n5 (elim (cases_Bool (bytes_eq o font_dicts_operator)) [
+                | inl same ↦ rw (bytes_eq_is o font_dicts_operator same) p6
+                | inr n6 ↦ rw n6 (elim (cases_Bool (bytes_eq o font_dict_select_operator)) [
+                  | inl same ↦ rw (bytes_eq_is o font_dict_select_operator same) p7
+                  | inr n7 ↦ rw n7 (elim (cases_Bool (bytes_eq o private_operator)) [
+                    | inl same ↦ rw (bytes_eq_is o private_operator same) p8
+                    | inr n8 ↦ rw n8 (elim (cases_Bool (bytes_eq o font_matrix_operator)) [
+                      | inl same ↦ rw (bytes_eq_is o font_matrix_operator same) p9
+                      | inr n9 ↦ rw n9 (elim (cases_Bool (bytes_eq o font_box_operator)) [
+                        | inl same ↦ rw (bytes_eq_is o font_box_operator same) p10
+                        | inr n10 ↦ rw n10 (elim (cases_Bool (bytes_eq o registry_operator)) [
+                          | inl same ↦ rw (bytes_eq_is o registry_operator same) p11
+                          | inr n11 ↦ rw n11 (other o (record { notice = n1; copyright = n2; font_name = n3; charset = n4; char_strings = n5; font_dicts = n6; select = n7; private = n8; font_matrix = n9; font_box = n10; registry = n11 }))
                         ])
                       ])
                     ])
@@ -52,6 +80,11 @@ taken_is s o xs =
         ])
       ])
     ]
+
+pub taken_is : (s : Said) (o : List ℕ) (xs : List Number) → taken s o xs ≡ taken_as s (field_by o) xs
+taken_is s o xs =
+    by_field (λ (o : List ℕ) (f : Field). taken s o xs ≡ taken_as s f xs) refl refl refl refl refl refl refl refl refl refl refl
+    (λ (o : List ℕ) (e : IsOther o). rw (e.notice, e.copyright, e.font_name, e.charset, e.char_strings, e.font_dicts, e.select, e.private, e.font_matrix, e.font_box, e.registry) refl) o
 
 both : (b : Bool) → (b && true) ≡ (b || false)
 both true = refl
@@ -63,77 +96,15 @@ or_true false = refl
 
 met_top : (o : List ℕ) (xs : List Number) → meets top_demands (record { operator = o; operands = xs }) ≡ (holds_as (field_by o) xs || false)
 met_top o xs =
-    elim (cases_Bool (bytes_eq o notice_operator)) [
-      | inl same ↦ rw (bytes_eq_is o notice_operator same) (both (one_string xs))
-      | inr other ↦ rw other (elim (cases_Bool (bytes_eq o copyright_operator)) [
-        | inl same ↦ rw (bytes_eq_is o copyright_operator same) (both (one_string xs))
-        | inr other ↦ rw other (elim (cases_Bool (bytes_eq o font_name_operator)) [
-          | inl same ↦ rw (bytes_eq_is o font_name_operator same) (both (one_string xs))
-          | inr other ↦ rw other (elim (cases_Bool (bytes_eq o charset_operator)) [
-            | inl same ↦ rw (bytes_eq_is o charset_operator same) (both (one_offset xs))
-            | inr other ↦ rw other (elim (cases_Bool (bytes_eq o char_strings_operator)) [
-              | inl same ↦ rw (bytes_eq_is o char_strings_operator same) (both (one_offset xs))
-              | inr other ↦ rw other (elim (cases_Bool (bytes_eq o font_dicts_operator)) [
-                | inl same ↦ rw (bytes_eq_is o font_dicts_operator same) (both (one_offset xs))
-                | inr other ↦ rw other (elim (cases_Bool (bytes_eq o font_dict_select_operator)) [
-                  | inl same ↦ rw (bytes_eq_is o font_dict_select_operator same) (both (one_offset xs))
-                  | inr other ↦ rw other (elim (cases_Bool (bytes_eq o private_operator)) [
-                    | inl same ↦ rw (bytes_eq_is o private_operator same) (both (one_range xs))
-                    | inr other ↦ rw other (elim (cases_Bool (bytes_eq o font_matrix_operator)) [
-                      | inl same ↦ rw (bytes_eq_is o font_matrix_operator same) (both (so_many 6 xs))
-                      | inr other ↦ rw other (elim (cases_Bool (bytes_eq o font_box_operator)) [
-                        | inl same ↦ rw (bytes_eq_is o font_box_operator same) (both (so_many 4 xs))
-                        | inr other ↦ rw other (elim (cases_Bool (bytes_eq o registry_operator)) [
-                          | inl same ↦ rw (bytes_eq_is o registry_operator same) refl
-                          | inr other ↦ rw other (refl)
-                        ])
-                      ])
-                    ])
-                  ])
-                ])
-              ])
-            ])
-          ])
-        ])
-      ])
-    ]
+    by_field (λ (o : List ℕ) (f : Field). meets top_demands (record { operator = o; operands = xs }) ≡ (holds_as f xs || false))
+    (both (one_string xs)) (both (one_string xs)) (both (one_string xs)) (both (one_offset xs)) (both (one_offset xs)) (both (one_offset xs)) (both (one_offset xs)) (both (one_range xs)) (both (so_many 6 xs)) (both (so_many 4 xs)) refl
+    (λ (o : List ℕ) (e : IsOther o). rw (e.notice, e.copyright, e.font_name, e.charset, e.char_strings, e.font_dicts, e.select, e.private, e.font_matrix, e.font_box) refl) o
 
 met_font : (o : List ℕ) (xs : List Number) → meets font_dict_demands (record { operator = o; operands = xs }) ≡ (holds_as (field_by o) xs || not (of_font_dict (field_by o)))
 met_font o xs =
-    elim (cases_Bool (bytes_eq o notice_operator)) [
-      | inl same ↦ rw (bytes_eq_is o notice_operator same) (sym (or_true (one_string xs)))
-      | inr other ↦ rw other (elim (cases_Bool (bytes_eq o copyright_operator)) [
-        | inl same ↦ rw (bytes_eq_is o copyright_operator same) (sym (or_true (one_string xs)))
-        | inr other ↦ rw other (elim (cases_Bool (bytes_eq o font_name_operator)) [
-          | inl same ↦ rw (bytes_eq_is o font_name_operator same) (both (one_string xs))
-          | inr other ↦ rw other (elim (cases_Bool (bytes_eq o charset_operator)) [
-            | inl same ↦ rw (bytes_eq_is o charset_operator same) (sym (or_true (one_offset xs)))
-            | inr other ↦ rw other (elim (cases_Bool (bytes_eq o char_strings_operator)) [
-              | inl same ↦ rw (bytes_eq_is o char_strings_operator same) (sym (or_true (one_offset xs)))
-              | inr other ↦ rw other (elim (cases_Bool (bytes_eq o font_dicts_operator)) [
-                | inl same ↦ rw (bytes_eq_is o font_dicts_operator same) (sym (or_true (one_offset xs)))
-                | inr other ↦ rw other (elim (cases_Bool (bytes_eq o font_dict_select_operator)) [
-                  | inl same ↦ rw (bytes_eq_is o font_dict_select_operator same) (sym (or_true (one_offset xs)))
-                  | inr other ↦ rw other (elim (cases_Bool (bytes_eq o private_operator)) [
-                    | inl same ↦ rw (bytes_eq_is o private_operator same) (both (one_range xs))
-                    | inr other ↦ rw other (elim (cases_Bool (bytes_eq o font_matrix_operator)) [
-                      | inl same ↦ rw (bytes_eq_is o font_matrix_operator same) (both (so_many 6 xs))
-                      | inr other ↦ rw other (elim (cases_Bool (bytes_eq o font_box_operator)) [
-                        | inl same ↦ rw (bytes_eq_is o font_box_operator same) (sym (or_true (so_many 4 xs)))
-                        | inr other ↦ rw other (elim (cases_Bool (bytes_eq o registry_operator)) [
-                          | inl same ↦ rw (bytes_eq_is o registry_operator same) refl
-                          | inr other ↦ rw other (refl)
-                        ])
-                      ])
-                    ])
-                  ])
-                ])
-              ])
-            ])
-          ])
-        ])
-      ])
-    ]
+    by_field (λ (o : List ℕ) (f : Field). meets font_dict_demands (record { operator = o; operands = xs }) ≡ (holds_as f xs || not (of_font_dict f)))
+    (sym (or_true (one_string xs))) (sym (or_true (one_string xs))) (both (one_string xs)) (sym (or_true (one_offset xs))) (sym (or_true (one_offset xs))) (sym (or_true (one_offset xs))) (sym (or_true (one_offset xs))) (both (one_range xs)) (both (so_many 6 xs)) (sym (or_true (so_many 4 xs))) refl
+    (λ (o : List ℕ) (e : IsOther o). rw (e.font_name, e.private, e.font_matrix) refl) o
 
 pub met_is : (d : Demands) (o : List ℕ) (xs : List Number) → meets (demands_of d) (record { operator = o; operands = xs }) ≡ (holds_as (field_by o) xs || not (is_demanded d (field_by o)))
 met_is kinds.TopDict o xs = met_top o xs

@@ -9,20 +9,8 @@ use Rattle.subsetter_base.specs.Bytes.{be}
 use Rattle.subsetter_cffdata.specs.Bytes.{byte, card, part, ReadAgain}
 use Rattle.subsetter_cffdata.specs.Index.{offset_at, entries, offsets_limit, index_data, index_body, is_no_count, index_of, index_at}
 use Rattle.subsetter_cffdata.proofs.Cards.{byte_again, part_again}
+use Rattle.subsetter_cffdata.proofs.Options.{step, unless, when}
 use Rattle.subsetter_cff.specs.Read.Cff.{behind_header, name_index, before, name_bytes}
-
--- ---- steps
-pub step : {A B : Type 0} (o : Option A) (f : A → Option B) (y : B) → option_and_then f o ≡ Some y → (x : A) × ((o ≡ Some x) × (f x ≡ Some y))
-step None f y e = absurd (none-some y e)
-step (Some x) f y e = (x, (refl, e))
-
-pub unless : {A : Type 0} (b : Bool) (o : Option A) (y : A) → cond b None o ≡ Some y → (b ≡ false) × (o ≡ Some y)
-unless true o y e = absurd (none-some y e)
-unless false o y e = (refl, e)
-
-pub when : {A : Type 0} (b : Bool) (o : Option A) (y : A) → cond b o None ≡ Some y → (b ≡ true) × (o ≡ Some y)
-when true o y e = (refl, e)
-when false o y e = absurd (none-some y e)
 
 -- ---- of bytes, those that were read
 pub record Local {X : Type 0} (read : List ℕ → Option (X × List ℕ)) (bytes : List ℕ) (x : X) (rest : List ℕ) : Type 0 where

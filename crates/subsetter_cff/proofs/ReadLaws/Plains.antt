@@ -9,7 +9,7 @@ use Rattle.subsetter_cffdata.specs.Values.{thousandfold}
 use Rattle.subsetter_cffdata.proofs.PlainDigits.{digits_twice, digits_both, kept_plain, plain_is, nothing_plain}
 use Rattle.subsetter_cffdata.proofs.RealTexts.{has_text}
 use Rattle.subsetter_cffdata.proofs.Powers.{length-digits, length-fraction, length-sign}
-use Rattle.subsetter_cff.proofs.ReadLaws.Locals.{unless}
+use Rattle.subsetter_cffdata.proofs.Options.{unless}
 
 -- digits that write a decimal
 pub record PlainDecimal (d : Decimal) : Type 0 where

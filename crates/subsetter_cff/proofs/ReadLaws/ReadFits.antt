@@ -6,7 +6,7 @@ use Rattle.subsetter_cffdata.specs.Bytes.{◌>>=◌}
 use Rattle.subsetter_cffdata.specs.Decimals.{Decimal, text_at, text_limit, real_of, real_at}
 use Rattle.subsetter_cffdata.specs.Numbers.{Number, integer_from, dict_number_from}
 use Rattle.subsetter_cffdata.proofs.BoundedNumbers.{number_bounded}
-use Rattle.subsetter_cff.proofs.ReadLaws.Locals.{step, when}
+use Rattle.subsetter_cffdata.proofs.Options.{step, when}
 use Rattle.subsetter_cff.proofs.ReadLaws.ReadNumbers.{IsWritable, FitsNumber}
 use Rattle.subsetter_cff.proofs.ReadLaws.Plains.{PlainDecimal, real_plain}
 

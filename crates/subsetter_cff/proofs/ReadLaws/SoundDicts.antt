@@ -14,7 +14,7 @@ use Rattle.subsetter_cff.specs.Read.Operators.{private_operator}
 use Rattle.subsetter_cff.specs.Read.OperandDemands.{font_dict_demands}
 use Rattle.subsetter_cff.specs.Read.Opened.{all_meet, all_lead, sound_font_dicts}
 use Rattle.subsetter_cff.proofs.WriteLaws.FontDicts.{all_at}
-use Rattle.subsetter_cff.proofs.ReadLaws.Locals.{step}
+use Rattle.subsetter_cffdata.proofs.Options.{step}
 use Rattle.subsetter_cff.proofs.ReadLaws.Holding.{both, by_entry, last_holds, lead_each}
 use Rattle.subsetter_cff.proofs.ReadLaws.Soundness.{TopIsSound}
 

@@ -14,7 +14,7 @@ use Rattle.subsetter_cff.specs.Read.Opened.{all_meet, all_lead, sound_font_dicts
 use Rattle.subsetter_cff.specs.Read.Fault.{HasFrontFault, short, other_version, bad_names, bad_tops, bad_strings, bad_subroutines, no_top_dict, HasTopFault, wrong_operands, no_char_strings, empty_char_strings, no_font_dicts, no_select, bad_font_dict, bad_private, in_front, in_top, HasOpeningFault}
 use Rattle.subsetter_cff.proofs.ReadLaws.Holding.{both}
 use Rattle.subsetter_cff.proofs.ReadLaws.Results.{bind_ok, some_of, passed}
-use Rattle.subsetter_cff.proofs.ReadLaws.Locals.{step, when}
+use Rattle.subsetter_cffdata.proofs.Options.{step, when}
 use Rattle.subsetter_cff.proofs.ReadLaws.EntrySound.{clash, contradiction, no_wrong, no_private_fault}
 
 long_enough : (bytes start : List ℕ) → behind_header bytes ≡ Some start → length bytes < 3 → ⊥

@@ -16,7 +16,7 @@ use Rattle.subsetter_cff.specs.Read.Cff.{Cff, major, top_index, string_index, su
 use Rattle.subsetter_cff.specs.Read.FontDicts.{font_dicts}
 use Rattle.subsetter_cff.specs.Read.Private.{Private, local_subroutines, private_in, private_by, private_at}
 use Rattle.subsetter_cff.specs.Read.Operators.{font_dicts_operator, private_operator}
-use Rattle.subsetter_cff.proofs.ReadLaws.Locals.{step, when}
+use Rattle.subsetter_cffdata.proofs.Options.{step, when}
 use Rattle.subsetter_cff.proofs.ReadLaws.ReadNumbers.{IsWritable, FitsNumber, all_writable, FitsEntry}
 use Rattle.subsetter_cff.proofs.ReadLaws.EntriesFit.{entries_fit}
 

@@ -10,12 +10,13 @@ use Rattle.subsetter_base.specs.Refusals.{IsOutOfMemoryOr, first_refusal}
 use Rattle.subsetter_base.specs.declared.error.Error.{Error}
 use Rattle.subsetter_base.specs.declared.error.Error.TheVariants.{OutOfMemory, OverflowError}
 use Rattle.subsetter_cffdata.specs.declared.number.Number.{Number as StoredNumber}
-use Rattle.subsetter_cffdata.specs.Dict.{Entry}
+use Rattle.subsetter_cffdata.specs.Dict.{Entry, entry_bytes}
 use Rattle.subsetter_cffdata.specs.Numbers.{Number, is_too_long}
 use Rattle.subsetter_cffdata.specs.Owned.{FitIndex}
 use Rattle.subsetter_cffdata.specs.Views.{number_of}
+use Rattle.subsetter_cff.specs.Write.Layout.{plain_entry}
 use Rattle.subsetter_cff.specs.Write.WrittenNumbers.{any_long, entry_numbers}
-use Rattle.subsetter_cff.specs.Write.Rewritten.{is_refused, behind, written_entries}
+use Rattle.subsetter_cff.specs.Write.Rewritten.{is_refused, behind, written_entries, written_entry}
 use Rattle.subsetter_cff.specs.Write.TableLimits.{limit, short, has_index}
 use Rattle.subsetter_cff.proofs.WriteLaws.Rewriting.{refusal_is}
 
@@ -62,6 +63,16 @@ long_append (x ∷ xs) ys = ap (λ (b : Bool). is_too_long x || b) (long_append 
 entries_long : (es : List Entry) → any_long (entry_numbers es) ≡ list_any is_refused es
 entries_long [] = refl
 entries_long (e ∷ es) = long_append e.operands (entry_numbers es) ∙ ap (λ (b : Bool). b || any_long (entry_numbers es)) (sym (long_is e.operands)) ∙ ap (λ (b : Bool). is_refused e || b) (entries_long es)
+
+by_entry : (b : Bool) (front text : List ℕ) → (limit (cond b false true) >>= λ kept. Ok (front ++ text)) ≡ behind front (cond b (Err OverflowError) (Ok text))
+by_entry true front text = refl
+by_entry false front text = refl
+
+-- an entry is written where its numbers keep the limit
+pub entry_checked : (front operator : List ℕ) (xs : List Number) → (limit (short xs) >>= λ kept. Ok (front ++ entry_bytes (plain_entry operator xs))) ≡ behind front (written_entry operator xs)
+unfolding written_entry
+entry_checked front operator xs =
+    by_entry (any_long xs) front (entry_bytes (plain_entry operator xs)) ∙ ap (λ (b : Bool). behind front (cond b (Err OverflowError) (Ok (entry_bytes (plain_entry operator xs))))) (sym (long_is xs))
 
 by_refused : (b : Bool) (front text : List ℕ) → (behind front (cond b (Err OverflowError) (Ok text)) >>= λ out. Ok tt) ≡ limit (cond b false true)
 by_refused true front text = refl

@@ -9,7 +9,7 @@ use Rattle.subsetter_base.specs.declared.error.Error.{Error}
 use Rattle.subsetter_base.specs.declared.error.Error.TheVariants.{OverflowError}
 use Rattle.subsetter_cffdata.specs.Dict.{entries, dict}
 use Rattle.subsetter_cff.specs.declared.write.table.FontDictParts.{FontDictParts}
-use Rattle.subsetter_cff.specs.Write.Layout.{font_dict_lines, font_dicts_from, private_bytes, private_lines, privates}
+use Rattle.subsetter_cff.specs.Write.Layout.{entries_of_font_dict, font_dicts_from, private_bytes, rewritten_entries, privates}
 use Rattle.subsetter_cff.specs.Read.Lookup.{without}
 use Rattle.subsetter_cff.specs.Write.PartsView.{font_dict_view}
 use Rattle.subsetter_cff.specs.Read.Operators.{subroutines_operator}
@@ -26,7 +26,7 @@ written_by false front text out e = cc
 pub private_written : (front out bytes : List ℕ) (f : FontDictParts) → f.private.now ≡ bytes → behind front (rewritten_private bytes) ≡ Ok out → out ≡ front ++ private_bytes (font_dict_view f)
 unfolding rewritten_private written_entries private_bytes
 private_written front out bytes f is e =
-    rw is (written_by (list_any is_refused (without subroutines_operator (entries bytes))) front (dict (private_lines (without subroutines_operator (entries bytes)))) out e)
+    rw is (written_by (list_any is_refused (without subroutines_operator (entries bytes))) front (dict (rewritten_entries (without subroutines_operator (entries bytes)))) out e)
 
 pub private_checked : {X : Type 0} (r : Result X Error) (front out bytes : List ℕ) (f : FontDictParts) → f.private.now ≡ bytes → OnOk r (behind front (rewritten_private bytes) ≡ Ok out) → IfErr r (λ e. Fails e (behind front (rewritten_private bytes)))
     → Gives (λ (x : X). tt) r (limit (short (entry_numbers (font_dict_view f).private)))
@@ -53,10 +53,10 @@ privates_next dicts i f old new whole lt is h same =
     ap (λ (l : List ℕ). l ++ rest) h ∙ append_assoc old (private_bytes (font_dict_view f)) rest ∙ ap (λ (l : List ℕ). old ++ l) (sym front) ∙ same
 
 pub dicts_next : (dicts : List FontDictParts) (i : ℕ) (f : FontDictParts) (texts : List (List ℕ)) (place next : ℕ) (old new whole : List (List ℕ)) → i < length dicts → f ≡ get_or dicts i f
-    → new ≡ old ++ dict (font_dict_lines texts place (font_dict_view f)) ∷ [] → next ≡ place + length (private_bytes (font_dict_view f))
+    → new ≡ old ++ dict (entries_of_font_dict texts place (font_dict_view f)) ∷ [] → next ≡ place + length (private_bytes (font_dict_view f))
     → old ++ font_dicts_from texts place (map font_dict_view (drop i dicts)) ≡ whole → new ++ font_dicts_from texts next (map font_dict_view (drop (i + 1) dicts)) ≡ whole
 dicts_next dicts i f texts place next old new whole lt is h at same =
-    let one : FontDictParts → List ℕ = λ g. dict (font_dict_lines texts place (font_dict_view g)) in
+    let one : FontDictParts → List ℕ = λ g. dict (entries_of_font_dict texts place (font_dict_view g)) in
     let rest : FontDictParts → List (List ℕ) = λ g. font_dicts_from texts (place + length (private_bytes (font_dict_view g))) (map font_dict_view (drop (i + 1) dicts)) in
     let front : font_dicts_from texts place (map font_dict_view (drop i dicts)) ≡ one f ∷ rest f =
     at_drop_more (λ (l : List FontDictParts). font_dicts_from texts place (map font_dict_view l)) dicts i f lt ∙ ap (λ (g : FontDictParts). one g ∷ rest g) (sym is) in

@@ -24,7 +24,7 @@ use Rattle.subsetter_cff.specs.Write.Plain.{source_number, source_dict, new_font
 use Rattle.subsetter_cff.specs.Read.Fault.{HasGlyphFault, bad_name}
 use Rattle.subsetter_cff.proofs.ReadLaws.Results.{some_of}
 use Rattle.subsetter_cff.proofs.ReadLaws.Refusals.{bind_err, none_of}
-use Rattle.subsetter_cff.proofs.ReadLaws.Locals.{step}
+use Rattle.subsetter_cffdata.proofs.Options.{step}
 use Rattle.subsetter_cff.proofs.WriteLaws.FontDicts.{all_at}
 use Rattle.subsetter_cff.proofs.ReadLaws.SourceBytes.{Fitting, last_of_fits, font_dicts_fit}
 use Rattle.subsetter_cff.proofs.ReadLaws.Soundness.{TopIsSound}

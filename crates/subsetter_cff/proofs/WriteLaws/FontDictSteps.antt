@@ -18,7 +18,7 @@ use Rattle.subsetter_cff.specs.Read.Operators.{font_name_operator, font_matrix_o
 use Rattle.subsetter_cff.specs.Write.Layout.{FontDict}
 use Rattle.subsetter_cff.specs.Write.Made.{new_matrix}
 use Rattle.subsetter_cff.specs.Write.Plain.{source_number, SourceDict, as_source_dict, source_dict, new_font_dict, new_font_dicts}
-use Rattle.subsetter_cff.proofs.ReadLaws.Locals.{step}
+use Rattle.subsetter_cffdata.proofs.Options.{step}
 use Rattle.subsetter_cff.proofs.ReadLaws.Results.{bind_ok, same_Ok, some_of}
 
 -- ---- the new font dicts, one by one

@@ -15,7 +15,7 @@ use Rattle.subsetter_cffdata.proofs.Dicts.{dict_again}
 use Rattle.subsetter_cff.specs.Read.Lookup.{last_of, first_of, without}
 use Rattle.subsetter_cff.specs.Read.Private.{Private, local_subroutines, private_in, private_at}
 use Rattle.subsetter_cff.specs.Read.Operators.{private_operator, subroutines_operator, font_matrix_operator, font_name_operator}
-use Rattle.subsetter_cff.specs.Write.Layout.{FontDict, integer, string_lines, private_lines, private_bytes, privates, font_dict_lines, font_dict_lines_by, font_dicts_from}
+use Rattle.subsetter_cff.specs.Write.Layout.{FontDict, integer, string_entries, rewritten_entries, private_bytes, privates, entries_of_font_dict, entries_of_font_dict_by, font_dicts_from}
 use Rattle.subsetter_cff.specs.Write.Fits.{FitsFontDict}
 use Rattle.subsetter_cff.proofs.ReadLaws.Lookups.{passed, met, number_if}
 use Rattle.subsetter_cff.proofs.WriteLaws.Tops.{plain_values}
@@ -34,7 +34,7 @@ pub record Found (ss : List (List ℕ)) (place : ℕ) (fs : List FontDict) (i : 
   pub front : List ℕ
   pub back : List ℕ
   pub is : privates fs ≡ front ++ (private_bytes f ++ back)
-  pub dict_is : slice_get (font_dicts_from ss place fs) i ≡ Some (dict (font_dict_lines ss (place + length front) f))
+  pub dict_is : slice_get (font_dicts_from ss place fs) i ≡ Some (dict (entries_of_font_dict ss (place + length front) f))
 
 pub found : (ss : List (List ℕ)) (place : ℕ) (fs : List FontDict) (i : ℕ) (f : FontDict) → slice_get fs i ≡ Some f → Found ss place fs i f
 found ss place [] i f at = absurd (none-some f at)
@@ -45,7 +45,7 @@ found ss place (g ∷ fs) zero f at =
       front = [];
       back = privates fs;
       is = ap (λ (h : FontDict). private_bytes h ++ privates fs) same;
-      dict_is = ap (λ (h : FontDict). Some (dict (font_dict_lines ss place h))) same ∙ ap (λ (n : ℕ). Some (dict (font_dict_lines ss n f))) here;
+      dict_is = ap (λ (h : FontDict). Some (dict (entries_of_font_dict ss place h))) same ∙ ap (λ (n : ℕ). Some (dict (entries_of_font_dict ss n f))) here;
     }
 found ss place (g ∷ fs) (suc i) f at =
     let more = found ss (place + length (private_bytes g)) fs i f at in
@@ -54,7 +54,7 @@ found ss place (g ∷ fs) (suc i) f at =
       front = private_bytes g ++ more.front;
       back = more.back;
       is = ap (λ (l : List ℕ). private_bytes g ++ l) more.is ∙ sym (append_assoc (private_bytes g) more.front (private_bytes f ++ more.back));
-      dict_is = more.dict_is ∙ ap (λ (n : ℕ). Some (dict (font_dict_lines ss n f))) here;
+      dict_is = more.dict_is ∙ ap (λ (n : ℕ). Some (dict (entries_of_font_dict ss n f))) here;
     }
 
 pub readable_all : (xs : List (List ℕ)) → readable (map Some xs) ≡ xs
@@ -68,27 +68,27 @@ all_at P (y ∷ xs) (suc i) x all at = all_at P xs i x all.1 at
 
 -- ---- the entries of a font dict
 abbrev pub font_dict_entries : List (List ℕ) → ℕ → FontDict → List Entry
-font_dict_entries ss place f = map meaning (font_dict_lines ss place f)
+font_dict_entries ss place f = map meaning (entries_of_font_dict ss place f)
 
-names_last : (ss : List (List ℕ)) (f : FontDict) → string_lines ss font_name_operator f.name ++ [] ≡ string_lines ss font_name_operator f.name
-names_last ss f = append-nil (string_lines ss font_name_operator f.name)
+names_last : (ss : List (List ℕ)) (f : FontDict) → string_entries ss font_name_operator f.name ++ [] ≡ string_entries ss font_name_operator f.name
+names_last ss f = append-nil (string_entries ss font_name_operator f.name)
 
 pub own_matrix : (ss : List (List ℕ)) (place : ℕ) (f : FontDict) → last_of font_matrix_operator (font_dict_entries ss place f) ≡ Some f.matrix
-unfolding font_dict_lines_by
+unfolding entries_of_font_dict_by
 own_matrix ss place f = rw (← names_last ss f) (passed _ font_matrix_operator font_name_operator ss f.name [] refl) ∙ ap Some (plain_values f.matrix)
 
 pub own_private : (ss : List (List ℕ)) (place : ℕ) (f : FontDict) → last_of private_operator (font_dict_entries ss place f) ≡ Some (integer (length (private_bytes f)) ∷ integer place ∷ [])
-unfolding font_dict_lines_by
+unfolding entries_of_font_dict_by
 own_private ss place f = rw (← names_last ss f) (passed _ private_operator font_name_operator ss f.name [] refl)
 
 pub own_name : (ss : List (List ℕ)) (place : ℕ) (f : FontDict) → last_of font_name_operator (font_dict_entries ss place f) ≡ number_if ss f.name
-unfolding font_dict_lines_by
+unfolding entries_of_font_dict_by
 own_name ss place f = rw (← names_last ss f) (met font_name_operator font_name_operator ss f.name [] refl)
 
 -- ---- the private dict
-private_meaning : (es : List Entry) → map meaning (private_lines es) ≡ es
+private_meaning : (es : List Entry) → map meaning (rewritten_entries es) ≡ es
 private_meaning [] = refl
-private_meaning (e ∷ es) = ap (λ (xs : List Number). record { operator = e.operator; operands = xs } ∷ map meaning (private_lines es)) (plain_values e.operands) ∙ ap (λ (l : List Entry). e ∷ l) (private_meaning es)
+private_meaning (e ∷ es) = ap (λ (xs : List Number). record { operator = e.operator; operands = xs } ∷ map meaning (rewritten_entries es)) (plain_values e.operands) ∙ ap (λ (l : List Entry). e ∷ l) (private_meaning es)
 
 pub none_left_out : (operator : List ℕ) (es : List Entry) → first_of operator es ≡ None → without operator es ≡ es
 none_left_out operator [] none = refl
@@ -100,7 +100,7 @@ none_left_out operator (e ∷ es) none =
 
 pub private_entries_again : (f : FontDict) → FitsFontDict f → entries (private_bytes f) ≡ f.private
 unfolding private_bytes
-private_entries_again f fits = dict_again (private_lines f.private) fits.private ∙ private_meaning f.private
+private_entries_again f fits = dict_again (rewritten_entries f.private) fits.private ∙ private_meaning f.private
 
 range_there : (table front piece back : List ℕ) (place size : ℕ) → table ≡ front ++ (piece ++ back) → place ≡ length front → size ≡ length piece → range table place size ≡ Some piece
 range_there table front piece back place size e at len =

@@ -4,12 +4,12 @@ use Rattle.std.specs.Prelude.{Result, Ok, Err, OnOk}
 use Rattle.std.specs.Int.{bytes_high_first}
 use Rattle.std.proofs.lemmas.List.{append-nil}
 use Rattle.std.proofs.lemmas.List.Concat.{flat_map-append}
-use Rattle.subsetter_cffdata.specs.Dict.{Line, line, dict}
+use Rattle.subsetter_cffdata.specs.Dict.{NewEntry, entry_bytes, dict}
 use Rattle.subsetter_cffdata.specs.Index.{index, header as index_header, offset_size}
 use Rattle.subsetter_cff.specs.declared.write.table.TableParts.{TableParts}
 use Rattle.subsetter_cff.specs.Write.FlatIndex.{single_header}
-use Rattle.subsetter_cff.specs.Write.FrontDraft.{named_lines, named_bytes, tail_by, front_of_draft}
-use Rattle.subsetter_cff.specs.Write.Layout.{Offsets, TopDict, nowhere, header, registry_line, number_lines, plain_line, placed_lines, top_lines_by}
+use Rattle.subsetter_cff.specs.Write.FrontDraft.{named_entries, named_bytes, tail_by, front_of_draft}
+use Rattle.subsetter_cff.specs.Write.Layout.{Offsets, TopDict, nowhere, header, registry_entry, number_entries, plain_entry, placed_entries, top_entries_by}
 use Rattle.subsetter_cff.specs.Read.Operators.{copyright_operator, notice_operator, font_name_operator, font_matrix_operator, font_box_operator}
 use Rattle.subsetter_cff.specs.Write.PartsView.{front_by, top_by}
 use Rattle.subsetter_cff.specs.Write.TableBy.{front_size}
@@ -18,18 +18,18 @@ use Rattle.subsetter_base.specs.Gives.{Fails}
 use Rattle.subsetter_base.specs.declared.error.Error.{Error}
 use Rattle.subsetter_cff.proofs.WriteLaws.Places.{length-placed}
 
--- ---- the lines of a top dict
-regroup : (r m b : Line) (x y z p : List Line) → r ∷ (x ++ (y ++ (z ++ (m ∷ b ∷ p)))) ≡ (r ∷ (x ++ (y ++ (z ++ (m ∷ b ∷ []))))) ++ p
+-- ---- the entries of a top dict
+regroup : (r m b : NewEntry) (x y z p : List NewEntry) → r ∷ (x ++ (y ++ (z ++ (m ∷ b ∷ p)))) ≡ (r ∷ (x ++ (y ++ (z ++ (m ∷ b ∷ []))))) ++ p
 regroup r m b x y z p = simp append_assoc
 
-lines_split : (t : TopDict) (o : Offsets) → top_lines_by t o ≡ named_lines t ++ placed_lines o
-unfolding top_lines_by
-lines_split t o =
-    regroup registry_line (plain_line font_matrix_operator t.matrix) (plain_line font_box_operator t.box) (number_lines copyright_operator t.copyright) (number_lines notice_operator t.notice) (number_lines font_name_operator t.font_name) (placed_lines o)
+entries_split : (t : TopDict) (o : Offsets) → top_entries_by t o ≡ named_entries t ++ placed_entries o
+unfolding top_entries_by
+entries_split t o =
+    regroup registry_entry (plain_entry font_matrix_operator t.matrix) (plain_entry font_box_operator t.box) (number_entries copyright_operator t.copyright) (number_entries notice_operator t.notice) (number_entries font_name_operator t.font_name) (placed_entries o)
 
-pub top_split : (t : TopDict) (o : Offsets) → dict (top_lines_by t o) ≡ named_bytes t ++ dict (placed_lines o)
+pub top_split : (t : TopDict) (o : Offsets) → dict (top_entries_by t o) ≡ named_bytes t ++ dict (placed_entries o)
 unfolding named_bytes
-top_split t o = ap dict (lines_split t o) ∙ flat_map-append line (named_lines t) (placed_lines o)
+top_split t o = ap dict (entries_split t o) ∙ flat_map-append entry_bytes (named_entries t) (placed_entries o)
 
 pub front_split : (texts : List (List ℕ)) (t : TableParts) (o : Offsets) → front_by texts t o ≡ front_of_draft t.names.now (named_bytes (top_by texts t)) (tail_by texts) o
 unfolding front_by
@@ -63,9 +63,9 @@ single_written old named placed a b w n e f g h i =
     i ∙ rw (h, g, size, single_is (named ++ placed)) (simp append_assoc)
 
 pub top_written : {A E : Type 0} (r : Result A E) (old named : List ℕ) (o : Offsets) (a b w : List ℕ) (n : ℕ) → n ≡ length named + 33 → a ≡ old ++ single_header n → b ≡ a ++ named
-    → OnOk r (w ≡ b ++ dict (placed_lines o)) → OnOk r (w ≡ old ++ index ((named ++ dict (placed_lines o)) ∷ []))
+    → OnOk r (w ≡ b ++ dict (placed_entries o)) → OnOk r (w ≡ old ++ index ((named ++ dict (placed_entries o)) ∷ []))
 top_written (Err f) old named o a b w n e g h i = tt
-top_written (Ok x) old named o a b w n e g h i = single_written old named (dict (placed_lines o)) a b w n e (length-placed o) g h i
+top_written (Ok x) old named o a b w n e g h i = single_written old named (dict (placed_entries o)) a b w n e (length-placed o) g h i
 
 -- ---- the size of a front
 length-high_first : (width n : ℕ) → length (bytes_high_first width n) ≡ width
@@ -84,9 +84,9 @@ single_size x = ap length (single_is x) ∙ omega (arith, length-append (single_
 pub front_size_is : (texts : List (List ℕ)) (t : TableParts) (named tail : List ℕ) (top : ℕ) → named ≡ named_bytes (top_by texts t) → tail ≡ tail_by texts → top ≡ length named + 33
     → 4 + (length t.names.now + ((3 + 2 * offset_size (top + 1) + top) + length tail)) ≡ front_size texts t
 front_size_is texts t named tail top a b c =
-    let x = named_bytes (top_by texts t) ++ dict (placed_lines nowhere) in
+    let x = named_bytes (top_by texts t) ++ dict (placed_entries nowhere) in
     let whole = ap length (front_split texts t nowhere) in
-    let long : length x ≡ top = omega (arith, length-append (named_bytes (top_by texts t)) (dict (placed_lines nowhere)), length-placed nowhere, ap length a, c) in
+    let long : length x ≡ top = omega (arith, length-append (named_bytes (top_by texts t)) (dict (placed_entries nowhere)), length-placed nowhere, ap length a, c) in
     let size : length (index (x ∷ [])) ≡ 3 + 2 * offset_size (top + 1) + top = single_size x ∙ ap (λ (n : ℕ). 3 + 2 * offset_size (n + 1) + n) long in
     omega (arith, whole, size, ap length b, length-append t.names.now (index (x ∷ []) ++ tail_by texts), length-append (index (x ∷ [])) (tail_by texts))
 

@@ -6,13 +6,13 @@ use Rattle.subsetter_cffdata.specs.Dict.{dict}
 use Rattle.subsetter_cffdata.proofs.Indexes.{index_again}
 use Rattle.subsetter_cffdata.proofs.Dicts.{dict_again}
 use Rattle.subsetter_cff.specs.Read.Cff.{Cff, major, behind_header, name_index, top_index, string_index, subroutine_index, top_dict, before, name_bytes, cff_parts}
-use Rattle.subsetter_cff.specs.Write.Layout.{Parts, strings, top_lines, front, places, behind_front, cff_table, header}
+use Rattle.subsetter_cff.specs.Write.Layout.{Parts, strings, top_entries, front, places, behind_front, cff_table, header}
 use Rattle.subsetter_cff.specs.Write.Fits.{Fits}
 use Rattle.subsetter_cff.proofs.WriteLaws.Tops.{tops}
-use Rattle.subsetter_cff.proofs.WriteLaws.Sizes.{top_fits, strings_fit, none_fit, lines_fit}
+use Rattle.subsetter_cff.proofs.WriteLaws.Sizes.{top_fits, strings_fit, none_fit, all_entries_fit}
 
 abbrev top_bytes : Parts → List ℕ
-top_bytes p = dict (top_lines p (places p))
+top_bytes p = dict (top_entries p (places p))
 
 abbrev behind_strings : Parts → List ℕ
 behind_strings p = index [] ++ behind_front p
@@ -55,7 +55,7 @@ subroutines_read p fits = rw (strings_read p fits) (index_again [] none_fit (beh
 
 top_read : (p : Parts) → Fits p → top_dict (cff_table p) ≡ Some (tops p (places p))
 unfolding top_dict
-top_read p fits = rw (tops_read p fits) (ap Some (dict_again (top_lines p (places p)) (lines_fit p fits)))
+top_read p fits = rw (tops_read p fits) (ap Some (dict_again (top_entries p (places p)) (all_entries_fit p fits)))
 
 before_is : (xs ys : List ℕ) → before (xs ++ ys) ys ≡ xs
 before_is xs ys = take_at xs ys (length (xs ++ ys) - length ys) (omega (arith, length-append xs ys))

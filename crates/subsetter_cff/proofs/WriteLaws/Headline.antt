@@ -24,7 +24,8 @@ use Rattle.subsetter_cff.specs.Write.WrittenNumbers.{any_long, entry_numbers, fo
 use Rattle.subsetter_cff.specs.Write.Plain.{with_number, KeptGlyph, kept_glyphs, used_numbers, SourceDict, as_source_dict, source_dict, new_font_dict, new_font_dicts, new_select, new_parts, parts_of, cff_subset}
 use Rattle.subsetter_cff.specs.Write.Headline.{AnsweredIsSubset}
 use Rattle.subsetter_cff.proofs.ReadLaws.Results.{bind_ok, same_Ok, some_of, passed, number_there}
-use Rattle.subsetter_cff.proofs.ReadLaws.Locals.{step, names_again}
+use Rattle.subsetter_cffdata.proofs.Options.{step}
+use Rattle.subsetter_cff.proofs.ReadLaws.Locals.{names_again}
 use Rattle.subsetter_cff.proofs.WriteLaws.FontDicts.{all_at}
 use Rattle.subsetter_cff.proofs.ReadLaws.SourceBytes.{Fitting, AreWritable, last_of_read, without_fits, none_first, all_map, Source, source_of, top_fits, font_dicts_fit, private_fits}
 use Rattle.subsetter_cff.proofs.WriteLaws.SourceFits.{short_front, short_back, numbers_fit, thousandth_read, box_read, or_else_read, new_matrix_read, string_fits, private_fit}

@@ -3,7 +3,7 @@ use Rattle.std.proofs.Common.{◌≡◌, ℕ, zero, suc, ◌+◌, ◌^◌, ◌<�
 use Rattle.std.specs.Prelude.{Contains, slice_index_or}
 use Rattle.std.specs.List.{AllByRecursion, concat}
 use Rattle.subsetter_cffdata.specs.Dict.{dict}
-use Rattle.subsetter_cff.specs.Write.Layout.{FontDict, Parts, strings, top_lines, places, private_bytes, privates, font_dicts_from, privates_place, char_strings_place, font_dicts_of}
+use Rattle.subsetter_cff.specs.Write.Layout.{FontDict, Parts, strings, top_entries, places, private_bytes, privates, font_dicts_from, privates_place, char_strings_place, font_dicts_of}
 use Rattle.subsetter_cff.specs.Write.LimitFault.{written_indexes, private_places, written_offsets}
 use Rattle.subsetter_cff.proofs.WriteLaws.MadeOf.{Limits}
 use Rattle.subsetter_cff.proofs.WriteLaws.Places.{length-front}
@@ -33,6 +33,6 @@ font_dicts_small p lt = omega (arith, lt, index_holds (font_dicts_from (strings 
 
 pub indexes_small : (p : Parts) → Limits p → AllByRecursion (λ items. length (concat items) + 1 < 2 ^ 32) (written_indexes p)
 indexes_small p limits = (
-  omega (arith, limits.place, index_holds (dict (top_lines p (places p)) ∷ []), in_front p (places p), length-front p (places p)),
+  omega (arith, limits.place, index_holds (dict (top_entries p (places p)) ∷ []), in_front p (places p), length-front p (places p)),
   (omega (arith, limits.place, index_holds (strings p), in_front p (places p), length-front p (places p)), (font_dicts_small p limits.place, (limits.char_strings_size, tt))),
 )

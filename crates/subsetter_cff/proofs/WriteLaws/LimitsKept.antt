@@ -11,7 +11,7 @@ use Rattle.subsetter_cffdata.specs.Dict.{dict}
 use Rattle.subsetter_cffdata.specs.Index.{index}
 use Rattle.subsetter_cffdata.specs.Numbers.{Number, is_too_long}
 use Rattle.subsetter_cff.specs.declared.write.table.TableParts.{TableParts}
-use Rattle.subsetter_cff.specs.Write.Layout.{FontDict, Parts, Offsets, strings, front, nowhere, placed_lines, top_of, charset_bytes, select_bytes, privates, private_bytes, font_dicts_from, font_dicts_of, top_lines, char_strings_place}
+use Rattle.subsetter_cff.specs.Write.Layout.{FontDict, Parts, Offsets, strings, front, nowhere, placed_entries, top_of, charset_bytes, select_bytes, privates, private_bytes, font_dicts_from, font_dicts_of, top_entries, char_strings_place}
 use Rattle.subsetter_cff.specs.Write.FrontDraft.{named_bytes}
 use Rattle.subsetter_cff.specs.Write.PartsView.{font_dict_view, parts_view, top_by, front_by, select_of_table, HasCharStrings}
 use Rattle.subsetter_cff.specs.Read.Opened.{check}
@@ -222,9 +222,9 @@ index_there : (items : List (List ℕ)) → length items < 65536 → length (ind
 index_there items few small =
     rw (lt-ltb (length items) 65536 few, lt-ltb (length (concat items) + 1) (2 ^ 32) (omega (arith, index_holds items))) refl
 
-named_in_top : (p : Parts) (o : Offsets) → length (named_bytes (top_of p)) + 33 ≤ length (index (dict (top_lines p o) ∷ []))
+named_in_top : (p : Parts) (o : Offsets) → length (named_bytes (top_of p)) + 33 ≤ length (index (dict (top_entries p o) ∷ []))
 named_in_top p o =
-    omega (arith, ap length (top_split (top_of p) o), length-append (named_bytes (top_of p)) (dict (placed_lines o)), length-placed o, index_holds (dict (top_lines p o) ∷ []), length-append (dict (top_lines p o)) [])
+    omega (arith, ap length (top_split (top_of p) o), length-append (named_bytes (top_of p)) (dict (placed_entries o)), length-placed o, index_holds (dict (top_entries p o) ∷ []), length-append (dict (top_entries p o)) [])
 
 front_passes : (t : TableParts) (cs : List (List ℕ)) → length t.font_dicts.items ≤ 256 → Kept (parts_view t cs) → front_limits (strings (parts_view t cs)) t ≡ Ok tt
 unfolding front_limits numbers_limits

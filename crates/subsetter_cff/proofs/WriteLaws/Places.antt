@@ -6,9 +6,9 @@ use Rattle.std.proofs.lemmas.List.Concat.{flat_map-append}
 use Rattle.subsetter_cffdata.specs.Bytes.{StandsAt}
 use Rattle.subsetter_cffdata.specs.Index.{index, header as index_header, offset_size, numbers}
 use Rattle.subsetter_cffdata.specs.Numbers.{integer as written_integer}
-use Rattle.subsetter_cffdata.specs.Dict.{Line, line, dict}
+use Rattle.subsetter_cffdata.specs.Dict.{NewEntry, entry_bytes, dict}
 use Rattle.subsetter_cff.specs.Read.Operators.{copyright_operator, notice_operator, font_name_operator, font_matrix_operator, font_box_operator}
-use Rattle.subsetter_cff.specs.Write.Layout.{Parts, Offsets, strings, string_lines, plain_line, registry_line, placed_lines, top_lines, top_lines_by, front, nowhere, places, charset_of, privates, select_of, font_dicts_of, charset_place, privates_place, select_place, font_dicts_place, char_strings_place, cff_table}
+use Rattle.subsetter_cff.specs.Write.Layout.{Parts, Offsets, strings, string_entries, plain_entry, registry_entry, placed_entries, top_entries, top_entries_by, front, nowhere, places, charset_of, privates, select_of, font_dicts_of, charset_place, privates_place, select_place, font_dicts_place, char_strings_place, cff_table}
 
 -- ---- the length of the front doesn't depend on the places
 same_header : (d e : List ℕ) → length d ≡ length e → index_header (d ∷ []) ≡ index_header (e ∷ [])
@@ -23,26 +23,26 @@ unfolding index
 same_length d e h =
     omega (arith, ap length (same_header d e h), h, length-append (index_header (d ∷ [])) (d ++ []), length-append (index_header (e ∷ [])) (e ++ []), length-append d [], length-append e [])
 
-same_behind : (xs ys zs : List Line) → length (dict ys) ≡ length (dict zs) → length (dict (xs ++ ys)) ≡ length (dict (xs ++ zs))
+same_behind : (xs ys zs : List NewEntry) → length (dict ys) ≡ length (dict zs) → length (dict (xs ++ ys)) ≡ length (dict (xs ++ zs))
 same_behind xs ys zs e =
-    omega (arith, e, ap length (flat_map-append line xs ys), ap length (flat_map-append line xs zs), length-append (dict xs) (dict ys), length-append (dict xs) (dict zs))
+    omega (arith, e, ap length (flat_map-append entry_bytes xs ys), ap length (flat_map-append entry_bytes xs zs), length-append (dict xs) (dict ys), length-append (dict xs) (dict zs))
 
-pub length-placed : (o : Offsets) → length (dict (placed_lines o)) ≡ 33
+pub length-placed : (o : Offsets) → length (dict (placed_entries o)) ≡ 33
 unfolding written_integer
 length-placed o = refl
 
-length-top : (p : Parts) (o : Offsets) → length (dict (top_lines p o)) ≡ length (dict (top_lines p nowhere))
-unfolding top_lines_by
+length-top : (p : Parts) (o : Offsets) → length (dict (top_entries p o)) ≡ length (dict (top_entries p nowhere))
+unfolding top_entries_by
 length-top p o =
-    let t1 : Offsets → List Line = λ q. plain_line font_matrix_operator p.matrix ∷ plain_line font_box_operator p.box ∷ placed_lines q in
-    let t2 : Offsets → List Line = λ q. string_lines (strings p) font_name_operator p.font_name ++ t1 q in
-    let t3 : Offsets → List Line = λ q. string_lines (strings p) notice_operator p.notice ++ t2 q in
-    let t4 : Offsets → List Line = λ q. string_lines (strings p) copyright_operator p.copyright ++ t3 q in
-    same_behind (registry_line ∷ []) (t4 o) (t4 nowhere)
-    (same_behind (string_lines (strings p) copyright_operator p.copyright) (t3 o) (t3 nowhere)
-    (same_behind (string_lines (strings p) notice_operator p.notice) (t2 o) (t2 nowhere)
-    (same_behind (string_lines (strings p) font_name_operator p.font_name) (t1 o) (t1 nowhere)
-    (same_behind (plain_line font_matrix_operator p.matrix ∷ plain_line font_box_operator p.box ∷ []) (placed_lines o) (placed_lines nowhere) (length-placed o ∙ sym (length-placed nowhere))))))
+    let t1 : Offsets → List NewEntry = λ q. plain_entry font_matrix_operator p.matrix ∷ plain_entry font_box_operator p.box ∷ placed_entries q in
+    let t2 : Offsets → List NewEntry = λ q. string_entries (strings p) font_name_operator p.font_name ++ t1 q in
+    let t3 : Offsets → List NewEntry = λ q. string_entries (strings p) notice_operator p.notice ++ t2 q in
+    let t4 : Offsets → List NewEntry = λ q. string_entries (strings p) copyright_operator p.copyright ++ t3 q in
+    same_behind (registry_entry ∷ []) (t4 o) (t4 nowhere)
+    (same_behind (string_entries (strings p) copyright_operator p.copyright) (t3 o) (t3 nowhere)
+    (same_behind (string_entries (strings p) notice_operator p.notice) (t2 o) (t2 nowhere)
+    (same_behind (string_entries (strings p) font_name_operator p.font_name) (t1 o) (t1 nowhere)
+    (same_behind (plain_entry font_matrix_operator p.matrix ∷ plain_entry font_box_operator p.box ∷ []) (placed_entries o) (placed_entries nowhere) (length-placed o ∙ sym (length-placed nowhere))))))
 
 between : (a x y b : List ℕ) → length x ≡ length y → length (a ++ (x ++ b)) ≡ length (a ++ (y ++ b))
 between a x y b h = omega (arith, h, length-append a (x ++ b), length-append a (y ++ b), length-append x b, length-append y b)
@@ -50,8 +50,8 @@ between a x y b h = omega (arith, h, length-append a (x ++ b), length-append a (
 pub length-front : (p : Parts) (o : Offsets) → length (front p o) ≡ length (front p nowhere)
 unfolding front
 length-front p o =
-    let top = same_length (dict (top_lines p o)) (dict (top_lines p nowhere)) (length-top p o) in
-    ap (λ (n : ℕ). suc (suc (suc (suc n)))) (between p.names (index (dict (top_lines p o) ∷ [])) (index (dict (top_lines p nowhere) ∷ [])) (index (strings p) ++ index []) top)
+    let top = same_length (dict (top_entries p o)) (dict (top_entries p nowhere)) (length-top p o) in
+    ap (λ (n : ℕ). suc (suc (suc (suc n)))) (between p.names (index (dict (top_entries p o) ∷ [])) (index (dict (top_entries p nowhere) ∷ [])) (index (strings p) ++ index []) top)
 
 -- ---- the parts
 stands_behind : (table before piece after : List ℕ) (n : ℕ) → table ≡ before ++ (piece ++ after) → n ≡ length before → StandsAt table n piece

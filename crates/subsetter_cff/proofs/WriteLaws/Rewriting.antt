@@ -12,12 +12,12 @@ use Rattle.subsetter_base.specs.declared.error.Error.{Error}
 use Rattle.subsetter_base.specs.declared.error.Error.TheVariants.{OverflowError}
 use Rattle.subsetter_cffdata.specs.declared.number.Number.{Number as StoredNumber}
 use Rattle.subsetter_cffdata.specs.Numbers.{Number, number, is_too_long}
-use Rattle.subsetter_cffdata.specs.Dict.{Entry, Plain, operand, line, dict, entry_at, entries, kept, operand_limit}
+use Rattle.subsetter_cffdata.specs.Dict.{Entry, Plain, operand, entry_bytes, dict, entry_at, entries, kept, operand_limit}
 use Rattle.subsetter_cffdata.specs.Operands.{operands_at}
 use Rattle.subsetter_cffdata.specs.Tokens.{operator_part}
 use Rattle.subsetter_cffdata.specs.Views.{number_of}
 use Rattle.subsetter_cffdata.proofs.Entries.{entries_step, entry_shorter}
-use Rattle.subsetter_cff.specs.Write.Layout.{plain_line, private_lines}
+use Rattle.subsetter_cff.specs.Write.Layout.{plain_entry, rewritten_entries}
 use Rattle.subsetter_cff.specs.Read.Lookup.{without}
 use Rattle.subsetter_cff.specs.Read.Operators.{subroutines_operator}
 use Rattle.subsetter_cff.specs.Write.Rewritten.{is_refused, behind, written_entries, written_entry, written_if_there}
@@ -31,34 +31,6 @@ pub refusal_is : (xs : List StoredNumber) → first_refusal (λ x. cond (is_too_
 refusal_is [] = refl
 refusal_is (x ∷ xs) = refused_or (is_too_long (number_of x)) (list_any is_too_long (map number_of xs)) _ (refusal_is xs)
 
-operands_are : (xs : List StoredNumber) → flat_map (λ x. number (number_of x)) xs ≡ flat_map operand (map Plain (map number_of xs))
-operands_are [] = refl
-operands_are (x ∷ xs) = ap (λ (l : List ℕ). number (number_of x) ++ l) (operands_are xs)
-
-abbrev none : Option Error
-none = None
-
-not_refused : (b : Bool) → cond b (Some OverflowError) none ≡ none → b ≡ false
-not_refused true e = absurd (none-some OverflowError (sym e))
-not_refused false e = refl
-
-pub entry_written : (front mid new operator : List ℕ) (xs : List StoredNumber) → first_refusal (λ x. cond (is_too_long (number_of x)) (Some OverflowError) None) xs ≡ None
-    → mid ≡ front ++ flat_map (λ x. number (number_of x)) xs → new ≡ mid ++ operator → behind front (written_entry operator (map number_of xs)) ≡ Ok new
-unfolding written_entry
-entry_written front mid new operator xs accepted m n =
-    rw (not_refused (list_any is_too_long (map number_of xs)) (sym (refusal_is xs) ∙ accepted))
-    (ap (λ (l : List ℕ). Ok l) (ap (λ (l : List ℕ). front ++ (l ++ operator)) (sym (operands_are xs)) ∙ sym (append_assoc front (flat_map (λ x. number (number_of x)) xs) operator) ∙ ap (λ (l : List ℕ). l ++ operator) (sym m) ∙ sym n))
-
-by_refusal : (b : Bool) (front operator : List ℕ) (xs : List Number) (e : Error) → list_any is_too_long xs ≡ b → IsOutOfMemoryOr (cond b (Some OverflowError) None) e → Fails e (behind front (written_entry operator xs))
-unfolding written_entry
-by_refusal false front operator xs e is h = rw h tt
-by_refusal true front operator xs e is (inl h) = rw h tt
-by_refusal true front operator xs e is (inr h) = rw (h, is) refl
-
-pub entry_refused : (front operator : List ℕ) (xs : List StoredNumber) (e : Error) → IsOutOfMemoryOr (first_refusal (λ x. cond (is_too_long (number_of x)) (Some OverflowError) None) xs) e
-    → Fails e (behind front (written_entry operator (map number_of xs)))
-entry_refused front operator xs e h = by_refusal (list_any is_too_long (map number_of xs)) front operator (map number_of xs) e refl (rw refusal_is at h)
-
 -- ---- an entry in front of others
 in_front : (b c : Bool) (front here more : List ℕ) → behind front (cond (b || c) (Err OverflowError) (Ok (here ++ more)))
     ≡ (behind front (cond b (Err OverflowError) (Ok here)) >>= λ new. behind new (cond c (Err OverflowError) (Ok more)))
@@ -68,7 +40,7 @@ in_front false false front here more = ap (λ (l : List ℕ). Ok l) (sym (append
 
 pub entry_in_front : (front : List ℕ) (e : Entry) (es : List Entry) → behind front (written_entries (e ∷ es)) ≡ (behind front (written_entry e.operator e.operands) >>= λ new. behind new (written_entries es))
 unfolding written_entries written_entry
-entry_in_front front e es = in_front (is_refused e) (list_any is_refused es) front (line (plain_line e.operator e.operands)) (dict (private_lines es))
+entry_in_front front e es = in_front (is_refused e) (list_any is_refused es) front (entry_bytes (plain_entry e.operator e.operands)) (dict (rewritten_entries es))
 
 pub no_entries : (front : List ℕ) → behind front (written_entries []) ≡ Ok front
 unfolding written_entries

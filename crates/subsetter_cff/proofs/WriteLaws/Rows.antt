@@ -15,7 +15,7 @@ use Rattle.subsetter_cff.specs.Read.FontDicts.{Ranges, Each, in_ranges, selected
 use Rattle.subsetter_cff.specs.Read.Private.{local_subroutines, private_in, private_at, private_of}
 use Rattle.subsetter_cff.specs.Read.Matrices.{thousandth_matrix, unit_matrix, stated_matrices}
 use Rattle.subsetter_cff.specs.Read.Operators.{notice_operator, font_matrix_operator}
-use Rattle.subsetter_cff.specs.Write.Layout.{Parts, First, strings, charset_bytes, select_bytes, private_bytes, font_dict_lines_by, top_lines_by, front, font_dicts_of as written_font_dicts, cff_table}
+use Rattle.subsetter_cff.specs.Write.Layout.{Parts, First, strings, charset_bytes, select_bytes, private_bytes, entries_of_font_dict_by, top_entries_by, front, font_dicts_of as written_font_dicts, cff_table}
 
 -- one glyph, no strings of its own, an empty private dict
 abbrev smallest : Parts
@@ -36,7 +36,7 @@ smallest_bytes =
     1 ∷ 0 ∷ 4 ∷ 4 ∷ 0 ∷ 1 ∷ 1 ∷ 1 ∷ 2 ∷ 0x41 ∷ 0 ∷ 1 ∷ 1 ∷ 1 ∷ 0x3C ∷ 0xF8 ∷ 0x1B ∷ 0xF8 ∷ 0x1C ∷ 0x8B ∷ 0x0C ∷ 0x1E ∷ 0x1E ∷ 0x0A ∷ 0 ∷ 0x1F ∷ 0x8B ∷ 0x8B ∷ 0x1E ∷ 0x0A ∷ 0 ∷ 0x1F ∷ 0x8B ∷ 0x8B ∷ 0x0C ∷ 7 ∷ 0x8B ∷ 0x8B ∷ 0x8B ∷ 0x8B ∷ 5 ∷ 0x1D ∷ 0 ∷ 0 ∷ 0 ∷ 0x5F ∷ 0x0F ∷ 0x1D ∷ 0 ∷ 0 ∷ 0 ∷ 0x80 ∷ 0x11 ∷ 0x1D ∷ 0 ∷ 0 ∷ 0xFF ∷ 0xFF ∷ 0x0C ∷ 0x22 ∷ 0x1D ∷ 0 ∷ 0 ∷ 0 ∷ 0x68 ∷ 0x0C ∷ 0x24 ∷ 0x1D ∷ 0 ∷ 0 ∷ 0 ∷ 0x60 ∷ 0x0C ∷ 0x25 ∷ 0 ∷ 2 ∷ 1 ∷ 1 ∷ 6 ∷ 0x0E ∷ 0x41 ∷ 0x64 ∷ 0x6F ∷ 0x62 ∷ 0x65 ∷ 0x49 ∷ 0x64 ∷ 0x65 ∷ 0x6E ∷ 0x74 ∷ 0x69 ∷ 0x74 ∷ 0x79 ∷ 0 ∷ 0 ∷ 0 ∷ 3 ∷ 0 ∷ 1 ∷ 0 ∷ 0 ∷ 0 ∷ 0 ∷ 1 ∷ 0 ∷ 1 ∷ 1 ∷ 1 ∷ 0x14 ∷ 0x8C ∷ 0x8B ∷ 0x8B ∷ 0x8C ∷ 0x8B ∷ 0x8B ∷ 0x0C ∷ 7 ∷ 0x1D ∷ 0 ∷ 0 ∷ 0 ∷ 0 ∷ 0x1D ∷ 0 ∷ 0 ∷ 0 ∷ 0x60 ∷ 0x12 ∷ 0 ∷ 1 ∷ 1 ∷ 1 ∷ 2 ∷ 0x0E ∷ []
 
 laid_out : cff_table smallest ≡ smallest_bytes
-unfolding cff_table front top_lines_by strings charset_bytes select_bytes private_bytes font_dict_lines_by written_font_dicts index header integer real_text decimal_digits
+unfolding cff_table front top_entries_by strings charset_bytes select_bytes private_bytes entries_of_font_dict_by written_font_dicts index header integer real_text decimal_digits
 laid_out = refl
 
 -- a SID-keyed source: 27 bytes, CharStrings at 21

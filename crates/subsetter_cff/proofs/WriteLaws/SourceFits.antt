@@ -12,18 +12,18 @@ use Rattle.std.proofs.lemmas.Option.{none-some, same_Some}
 use Rattle.subsetter_cffdata.specs.Decimals.{Decimal, real_text, text_limit}
 use Rattle.subsetter_cffdata.specs.Numbers.{Number, Integer, Real, Fixed, FitsDict, is_too_long, in_i32}
 use Rattle.subsetter_cffdata.specs.Values.{value, thousandfold, held, thousand, by_1000}
-use Rattle.subsetter_cffdata.specs.Dict.{Entry, FitsLine}
+use Rattle.subsetter_cffdata.specs.Dict.{Entry, FitsNewEntry}
 use Rattle.subsetter_cffdata.proofs.PlainDigits.{digits_are_all}
 use Rattle.subsetter_cff.specs.Read.Strings.{FontString, Custom, standard_strings, string_of, string_by}
 use Rattle.subsetter_cff.specs.Read.Matrices.{thousandth, thousandth_matrix, unit_matrix, zero_box}
-use Rattle.subsetter_cff.specs.Write.Layout.{private_lines}
+use Rattle.subsetter_cff.specs.Write.Layout.{rewritten_entries}
 use Rattle.subsetter_cff.specs.Write.Fits.{FitNumbers, FitsString}
 use Rattle.subsetter_cff.specs.Write.Made.{new_matrix}
 use Rattle.subsetter_cff.specs.Write.WrittenNumbers.{any_long, entry_numbers}
 use Rattle.subsetter_cffdata.specs.Operands.{string_operand}
 use Rattle.subsetter_cff.proofs.WriteLaws.Keeping.{in_i32_is}
 use Rattle.subsetter_cff.proofs.WriteLaws.Sizes.{plain_fits}
-use Rattle.subsetter_cff.proofs.ReadLaws.Locals.{step}
+use Rattle.subsetter_cffdata.proofs.Options.{step}
 use Rattle.subsetter_cff.proofs.ReadLaws.Plains.{PlainDecimal, text_fits, decimal_plain, thousandfold_plain}
 use Rattle.subsetter_cff.proofs.ReadLaws.ReadNumbers.{IsWritable, all_writable}
 use Rattle.subsetter_cff.proofs.ReadLaws.SourceBytes.{Fitting, AreWritable}
@@ -150,7 +150,7 @@ string_fits ss None t e = subst FitsString (same_Some _ _ e) tt
 string_fits ss (Some xs) t e = named ss (string_operand xs) t e
 
 -- ---- entries
-pub private_fit : (es : List Entry) → Fitting es → any_long (entry_numbers es) ≡ false → AllByRecursion FitsLine (private_lines es)
+pub private_fit : (es : List Entry) → Fitting es → any_long (entry_numbers es) ≡ false → AllByRecursion FitsNewEntry (rewritten_entries es)
 private_fit [] all e = tt
 private_fit (x ∷ es) all e = (
   plain_fits x.operator x.operands all.0.operator (numbers_fit x.operands (record { each = all_writable x.operands all.0.operands; few = all.0.few }) (short_front x.operands (entry_numbers es) e)),

@@ -9,7 +9,7 @@ use Rattle.subsetter_cff.specs.Read.FontDicts.{font_dict_number, font_dict_of}
 use Rattle.subsetter_cff.specs.Read.Private.{Private, private_at, private_of}
 use Rattle.subsetter_cff.specs.Write.LimitFault.{dict_number, dict_numbers}
 use Rattle.subsetter_cff.specs.Write.Plain.{with_number, KeptGlyph, kept_glyph, kept_glyphs, used_numbers}
-use Rattle.subsetter_cff.proofs.ReadLaws.Locals.{step}
+use Rattle.subsetter_cffdata.proofs.Options.{step}
 use Rattle.subsetter_cff.proofs.ReadLaws.Results.{same_Ok}
 use Rattle.subsetter_cff.proofs.ReadLaws.Refusals.{here, there}
 use Rattle.subsetter_cff.proofs.WriteLaws.KeptSteps.{kept_steps, glyph_steps}

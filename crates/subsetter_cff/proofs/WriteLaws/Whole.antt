@@ -18,7 +18,7 @@ use Rattle.subsetter_cff.specs.Read.Private.{private_at, private_of}
 use Rattle.subsetter_cff.specs.Read.Matrices.{own_matrix as own_matrix_of, stated_matrices, font_dict_name}
 use Rattle.subsetter_cff.specs.Read.Keying.{keying_by, keying}
 use Rattle.subsetter_cff.specs.Read.Operators.{charset_operator, char_strings_operator, font_dicts_operator, font_dict_select_operator}
-use Rattle.subsetter_cff.specs.Write.Layout.{FontDict, Select, First, Numbers, Parts, given_strings, strings, integer, private_bytes, privates, font_dict_lines, font_dicts_from, font_dicts_of, select_of, places, charset_place, privates_place, select_place, font_dicts_place, char_strings_place, cff_table}
+use Rattle.subsetter_cff.specs.Write.Layout.{FontDict, Select, First, Numbers, Parts, given_strings, strings, integer, private_bytes, privates, entries_of_font_dict, font_dicts_from, font_dicts_of, select_of, places, charset_place, privates_place, select_place, font_dicts_place, char_strings_place, cff_table}
 use Rattle.subsetter_cff.specs.Write.Fits.{Fits, FitsString, FitsFontDict, FitsSelect}
 use Rattle.subsetter_cff.specs.Write.ReadsAs.{IsForEach, number_in, font_dict_in, adobe_identity, GlyphReadsAs, ReadsAs, LaidOutIsRead}
 use Rattle.subsetter_cff.proofs.WriteLaws.Strings.{IsNamed, stay_first, get_at, copyright_named, notice_named, font_name_named, font_dict_named, string_operand_is, string_again, custom_again}
@@ -131,13 +131,13 @@ module _ (p : Parts) (fits : Fits p) (glyph : ℕ) (lt : glyph < length p.char_s
   private_length : length own.front + length (private_bytes f) ≤ length (privates p.font_dicts)
   private_length = omega (arith, ap length own.is, length-append own.front (private_bytes f ++ own.back), length-append (private_bytes f) own.back)
 
-  lines_again : entries (dict (font_dict_lines (strings p) (privates_place p + length own.front) f)) ≡ font_dict_entries (strings p) (privates_place p + length own.front) f
-  lines_again = dict_again (font_dict_lines (strings p) (privates_place p + length own.front) f)
+  all_entries_again : entries (dict (entries_of_font_dict (strings p) (privates_place p + length own.front) f)) ≡ font_dict_entries (strings p) (privates_place p + length own.front) f
+  all_entries_again = dict_again (entries_of_font_dict (strings p) (privates_place p + length own.front) f)
       (font_dict_fits (strings p) (privates_place p + length own.front) f own_fits fits.string_count (omega (arith, fits.place, private_length)) (omega (arith, fits.place, private_length)))
 
   dict_read : font_dict_of (laid_out p) glyph ≡ Some (font_dict_entries (strings p) (privates_place p + length own.front) f)
   unfolding font_dict_of
-  dict_read = rw (number_read p fits glyph lt, dicts_read p fits, slice_get-map entries (font_dicts_from (strings p) (privates_place p) p.font_dicts) (number_in p.select glyph), own.dict_is) (ap Some lines_again)
+  dict_read = rw (number_read p fits glyph lt, dicts_read p fits, slice_get-map entries (font_dicts_from (strings p) (privates_place p) p.font_dicts) (number_in p.select glyph), own.dict_is) (ap Some all_entries_again)
 
   keyed : is_cid_keyed (laid_out p) ≡ true
   keyed = rw (registry_is p (places p)) refl

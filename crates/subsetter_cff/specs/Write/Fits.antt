@@ -3,12 +3,12 @@ use Rattle.std.specs.Prelude.{◌≡◌, ℕ, ◌+◌, ◌<◌, ◌≤◌, ◌^�
 use Rattle.std.specs.List.{concat, AllByRecursion}
 use Rattle.subsetter_cffdata.specs.Bytes.{ReadAgain}
 use Rattle.subsetter_cffdata.specs.Index.{index_at}
-use Rattle.subsetter_cffdata.specs.Dict.{FitsLine, operand_limit}
+use Rattle.subsetter_cffdata.specs.Dict.{FitsNewEntry, operand_limit}
 use Rattle.subsetter_cffdata.specs.Numbers.{Number, FitsDict}
 use Rattle.subsetter_cff.specs.Read.Lookup.{first_of}
 use Rattle.subsetter_cff.specs.Read.Operators.{subroutines_operator}
 use Rattle.subsetter_cff.specs.Read.Strings.{FontString, Standard, Custom, standard_strings}
-use Rattle.subsetter_cff.specs.Write.Layout.{FontDict, Select, First, Numbers, Parts, private_lines, strings, char_strings_place}
+use Rattle.subsetter_cff.specs.Write.Layout.{FontDict, Select, First, Numbers, Parts, rewritten_entries, strings, char_strings_place}
 
 -- a standard string is one of 391
 abbrev pub FitsString : Option FontString → Type 0
@@ -16,14 +16,14 @@ FitsString (Some (Standard n)) = n < standard_strings
 FitsString (Some (Custom s)) = Unit {0}
 FitsString None = Unit {0}
 
--- numbers that a line of a dict holds
+-- numbers that an entry of a dict holds
 pub record FitNumbers (xs : List Number) : Type 0 where
   pub each : AllByRecursion FitsDict xs
   pub few : length xs ≤ operand_limit
 
 pub record FitsFontDict (f : FontDict) : Type 0 where
   pub matrix : FitNumbers f.matrix
-  pub private : AllByRecursion FitsLine (private_lines f.private)
+  pub private : AllByRecursion FitsNewEntry (rewritten_entries f.private)
   pub no_subroutines : first_of subroutines_operator f.private ≡ None
   pub name : FitsString f.name
 

@@ -1,22 +1,22 @@
 -- The front of a new table before the places of its parts are known.
 use Rattle.std.specs.Prelude.{◌≡◌, ℕ, ◌+◌, ◌<◌, ◌^◌, List, [], ◌∷◌, ◌++◌, length}
-use Rattle.subsetter_cffdata.specs.Dict.{Line, dict}
+use Rattle.subsetter_cffdata.specs.Dict.{NewEntry, dict}
 use Rattle.subsetter_cffdata.specs.Index.{index}
 use Rattle.subsetter_cff.specs.declared.write.front.FrontDraft.{FrontDraft}
 use Rattle.subsetter_cff.specs.declared.write.table.TableParts.{TableParts}
-use Rattle.subsetter_cff.specs.Write.Layout.{Offsets, TopDict, header, registry_line, number_lines, plain_line, placed_lines}
+use Rattle.subsetter_cff.specs.Write.Layout.{Offsets, TopDict, header, registry_entry, number_entries, plain_entry, placed_entries}
 use Rattle.subsetter_cff.specs.Write.PartsView.{top_by}
 use Rattle.subsetter_cff.specs.Read.Operators.{copyright_operator, notice_operator, font_name_operator, font_matrix_operator, font_box_operator}
 use Rattle.subsetter_cff.specs.Write.TableBy.{front_size}
 
--- the lines of a top dict that name no place; those that do stand behind them
-abbrev pub named_lines : TopDict → List Line
-named_lines t =
-    registry_line ∷ (number_lines copyright_operator t.copyright ++ (number_lines notice_operator t.notice
-    ++ (number_lines font_name_operator t.font_name ++ (plain_line font_matrix_operator t.matrix ∷ plain_line font_box_operator t.box ∷ []))))
+-- the entries of a top dict that name no place; those that do stand behind them
+abbrev pub named_entries : TopDict → List NewEntry
+named_entries t =
+    registry_entry ∷ (number_entries copyright_operator t.copyright ++ (number_entries notice_operator t.notice
+    ++ (number_entries font_name_operator t.font_name ++ (plain_entry font_matrix_operator t.matrix ∷ plain_entry font_box_operator t.box ∷ []))))
 
 unfoldable pub named_bytes : TopDict → List ℕ
-named_bytes t = dict (named_lines t)
+named_bytes t = dict (named_entries t)
 
 -- the strings and no global subroutines
 abbrev pub tail_by : List (List ℕ) → List ℕ
@@ -32,4 +32,4 @@ pub record IsDraft (texts : List (List ℕ)) (t : TableParts) (d : FrontDraft) :
 
 -- with these names and these places
 abbrev pub front_of_draft : List ℕ → List ℕ → List ℕ → Offsets → List ℕ
-front_of_draft names named tail o = header ++ (names ++ (index ((named ++ dict (placed_lines o)) ∷ []) ++ tail))
+front_of_draft names named tail o = header ++ (names ++ (index ((named ++ dict (placed_entries o)) ∷ []) ++ tail))

@@ -8,7 +8,7 @@ use Rattle.std.specs.Option.{option_map}
 use Rattle.std.specs.Str.{bytes_eq}
 use Rattle.subsetter_base.specs.Remap.{with_value, place_by}
 use Rattle.subsetter_cffdata.specs.Index.{index}
-use Rattle.subsetter_cffdata.specs.Dict.{Plain, Long, Line, dict, Entry}
+use Rattle.subsetter_cffdata.specs.Dict.{Plain, Long, NewEntry, dict, Entry}
 use Rattle.subsetter_cffdata.specs.Numbers.{Number, Integer}
 use Rattle.subsetter_cff.specs.Read.Operators.{notice_operator, font_box_operator, charset_operator, char_strings_operator, private_operator, copyright_operator, font_matrix_operator, registry_operator, cid_count_operator, font_dicts_operator, font_dict_select_operator, font_name_operator}
 use Rattle.subsetter_cff.specs.Read.Strings.{FontString, Standard, Custom, standard_strings}
@@ -65,27 +65,27 @@ abbrev pub number_of : List (List ℕ) → FontString → ℕ
 number_of strings (Standard n) = n
 number_of strings (Custom s) = standard_strings + unwrap_or (place_by bytes_eq strings s) 0
 
--- ---- lines of dicts: operands and an operator (section 4 "DICT Data")
+-- ---- entries of dicts: operands and an operator (section 4 "DICT Data")
 abbrev pub integer : ℕ → Number
 integer n = Integer (pos n)
 
-abbrev pub plain_line : List ℕ → List Number → Line
-plain_line operator xs = record { operator = operator; operands = map Plain xs }
+abbrev pub plain_entry : List ℕ → List Number → NewEntry
+plain_entry operator xs = record { operator = operator; operands = map Plain xs }
 
-abbrev pub number_lines : List ℕ → Option ℕ → List Line
-number_lines operator None = []
-number_lines operator (Some n) = plain_line operator (integer n ∷ []) ∷ []
+abbrev pub number_entries : List ℕ → Option ℕ → List NewEntry
+number_entries operator None = []
+number_entries operator (Some n) = plain_entry operator (integer n ∷ []) ∷ []
 
-abbrev pub string_lines : List (List ℕ) → List ℕ → Option FontString → List Line
-string_lines strings operator o = number_lines operator (option_map (number_of strings) o)
+abbrev pub string_entries : List (List ℕ) → List ℕ → Option FontString → List NewEntry
+string_entries strings operator o = number_entries operator (option_map (number_of strings) o)
 
 -- an offset is always written in five bytes
-abbrev pub offset_line : List ℕ → ℕ → Line
-offset_line operator place = record { operator = operator; operands = Long place ∷ [] }
+abbrev pub offset_entry : List ℕ → ℕ → NewEntry
+offset_entry operator place = record { operator = operator; operands = Long place ∷ [] }
 
 -- registry, ordering and supplement: Adobe, Identity, 0, the first two strings
-abbrev pub registry_line : Line
-registry_line = plain_line registry_operator (integer 391 ∷ integer 392 ∷ integer 0 ∷ [])
+abbrev pub registry_entry : NewEntry
+registry_entry = plain_entry registry_operator (integer 391 ∷ integer 392 ∷ integer 0 ∷ [])
 
 -- ---- the parts behind the top dict, as bytes
 -- Glyph 0 isn't in the charset. The others have their own number as CID, in one range of format 2 (section 13 "Charsets").
@@ -98,29 +98,29 @@ select_bytes glyphs First = 3 ∷ (to_be_bytes w16 1 ++ (to_be_bytes w16 0 ++ (0
 select_bytes glyphs (Numbers numbers) = 0 ∷ numbers
 
 -- the entries of a private dict, as they are (section 15 "Private DICT Data")
-abbrev pub private_lines : List Entry → List Line
-private_lines es = map (λ (e : Entry). plain_line e.operator e.operands) es
+abbrev pub rewritten_entries : List Entry → List NewEntry
+rewritten_entries es = map (λ (e : Entry). plain_entry e.operator e.operands) es
 
 unfoldable pub private_bytes : FontDict → List ℕ
-private_bytes f = dict (private_lines f.private)
+private_bytes f = dict (rewritten_entries f.private)
 
 abbrev pub privates : List FontDict → List ℕ
 privates fs = flat_map private_bytes fs
 
-abbrev pub private_line : ℕ → ℕ → Line
-private_line size place = record { operator = private_operator; operands = Long size ∷ Long place ∷ [] }
+abbrev pub private_entry : ℕ → ℕ → NewEntry
+private_entry size place = record { operator = private_operator; operands = Long size ∷ Long place ∷ [] }
 
 -- a font dict with the number of its name, whose private dict of a size stands at a place (section 18 "CID-keyed Fonts")
-unfoldable pub font_dict_lines_by : List Number → ℕ → ℕ → Option ℕ → List Line
-font_dict_lines_by matrix size place name = plain_line font_matrix_operator matrix ∷ private_line size place ∷ number_lines font_name_operator name
+unfoldable pub entries_of_font_dict_by : List Number → ℕ → ℕ → Option ℕ → List NewEntry
+entries_of_font_dict_by matrix size place name = plain_entry font_matrix_operator matrix ∷ private_entry size place ∷ number_entries font_name_operator name
 
-abbrev pub font_dict_lines : List (List ℕ) → ℕ → FontDict → List Line
-font_dict_lines strings place f = font_dict_lines_by f.matrix (length (private_bytes f)) place (option_map (number_of strings) f.name)
+abbrev pub entries_of_font_dict : List (List ℕ) → ℕ → FontDict → List NewEntry
+entries_of_font_dict strings place f = entries_of_font_dict_by f.matrix (length (private_bytes f)) place (option_map (number_of strings) f.name)
 
 -- font dicts whose private dicts stand one behind the other from a place on
 abbrev pub font_dicts_from : List (List ℕ) → ℕ → List FontDict → List (List ℕ)
 font_dicts_from strings place [] = []
-font_dicts_from strings place (f ∷ fs) = dict (font_dict_lines strings place f) ∷ font_dicts_from strings (place + length (private_bytes f)) fs
+font_dicts_from strings place (f ∷ fs) = dict (entries_of_font_dict strings place f) ∷ font_dicts_from strings (place + length (private_bytes f)) fs
 
 -- ---- the whole
 -- where the parts stand that the top dict names
@@ -130,10 +130,10 @@ pub record Offsets : Type 0 where
   pub font_dicts : ℕ
   pub select : ℕ
 
-abbrev pub placed_lines : Offsets → List Line
-placed_lines o =
-    offset_line charset_operator o.charset ∷ offset_line char_strings_operator o.char_strings ∷ plain_line cid_count_operator (integer 65535 ∷ [])
-    ∷ offset_line font_dicts_operator o.font_dicts ∷ offset_line font_dict_select_operator o.select ∷ []
+abbrev pub placed_entries : Offsets → List NewEntry
+placed_entries o =
+    offset_entry charset_operator o.charset ∷ offset_entry char_strings_operator o.char_strings ∷ plain_entry cid_count_operator (integer 65535 ∷ [])
+    ∷ offset_entry font_dicts_operator o.font_dicts ∷ offset_entry font_dict_select_operator o.select ∷ []
 
 -- what the top dict says: numbers of strings, matrix and box (section 9 "Top DICT Data")
 pub record TopDict : Type 0 where
@@ -143,10 +143,10 @@ pub record TopDict : Type 0 where
   pub matrix : List Number
   pub box : List Number
 
-unfoldable pub top_lines_by : TopDict → Offsets → List Line
-top_lines_by t o =
-    registry_line ∷ (number_lines copyright_operator t.copyright ++ (number_lines notice_operator t.notice
-    ++ (number_lines font_name_operator t.font_name ++ (plain_line font_matrix_operator t.matrix ∷ plain_line font_box_operator t.box ∷ placed_lines o))))
+unfoldable pub top_entries_by : TopDict → Offsets → List NewEntry
+top_entries_by t o =
+    registry_entry ∷ (number_entries copyright_operator t.copyright ++ (number_entries notice_operator t.notice
+    ++ (number_entries font_name_operator t.font_name ++ (plain_entry font_matrix_operator t.matrix ∷ plain_entry font_box_operator t.box ∷ placed_entries o))))
 
 abbrev pub top_of : Parts → TopDict
 top_of p = record {
@@ -157,8 +157,8 @@ top_of p = record {
   box = p.box;
 }
 
-abbrev pub top_lines : Parts → Offsets → List Line
-top_lines p o = top_lines_by (top_of p) o
+abbrev pub top_entries : Parts → Offsets → List NewEntry
+top_entries p o = top_entries_by (top_of p) o
 
 -- version 1.0, a header of four bytes, offsets of four bytes (section 6 "Header")
 abbrev pub header : List ℕ
@@ -166,7 +166,7 @@ header = 1 ∷ 0 ∷ 4 ∷ 4 ∷ []
 
 -- up to the charset: the Global Subr INDEX is empty
 unfoldable pub front : Parts → Offsets → List ℕ
-front p o = header ++ (p.names ++ (index (dict (top_lines p o) ∷ []) ++ (index (strings p) ++ index [])))
+front p o = header ++ (p.names ++ (index (dict (top_entries p o) ∷ []) ++ (index (strings p) ++ index [])))
 
 abbrev pub charset_of : Parts → List ℕ
 charset_of p = charset_bytes (length p.char_strings)

@@ -12,7 +12,7 @@ use Rattle.subsetter_cff.specs.Read.FontDicts.{font_dict_number, font_dict_of}
 use Rattle.subsetter_cff.specs.Read.Private.{private_entries}
 use Rattle.subsetter_cff.specs.Read.Matrices.{own_matrix}
 use Rattle.subsetter_cff.specs.Read.Operators.{font_matrix_operator, font_box_operator}
-use Rattle.subsetter_cff.specs.Write.Layout.{FontDict, Parts, strings, private_bytes, top_lines, places, font_dicts_from, charset_place, privates_place, select_place, font_dicts_place, char_strings_place}
+use Rattle.subsetter_cff.specs.Write.Layout.{FontDict, Parts, strings, private_bytes, top_entries, places, font_dicts_from, charset_place, privates_place, select_place, font_dicts_place, char_strings_place}
 use Rattle.subsetter_cff.specs.Write.Made.{new_matrix}
 use Rattle.subsetter_cff.specs.Write.WrittenNumbers.{any_long, entry_numbers}
 use Rattle.subsetter_cff.specs.Write.Plain.{with_number, KeptGlyph, kept_glyphs, parts_for}
@@ -38,7 +38,7 @@ pub record IsLaidOut (cff : Cff) (tokens depth : ℕ) (glyphs : List ℕ) (p : P
 
 -- the INDEX structures that are written: top dict, strings, font dicts, charstrings
 abbrev pub written_indexes : Parts → List (List (List ℕ))
-written_indexes p = (dict (top_lines p (places p)) ∷ []) ∷ strings p ∷ font_dicts_from (strings p) (privates_place p) p.font_dicts ∷ p.char_strings ∷ []
+written_indexes p = (dict (top_entries p (places p)) ∷ []) ∷ strings p ∷ font_dicts_from (strings p) (privates_place p) p.font_dicts ∷ p.char_strings ∷ []
 
 -- the lengths and offsets of private dicts that stand one behind the other from a place on
 abbrev pub private_places : ℕ → List FontDict → List ℕ

@@ -9,7 +9,7 @@ use Rattle.subsetter_cffdata.specs.Views.{number_of}
 use Rattle.subsetter_cff.specs.declared.write.table.FontDictParts.{FontDictParts}
 use Rattle.subsetter_cff.specs.declared.write.table.TableParts.{TableParts}
 use Rattle.subsetter_cff.specs.declared.read.string_names.StringName.{StringName}
-use Rattle.subsetter_cff.specs.Write.Layout.{FontDict, Select, First, Numbers, Parts, Offsets, TopDict, custom_string, header, top_lines_by, number_of as number_in}
+use Rattle.subsetter_cff.specs.Write.Layout.{FontDict, Select, First, Numbers, Parts, Offsets, TopDict, custom_string, header, top_entries_by, number_of as number_in}
 use Rattle.subsetter_cff.specs.Read.Lookup.{without}
 use Rattle.subsetter_cff.specs.Read.Operators.{subroutines_operator}
 use Rattle.subsetter_cff.specs.Write.SidRemapping.{name_of}
@@ -60,4 +60,4 @@ top_by texts t = record {
 
 -- the front, by the strings as they are numbered
 unfoldable pub front_by : List (List ℕ) → TableParts → Offsets → List ℕ
-front_by texts t o = header ++ (t.names.now ++ (index (dict (top_lines_by (top_by texts t) o) ∷ []) ++ (index texts ++ (0 ∷ 0 ∷ []))))
+front_by texts t o = header ++ (t.names.now ++ (index (dict (top_entries_by (top_by texts t) o) ∷ []) ++ (index texts ++ (0 ∷ 0 ∷ []))))

@@ -5,10 +5,10 @@ use Rattle.subsetter_base.specs.Bytes.{◌>>=◌}
 use Rattle.subsetter_base.specs.declared.error.Error.{Error}
 use Rattle.subsetter_base.specs.declared.error.Error.TheVariants.{OverflowError}
 use Rattle.subsetter_cffdata.specs.Numbers.{Number, is_too_long}
-use Rattle.subsetter_cffdata.specs.Dict.{Entry, entries, dict, line}
+use Rattle.subsetter_cffdata.specs.Dict.{Entry, entries, dict, entry_bytes}
 use Rattle.subsetter_cff.specs.Read.Lookup.{without}
 use Rattle.subsetter_cff.specs.Read.Operators.{subroutines_operator}
-use Rattle.subsetter_cff.specs.Write.Layout.{plain_line, private_lines}
+use Rattle.subsetter_cff.specs.Write.Layout.{plain_entry, rewritten_entries}
 
 -- a real among the operands is too long to be written
 abbrev pub is_refused : Entry → Bool
@@ -20,11 +20,11 @@ behind front bytes = bytes >>= λ more. Ok (front ++ more)
 
 -- the dict of entries, unless a real among their operands is too long
 unfoldable pub written_entries : List Entry → Result (List ℕ) Error
-written_entries es = if list_any is_refused es then Err OverflowError else Ok (dict (private_lines es))
+written_entries es = if list_any is_refused es then Err OverflowError else Ok (dict (rewritten_entries es))
 
 -- of an operator and its operands
 unfoldable pub written_entry : List ℕ → List Number → Result (List ℕ) Error
-written_entry operator xs = if list_any is_too_long xs then Err OverflowError else Ok (line (plain_line operator xs))
+written_entry operator xs = if list_any is_too_long xs then Err OverflowError else Ok (entry_bytes (plain_entry operator xs))
 
 -- of an entry that is there
 abbrev pub written_if_there : List ℕ → Option (List Number) → Result (List ℕ) Error

@@ -27,7 +27,7 @@ pub struct Front<'a> {
     pub subroutines: Index<'a>,
 }
 
-// The bytes that were read.
+/// The bytes that were read.
 fn read_before<'a>(start: &'a [u8], offset: usize) -> &'a [u8]
     ensures { result.now ≡ before start.now (drop offset start.now) }
 {
@@ -56,7 +56,7 @@ pub fn parse_parts<'a>(bytes: &'a [u8], start: &'a [u8]) -> Option<Front<'a>>
     })
 }
 
-// What stands behind the header, as far as the third byte says.
+/// What stands behind the header, as far as the third byte says.
 #[tactic(auto, unfolding(crate::specs::Read::Cff::behind_header))]
 fn behind_header(bytes: &[u8]) -> Option<&[u8]>
     ensures { option_map (λ x. x.now) result ≡ behind_header bytes.now }

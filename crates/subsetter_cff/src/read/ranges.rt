@@ -30,7 +30,7 @@ impl<'a> Model for Ranges<'a> {
     } };
 }
 
-// How many ranges are there, each with the first glyph of the next.
+/// How many ranges are there, each with the first glyph of the next.
 #[tactic(auto, using(crate::proofs::ReadLaws::RangeLookups::readable))]
 fn count_ranges(bytes: &[u8]) -> usize
     ensures value { result ≡ readable_ranges bytes.now }
@@ -46,7 +46,7 @@ fn count_ranges(bytes: &[u8]) -> usize
     usize::from(count).min((bytes.len().saturating_sub(4)) / 3)
 }
 
-// The first glyph of a range.
+/// The first glyph of a range.
 fn first_of(bytes: &[u8], i: usize) -> u16
     requires { 3 * i + 4 ≤ length bytes.now }
     ensures { result ≡ first_of_range bytes.now i }
@@ -66,7 +66,7 @@ fn ascend(bytes: &[u8], count: usize) -> bool
     true
 }
 
-// The font dict of a range.
+/// The font dict of a range.
 fn number_of(bytes: &[u8], i: usize) -> u8
     requires { 3 * i + 5 ≤ length bytes.now }
     ensures { result ≡ number_of_range bytes.now i }
@@ -74,7 +74,7 @@ fn number_of(bytes: &[u8], i: usize) -> u8
     bytes[3 * i + 4]
 }
 
-// Whether a range has a glyph.
+/// Whether a range has a glyph.
 fn has(bytes: &[u8], i: usize, glyph: u16) -> bool
     requires { 3 * i + 7 ≤ length bytes.now }
     ensures { result ≡ has_glyph bytes.now glyph i }
@@ -82,7 +82,7 @@ fn has(bytes: &[u8], i: usize, glyph: u16) -> bool
     first_of(bytes, i) <= glyph && glyph < first_of(bytes, i + 1)
 }
 
-// Looks a glyph up from the front.
+/// Looks a glyph up from the front.
 fn find(bytes: &[u8], count: usize, glyph: u16) -> Option<u8>
     requires room { 0 < count → 3 * count + 4 ≤ length bytes.now }
     ensures { result ≡ found_from bytes.now glyph count 0 }
@@ -95,7 +95,7 @@ fn find(bytes: &[u8], count: usize, glyph: u16) -> Option<u8>
     None
 }
 
-// Looks a glyph up by halves.
+/// Looks a glyph up by halves.
 fn find_by_halves(bytes: &[u8], count: usize, glyph: u16) -> Option<u8>
     requires room { 0 < count → 3 * count + 4 ≤ length bytes.now }
     requires sorted { Ascend bytes.now count }

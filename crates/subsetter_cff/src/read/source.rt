@@ -55,20 +55,15 @@ pub struct Table<'a> {
 fn index_at_offset(bytes: &[u8], offset: Option<usize>) -> Option<Index<'_>>
     ensures { option_map items result ≡ entries_at bytes.now offset }
 {
-    match offset {
-        None => None,
-        Some(start) => index_at(bytes, start),
-    }
+    index_at(bytes, offset?)
 }
 
 /// The FDSelect at an offset of the table.
 fn select_at_offset(glyphs: u32, bytes: &[u8], offset: Option<usize>) -> Option<FDSelect<'_>>
     ensures { option_map select_view result ≡ option_and_then (λ o. select_at glyphs (drop o bytes.now)) offset }
 {
-    match offset {
-        None => None,
-        Some(start) => parse_fd_select(glyphs, bytes.get(start..).unwrap_or(&[])),
-    }
+    let start = offset?;
+    parse_fd_select(glyphs, bytes.get(start..).unwrap_or(&[]))
 }
 
 /// An empty private dict.

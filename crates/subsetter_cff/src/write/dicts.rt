@@ -8,7 +8,7 @@ ghost use Rattle.subsetter_cffdata.specs.Dict.{dict as dict_bytes};
 ghost use Rattle.subsetter_cffdata.specs.Index.{index};
 ghost use Rattle.subsetter_cffdata.specs.Owned.{views};
 ghost use Rattle.subsetter_cffdata.specs.Views.{number_of as number_view};
-ghost use Rattle.subsetter_cff.specs.Write.Layout.{font_dict_lines, font_dict_lines_by, font_dicts_from, number_of, private_bytes, privates, select_bytes};
+ghost use Rattle.subsetter_cff.specs.Write.Layout.{entries_of_font_dict, entries_of_font_dict_by, font_dicts_from, number_of, private_bytes, privates, select_bytes};
 ghost use Rattle.subsetter_cff.specs.Write.PartsView.{font_dict_view, select_of_table, string_view};
 ghost use Rattle.subsetter_cff.specs.Write.WrittenNumbers.{entry_numbers};
 ghost use Rattle.subsetter_cff.specs.Write.TableLimits.{limit, has_index, short, is_offset, dict_limits, dicts_limits};
@@ -56,7 +56,7 @@ pub fn place_behind(place: usize, size: usize) -> Result<usize, Error>
     Ok(end)
 }
 
-// Writes a private dict. A real that is too long is `OverflowError`.
+/// Writes a private dict. A real that is too long is `OverflowError`.
 #[tactic(auto, using(crate::proofs::WriteLaws::DictsWritten::private_written, crate::proofs::WriteLaws::DictsWritten::private_checked))]
 fn write_private(dict: &FontDictParts<'_>, w: &mut Writer) -> Result<(), Error>
     ensures ok { OnOk result (w.new ≡ w.old ++ private_bytes (font_dict_view dict.now)) }
@@ -65,7 +65,7 @@ fn write_private(dict: &FontDictParts<'_>, w: &mut Writer) -> Result<(), Error>
     rewrite_private_dict(w, dict.private)
 }
 
-// A font dict whose private dict of a size stands at a place. A real that is too long is `OverflowError`.
+/// A font dict whose private dict of a size stands at a place. A real that is too long is `OverflowError`.
 fn font_dict_text(
     alloc: Global,
     remapper: &SidRemapper<'_>,
@@ -75,7 +75,7 @@ fn font_dict_text(
 ) -> Result<Vec<u8>, Error>
     requires size { size < 2 ^ 31 }
     requires place { place < 2 ^ 31 }
-    ensures value { IfOk result (λ v. v.items ≡ dict_bytes (font_dict_lines_by (map number_view dict.now.matrix) size place (option_map (number_of remapper.now.texts) (string_view dict.now.name)))) }
+    ensures value { IfOk result (λ v. v.items ≡ dict_bytes (entries_of_font_dict_by (map number_view dict.now.matrix) size place (option_map (number_of remapper.now.texts) (string_view dict.now.name)))) }
     ensures checked { Gives (λ _. tt) result (limit (short (map number_view dict.now.matrix))) }
 {
     let mut w = Writer::with_capacity(alloc, FONT_DICT_ROOM)?;
@@ -89,7 +89,7 @@ fn font_dict_text(
     Ok(w.finish())
 }
 
-// Puts a font dict behind others, whose private dicts stand from a place on.
+/// Puts a font dict behind others, whose private dicts stand from a place on.
 #[tactic(auto, using(crate::proofs::WriteLaws::DictsWritten::size_is), unfolding(crate::specs::Write::TableLimits::dict_limits))]
 fn put_dict(
     alloc: Global,
@@ -99,7 +99,7 @@ fn put_dict(
     dict: &FontDictParts<'_>,
 ) -> Result<(), Error>
     ensures privates { OnOk result (made.new.privates ≡ made.old.privates ++ private_bytes (font_dict_view dict.now)) }
-    ensures dicts { OnOk result (views made.new.dicts.items ≡ views made.old.dicts.items ++ dict_bytes (font_dict_lines remapper.now.texts (place + length made.old.privates) (font_dict_view dict.now)) ∷ []) }
+    ensures dicts { OnOk result (views made.new.dicts.items ≡ views made.old.dicts.items ++ dict_bytes (entries_of_font_dict remapper.now.texts (place + length made.old.privates) (font_dict_view dict.now)) ∷ []) }
     ensures checked { Gives (λ _. tt) result (dict_limits (place + length made.old.privates) (font_dict_view dict.now)) }
 {
     let start = made.privates.len();

@@ -1,7 +1,6 @@
 //! Writing an INDEX whose items stand one behind the other (Technical Note 5176, section 5 "INDEX Data").
 
 ghost use Rattle.std.specs.Prelude.{◌≡◌, ◌≤◌, ◌<◌, ◌+◌, ◌*◌, ◌^◌, ◌++◌, length, nat_lt, OnOk, IfOk, IfErr};
-ghost use Rattle.std.specs.Int.{bytes_high_first};
 ghost use Rattle.subsetter_base.specs.Gives.{Gives};
 ghost use Rattle.subsetter_base.specs.declared.error.Error.TheVariants.{OutOfMemory, OverflowError};
 ghost use Rattle.subsetter_cffdata.specs.Index.{offset_size, numbers};
@@ -10,35 +9,9 @@ ghost use Rattle.subsetter_cff.specs.Write.TableLimits.{limit};
 
 use subsetter_base::error::Error;
 use subsetter_base::write::Writer;
+use subsetter_cffdata::index::{put_number, size_of_offset};
 
-/// How many bytes an offset takes.
-pub fn size_of_offset(n: u32) -> u8
-    ensures size { result ≡ offset_size n }
-    ensures small { result ≤ 4 }
-{
-    if n < 256 {
-        1
-    } else if n < 65536 {
-        2
-    } else if n < 16777216 {
-        3
-    } else {
-        4
-    }
-}
-
-/// Writes the low bytes of a number.
-#[tactic(auto, using(crate::proofs::WriteLaws::FlatIndexes::low_bytes))]
-pub fn put_number(size: u8, n: usize, w: &mut Writer) -> Result<(), Error>
-    requires { size ≤ 4 }
-    ensures ok { OnOk result (w.new ≡ w.old ++ bytes_high_first size n) }
-    ensures err { IfErr result (λ e. e ≡ OutOfMemory) }
-{
-    let bytes = n.to_be_bytes();
-    w.extend(&bytes[8 - size as usize..])
-}
-
-// Writes the offset behind each item.
+/// Writes the offset behind each item.
 fn put_ends(size: u8, ends: &[usize], w: &mut Writer) -> Result<(), Error>
     requires { size ≤ 4 }
     ensures ok { OnOk result (w.new ≡ w.old ++ numbers size ends.now) }
@@ -50,7 +23,7 @@ fn put_ends(size: u8, ends: &[usize], w: &mut Writer) -> Result<(), Error>
     Ok(())
 }
 
-// The length of data together with one. Data of 4 GiB is `OverflowError`. It takes no memory.
+/// The length of data together with one. Data of 4 GiB is `OverflowError`. It takes no memory.
 fn total_of(size_of_data: usize) -> Result<u32, Error>
     ensures value { IfOk result (λ n. n ≡ size_of_data + 1) }
     ensures checked { Gives (λ _. tt) result (limit (nat_lt (size_of_data + 1) (2 ^ 32))) }

@@ -5,17 +5,17 @@ ghost use Rattle.std.specs.Option.{option_map};
 ghost use Rattle.subsetter_base.specs.Gives.{Gives};
 ghost use Rattle.subsetter_cffdata.specs.Dict.{dict};
 ghost use Rattle.subsetter_cffdata.specs.Views.{number_of};
-ghost use Rattle.subsetter_cff.specs.Write.Layout.{font_dict_lines_by};
+ghost use Rattle.subsetter_cff.specs.Write.Layout.{entries_of_font_dict_by};
 ghost use Rattle.subsetter_cff.specs.Write.TableLimits.{limit, short};
 
-use crate::write::lines::{write_numbers, write_range, write_string};
+use crate::write::entries::{write_numbers, write_range, write_string};
 use subsetter_base::error::Error;
 use subsetter_base::write::Writer;
 use subsetter_cffdata::dict::operators::{FONT_MATRIX, FONT_NAME, PRIVATE};
 use subsetter_cffdata::number::{Number, StringId};
 
 /// Writes a font dict whose private dict of a size stands at a place. A real that is too long is `OverflowError`.
-#[tactic(auto, using(crate::proofs::WriteLaws::WrittenLines::font_dict_is))]
+#[tactic(auto, using(crate::proofs::WriteLaws::WrittenEntries::font_dict_is))]
 pub fn write_font_dict(
     matrix: &[Number; 6],
     size: u32,
@@ -25,7 +25,7 @@ pub fn write_font_dict(
 ) -> Result<(), Error>
     requires size { size < 2 ^ 31 }
     requires place { place < 2 ^ 31 }
-    ensures ok { OnOk result (w.new ≡ w.old ++ dict (font_dict_lines_by (map number_of matrix.now) size place (option_map (λ s. s.0) name))) }
+    ensures ok { OnOk result (w.new ≡ w.old ++ dict (entries_of_font_dict_by (map number_of matrix.now) size place (option_map (λ s. s.0) name))) }
     ensures checked { Gives (λ _. tt) result (limit (short (map number_of matrix.now))) }
 {
     write_numbers(matrix, FONT_MATRIX, w)?;

@@ -32,7 +32,7 @@ impl Model for FontDictRemapper {
     } };
 }
 
-// Which numbers are among these.
+/// Which numbers are among these.
 fn mark_used(numbers: &[u8]) -> [bool; 256]
     ensures marked { (n : ℕ) → n < 256 → slice_index_or result n false ≡ is_used numbers.now n }
     ensures len { length result ≡ 256 }
@@ -44,7 +44,7 @@ fn mark_used(numbers: &[u8]) -> [bool; 256]
     used
 }
 
-// From where on none of these numbers stands.
+/// From where on none of these numbers stands.
 fn end_of(numbers: &[u8]) -> usize
     ensures none { (n : ℕ) → result ≤ n → is_used numbers.now n ≡ false }
     ensures within { result ≤ 256 }
@@ -58,7 +58,7 @@ fn end_of(numbers: &[u8]) -> usize
     end
 }
 
-// Puts a place behind others, where it is marked.
+/// Puts a place behind others, where it is marked.
 fn put_marked(places: &mut Vec<u8>, is_marked: bool, place: u8) -> Result<(), AllocError>
     ensures { OnOk result (places.new.items ≡ (if is_marked then places.old.items ++ place ∷ [] else places.old.items)) }
 {
@@ -68,7 +68,7 @@ fn put_marked(places: &mut Vec<u8>, is_marked: bool, place: u8) -> Result<(), Al
     Ok(())
 }
 
-// The places before an end that are marked, ascending.
+/// The places before an end that are marked, ascending.
 fn marked_places(alloc: Global, used: &[bool], end: usize) -> Result<Vec<u8>, Error>
     requires within { end ≤ length used.now }
     requires few { length used.now ≤ 256 }
@@ -82,7 +82,7 @@ fn marked_places(alloc: Global, used: &[bool], end: usize) -> Result<Vec<u8>, Er
     Ok(places)
 }
 
-// Where each number stands first.
+/// Where each number stands first.
 fn places_of(numbers: &[u8]) -> [Option<u8>; 256]
     requires { length numbers.now ≤ 255 }
     ensures { (n : ℕ) → n < 256 → slice_index_or result n None ≡ place numbers.now n }

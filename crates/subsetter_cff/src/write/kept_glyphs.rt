@@ -121,7 +121,7 @@ fn keep_next(
     })
 }
 
-// What is known of numbers of eight bits.
+/// What is known of numbers of eight bits.
 fn are_bytes(numbers: &[u8])
     ensures { IsBytes numbers.now }
 {}

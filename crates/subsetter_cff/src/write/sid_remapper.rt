@@ -38,7 +38,7 @@ impl<'a> Model for SidRemapper<'a> {
     } };
 }
 
-// Where a string stands first.
+/// Where a string stands first.
 fn place_of(strings: &[&[u8]], string: &[u8]) -> Option<usize>
     ensures value { result ≡ place_by bytes_eq (views strings.now) string.now }
     ensures within { IfSome result (λ i. i < length strings.now) }
@@ -51,7 +51,7 @@ fn place_of(strings: &[&[u8]], string: &[u8]) -> Option<usize>
     None
 }
 
-// The number of a string that stands at a place.
+/// The number of a string that stands at a place.
 fn number_at(place: usize) -> StringId
     requires { place < 65145 }
     ensures { result.0 ≡ 391 + place }
@@ -59,7 +59,7 @@ fn number_at(place: usize) -> StringId
     StringId(StringId::STANDARD_STRING_LEN + place as u16)
 }
 
-// The number of a string, which goes last if it is unknown.
+/// The number of a string, which goes last if it is unknown.
 fn put_string<'a>(strings: &mut Vec<&'a [u8]>, string: &'a [u8]) -> Result<StringId, Error>
     requires { length strings.old.items < 65145 }
     ensures texts { views strings.new.items ≡ (if is_ok result then with_value bytes_eq (views strings.old.items) string.now else views strings.old.items) }
@@ -76,7 +76,7 @@ fn put_string<'a>(strings: &mut Vec<&'a [u8]>, string: &'a [u8]) -> Result<Strin
     Ok(number)
 }
 
-// The new number of an old one.
+/// The new number of an old one.
 fn find_known(known: &[(u16, u16)], old: u16) -> Option<u16>
     ensures { result ≡ known_number known.now old }
 {

@@ -18,7 +18,7 @@ use subsetter_base::GlyphRemapper;
 use subsetter_base::error::Error;
 use subsetter_type2::limits::Limits;
 
-// The subset, exactly as the plain way answers it.
+/// The subset, exactly as the plain way answers it.
 fn subset_exactly(
     alloc: Global,
     table: &[u8],
@@ -27,6 +27,7 @@ fn subset_exactly(
 ) -> Result<CffPieces, Error>
     ensures { Gives table_bytes result (cff_subset table.now limits.tokens limits.depth mapper.now) }
 {
+    // Both matches in place of `?`: the opened table and the parts are large, and are not moved.
     let opened = Table::parse(alloc, table);
     let source = match &opened {
         Ok(source) => source,

@@ -64,14 +64,13 @@ pub fn string_number(remapper: &SidRemapper<'_>, string: &[u8]) -> StringId
 pub fn name_number(remapper: &SidRemapper<'_>, name: Option<StringName<'_>>) -> Option<StringId>
     ensures { option_map (λ s. s.0) result ≡ option_map (number_of remapper.now.texts) (string_view name.entry) }
 {
-    match name {
-        None => None,
-        Some(StringName::Standard(number)) => Some(number),
-        Some(StringName::Custom(string)) => Some(string_number(remapper, string)),
+    match name? {
+        StringName::Standard(number) => Some(number),
+        StringName::Custom(string) => Some(string_number(remapper, string)),
     }
 }
 
-// Gives a string a number, where it wants one.
+/// Gives a string a number, where it wants one.
 #[tactic(auto, using(crate::proofs::WriteLaws::Numbering::longer_by_one))]
 fn put_name<'a>(remapper: &mut SidRemapper<'a>, name: Option<StringName<'a>>) -> Result<(), Error>
     requires { length remapper.old.texts < 65145 }
@@ -85,7 +84,7 @@ fn put_name<'a>(remapper: &mut SidRemapper<'a>, name: Option<StringName<'a>>) ->
     Ok(())
 }
 
-// Gives the names of font dicts a number each.
+/// Gives the names of font dicts a number each.
 fn put_dicts<'a>(remapper: &mut SidRemapper<'a>, dicts: &[FontDictParts<'a>]) -> Result<(), Error>
     requires { length remapper.old.texts + length dicts.now ≤ 65145 }
     ensures texts { OnOk result (remapper.new.texts ≡ with_strings remapper.old.texts (dict_texts dicts.now)) }

@@ -3,14 +3,14 @@
 ghost use Rattle.std.specs.Prelude.{◌≡◌, ◌<◌, ◌^◌, ◌++◌, map, OnOk, IfErr};
 ghost use Rattle.subsetter_base.specs.Gives.{Gives};
 ghost use Rattle.subsetter_base.specs.declared.error.Error.TheVariants.{OutOfMemory};
-ghost use Rattle.subsetter_cffdata.specs.Dict.{line, dict};
+ghost use Rattle.subsetter_cffdata.specs.Dict.{entry_bytes, dict};
 ghost use Rattle.subsetter_cffdata.specs.Views.{number_of};
 ghost use Rattle.subsetter_cff.specs.Write.FrontDraft.{named_bytes};
-ghost use Rattle.subsetter_cff.specs.Write.Layout.{registry_line, placed_lines};
+ghost use Rattle.subsetter_cff.specs.Write.Layout.{registry_entry, placed_entries};
 ghost use Rattle.subsetter_cff.specs.Write.TableLimits.{numbers_limits};
 ghost use Rattle.subsetter_cff.specs.Write.TopDictView.{top_dict_of, places_of, AreOffsets};
 
-use crate::write::lines::{write_integer, write_numbers, write_offset, write_string};
+use crate::write::entries::{write_integer, write_numbers, write_offset, write_string};
 use subsetter_base::error::Error;
 use subsetter_base::write::Writer;
 use subsetter_cffdata::dict::operators::{
@@ -47,35 +47,35 @@ pub struct Offsets {
     pub select: u32,
 }
 
-// Adobe, Identity, 0: the first two strings, and no supplement.
-#[tactic(auto, using(crate::proofs::WriteLaws::WrittenLines::registry_is))]
+/// Adobe, Identity, 0: the first two strings, and no supplement.
+#[tactic(auto, using(crate::proofs::WriteLaws::WrittenEntries::registry_is))]
 fn write_registry(w: &mut Writer) -> Result<(), Error>
-    ensures ok { OnOk result (w.new ≡ w.old ++ line registry_line) }
+    ensures ok { OnOk result (w.new ≡ w.old ++ entry_bytes registry_entry) }
     ensures err { IfErr result (λ e. e ≡ OutOfMemory) }
 {
-    w.write(&IntegerNumber(391))?;
-    w.write(&IntegerNumber(392))?;
+    w.write(&IntegerNumber(i32::from(StringId::STANDARD_STRING_LEN)))?;
+    w.write(&IntegerNumber(i32::from(StringId::STANDARD_STRING_LEN + 1)))?;
     w.write(&IntegerNumber(0))?;
     w.write(&ROS)
 }
 
-/// How many bytes the lines with offsets have, whatever the offsets are.
-pub const PLACED_SIZE: usize = 33;
+/// How many bytes the entries with offsets have, whatever the offsets are.
+pub const OFFSETS_SIZE: usize = 33;
 
-/// Writes the lines with offsets.
-pub fn write_places(places: &Offsets, w: &mut Writer) -> Result<(), Error>
-    requires { AreOffsets places.now }
-    ensures ok { OnOk result (w.new ≡ w.old ++ dict (placed_lines (places_of places.now))) }
+/// Writes the entries with offsets.
+pub fn write_offsets(offsets: &Offsets, w: &mut Writer) -> Result<(), Error>
+    requires { AreOffsets offsets.now }
+    ensures ok { OnOk result (w.new ≡ w.old ++ dict (placed_entries (places_of offsets.now))) }
     ensures err { IfErr result (λ e. e ≡ OutOfMemory) }
 {
-    write_offset(places.charset, CHARSET, w)?;
-    write_offset(places.char_strings, CHAR_STRINGS, w)?;
+    write_offset(offsets.charset, CHARSET, w)?;
+    write_offset(offsets.char_strings, CHAR_STRINGS, w)?;
     write_integer(65535, CID_COUNT, w)?;
-    write_offset(places.font_dicts, FD_ARRAY, w)?;
-    write_offset(places.select, FD_SELECT, w)
+    write_offset(offsets.font_dicts, FD_ARRAY, w)?;
+    write_offset(offsets.select, FD_SELECT, w)
 }
 
-/// Writes the lines without offsets, which stand in front. A real that is too long is `OverflowError`.
+/// Writes the entries without offsets, which stand in front. A real that is too long is `OverflowError`.
 #[tactic(auto, unfolding(crate::specs::Write::TableLimits::numbers_limits))]
 pub fn write_named(top: &TopDict<'_>, w: &mut Writer) -> Result<(), Error>
     ensures ok { OnOk result (w.new ≡ w.old ++ named_bytes (top_dict_of top.now)) }

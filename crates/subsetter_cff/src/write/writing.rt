@@ -42,7 +42,7 @@ pub struct CffPieces {
     pub char_strings: Vec<u8>,
 }
 
-// The pieces behind a front of a size.
+/// The pieces behind a front of a size.
 #[tactic(auto, unfolding(crate::specs::Write::TableLimits::pieces_limits))]
 fn write_pieces(
     alloc: Global,
@@ -67,9 +67,9 @@ fn write_pieces(
     })
 }
 
-// Where the pieces stand behind a front of a size.
+/// Where the pieces stand behind a front of a size.
 #[tactic(auto, unfolding(crate::specs::Write::TableLimits::places_limits))]
-fn find_places(size: usize, pieces: &Pieces) -> Result<Offsets, Error>
+fn find_offsets(size: usize, pieces: &Pieces) -> Result<Offsets, Error>
     ensures offsets { IfOk result AreOffsets }
     ensures value { IfOk result (λ o. places_of o ≡ places_by size pieces.now.charset (length pieces.now.privates) pieces.now.select (length pieces.now.font_dicts.items)) }
     ensures checked { Gives (λ _. tt) result (places_limits size pieces.now.charset (length pieces.now.privates) pieces.now.select (length pieces.now.font_dicts.items)) }
@@ -86,7 +86,7 @@ fn find_places(size: usize, pieces: &Pieces) -> Result<Offsets, Error>
     })
 }
 
-// What stands before the charstrings' INDEX, by the draft of its front. Room is taken for that INDEX's offsets too.
+/// What stands before the charstrings' INDEX, by the draft of its front. Room is taken for that INDEX's offsets too.
 #[tactic(auto, unfolding(crate::specs::Write::TableLimits::laid_limits))]
 fn write_laid(
     alloc: Global,
@@ -100,11 +100,11 @@ fn write_laid(
     ensures checked { Gives (λ _. tt) result (laid_limits remapper.now.texts table.now glyphs draft.now.size) }
 {
     let pieces = write_pieces(alloc, table, remapper, glyphs, draft.size)?;
-    let places = find_places(draft.size, &pieces)?;
-    let offsets = header_room(table.char_strings.len(), glyphs);
-    let room = offsets.saturating_add(places.char_strings as usize);
+    let offsets = find_offsets(draft.size, &pieces)?;
+    let header = header_room(table.char_strings.len(), glyphs);
+    let room = header.saturating_add(offsets.char_strings as usize);
     let mut w = Writer::with_capacity(alloc, room)?;
-    write_front(table.names, draft, &places, &mut w)?;
+    write_front(table.names, draft, &offsets, &mut w)?;
     rewrite_charset(glyphs, &mut w)?;
     w.extend(pieces.privates.as_slice())?;
     write_select(table, glyphs, &mut w)?;

@@ -18,7 +18,7 @@ use Rattle.subsetter_cff.specs.Read.Matrices.{matrix_pair, own_matrix, matrices,
 use Rattle.subsetter_cff.specs.Read.GlyphTrace.{glyph_trace}
 use Rattle.subsetter_cff.specs.Write.Subset.{Keeps, KeepsGlyph, IsCffSubset}
 use Rattle.subsetter_cff.specs.Write.Again.{composed, AreGlyphs, IsComposed, KeepsAllCharStrings}
-use Rattle.subsetter_cff.proofs.ReadLaws.Locals.{step}
+use Rattle.subsetter_cffdata.proofs.Options.{step}
 
 abbrev keeps_on : {A : Type 0} (a b c : Option A) → Keeps a b → Keeps b c → Keeps a c
 keeps_on a b c k l = record { what = l.what; source_is = k.source_is ∙ sym k.copy_is ∙ l.source_is; copy_is = l.copy_is }

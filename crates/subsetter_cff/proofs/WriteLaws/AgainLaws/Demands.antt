@@ -6,10 +6,10 @@ use Rattle.std.specs.Str.{bytes_eq}
 use Rattle.std.proofs.lemmas.Option.{slice_get_within}
 use Rattle.subsetter_base.specs.Remap.{place_by}
 use Rattle.subsetter_cffdata.specs.Numbers.{Number}
-use Rattle.subsetter_cffdata.specs.Dict.{Line, meaning}
+use Rattle.subsetter_cffdata.specs.Dict.{NewEntry, meaning}
 use Rattle.subsetter_cff.specs.Read.Strings.{FontString, Standard, Custom, standard_strings}
 use Rattle.subsetter_cff.specs.Read.Operators.{font_name_operator, copyright_operator, notice_operator, font_matrix_operator, font_box_operator}
-use Rattle.subsetter_cff.specs.Write.Layout.{FontDict, Parts, Offsets, strings, number_of, integer, plain_line, string_lines, places, placed_lines, top_lines_by}
+use Rattle.subsetter_cff.specs.Write.Layout.{FontDict, Parts, Offsets, strings, number_of, integer, plain_entry, string_entries, places, placed_entries, top_entries_by}
 use Rattle.subsetter_cff.specs.Write.Fits.{Fits, FitsString}
 use Rattle.subsetter_cff.specs.Read.Opened.{meets, all_meet}
 use Rattle.subsetter_cff.specs.Read.OperandDemands.{Demand, top_demands}
@@ -32,8 +32,8 @@ number_under : (ss : List (List ℕ)) (t : FontString) → FitsString (Some t) �
 number_under ss (Standard n) fits few = omega (arith, fits)
 number_under ss (Custom s) fits few = place_under ss s (place_by bytes_eq ss s) refl few
 
-pub strings_meet : (ds : List Demand) (ss : List (List ℕ)) (operator : List ℕ) (o : Option FontString) (ls : List Line) → FitsString o → length ss + standard_strings ≤ 65536
-    → ((n : ℕ) → n < 65536 → meets ds (record { operator = operator; operands = integer n ∷ [] }) ≡ true) → all_meet ds (map meaning ls) ≡ true → all_meet ds (map meaning (string_lines ss operator o ++ ls)) ≡ true
+pub strings_meet : (ds : List Demand) (ss : List (List ℕ)) (operator : List ℕ) (o : Option FontString) (ls : List NewEntry) → FitsString o → length ss + standard_strings ≤ 65536
+    → ((n : ℕ) → n < 65536 → meets ds (record { operator = operator; operands = integer n ∷ [] }) ≡ true) → all_meet ds (map meaning ls) ≡ true → all_meet ds (map meaning (string_entries ss operator o ++ ls)) ≡ true
 strings_meet ds ss operator None ls fits few h e = e
 strings_meet ds ss operator (Some t) ls fits few h e = rw (h (number_of ss t) (number_under ss t fits few), e) refl
 
@@ -47,18 +47,18 @@ notice_meets n lt = rw (string_operand_is n lt) refl
 font_name_meets : (n : ℕ) → n < 65536 → meets top_demands (record { operator = font_name_operator; operands = integer n ∷ [] }) ≡ true
 font_name_meets n lt = rw (string_operand_is n lt) refl
 
-placed_meet : (o : Offsets) → o.charset < 2 ^ 31 → o.char_strings < 2 ^ 31 → o.font_dicts < 2 ^ 31 → o.select < 2 ^ 31 → all_meet top_demands (map meaning (placed_lines o)) ≡ true
+placed_meet : (o : Offsets) → o.charset < 2 ^ 31 → o.char_strings < 2 ^ 31 → o.font_dicts < 2 ^ 31 → o.select < 2 ^ 31 → all_meet top_demands (map meaning (placed_entries o)) ≡ true
 placed_meet o a b c d = rw (offset_operand_is o.charset a, offset_operand_is o.char_strings b, offset_operand_is o.font_dicts c, offset_operand_is o.select d) refl
 
-numbers_meet : (m b : List Number) (ls : List Line) → length m ≡ 6 → length b ≡ 4 → all_meet top_demands (map meaning ls) ≡ true → all_meet top_demands (map meaning (plain_line font_matrix_operator m ∷ plain_line font_box_operator b ∷ ls)) ≡ true
+numbers_meet : (m b : List Number) (ls : List NewEntry) → length m ≡ 6 → length b ≡ 4 → all_meet top_demands (map meaning ls) ≡ true → all_meet top_demands (map meaning (plain_entry font_matrix_operator m ∷ plain_entry font_box_operator b ∷ ls)) ≡ true
 numbers_meet m b ls six four e = rw (plain_values m, plain_values b, six, four, e) refl
 
 pub top_meets : (p : Parts) → Fits p → Shaped p → all_meet top_demands (tops p (places p)) ≡ true
-unfolding top_lines_by
+unfolding top_entries_by
 top_meets p fits shaped =
     let few = fits.string_count in
     strings_meet top_demands (strings p) copyright_operator p.copyright _ fits.copyright few copyright_meets
     (strings_meet top_demands (strings p) notice_operator p.notice _ fits.notice few notice_meets
     (strings_meet top_demands (strings p) font_name_operator p.font_name _ fits.font_name few font_name_meets
-    (numbers_meet p.matrix p.box (placed_lines (places p)) shaped.matrix shaped.box
+    (numbers_meet p.matrix p.box (placed_entries (places p)) shaped.matrix shaped.box
     (placed_meet (places p) (omega (arith, fits.place)) (omega (arith, fits.place)) (omega (arith, fits.place)) (omega (arith, fits.place))))))

@@ -10,7 +10,7 @@ use Rattle.subsetter_cff.specs.Read.FontDicts.{font_dicts}
 use Rattle.subsetter_cff.specs.Read.Private.{private_at}
 use Rattle.subsetter_cff.specs.Read.Operators.{subroutines_operator, font_name_operator}
 use Rattle.subsetter_cff.specs.Read.Strings.{string_at}
-use Rattle.subsetter_cff.specs.Write.Layout.{FontDict, Parts, strings, private_bytes, privates, font_dict_lines, font_dicts_from, font_dicts_of, select_of, places, privates_place, cff_table}
+use Rattle.subsetter_cff.specs.Write.Layout.{FontDict, Parts, strings, private_bytes, privates, entries_of_font_dict, font_dicts_from, font_dicts_of, select_of, places, privates_place, cff_table}
 use Rattle.subsetter_cff.specs.Write.Fits.{Fits, FitsFontDict}
 use Rattle.subsetter_cff.specs.Write.Plain.{SourceDict, as_source_dict, source_dict, new_font_dict}
 use Rattle.subsetter_cff.proofs.WriteLaws.Strings.{font_dict_named}
@@ -41,12 +41,12 @@ module _ (p : Parts) (fits : Fits p) (number : ℕ) (f : FontDict) (is : slice_g
   abbrev pub again : List Entry
   again = font_dict_entries (strings p) (privates_place p + length own.front) f
 
-  lines_again : entries (dict (font_dict_lines (strings p) (privates_place p + length own.front) f)) ≡ again
-  lines_again = dict_again (font_dict_lines (strings p) (privates_place p + length own.front) f)
+  all_entries_again : entries (dict (entries_of_font_dict (strings p) (privates_place p + length own.front) f)) ≡ again
+  all_entries_again = dict_again (entries_of_font_dict (strings p) (privates_place p + length own.front) f)
       (font_dict_fits (strings p) (privates_place p + length own.front) f own_fits fits.string_count (omega (arith, fits.place, private_length)) (omega (arith, fits.place, private_length)))
 
   pub read_at : slice_get (map entries (font_dicts_from (strings p) (privates_place p) p.font_dicts)) number ≡ Some again
-  read_at = rw (slice_get-map entries (font_dicts_from (strings p) (privates_place p) p.font_dicts) number, own.dict_is) (ap Some lines_again)
+  read_at = rw (slice_get-map entries (font_dicts_from (strings p) (privates_place p) p.font_dicts) number, own.dict_is) (ap Some all_entries_again)
 
   pub private_there : private_at (cff_table p) again ≡ Some (record { entries = f.private; subroutines = [] })
   private_there =

@@ -5,11 +5,11 @@ use Rattle.std.proofs.lemmas.Bool.{lt-ltb}
 use Rattle.std.proofs.lemmas.List.{length-map, append-nil}
 use Rattle.std.proofs.lemmas.Option.{same_Some}
 use Rattle.subsetter_cffdata.specs.Numbers.{Number}
-use Rattle.subsetter_cffdata.specs.Dict.{Entry, Line, meaning, entries}
+use Rattle.subsetter_cffdata.specs.Dict.{Entry, NewEntry, meaning, entries}
 use Rattle.subsetter_cff.specs.Read.Strings.{FontString, standard_strings}
 use Rattle.subsetter_cff.specs.Read.Private.{Private, private_by, private_at}
 use Rattle.subsetter_cff.specs.Read.Operators.{font_name_operator, font_matrix_operator}
-use Rattle.subsetter_cff.specs.Write.Layout.{FontDict, Parts, strings, integer, plain_line, private_line, string_lines, private_bytes, font_dict_lines_by, font_dicts_from, privates_place, cff_table}
+use Rattle.subsetter_cff.specs.Write.Layout.{FontDict, Parts, strings, integer, plain_entry, private_entry, string_entries, private_bytes, entries_of_font_dict_by, font_dicts_from, privates_place, cff_table}
 use Rattle.subsetter_cff.specs.Write.Fits.{Fits, FitsString}
 use Rattle.subsetter_cff.specs.Read.Opened.{meets, all_meet, all_lead, sound_font_dicts, opened_cid, opened_parts, opened}
 use Rattle.subsetter_cff.specs.Read.OperandDemands.{font_dict_demands}
@@ -26,18 +26,18 @@ use Rattle.subsetter_cff.proofs.WriteLaws.AgainLaws.Demands.{Shaped, strings_mee
 name_meets : (n : ℕ) → n < 65536 → meets font_dict_demands (record { operator = font_name_operator; operands = integer n ∷ [] }) ≡ true
 name_meets n lt = rw (string_operand_is n lt) refl
 
-front_meets : (m : List Number) (size place : ℕ) (ls : List Line) → length m ≡ 6 → size < 2 ^ 31 → place < 2 ^ 31 → all_meet font_dict_demands (map meaning ls) ≡ true
-    → all_meet font_dict_demands (map meaning (plain_line font_matrix_operator m ∷ private_line size place ∷ ls)) ≡ true
+front_meets : (m : List Number) (size place : ℕ) (ls : List NewEntry) → length m ≡ 6 → size < 2 ^ 31 → place < 2 ^ 31 → all_meet font_dict_demands (map meaning ls) ≡ true
+    → all_meet font_dict_demands (map meaning (plain_entry font_matrix_operator m ∷ private_entry size place ∷ ls)) ≡ true
 front_meets m size place ls six lt lt' e = rw (plain_values m, six, range_operands_is size place lt lt', e) refl
 
 dict_meets : (ss : List (List ℕ)) (place : ℕ) (f : FontDict) → length f.matrix ≡ 6 → FitsString f.name → length ss + standard_strings ≤ 65536 → length (private_bytes f) < 2 ^ 31 → place < 2 ^ 31
     → all_meet font_dict_demands (font_dict_entries ss place f) ≡ true
-unfolding font_dict_lines_by
+unfolding entries_of_font_dict_by
 dict_meets ss place f six name few lt lt' =
-    front_meets f.matrix (length (private_bytes f)) place (string_lines ss font_name_operator f.name) six lt lt'
-    (subst (λ ls. all_meet font_dict_demands (map meaning ls) ≡ true) (append-nil (string_lines ss font_name_operator f.name)) (strings_meet font_dict_demands ss font_name_operator f.name [] name few name_meets refl))
+    front_meets f.matrix (length (private_bytes f)) place (string_entries ss font_name_operator f.name) six lt lt'
+    (subst (λ ls. all_meet font_dict_demands (map meaning ls) ≡ true) (append-nil (string_entries ss font_name_operator f.name)) (strings_meet font_dict_demands ss font_name_operator f.name [] name few name_meets refl))
 
-name_leads : (bytes : List ℕ) (ss : List (List ℕ)) (o : Option FontString) → all_lead bytes (map meaning (string_lines ss font_name_operator o)) ≡ true
+name_leads : (bytes : List ℕ) (ss : List (List ℕ)) (o : Option FontString) → all_lead bytes (map meaning (string_entries ss font_name_operator o)) ≡ true
 name_leads bytes ss None = refl
 name_leads bytes ss (Some t) = refl
 
@@ -50,7 +50,7 @@ unfolding private_at
 named_private bytes ss place f x e = ap (private_by bytes) (sym (own_private ss place f)) ∙ e
 
 dict_leads : (bytes : List ℕ) (ss : List (List ℕ)) (place : ℕ) (f : FontDict) (x : Private) → private_at bytes (font_dict_entries ss place f) ≡ Some x → all_lead bytes (font_dict_entries ss place f) ≡ true
-unfolding font_dict_lines_by
+unfolding entries_of_font_dict_by
 dict_leads bytes ss place f x e =
     rw (some_private bytes (integer (length (private_bytes f)) ∷ integer place ∷ []) x (named_private bytes ss place f x e), name_leads bytes ss f.name) refl
 

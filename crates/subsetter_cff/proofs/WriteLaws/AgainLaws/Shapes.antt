@@ -20,7 +20,7 @@ use Rattle.subsetter_cff.specs.Write.Made.{new_matrix}
 use Rattle.subsetter_cff.specs.Read.Opened.{meets, all_meet, sound_font_dicts}
 use Rattle.subsetter_cff.specs.Read.OperandDemands.{Demand, top_demands, font_dict_demands}
 use Rattle.subsetter_cff.specs.Write.Plain.{SourceDict, as_source_dict, source_dict, new_font_dicts, parts_of}
-use Rattle.subsetter_cff.proofs.ReadLaws.Locals.{step}
+use Rattle.subsetter_cffdata.proofs.Options.{step}
 use Rattle.subsetter_cff.proofs.WriteLaws.FontDictSteps.{dict_made, dict_steps}
 use Rattle.subsetter_cff.proofs.WriteLaws.MadeOf.{answer_steps, parts_steps}
 use Rattle.subsetter_cff.proofs.ReadLaws.Soundness.{TopIsSound}

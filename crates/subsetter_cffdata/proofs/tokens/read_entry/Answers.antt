@@ -41,7 +41,7 @@ returns-then-len-buffer-clause-operands c =
     let r = c.next_token.new.r in
     let here : rest r ≡ drop c.offset-then-len-buffer.result c.args.bytes.now = ap (drop r.place) (c.in-Some.ensures.same ∙ c.loop-found.invariant.same) ∙ ap (λ (n : ℕ). drop n c.args.bytes.now) (sym c.offset-then-len-buffer.ensures) in
     let buffer = set c.loop-found.buffer c.loop-found.len c.next_token.new.operand in
-    full (map number_of (take (c.loop-found.len + 1) buffer)) (rest r) (length c.args.buffer.now) _ _ (ap (λ (b : List ℕ). operator_part (entry_at b)) here ∙ c.in_ok-operator-in-Operand.ensures)
+    full (map number_of (take (c.loop-found.len + 1) buffer)) (rest r) (length c.args.buffer.now) _ _ (ap (λ (b : List ℕ). operator_part (entry_at b)) here ∙ c.in_ok-read-in-Operand.ensures)
     (goes_on number_of c.loop-found.buffer c.loop-found.len (rest c.loop-found.r) (rest r) c.next_token.new.operand _ c.loop-found.invariant.operands (rw c.in-Operand.is at c.in-Some.ensures.value) c.loop-found.invariant.room)
     (omega (arith, length-map (take (c.loop-found.len + 1) buffer) number_of, length-take (c.loop-found.len + 1) buffer, length-set c.loop-found.buffer c.loop-found.len c.next_token.new.operand, c.loop-found.auto.buffer, c.if-len-buffer.true))
 
@@ -50,22 +50,22 @@ returns-then-len-buffer-clause-operator c =
     let r = c.next_token.new.r in
     let here : rest r ≡ drop c.offset-then-len-buffer.result c.args.bytes.now = ap (drop r.place) (c.in-Some.ensures.same ∙ c.loop-found.invariant.same) ∙ ap (λ (n : ℕ). drop n c.args.bytes.now) (sym c.offset-then-len-buffer.ensures) in
     part_of_whole _ _ _ (goes_on number_of c.loop-found.buffer c.loop-found.len (rest c.loop-found.r) (rest r) c.next_token.new.operand _ c.loop-found.invariant.operands (rw c.in-Operand.is at c.in-Some.ensures.value) c.loop-found.invariant.room)
-    ∙ ap (λ (b : List ℕ). operator_part (entry_at b)) here ∙ c.in_ok-operator-in-Operand.ensures
+    ∙ ap (λ (b : List ℕ). operator_part (entry_at b)) here ∙ c.in_ok-read-in-Operand.ensures
 
-pub returns-in_err-operator-in-Operand-clause-operands : goal.returns-in_err-operator-in-Operand-clause-operands
+pub returns-in_err-read-in-Operand-clause-operands : goal.returns-in_err-read-in-Operand-clause-operands
 unfolding operands_at
-returns-in_err-operator-in-Operand-clause-operands c =
+returns-in_err-read-in-Operand-clause-operands c =
     let r = c.next_token.new.r in
     let here : rest r ≡ drop c.offset-then-len-buffer.result c.args.bytes.now = ap (drop r.place) (c.in-Some.ensures.same ∙ c.loop-found.invariant.same) ∙ ap (λ (n : ℕ). drop n c.args.bytes.now) (sym c.offset-then-len-buffer.ensures) in
-    rw c.from_residual.ensures (cut _ (rest r) (length c.args.buffer.now) _ (ap (λ (b : List ℕ). operator_part (entry_at b)) here ∙ c.in_err-operator-in-Operand.ensures)
+    rw c.from_residual.ensures (cut _ (rest r) (length c.args.buffer.now) _ (ap (λ (b : List ℕ). operator_part (entry_at b)) here ∙ c.in_err-read-in-Operand.ensures)
     (goes_on number_of c.loop-found.buffer c.loop-found.len (rest c.loop-found.r) (rest r) c.next_token.new.operand _ c.loop-found.invariant.operands (rw c.in-Operand.is at c.in-Some.ensures.value) c.loop-found.invariant.room))
 
-pub returns-in_err-operator-in-Operand-clause-operator : goal.returns-in_err-operator-in-Operand-clause-operator
-returns-in_err-operator-in-Operand-clause-operator c =
+pub returns-in_err-read-in-Operand-clause-operator : goal.returns-in_err-read-in-Operand-clause-operator
+returns-in_err-read-in-Operand-clause-operator c =
     let r = c.next_token.new.r in
     let here : rest r ≡ drop c.offset-then-len-buffer.result c.args.bytes.now = ap (drop r.place) (c.in-Some.ensures.same ∙ c.loop-found.invariant.same) ∙ ap (λ (n : ℕ). drop n c.args.bytes.now) (sym c.offset-then-len-buffer.ensures) in
     rw c.from_residual.ensures (part_of_whole _ _ _ (goes_on number_of c.loop-found.buffer c.loop-found.len (rest c.loop-found.r) (rest r) c.next_token.new.operand _ c.loop-found.invariant.operands (rw c.in-Operand.is at c.in-Some.ensures.value) c.loop-found.invariant.room)
-    ∙ ap (λ (b : List ℕ). operator_part (entry_at b)) here ∙ c.in_err-operator-in-Operand.ensures)
+    ∙ ap (λ (b : List ℕ). operator_part (entry_at b)) here ∙ c.in_err-read-in-Operand.ensures)
 
 pub returns-clause-operands : goal.returns-clause-operands
 unfolding operands_at

@@ -1,11 +1,10 @@
-use Rattle.std.proofs.Common.{◌≡◌, ◌+◌, ◌<◌, ◌^◌, length, drop}
+use Rattle.std.proofs.Common.{◌≡◌, map, ◌+◌, ◌<◌, ◌^◌, length, drop}
 use Rattle.std.specs.List.{concat}
-use Rattle.subsetter_cffdata.specs.Owned.{views}
 use Rattle.subsetter_cffdata.proofs.writing_index.total.Given as goal
 
 -- the sum so far, and what is left
 abbrev pub invariant-loop-item : goal.invariant-loop-item
-invariant-loop-item l = record {
-  sum : l.sum + length (concat (views (drop l.item-index l.items))) ≡ length (concat (views l.items)) + 1;
+invariant-loop-item g l = record {
+  sum : l.sum + length (concat (map g.T.AsSlice.items (drop l.item-index l.items))) ≡ length (concat (map g.T.AsSlice.items l.items)) + 1;
   fits : l.sum < 2 ^ 32;
 }

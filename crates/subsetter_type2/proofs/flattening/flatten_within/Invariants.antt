@@ -5,8 +5,8 @@ use Rattle.subsetter_type2.specs.View.{rests_of}
 use Rattle.subsetter_type2.specs.MachineView.{registers_of, library_of}
 use Rattle.subsetter_type2.proofs.flattening.flatten_within.Given as goal
 
-abbrev pub invariant-loop-text : goal.invariant-loop-text
-invariant-loop-text g l =
+abbrev pub invariant-loop-current : goal.invariant-loop-current
+invariant-loop-current g l =
     let library = library_of l.subroutines in
     record {
       reached : ReachedBehind l.fn.bytes.items (outcome library l.limits.tokens l.limits.depth l.charstring) library l.limits.depth l.tokens
@@ -14,5 +14,5 @@ invariant-loop-text g l =
       room : length l.rests < l.limits.depth;
     }
 
-abbrev pub decreases-loop-text : goal.decreases-loop-text
-decreases-loop-text g l = l.tokens
+abbrev pub decreases-loop-current : goal.decreases-loop-current
+decreases-loop-current g l = l.tokens

@@ -6,11 +6,11 @@ use Rattle.subsetter_type2.proofs.scanning.find_stretch.Given as goal
 
 abbrev pub invariant-loop-next : goal.invariant-loop-next
 invariant-loop-next l = record {
-  comes : (bytes : List ℕ) (settled : ℕ) (w : Written) → Stands bytes settled l.count w → Comes l.text l.mask_len bytes settled w l.stretch;
+  comes : (bytes : List ℕ) (settled : ℕ) (w : Written) → Stands bytes settled l.count w → Comes l.charstring l.mask_len bytes settled w l.stretch;
   sound : IsSound l.stretch;
-  inside : l.stretch.len ≤ length l.text;
+  inside : l.stretch.len ≤ length l.charstring;
   few : l.stretch.tokens ≤ l.tokens;
 }
 
 abbrev pub decreases-loop-next : goal.decreases-loop-next
-decreases-loop-next l = length l.text - l.stretch.len
+decreases-loop-next l = length l.charstring - l.stretch.len

@@ -1,7 +1,7 @@
 use Rattle.std.proofs.Common.{ℕ, List, ◌≡◌, ◌++◌, subst}
 use Rattle.std.specs.Prelude.{OnOk}
 use Rattle.subsetter_cff.specs.Write.TopDictView.{top_dict_of}
-use Rattle.subsetter_cff.proofs.WriteLaws.WrittenLines.{six_written, named_is}
+use Rattle.subsetter_cff.proofs.WriteLaws.WrittenEntries.{six_written, named_is}
 use Rattle.subsetter_cff.proofs.write.top_dict.write_named.Goals as goal
 
 pub returns-clause-ok : goal.returns-clause-ok

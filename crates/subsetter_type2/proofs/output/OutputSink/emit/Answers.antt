@@ -1,6 +1,6 @@
 use Rattle.std.proofs.Common.{◌∙◌, ◌++◌, List, [], ℕ, ap, append_assoc}
 use Rattle.subsetter_type2.proofs.OutputLemmas.{holds_none, stands_settled, written_is, settles}
-use Rattle.subsetter_type2.proofs.output.OutputSink.draw.Goals as goal
+use Rattle.subsetter_type2.proofs.output.OutputSink.emit.Goals as goal
 
 pub invariant_of-self : goal.invariant_of-self
 invariant_of-self c = rw c.in_err-append_operator.ensures.unchanged c.self.invariant

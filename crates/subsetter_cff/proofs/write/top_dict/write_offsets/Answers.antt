@@ -1,5 +1,5 @@
-use Rattle.subsetter_cff.proofs.WriteLaws.WrittenLines.{five_written}
-use Rattle.subsetter_cff.proofs.write.top_dict.write_places.Goals as goal
+use Rattle.subsetter_cff.proofs.WriteLaws.WrittenEntries.{five_written}
+use Rattle.subsetter_cff.proofs.write.top_dict.write_offsets.Goals as goal
 
 pub returns-clause-ok : goal.returns-clause-ok
 returns-clause-ok c =

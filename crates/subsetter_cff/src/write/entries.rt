@@ -1,15 +1,15 @@
-//! The lines of a dict: operands, then the operator (Technical Note 5176, section 4 "DICT Data").
+//! The entries of a dict: operands, then the operator (Technical Note 5176, section 4 "DICT Data").
 
 ghost use Rattle.std.specs.Prelude.{◌≡◌, ◌<◌, ◌^◌, ◌++◌, ◌∷◌, [], map, OnOk, IfErr};
 ghost use Rattle.std.specs.Option.{option_map};
 ghost use Rattle.subsetter_base.specs.declared.error.Error.TheVariants.{OutOfMemory};
 ghost use Rattle.subsetter_base.specs.Gives.{Gives};
 ghost use Rattle.subsetter_base.specs.Refusals.{IsOutOfMemoryOr, first_refusal};
-ghost use Rattle.subsetter_cffdata.specs.Dict.{line, dict};
+ghost use Rattle.subsetter_cffdata.specs.Dict.{entry_bytes, dict};
 ghost use Rattle.subsetter_cffdata.specs.Numbers.{offset};
 ghost use Rattle.subsetter_cffdata.specs.Views.{number_of, operator_of};
 ghost use Rattle.subsetter_cff.specs.Write.TableLimits.{limit, short};
-ghost use Rattle.subsetter_cff.specs.Write.Layout.{integer, plain_line, number_lines, offset_line, private_line};
+ghost use Rattle.subsetter_cff.specs.Write.Layout.{integer, plain_entry, number_entries, offset_entry, private_entry};
 
 use subsetter_base::error::Error;
 use subsetter_base::write::Writer;
@@ -17,9 +17,9 @@ use subsetter_cffdata::number::{IntegerNumber, Number, StringId};
 use subsetter_cffdata::operator::Operator;
 
 /// Writes numbers and an operator. A real that is too long is `OverflowError`.
-#[tactic(auto, using(crate::proofs::WriteLaws::WrittenLines::line_is, crate::proofs::WriteLaws::Checked::numbers_kept, crate::proofs::WriteLaws::Checked::numbers_refused))]
+#[tactic(auto, using(crate::proofs::WriteLaws::WrittenEntries::written_entry_is, crate::proofs::WriteLaws::Checked::numbers_kept, crate::proofs::WriteLaws::Checked::numbers_refused))]
 pub fn write_numbers(numbers: &[Number], operator: Operator, w: &mut Writer) -> Result<(), Error>
-    ensures ok { OnOk result (w.new ≡ w.old ++ line (plain_line (operator_of operator) (map number_of numbers.now))) }
+    ensures ok { OnOk result (w.new ≡ w.old ++ entry_bytes (plain_entry (operator_of operator) (map number_of numbers.now))) }
     ensures checked { Gives (λ _. tt) result (limit (short (map number_of numbers.now))) }
 {
     w.write(&numbers)?;
@@ -28,7 +28,7 @@ pub fn write_numbers(numbers: &[Number], operator: Operator, w: &mut Writer) -> 
 
 /// Writes an integer and an operator.
 pub fn write_integer(number: u16, operator: Operator, w: &mut Writer) -> Result<(), Error>
-    ensures ok { OnOk result (w.new ≡ w.old ++ line (plain_line (operator_of operator) (integer number ∷ []))) }
+    ensures ok { OnOk result (w.new ≡ w.old ++ entry_bytes (plain_entry (operator_of operator) (integer number ∷ []))) }
     ensures err { IfErr result (λ e. e ≡ OutOfMemory) }
 {
     w.write(&IntegerNumber(i32::from(number)))?;
@@ -38,7 +38,7 @@ pub fn write_integer(number: u16, operator: Operator, w: &mut Writer) -> Result<
 /// Writes an offset and an operator.
 pub fn write_offset(place: u32, operator: Operator, w: &mut Writer) -> Result<(), Error>
     requires { place < 2 ^ 31 }
-    ensures ok { OnOk result (w.new ≡ w.old ++ line (offset_line (operator_of operator) place)) }
+    ensures ok { OnOk result (w.new ≡ w.old ++ entry_bytes (offset_entry (operator_of operator) place)) }
     ensures err { IfErr result (λ e. e ≡ OutOfMemory) }
 {
     IntegerNumber(place as i32).write_as_5_bytes(w)?;
@@ -63,7 +63,7 @@ pub fn write_string(
     operator: Operator,
     w: &mut Writer,
 ) -> Result<(), Error>
-    ensures ok { OnOk result (w.new ≡ w.old ++ dict (number_lines (operator_of operator) (option_map (λ s. s.0) number))) }
+    ensures ok { OnOk result (w.new ≡ w.old ++ dict (number_entries (operator_of operator) (option_map (λ s. s.0) number))) }
     ensures err { IfErr result (λ e. e ≡ OutOfMemory) }
 {
     match number {

@@ -3,7 +3,7 @@ use Rattle.std.proofs.lemmas.List.{nil_from_length}
 use Rattle.subsetter_type2.specs.declared.program.Instruction.{Instruction}
 use Rattle.subsetter_type2.specs.declared.program.Instruction.TheVariants as instruction
 use Rattle.subsetter_type2.proofs.ProgramLemmas.{drawn_masked, drawn_plain}
-use Rattle.subsetter_type2.proofs.program.DraftSink.draw.Goals as goal
+use Rattle.subsetter_type2.proofs.program.DraftSink.emit.Goals as goal
 
 pub returns-in_ok-push-2-clause-ok : goal.returns-in_ok-push-2-clause-ok
 returns-in_ok-push-2-clause-ok c =
