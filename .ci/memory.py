@@ -15,7 +15,7 @@ ALLOWED = {
     ("subsetter_base", "fmt"): (1, "its text"),
     ("subsetter_c", "status_of"): (1, "its status"),
     ("subset_rows", "status_of"): (1, "its status"),
-    ("subset_rows", "run_text"): (1, "the errors by their texts"),
+    ("subset_rows", "fmt"): (1, "the list of errors behind it, whose texts are compared"),
     ("cid_embed", "write_width"): (1, "`write!` tells a refused request as fmt::Error, and a number's text has no other error"),
     ("subset_font", "glyphs_of"): (2, "`parts_of` and `push` take memory and have no other error"),
     ("subset_font", "read_within"): (2, "`clone` takes memory and has no other error"),
