@@ -14,6 +14,8 @@ ALLOWED = {
     ("subsetter_base", "enum Error"): (1, "the case itself"),
     ("subsetter_base", "fmt"): (1, "its text"),
     ("subsetter_c", "status_of"): (1, "its status"),
+    ("subset_rows", "status_of"): (1, "its status"),
+    ("subset_rows", "fmt"): (1, "the list of errors behind it, whose texts are compared"),
     ("cid_embed", "write_width"): (1, "`write!` tells a refused request as fmt::Error, and a number's text has no other error"),
     ("subset_rows", "status_of"): (1, "its status"),
     ("subset_rows", "fmt"): (1, "the list of all errors, in which a status is looked up"),

@@ -135,7 +135,7 @@ pub fn table() -> Table {
         rows: Vec::new(),
     };
     table.read(concat!(env!("CARGO_MANIFEST_DIR"), "/../../crates/subset_rows/data/rows.txt"));
-    assert!(table.rows.len() > 80);
+    assert!(table.rows.len() > 300);
     table
 }
 
