@@ -282,7 +282,7 @@ def main():
 
     fonts.install(fonts.TOOLS + [it[0] for it in fonts.DAMAGED + fonts.DAMAGED_CFF + fonts.KEYED])
     if not given.no_build:
-        run.build(False)
+        run.build_all(False, False)
     drivers = {"original": run.ORIGINAL, "port": run.PORT}
     if given.truetype:
         paths = [path for _, path in fonts.DAMAGED]

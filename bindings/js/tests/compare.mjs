@@ -4,7 +4,7 @@
  *     node tests/compare.mjs [--fonts N] [--copies N] [--sixty-four]     the real fonts of this machine, and damaged copies
  *     node tests/compare.mjs --times [--write]                           a table of times; put into ../README.md
  *
- * It is run by hand after `make native` and says which commit it ran on. `bindings/js/test` runs a short form.
+ * It is run by hand after `make native` and says which commit it ran on. `bindings/js/test` compares 300 fonts and 2,000 copies.
  */
 import { execFileSync } from "node:child_process";
 import { readFileSync, statSync, writeFileSync } from "node:fs";

@@ -68,7 +68,7 @@ async function packed() {
 
 async function fonts() {
     const subsetter = await library.load(wasm), native = here("../out/native");
-    const [real, copies] = [realFonts(10), damagedFonts(150)];
+    const [real, copies] = [realFonts(300), damagedFonts(2000)];
     ok(real.length > 0, "there is no font on this machine (fonts-dejavu-core has some)");
     await compare(subsetter, native, real);
     const counts = await compare(subsetter, native, copies);

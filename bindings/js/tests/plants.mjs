@@ -6,7 +6,7 @@
  * It is run by hand after `./test`, and isn't part of the gate. `let through` is a bug that no test sees.
  */
 import { spawnSync } from "node:child_process";
-import { cpSync, mkdirSync, mkdtempSync, readFileSync, rmSync, writeFileSync } from "node:fs";
+import { cpSync, existsSync, mkdirSync, mkdtempSync, readFileSync, rmSync, writeFileSync } from "node:fs";
 import { tmpdir } from "node:os";
 import { join } from "node:path";
 import { fileURLToPath } from "node:url";
@@ -115,7 +115,9 @@ const word = process.argv[2] ?? "";
 const room = mkdtempSync(join(tmpdir(), "subsetter-plants-")), copy = join(room, "bindings/js");
 mkdirSync(copy, { recursive: true });
 cpSync(join(here, "../../crates/subset_rows/data"), join(room, "crates/subset_rows/data"), { recursive: true });
-cpSync(join(here, "../../VERSION"), join(room, "VERSION"));
+for (const name of ["VERSION", "crates.txt", "LICENSE-SPDX"]) {
+    if (existsSync(join(here, "../..", name))) cpSync(join(here, "../..", name), join(room, name));
+}
 cpSync(here, copy, { recursive: true, verbatimSymlinks: true });
 const through = [];
 let tried = 0;
