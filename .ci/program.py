@@ -484,6 +484,8 @@ def check_rights(table, room):
         return subprocess.run([program, *words], cwd=room, capture_output=True, timeout=60, **who)
     put(room, "in", SIMPLE, 0o444)
     shut = put(room, "shut", OLD, 0o444)
+    if is_root:
+        os.chown(shut, 65534, 65534)
     got = start("in", "shut", "0", "2")
     table.demand((got.returncode, got.stderr) == (3, b"cannot write shut\n") and take(shut) == OLD, "OUT can't be written", got)
     table.demand(sorted(os.listdir(room)) == ["in", "program", "shut"], "and leaves", os.listdir(room))
