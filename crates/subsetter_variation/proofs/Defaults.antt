@@ -1,5 +1,5 @@
 -- At the default the points of a glyph stay where they are.
-use Rattle.std.proofs.Common.{◌≡◌, ℕ, zero, suc, Bool, true, false, cond, List, Option, Some, Result, Ok, ℤ, pos, length, ◌==◌, if◌then◌else◌, All, ap, sym, subst, ◌∙◌}
+use Rattle.std.proofs.Common.{◌≡◌, ℕ, zero, suc, Bool, true, false, cond, List, Option, Some, Ok, ℤ, pos, length, ◌==◌, if◌then◌else◌, All, refl, ap, sym, subst, ◌∙◌}
 use Rattle.std.specs.Option.{ok_or}
 use Rattle.subsetter_base.specs.Bytes.{◌>>=◌}
 use Rattle.subsetter_base.specs.declared.error.Error.TheVariants.{MalformedFont}
@@ -8,7 +8,7 @@ use Rattle.subsetter_variation.specs.Region.{scalar}
 use Rattle.subsetter_variation.specs.Tuples.{Gvar, TupleHeader, TupleHeaders, next_header, shared_numbers, tuple_headers, variations_of}
 use Rattle.subsetter_variation.specs.Movement.{Outline, Walk, moved_in_bytes, moved_points, next_walk, scaled_walk, spent, start, walk_all}
 use Rattle.subsetter_variation.specs.Varied.{in_units}
-use Rattle.subsetter_variation.specs.VariationLaws.{HasBoundTuples, HaveAxes, StaysAtDefault}
+use Rattle.subsetter_variation.specs.VariationLaws.{HaveAxes, StaysAtDefault}
 use Rattle.subsetter_variation.proofs.Masters.{is_nothing_at_default}
 
 -- a tuple whose scalar is 0 is passed over
@@ -34,6 +34,12 @@ all_stay t o shared at (suc n) w v zeros bound e =
     let rest = all_stay t o shared at n x.0 v zeros more x.2 in
     (rest.0 ∙ one.2, rest.1 ∙ one.3)
 
+-- what is answered has the walk's points
+told : (xs ys p q : List ℤ) (n : ℕ) (a : List ℤ × List ℤ × ℕ) → done (xs, ys, n) ≡ Ok a → xs ≡ p → ys ≡ q → (a.0 ≡ p) × (a.1 ≡ q)
+told xs ys p q n a e f g =
+    let i = done_is (xs, ys, n) a e in
+    (ap (λ z. z.0) (sym i) ∙ f, ap (λ z. z.1) (sym i) ∙ g)
+
 in_bytes_stay : (t : Gvar) (o : Outline) (at : List ℤ) (steps : ℕ) (bytes : List ℕ) (a : List ℤ × List ℤ × ℕ) → All (λ c. c ≡ pos 0) at → ((all : Bool × TupleHeaders) (shared : Option (List ℕ) × TupleHeaders) → tuple_headers bytes ≡ Some all → shared_numbers (length o.xs) all.0 all.1 ≡ Some shared → HaveAxes t (length at) shared.1.left shared.1) → moved_in_bytes t o at steps bytes ≡ Ok a → (a.0 ≡ in_units o.xs) × (a.1 ≡ in_units o.ys)
 unfolding moved_in_bytes
 in_bytes_stay t o at steps bytes a zeros bound e =
@@ -45,13 +51,10 @@ in_bytes_stay t o at steps bytes a zeros bound e =
     let u = bind_ok (walk_all t o x.0.0 at x.0.1.left (start o steps x.0.1)) last a x.2 in
     let here = bound p.0 x.0 (named_ok (tuple_headers bytes) MalformedFont p.0 p.1) (named_ok (shared_numbers (length o.xs) p.0.0 p.0.1) MalformedFont x.0 x.1) in
     let same = all_stay t o x.0.0 at x.0.1.left (start o steps x.0.1) u.0 zeros here u.1 in
-    let i = done_is (u.0.xs, u.0.ys, u.0.steps) a u.2 in
-    (ap (λ z. z.0) (sym i) ∙ same.0, ap (λ z. z.1) (sym i) ∙ same.1)
+    told u.0.xs u.0.ys (in_units o.xs) (in_units o.ys) u.0.steps a u.2 same.0 same.1
 
 points_stay : (c : Bool) (t : Gvar) (o : Outline) (at : List ℤ) (steps : ℕ) (bytes : List ℕ) (xs ys : List ℤ) (a : List ℤ × List ℤ × ℕ) → (moved_in_bytes t o at steps bytes ≡ Ok a → (a.0 ≡ xs) × (a.1 ≡ ys)) → cond c (done (xs, ys, steps)) (moved_in_bytes t o at steps bytes) ≡ Ok a → (a.0 ≡ xs) × (a.1 ≡ ys)
-points_stay true t o at steps bytes xs ys a stay e =
-    let i = done_is (xs, ys, steps) a e in
-    (ap (λ z. z.0) (sym i), ap (λ z. z.1) (sym i))
+points_stay true t o at steps bytes xs ys a stay e = told xs ys xs ys steps a e refl refl
 points_stay false t o at steps bytes xs ys a stay e = stay e
 
 pub stays_at_default : StaysAtDefault
