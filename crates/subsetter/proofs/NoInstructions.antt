@@ -1,5 +1,5 @@
 -- A subset of a font whose hinting isn't asked for has no instructions, read afresh.
-use Rattle.std.proofs.Common.{◌≡◌, ℕ, ◌+◌, ◌*◌, ◌^◌, ◌<◌, Bool, true, false, List, length, get_or, Option, Some, None, Ok, refl, sym, ap, subst, ◌∙◌, arith}
+use Rattle.std.proofs.Common.{◌≡◌, ℕ, ◌+◌, ◌*◌, ◌^◌, ◌<◌, Bool, true, false, List, length, get_or, Option, Some, None, Ok, refl, sym, ap, subst, ◌∙◌}
 use Rattle.std.specs.Prelude.{codes}
 use Rattle.std.specs.Bool.{OnFalse}
 use Rattle.std.proofs.lemmas.Bool.{OnFalse_from}
@@ -17,7 +17,7 @@ use Rattle.subsetter.specs.Glyf.Parts.{Parts, outline_parts, parts_bytes}
 use Rattle.subsetter.specs.Glyf.Plain.{renumbered}
 use Rattle.subsetter.specs.Glyf.Read.{Outlines, outlines, outline, entry_size}
 use Rattle.subsetter.specs.Glyf.Unfold.{padded}
-use Rattle.subsetter.specs.Truetype.Plain.{Made, laid, truetype_tables}
+use Rattle.subsetter.specs.Truetype.Plain.{Made, laid}
 use Rattle.subsetter.specs.Cff.Plain.{Made as CffMade, made_of, laid as cff_laid, cff_tables}
 use Rattle.subsetter.specs.Laid.{AreMade, of_outlines, of_charstrings}
 use Rattle.subsetter.specs.Subset.{IsSubset}
@@ -25,7 +25,7 @@ use Rattle.subsetter.proofs.CffLaws.Order.{no_outline}
 use Rattle.subsetter.proofs.CffLaws.Steps.{MadeSteps as CffSteps, made_steps as cff_steps}
 use Rattle.subsetter.proofs.CffLaws.Subset.{back as cff_back}
 use Rattle.subsetter.proofs.GlyfLaws.Back.{has_entry, read_back, entry_count}
-use Rattle.subsetter.proofs.GlyfLaws.Kept.{IsKept, kept_at, length-kept_all}
+use Rattle.subsetter.proofs.GlyfLaws.Kept.{kept_at, length-kept_all}
 use Rattle.subsetter.proofs.GlyfLaws.NoInstructions.{written_bare}
 use Rattle.subsetter.proofs.GlyfLaws.Unfold.{can_write, padded_parts, parts_back, outline_is, outline_bytes, small_numbers}
 use Rattle.subsetter_sfnt.proofs.Laws.TableBytes.{table_bytes}

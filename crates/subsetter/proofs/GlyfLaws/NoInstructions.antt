@@ -7,13 +7,13 @@ use Rattle.std.specs.Option.{option_and_then, option_map, unwrap_or}
 use Rattle.std.proofs.lemmas.Bool.{le-leb}
 use Rattle.std.proofs.lemmas.List.{append-nil, length-append, length-replicate, length-take-le}
 use Rattle.std.proofs.lemmas.Nat.{and_assoc}
-use Rattle.subsetter_base.specs.Bytes.{be, range, number}
+use Rattle.subsetter_base.specs.Bytes.{be, number}
 use Rattle.subsetter_base.proofs.ByteLemmas.{range-left, range-take_drop, number-fits, number_at}
 use Rattle.subsetter_base.proofs.Options.{just, just_is, some_not_none, bind_some}
 use Rattle.subsetter.specs.Name.Read.{bytes_from}
-use Rattle.subsetter.specs.Glyf.Bare.{bare_at, bare_found, bare_simple, component_asked, chain_asked, bare}
+use Rattle.subsetter.specs.Glyf.Bare.{bare_at, bare_found, bare_simple, component_asked, bare}
 use Rattle.subsetter.specs.Glyf.Instructions.{IsBareSimple, AreBare}
-use Rattle.subsetter.specs.Glyf.Parts.{Component, Chain, Parts, Empty, Simple, Composite, has_instructions, spelled, parts_bytes}
+use Rattle.subsetter.specs.Glyf.Parts.{Component, Parts, Empty, Simple, Composite, has_instructions, spelled, parts_bytes}
 use Rattle.subsetter.specs.Glyf.Plain.{new_number, renumbered_component, renumbered}
 use Rattle.subsetter.specs.Glyf.Unfold.{padded}
 use Rattle.subsetter.proofs.GlyfLaws.Parts.{padded-append, padded-nil, bare_is, chain-even}
