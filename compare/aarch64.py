@@ -73,7 +73,7 @@ def main():
     said = f"{len(taken)} fonts, {calls} calls on each processor ({refused} refused), {size} bytes of answers: {len(differ)} fonts differ"
     with open(os.path.join(HERE, "results", "aarch64.md"), "w", encoding="utf-8") as file:
         file.write("# aarch64 by qemu-aarch64-static, against x86-64\n\n")
-        file.write(f"`compare/aarch64.py {' '.join(sys.argv[1:])}`, over packages of the {commit}: {said}.\n")
+        file.write(f"`{' '.join(['compare/aarch64.py', *sys.argv[1:]])}`, over packages of the {commit}: {said}.\n")
         file.writelines(f"\n- {it}" for it in differ)
     print(said)
     sys.exit(bool(differ) or not taken)
