@@ -1,4 +1,4 @@
-//! Which glyphs follow the given ones, and in which order: no clause says it.
+//! Which glyphs follow the given ones, and in which order: worked examples of the clause `exact` of `subset`.
 
 use crate::GlyphRemapper;
 use crate::glyf::{OutlineTables, closure};

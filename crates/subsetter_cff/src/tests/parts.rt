@@ -1,8 +1,8 @@
 //! Parts of a table, by the calls that read or write them.
 
-use crate::charset::rewrite_charset;
-use crate::fd_select::{generate_fd_index, parse_fd_select};
-use crate::sid_remapper::SidRemapper;
+use crate::read::fd_select::{generate_fd_index, parse_fd_select};
+use crate::write::charset::rewrite_charset;
+use crate::write::sid_remapper::SidRemapper;
 use std::alloc::Global;
 use std::test::*;
 use subsetter_base::error::Error;

@@ -1,6 +1,6 @@
 //! Building tables, and looking at what becomes of them. Bytes are given as hexadecimal digits.
 
-use crate::subsetting::subset;
+use crate::write::subsetting::subset;
 use std::alloc::Global;
 use std::process::Abort;
 use std::test::*;
