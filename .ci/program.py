@@ -333,6 +333,8 @@ class Table:
 
 def check_contents(table):
     """What is left out of a font."""
+    if not all(table.same.values()):
+        return table.fail("what is left out", "a font isn't there")
     all_of_it = tables_of(table.same["all of the three"])
     for name, dropped in (("no names", "names"), ("no hinting", "hinting"), ("no glyph names", "glyphs"), ("none of the three", "all")):
         found = tables_of(table.same[name])
@@ -383,8 +385,20 @@ def put(room, name, data, mode=None):
 
 
 def take(path):
+    """The bytes of a file, or None where it isn't there."""
+    if not os.path.exists(path):
+        return None
     with open(path, "rb") as file:
         return file.read()
+
+
+def mode_of(path):
+    return stat.S_IMODE(os.stat(path).st_mode) if os.path.exists(path) else None
+
+
+def remove(path):
+    if os.path.exists(path):
+        os.unlink(path)
 
 
 def check_places(table, room):
@@ -394,10 +408,10 @@ def check_places(table, room):
     out = put(room, "out", OLD, 0o640)
     before = sorted(os.listdir(room))
     got = table.start(["in", "out", "0", "2"], room)
-    table.demand(take(out) == wanted and stat.S_IMODE(os.stat(out).st_mode) == 0o640, "the rights of OUT", got)
+    table.demand(take(out) == wanted and mode_of(out) == 0o640, "the rights of OUT", got)
     got = table.start(["in", "new", "0", "2"], room, preexec_fn=lambda: os.umask(0o027))
-    table.demand(stat.S_IMODE(os.stat(os.path.join(room, "new")).st_mode) == 0o640, "the rights of a new OUT", got)
-    os.unlink(os.path.join(room, "new"))
+    table.demand(mode_of(os.path.join(room, "new")) == 0o640, "the rights of a new OUT", got)
+    remove(os.path.join(room, "new"))
     table.demand(sorted(os.listdir(room)) == before, "a run leaves", os.listdir(room))
     # The file grows past the limit on its size in mid-write: OUT stays, and nothing is left beside it.
     put(room, "out", OLD)
@@ -426,6 +440,15 @@ def check_places(table, room):
         table.demand(got.returncode == 0 and take(os.path.join(room, "n" * 255)) == wanted, "a long name", got)
 
 
+def said_by(reader):
+    """What a process prints, which is ended where nobody writes to it."""
+    try:
+        return reader.communicate(timeout=10)[0]
+    except subprocess.TimeoutExpired:
+        reader.kill()
+        return reader.communicate()[0]
+
+
 def check_links(table, room):
     """Links and second names stay, and what they lead to is written; a pipe is written."""
     wanted = table.same["simple 2"]
@@ -443,7 +466,7 @@ def check_links(table, room):
     os.mkfifo(os.path.join(room, "pipe"))
     reader = subprocess.Popen(["cat", "pipe"], cwd=room, stdout=subprocess.PIPE)
     got = table.start(["in", "pipe", "0", "2"], room)
-    table.demand(reader.communicate()[0] == wanted and (got.returncode, got.stdout) == (0, lines((2, 1))), "OUT a pipe", got)
+    table.demand(said_by(reader) == wanted and (got.returncode, got.stdout) == (0, lines((2, 1))), "OUT a pipe", got)
     names = ["hanging", "in", "link", "nowhere", "one", "other", "pipe", "real"]
     table.demand(sorted(os.listdir(room)) == names, "links leave", os.listdir(room))
 
@@ -461,6 +484,8 @@ def check_rights(table, room):
         return subprocess.run([program, *words], cwd=room, capture_output=True, timeout=60, **who)
     put(room, "in", SIMPLE, 0o444)
     shut = put(room, "shut", OLD, 0o444)
+    if is_root:
+        os.chown(shut, 65534, 65534)
     got = start("in", "shut", "0", "2")
     table.demand((got.returncode, got.stderr) == (3, b"cannot write shut\n") and take(shut) == OLD, "OUT can't be written", got)
     table.demand(sorted(os.listdir(room)) == ["in", "program", "shut"], "and leaves", os.listdir(room))
@@ -529,7 +554,7 @@ def check_many(table, room):
         table.demand((got.returncode, got.stdout, got.stderr) == (0, lines(*((k, k) for k in range(count))), b""),
                      "65,535 glyphs by a file", (got.returncode, got.stderr))
     out = take(os.path.join(room, "out"))
-    table.demand(is_whole(out), "OUT of 65,535 glyphs", len(out))
+    table.demand(out and is_whole(out), "OUT of 65,535 glyphs", out and len(out))
     got = table.start(["--gids-file", "list", "-", "-", "0"], room, input=font)
     table.demand((got.returncode, got.stdout, got.stderr) == (0, out, lines(*((k, k) for k in range(count)))),
                  "65,535 glyphs by streams", (got.returncode, len(got.stdout), len(got.stderr)))
@@ -575,7 +600,7 @@ def check_refused_memory(table, room):
                 base = got, left
                 table.demand(got.returncode == 0 and out in (None, got.stdout), words, got)
                 continue
-            if take(os.path.join(room, "told")).split()[1] == b"0":
+            if (take(os.path.join(room, "told")) or b"0 0").split()[1] == b"0":
                 break
             ended = (got.returncode, got.stdout, got.stderr)
             if got.returncode == 0:

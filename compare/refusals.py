@@ -250,6 +250,7 @@ def check_files(name, data, glyphs, room):
             else:
                 demand(told == (3, b"cannot read in\n") and got.out == b"" and out == OLD, case, got)
             gives_back(base, got, case)
+        demand(base.calls[what] > 0, f"subset_font on {name} makes no call of {what}", base)
         counts[what] = base.calls[what]
     return counts
 
