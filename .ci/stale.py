@@ -5,7 +5,7 @@ import re
 import subprocess
 
 ROOT = os.path.dirname(os.path.dirname(os.path.realpath(__file__)))
-RESULTS = ["docs/EVIDENCE.md", "compare/results/truetype.csv", "compare/results/cff.csv"]
+RESULTS = ["docs/EVIDENCE.md", "compare/results/truetype.csv", "compare/results/cff.csv", "compare/results/sizes.md", "compare/results/instances.md"]
 CODE = [":(glob)crates/*/src/**"]
 
 
@@ -15,7 +15,7 @@ def git(*words):
 
 def named(line):
     """The commit that a line of results names, if it does."""
-    found = re.search(r"commit ([0-9a-f]{7,40})\b", line) or re.search(r"^\| [^|]+ \| ([0-9a-f]{7,40})\b", line)
+    found = re.search(r"(?:[Cc]ommit|at) ([0-9a-f]{7,40})\b", line) or re.search(r"^\| [^|]+ \| ([0-9a-f]{7,40})\b", line)
     return found and found.group(1)
 
 

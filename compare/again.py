@@ -27,11 +27,11 @@ import tempfile
 from fontTools.pens.recordingPen import DecomposingRecordingPen
 from fontTools.ttLib import TTFont
 
+import build
+import cff
 import fonts
 from fonts import directory, label, u16, u32
 
-ROOT = os.path.dirname(os.path.dirname(os.path.realpath(__file__)))
-PORT = os.path.join(ROOT, "crates", "subset_bench", "out", "subset_bench")
 FOLDERS = ["/usr/share/fonts", "/usr/share/texmf/fonts"]
 CHAINS = [
     (f"{fonts.TRUETYPE}/dejavu/DejaVuSans.ttf", 0),
@@ -56,79 +56,25 @@ def table(data, tag, index=0):
     return None if found is None else data[found[0]:found[0] + found[1]]
 
 
-def charstring_count(cff):
-    """How many entries the CharStrings INDEX has that the first top dict names."""
-    return u16(cff, charstrings_at(cff))
-
-
-def index_end(cff, at):
-    """The places of the entries of an INDEX, and its end."""
-    count = u16(cff, at)
-    if count == 0:
-        return [], at + 2
-    size = cff[at + 2]
-    offsets = [int.from_bytes(cff[at + 3 + size * k:at + 3 + size * (k + 1)], "big") for k in range(count + 1)]
-    base = at + 2 + size * (count + 1)
-    return [(base + a, base + b) for a, b in zip(offsets, offsets[1:])], base + offsets[-1]
-
-
-def entries(dict_bytes):
-    """The operands of each operator of a dict, the last time that it stands there; reals count as None."""
-    found, operands, at = {}, [], 0
-    while at < len(dict_bytes):
-        b = dict_bytes[at]
-        at += 1
-        if b == 12:
-            found[1200 + dict_bytes[at]], operands, at = operands, [], at + 1
-        elif b <= 21:
-            found[b], operands = operands, []
-        elif b == 28:
-            operands.append(int.from_bytes(dict_bytes[at:at + 2], "big", signed=True))
-            at += 2
-        elif b == 29:
-            operands.append(int.from_bytes(dict_bytes[at:at + 4], "big", signed=True))
-            at += 4
-        elif b == 30:
-            while dict_bytes[at] & 15 != 15 and dict_bytes[at] >> 4 != 15:
-                at += 1
-            operands.append(None)
-            at += 1
-        elif b <= 246:
-            operands.append(b - 139)
-        else:
-            operands.append((b - 247) * 256 + dict_bytes[at] + 108 if b < 251 else -(b - 251) * 256 - dict_bytes[at] - 108)
-            at += 1
-    return found
-
-
-def top_dict(cff):
-    tops, _ = index_end(cff, index_end(cff, cff[2])[1])
-    return entries(cff[tops[0][0]:tops[0][1]])
-
-
-def charstrings_at(cff):
-    return top_dict(cff)[17][0]
-
-
 def charstrings(data):
-    cff = table(data, "CFF ")
-    places, _ = index_end(cff, charstrings_at(cff))
-    return [cff[a:b] for a, b in places]
+    """The charstrings of a font's CFF table."""
+    found = cff.charstrings(table(data, "CFF "))
+    return [found.item(k) for k in range(found.count)]
 
 
 def kind(data, index):
     """`TrueType`, `SID`, `CID`, or nothing for a font without such outlines."""
     if table(data, "glyf", index) is not None:
         return "TrueType"
-    cff = table(data, "CFF ", index)
-    return None if cff is None else "CID" if 1230 in top_dict(cff) else "SID"
+    outlines = table(data, "CFF ", index)
+    return None if outlines is None else "CID" if cff.is_keyed(outlines) else "SID"
 
 
 def count(data):
     """How many glyphs a font has."""
     loca = table(data, "loca")
     if loca is None:
-        return charstring_count(table(data, "CFF "))
+        return cff.charstrings(table(data, "CFF ")).count
     return len(loca) // (4 if u16(table(data, "head"), 50) else 2) - 1
 
 
@@ -228,7 +174,7 @@ def fixed_point(program, path, index, room):
 def main():
     parser = argparse.ArgumentParser(description=__doc__, formatter_class=argparse.RawDescriptionHelpFormatter)
     parser.add_argument("--faces", type=int, default=200)
-    parser.add_argument("--program", default=PORT)
+    parser.add_argument("--program", default=build.BENCH)
     parser.add_argument("--verify")
     parser.add_argument("--no-install", action="store_true")
     words = parser.parse_args()

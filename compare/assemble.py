@@ -11,8 +11,8 @@ import re
 import shutil
 import sys
 
-HERE = os.path.dirname(os.path.realpath(__file__))
-BUILD = os.path.join(HERE, "build")
+from build import BUILD
+
 VERSION = "0.2.6"
 HOW = "compare/README.md says how to get it"
 

@@ -15,10 +15,9 @@ import subprocess
 import sys
 import tempfile
 
-HERE = os.path.dirname(os.path.realpath(__file__))
-ROOT = os.path.dirname(HERE)
-PORT = os.path.join(ROOT, "crates", "subset_bench", "out", "subset_bench")
-TRUETYPE, OPENTYPE = "/usr/share/fonts/truetype", "/usr/share/fonts/opentype"
+import build
+from fonts import OPENTYPE, TRUETYPE
+
 FONTS = [
     (f"{TRUETYPE}/dejavu/DejaVuSans.ttf", 0),
     (f"{TRUETYPE}/liberation/LiberationSans-Regular.ttf", 0),
@@ -29,32 +28,22 @@ FONTS = [
 GLYPHS = [("3", "36-38"), ("80", "1-80")]
 
 
-def cargo(folder):
-    """The driver that Cargo builds in a folder."""
-    flags = dict(os.environ, RUSTFLAGS="-C target-cpu=x86-64-v2")
-    subprocess.run(["cargo", "build", "--release", "--offline"], cwd=os.path.join(HERE, folder), env=flags, check=True)
-    return os.path.join(HERE, folder, "target", "release", f"{folder}_bench")
-
-
 def build_binding():
     """The driver over the binding, and the library under it."""
-    subprocess.run(["make"], cwd=os.path.join(ROOT, "bindings", "c"), check=True)
-    return cargo("binding")
+    build.library()
+    return build.cargo("binding")
 
 
-def build(wanted):
+def drivers_of(wanted):
     """The drivers by their names."""
-    drivers = {}
-    if wanted:
-        if not os.path.exists(PORT):
-            subprocess.run(["rt", "run"], cwd=os.path.dirname(os.path.dirname(PORT)), check=False)
-    if os.path.exists(PORT):
-        drivers["port"] = PORT
-    drivers["binding"] = build_binding() if wanted else os.path.join(HERE, "binding/target/release/binding_bench")
+    if wanted and not os.path.exists(build.BENCH):
+        build.rt("subset_bench")
+    drivers = {"port": build.BENCH} if os.path.exists(build.BENCH) else {}
+    drivers["binding"] = build_binding() if wanted else build.cargo_driver("binding")
     if os.environ.get("ORIGINAL"):
         if wanted:
-            subprocess.run([sys.executable, os.path.join(HERE, "assemble.py")], check=True)
-        drivers["original"] = cargo("original") if wanted else os.path.join(HERE, "original/target/release/original_bench")
+            subprocess.run([sys.executable, os.path.join(build.HERE, "assemble.py")], check=True)
+        drivers["original"] = build.cargo("original") if wanted else build.cargo_driver("original")
     return drivers
 
 
@@ -84,7 +73,7 @@ def main():
     parser.add_argument("--calls", type=int, default=2000)
     parser.add_argument("--no-build", action="store_true")
     words = parser.parse_args()
-    drivers = build(not words.no_build)
+    drivers = drivers_of(not words.no_build)
     print("| Font | Glyphs | " + " | ".join(f"{name}, ns" for name in drivers) + " | Bytes |")
     print("|" + "---|" * (len(drivers) + 3))
     with tempfile.TemporaryDirectory(prefix="b") as room:

@@ -17,6 +17,7 @@ from concurrent.futures import ThreadPoolExecutor
 
 import explain
 import fonts
+from build import BUILD
 from fonts import directory, glyph_count
 
 # Tables in which a changed byte changes what the font says, and how many of their first bytes are changed.
@@ -279,7 +280,7 @@ def main():
         paths = [path for _, path in fonts.DAMAGED]
     else:
         paths = [path for _, path in fonts.DAMAGED_CFF] + [fonts.keyed_font(*it) for it in fonts.KEYED]
-    paths, kept = [it for it in paths if given.only in it], os.path.join(fonts.BUILD, "damaged")
+    paths, kept = [it for it in paths if given.only in it], os.path.join(BUILD, "damaged")
     rows = refusals(drivers, paths, given.copies, kept, given.seed, given.jobs, not given.truetype)
     differing = [row for row in rows if row[3]]
     print("| Copies | Original | Port | Why they differ | Examples |\n|---|---|---|---|---|")

@@ -1,94 +1,20 @@
 """Which of the intended differences between both programs (docs/DIFFERENCES.md) stands in a font.
 
-CFF tables are read anew here, by Technical Note 5176, and charstrings are run by a small machine of Technical Note 5177.
+CFF tables are read by cff.py, and charstrings are run by a small machine of Technical Note 5177.
 """
 import re
 import struct
 
+from cff import CHARSTRINGS, ROS, Index, dict_entries, last
 from fonts import directory, u16, u32
 
 TOKENS_AT_MOST, STEMS_AT_MOST, OPERANDS_AT_MOST, DEPTH_AT_MOST = 1000000, 65535, 48, 64
-# Operators of a dict; one of two bytes, 12 and k, is 1200 + k.
-NOTICE, CHARSTRINGS, PRIVATE, SUBRS, COPYRIGHT, ROS, FDARRAY, FDSELECT, FONT_NAME = 1, 17, 18, 19, 1200, 1230, 1236, 1237, 1238
+# Further operators of a dict; one of two bytes, 12 and k, is 1200 + k.
+NOTICE, PRIVATE, SUBRS, COPYRIGHT, FDARRAY, FDSELECT, FONT_NAME = 1, 18, 19, 1200, 1236, 1237, 1238
 STRINGS = (NOTICE, COPYRIGHT, FONT_NAME)
 
 
-# ---- INDEX and DICT
-
-class Index:
-    """An INDEX: where it starts, where its offsets count from, and its offsets."""
-
-    def __init__(self, cff, at):
-        self.cff, self.start, self.count = cff, at, u16(cff, at)
-        if self.count == 0:
-            self.base, self.offsets, self.end = at + 2, [], at + 2
-            return
-        size = cff[at + 2]
-        if not 1 <= size <= 4:
-            raise ValueError("an offset size")
-        self.base = at + 2 + (self.count + 1) * size
-        places = range(at + 3, at + 3 + (self.count + 1) * size, size)
-        self.offsets = [int.from_bytes(cff[it:it + size], "big") for it in places]
-        self.end = self.base + (self.offsets[-1] or 1)
-        self.is_cut = self.end > len(cff)
-
-    def range(self, k):
-        """Where an entry stands, or None where it can't be read."""
-        if not 0 <= k < self.count or self.offsets[-1] == 0:
-            return None
-        first, last = self.offsets[k], self.offsets[k + 1]
-        return (self.base + first, self.base + last) if 0 < first <= last <= self.offsets[-1] else None
-
-    def item(self, k):
-        place = self.range(k)
-        return None if place is None else self.cff[place[0]:place[1]]
-
-    def has_unreadable(self):
-        return any(self.range(k) is None for k in range(self.count if self.offsets and self.offsets[-1] else 0))
-
-
-def real_text(data, at):
-    """The text of the real whose nibbles begin here, and where it ends."""
-    text = ""
-    for place in range(at, len(data)):
-        for nibble in (data[place] >> 4, data[place] & 15):
-            if nibble == 15:
-                return text, place + 1
-            text += "0123456789.E|?-"[nibble] if nibble != 12 else "E-"
-    return text, len(data)
-
-
-def dict_entries(data):
-    """The entries of a dict as (operator, operands): whole numbers, and the texts of reals."""
-    at, operands = 0, []
-    while at < len(data):
-        first, size = data[at], 1
-        if first <= 27 or first in (31, 255):
-            if first == 12:
-                size, first = 2, 1200 + (data[at + 1] if at + 1 < len(data) else 0)
-            yield first, operands
-            operands = []
-        elif first in (28, 29):
-            size = 3 if first == 28 else 5
-            operands.append(int.from_bytes(data[at + 1:at + size], "big", signed=True))
-        elif first == 30:
-            text, end = real_text(data, at + 1)
-            operands.append(text)
-            size = end - at
-        elif first <= 246:
-            operands.append(first - 139)
-        else:
-            size, high = 2, (first - 247) % 4 * 256 + (data[at + 1] if at + 1 < len(data) else 0) + 108
-            operands.append(high if first <= 250 else -high)
-        at += size
-    if operands:
-        yield -1, operands
-
-
-def last(entries, operator):
-    found = [operands for it, operands in entries if it == operator]
-    return found[-1] if found else None
-
+# ---- texts of reals
 
 def is_plain(text):
     """Whether a real is the same as an f32 and as a decimal, and written alike: six digits at most, no great exponent."""

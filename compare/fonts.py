@@ -5,7 +5,8 @@ import struct
 import subprocess
 import sys
 
-BUILD = os.path.join(os.path.dirname(os.path.realpath(__file__)), "build")
+from build import BUILD
+
 TRUETYPE = "/usr/share/fonts/truetype"
 OPENTYPE = "/usr/share/fonts/opentype"
 TEXMF = "/usr/share/texmf/fonts/opentype/public"

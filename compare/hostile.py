@@ -19,12 +19,11 @@ import subprocess
 import sys
 import tempfile
 
+import build
 import made
+from build import BENCH, BUILD
 
-HERE = os.path.dirname(os.path.realpath(__file__))
-ROOT = os.path.dirname(HERE)
-COUNTER = os.path.join(HERE, "build", "peak.so")
-BENCH = os.path.join(ROOT, "crates", "subset_bench", "out", "subset_bench")
+COUNTER = os.path.join(BUILD, "peak.so")
 TOKENS = 1000000
 
 
@@ -122,9 +121,8 @@ def main():
     words.add_argument("--instructions", action="store_true")
     given = words.parse_args()
     if not given.no_build:
-        os.makedirs(os.path.dirname(COUNTER), exist_ok=True)
-        subprocess.run(["gcc", "-O2", "-shared", "-fPIC", "-o", COUNTER, os.path.join(HERE, "peak.c")], check=True)
-        subprocess.run([os.environ.get("RT", "rt"), "run"], cwd=os.path.join(ROOT, "crates", "subset_bench"), stdout=subprocess.DEVNULL)
+        build.preload("peak.c", to="peak.so")
+        build.rt("subset_bench")
     head = ["Font", "Bytes of the file", "Glyphs", "Call, ms", "A glyph, µs", "Bytes of the output", "Held a glyph, bytes"]
     head += ["Instructions a glyph"] if given.instructions else []
     print("|", " | ".join(head), "|\n|" + "---|" * len(head))

@@ -38,10 +38,9 @@ import struct
 import subprocess
 import sys
 
+import build
 import fonts
 
-ROOT = os.path.dirname(os.path.dirname(os.path.realpath(__file__)))
-PORT = os.path.join(ROOT, "crates", "instance_parts", "out", "instance_parts")
 PACKAGES = ["fonts-inter-variable", "libharfbuzz0b", "python3-freetype", "python3-fonttools"]
 INTER = f"{fonts.TRUETYPE}/inter-vf"
 UNIT = 2 ** 30
@@ -456,7 +455,7 @@ def versions():
 
 def commit():
     """The commit of this folder, and whether it holds more than that."""
-    git = ["git", "-C", ROOT]
+    git = ["git", "-C", build.ROOT]
     name = subprocess.run([*git, "rev-parse", "--short=10", "HEAD"], capture_output=True, text=True).stdout.strip()
     changed = subprocess.run([*git, "status", "--porcelain", "--untracked-files=no"], capture_output=True, text=True).stdout
     return (name or "no commit") + (", changed" if changed else "")
@@ -491,7 +490,7 @@ def main():
     parser.add_argument("--glyphs", type=int, default=100)
     parser.add_argument("--seed", default="1")
     parser.add_argument("--only", default="")
-    parser.add_argument("--program", default=PORT)
+    parser.add_argument("--program", default=build.PARTS)
     parser.add_argument("--jobs", type=int, default=2)
     parser.add_argument("--to")
     parser.add_argument("--no-install", action="store_true")

@@ -32,13 +32,11 @@ import subprocess
 import sys
 import tempfile
 
+import build
 import fonts
 from again import drawing, kind, table
 from fonts import directory, label, u16, u32, spread
 
-ROOT = os.path.dirname(os.path.dirname(os.path.realpath(__file__)))
-PROGRAM = os.path.join(ROOT, "crates", "subset_font", "out", "subset_font")
-BENCH = os.path.join(ROOT, "crates", "subset_bench", "out", "subset_bench")
 FOLDERS = ["/usr/share/fonts", "/usr/share/texmf/fonts"]
 WORDS = {"hinting": "--no-hinting", "names": "--no-names", "glyph_names": "--no-glyph-names"}
 # The same as bits of the C library's options.
@@ -375,7 +373,7 @@ def sizes(program):
     """The table of sizes."""
     from fontTools.ttLib import TTFont
 
-    commit = subprocess.run(["git", "rev-parse", "--short", "HEAD"], cwd=ROOT, capture_output=True, text=True).stdout.strip()
+    commit, _ = build.commit()
     columns = [(), ("names",), ("glyph_names",), ("names", "glyph_names"), ("hinting",), tuple(WORDS)]
     print(f"Bytes of a subset with {len(TEXT)} Latin glyphs (`compare/options.py --sizes` at {commit}):\n")
     print("| Font | All | No names | No glyph names | Neither | No hinting | None of the three |")
@@ -399,8 +397,8 @@ def main():
     parser = argparse.ArgumentParser(description=__doc__, formatter_class=argparse.RawDescriptionHelpFormatter)
     parser.add_argument("--faces", type=int)
     parser.add_argument("--fonts", action="append", default=[])
-    parser.add_argument("--program", default=PROGRAM)
-    parser.add_argument("--bench", default=BENCH)
+    parser.add_argument("--program", default=build.FONT)
+    parser.add_argument("--bench", default=build.BENCH)
     parser.add_argument("--sizes", action="store_true")
     parser.add_argument("--same")
     given = parser.parse_args()

@@ -41,11 +41,11 @@ import subprocess
 import sys
 import tempfile
 
-from cids import cids
+import build
+from cff import cids
 from pdf_file import Face, Pdf, embedded, pages
 
-HERE = os.path.dirname(os.path.realpath(__file__))
-PROGRAM = os.environ.get("SUBSET_FONT", os.path.join(os.path.dirname(HERE), "crates", "subset_font", "out", "subset_font"))
+PROGRAM = os.environ.get("SUBSET_FONT", build.FONT)
 PAGE = (480, 560)
 GLYPHS_A_FACE = 40
 # The tables by which a reader finds letters in a font.

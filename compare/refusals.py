@@ -25,22 +25,16 @@ import sys
 import tempfile
 from dataclasses import dataclass
 
+import build
 import fonts
 import made
 
-HERE = os.path.dirname(os.path.realpath(__file__))
-ROOT = os.path.dirname(HERE)
-BUILD = os.path.join(HERE, "build")
-REFUSE = os.path.join(BUILD, "refuse.so")
+REFUSE = os.path.join(build.BUILD, "refuse.so")
 CALLS = ("open", "size", "read", "write", "write1", "write2", "rename")
 NO_MEMORY = b"error out of memory\n"
 
 
-def built(crate, name=None):
-    return os.path.join(ROOT, "crates", crate, "out", name or crate)
-
-
-BENCH, FONT, TESTS = built("subset_bench"), built("subset_font"), built("subset_rows", "subset_rows_tests")
+BENCH, FONT, TESTS = build.BENCH, build.FONT, build.built("subset_rows", "subset_rows_tests")
 
 
 @dataclass
@@ -263,12 +257,10 @@ def check_silence(room):
 
 # ---- all
 
-def build():
-    os.makedirs(BUILD, exist_ok=True)
-    subprocess.run(["gcc", "-O2", "-shared", "-fPIC", "-o", REFUSE, os.path.join(HERE, "refuse.c")], check=True)
+def build_all():
+    build.preload("refuse.c", to="refuse.so")
     for crate, verb in (("subset_bench", "run"), ("subset_font", "run"), ("subset_rows", "test")):
-        # (subset_bench without words ends with status 2)
-        subprocess.run([os.environ.get("RT", "rt"), verb], cwd=os.path.join(ROOT, "crates", crate), stdout=subprocess.DEVNULL)
+        build.rt(crate, verb)
 
 
 def debian_fonts():
@@ -286,7 +278,7 @@ def main():
     words.add_argument("--more", action="store_true")
     given = words.parse_args()
     if not given.no_build:
-        build()
+        build_all()
     for needed in (REFUSE, BENCH, FONT, TESTS):
         if not os.path.exists(needed):
             sys.exit(f"refusals.py: no {needed}")

@@ -9,27 +9,15 @@
  *
  * For programs of one thread. */
 #define _GNU_SOURCE
-#include <errno.h>
 #include <fcntl.h>
 #include <stdarg.h>
-#include <stdint.h>
 #include <stdio.h>
-#include <stdlib.h>
-#include <string.h>
 #include <sys/stat.h>
 #include <sys/syscall.h>
 #include <time.h>
 #include <unistd.h>
 
-extern void *__libc_malloc(size_t);
-extern void *__libc_realloc(void *, size_t);
-extern void __libc_free(void *);
-
-/* Stands in the 16 bytes before each block: what was asked for, and how far before the block its memory begins. */
-struct head {
-    size_t asked;
-    size_t before;
-};
+#include "blocks.h"
 
 enum call { OPEN, SIZE, READ, WRITE, WRITE1, WRITE2, RENAME, CALLS };
 static const char *const names[CALLS] = {"open", "size", "read", "write", "write1", "write2", "rename"};
@@ -38,7 +26,7 @@ static const char *const names[CALLS] = {"open", "size", "read", "write", "write
 enum stage { BEFORE, READING, AFTER, WRITING };
 static const char *const stages[] = {"before", "reading", "after", "writing"};
 
-static size_t held, blocks, requests, refused, calls[CALLS], wanted_request, wanted_call;
+static size_t requests, refused, calls[CALLS], wanted_request, wanted_call;
 static int refuses_all, within_clock, clock_readings, is_ready, is_ended, refused_less;
 static enum call wanted = CALLS;
 static enum stage stage = BEFORE, refused_in = BEFORE;
@@ -76,33 +64,7 @@ static int fails(enum call what) {
     return 1;
 }
 
-static struct head *head_of(void *block) { return (struct head *)block - 1; }
-
-static void *block_at(char *memory, size_t before, size_t asked) {
-    void *block = memory + before;
-    *head_of(block) = (struct head){asked, before};
-    held += asked;
-    blocks++;
-    return block;
-}
-
-static void forget(void *block) {
-    held -= head_of(block)->asked;
-    blocks--;
-}
-
-static void *given(size_t asked) {
-    char *memory = asked + 16 < asked ? NULL : __libc_malloc(asked + 16);
-    return memory ? block_at(memory, 16, asked) : NULL;
-}
-
 void *malloc(size_t asked) { return is_refused() ? NULL : given(asked); }
-
-void free(void *block) {
-    if (!block) return;
-    forget(block);
-    __libc_free((char *)block - head_of(block)->before);
-}
 
 void *calloc(size_t count, size_t size) {
     size_t asked;
@@ -111,21 +73,7 @@ void *calloc(size_t count, size_t size) {
     return block ? memset(block, 0, asked) : NULL;
 }
 
-void *aligned_alloc(size_t align, size_t asked) {
-    if (is_refused()) return NULL;
-    if (align <= 16) return given(asked);
-    char *memory = __libc_malloc(asked + align + 16);
-    if (!memory) return NULL;
-    uintptr_t place = ((uintptr_t)memory + 16 + align - 1) / align * align;
-    return block_at(memory, place - (uintptr_t)memory, asked);
-}
-
-void *memalign(size_t align, size_t asked) { return aligned_alloc(align, asked); }
-
-int posix_memalign(void **block, size_t align, size_t asked) {
-    *block = aligned_alloc(align, asked);
-    return *block ? 0 : ENOMEM;
-}
+void *aligned_alloc(size_t align, size_t asked) { return is_refused() ? NULL : given_aligned(align, asked); }
 
 void *realloc(void *block, size_t asked) {
     if (!block) return malloc(asked);

@@ -41,18 +41,17 @@ import tempfile
 
 import assemble
 import binding
+import build
 import fonts
 import growth
+from build import BUILD
 from damage import refusals
 from fonts import GLYPHS_AT_MOST, directory, glyph_count, glyph_sets, label, spread
 
-HERE = os.path.dirname(os.path.realpath(__file__))
-ROOT = os.path.dirname(HERE)
-BUILD = os.path.join(HERE, "build")
-ORIGINAL = os.path.join(HERE, "original", "target", "release", "original_bench")
+ORIGINAL = build.cargo_driver("original")
 COUNTER = os.path.join(BUILD, "peak.so")
-BINDING = os.path.join(HERE, "binding", "target", "release", "binding_bench")
-PORT = os.path.join(ROOT, "crates", "subset_bench", "out", "subset_bench")
+BINDING = build.cargo_driver("binding")
+PORT = build.BENCH
 HARFBUZZ = os.path.join(BUILD, "harfbuzz_bench")
 FLOOR = os.path.join(BUILD, "floor_bench")
 ROUNDS = 8
@@ -186,20 +185,16 @@ def kibibytes(count):
     return f"{count / 1024:.1f}"
 
 
-def build(original_only, with_binding):
+def build_all(original_only, with_binding):
     assemble.main()
-    gcc = ["gcc", "-O3", "-march=x86-64-v2", "-o"]
-    subprocess.run([*gcc, COUNTER, "-shared", "-fPIC", os.path.join(HERE, "peak.c")], check=True)
-    subprocess.run([*gcc, FLOOR, os.path.join(HERE, "floor.c")], check=True)
-    harfbuzz = [os.path.join(HERE, "harfbuzz.c"), "-I/usr/include/harfbuzz", "-lharfbuzz-subset", "-lharfbuzz"]
-    subprocess.run([*gcc, HARFBUZZ, *harfbuzz], check=True)
-    flags = {**os.environ, "RUSTFLAGS": "-C target-cpu=x86-64-v2"}
-    subprocess.run(["cargo", "build", "--release", "--offline", "--quiet"], cwd=os.path.join(HERE, "original"), env=flags, check=True)
+    build.preload("peak.c", to="peak.so")
+    build.gcc("floor.c", to="floor_bench")
+    build.gcc("harfbuzz.c", "-I/usr/include/harfbuzz", "-lharfbuzz-subset", "-lharfbuzz", to="harfbuzz_bench")
+    build.cargo("original")
     if with_binding:
         binding.build_binding()
     if not original_only:
-        # It runs the program without words, which prints its usage and ends with status 2.
-        subprocess.run([os.environ.get("RT", "rt"), "run"], cwd=os.path.join(ROOT, "crates", "subset_bench"), stdout=subprocess.DEVNULL)
+        build.rt("subset_bench")
 
 
 def table(head, rows):
@@ -268,8 +263,7 @@ def draw_growth(drivers, taken, seconds, name):
 def write_results(folder, rows, drivers):
     """The second table as two files, one for each kind of outlines, with the commit in front (`compare/results`)."""
     cff = {os.path.basename(path) for _, path, *_ in fonts.CFF_FONTS}
-    commit = subprocess.run(["git", "-C", ROOT, "rev-parse", "--short", "HEAD"], capture_output=True, text=True).stdout.strip()
-    changed = subprocess.run(["git", "-C", ROOT, "status", "--porcelain", "crates"], capture_output=True, text=True).stdout.strip()
+    commit, changed = build.commit()
     head = "font,glyphs kept,crate ns,port ns,ratio," + ",".join(f"{it.lower()} ns" for it in drivers) + ",floor ns,crate held KiB,port held KiB,source and twice the output KiB"
     os.makedirs(folder, exist_ok=True)
     for name in ("truetype", "cff"):
@@ -291,7 +285,7 @@ def main():
     if not given.no_install:
         fonts.install(fonts.TOOLS + [it[0] for it in taken + damaged])
     if not given.no_build:
-        build(given.original_only, given.binding)
+        build_all(given.original_only, given.binding)
     drivers = {"original": ORIGINAL} if given.original_only else {"original": ORIGINAL, "port": PORT}
     beside = {"HarfBuzz": HARFBUZZ} | ({"Binding": BINDING} if given.binding else {})
     for needed in [*drivers.values(), *beside.values(), FLOOR, *(it[1] for it in taken + damaged)]:

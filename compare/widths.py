@@ -18,6 +18,7 @@ import tempfile
 
 from fontTools.ttLib import TTFont
 
+import build
 import fonts
 
 FONTS = [
@@ -28,8 +29,7 @@ FONTS = [
     (f"{fonts.OPENTYPE}/noto/NotoSansCJK-Regular.ttc", 0),
     (f"{fonts.OPENTYPE}/noto/NotoSansCJK-Regular.ttc", 2),
 ]
-HERE = os.path.dirname(os.path.abspath(__file__))
-PROGRAM = os.path.join(HERE, "..", "crates", "subset_font", "out", "subset_font")
+PROGRAM = build.FONT
 GLYPHS = 200
 
 

@@ -9,7 +9,7 @@ use Rattle.subsetter_base.specs.declared.error.Error.{Error}
 use Rattle.subsetter_base.specs.declared.error.Error.TheVariants.{MalformedFont, OutOfMemory}
 use Rattle.subsetter_base.proofs.GlyphLemmas.{known-all, Contains-place, place-finds, room_left_for_zero}
 use Rattle.subsetter_base.proofs.Options.{some_of}
-use Rattle.subsetter_cff.specs.Again.{AreAll}
+use Rattle.subsetter_cff.specs.Write.Again.{AreAll}
 use Rattle.subsetter.specs.Fault.{HasFault}
 use Rattle.subsetter.specs.Limits.{token_limit, depth_limit}
 use Rattle.subsetter_sfnt.specs.Read.{as_font}

@@ -1,4 +1,12 @@
 //! What a PDF writer needs of a font: its subset, the CIDs of the asked glyphs, and the width of each CID.
+//!
+//! [`embed`] makes all three; `write_widths` writes the widths as a PDF has them; [`shrink`] makes a subset of what
+//! `embed` answered.
+//!
+//! ```text
+//! let embedded = embed(alloc, data, 0, &[36, 68])?;   // embedded.font, .cids, .widths
+//! let text = write_widths(alloc, &embedded)?;         // [0 [600 684 686]]
+//! ```
 #![tactic(auto)]
 
 mod array;

@@ -1,4 +1,7 @@
 //! A reader for the tables of a font that was made by `subset`: the directory, `head`, `hhea` and `hmtx`.
+//!
+//! It looks at neither the kind of the file nor its checksums: the container of a subset is sound, which a law says.
+//! That `head` is cut before unitsPerEm is no fault of its own, as a `head` under 52 bytes is one of `subset`.
 
 ghost use Rattle.std.specs.Prelude.{◌≡◌, ◌/◌, ◌<◌, length, IfOk, IfErr};
 ghost use Rattle.std.specs.Option.{option_copied, option_map};

@@ -9,7 +9,7 @@ ghost use Rattle.subsetter.specs.Limits.{token_limit, depth_limit};
 ghost use Rattle.subsetter_sfnt.specs.Read.{as_font};
 ghost use Rattle.subsetter_again.specs.Again.{IsTrueTypeOrCidKeyed};
 ghost use Rattle.subsetter_again.specs.Shrink.{OfEachSource, IsShrunk, IsGivenBack, HasNoFaultForAll};
-ghost use Rattle.subsetter_cff.specs.Again.{AreAll};
+ghost use Rattle.subsetter_cff.specs.Write.Again.{AreAll};
 ghost use Rattle.cid_embed.specs.Embed.{numbering, IsEmbedded, HasEmbedFault, HasNoEmbedding};
 ghost use Rattle.cid_embed.specs.Width.{HasWidthFault};
 

@@ -1,4 +1,6 @@
 //! Widths of glyphs, in thousandths of the em.
+//!
+//! Rounding is one division of whole numbers, (2n + d) / (2d) for n / d, which is half up.
 
 ghost use Rattle.std.specs.Prelude.{◌≡◌, ◌<◌};
 ghost use Rattle.subsetter_base.specs.Gives.{Gives};

@@ -1,4 +1,4 @@
-//! The words of a run.
+//! The arguments of a run.
 
 use crate::request::read_request;
 use std::test::Fail;

@@ -1,4 +1,4 @@
-//! What the words ask for.
+//! What the arguments ask for.
 
 ghost use Rattle.std.specs.Prelude.{◌≡◌, ◌⊎◌, ℕ, List, map, IfOk, IfErr, Some, None, string_bytes};
 ghost use Rattle.std.specs.Option.{option_map};

@@ -1,4 +1,13 @@
-//! What the words after the name of `subset_font` ask for, and the lists of glyphs that they name.
+//! What the arguments of `subset_font` ask for, and the lists of glyphs that they name.
+//!
+//! [`read_words`] reads them all; [`read_list`] reads the list that a file holds.
+//!
+//! ```text
+//! match read_words(alloc, &words)? {
+//!     Command::Subset(job) => ..,
+//!     Command::Help | Command::Version => ..,
+//! }
+//! ```
 #![tactic(auto)]
 
 mod jobs;

@@ -1,4 +1,6 @@
-//! How far a charstring may run, as the words say it.
+//! How far a charstring may run, as the arguments say it.
+//!
+//! The value of `--limits` is cut at its first comma: a second one stands in DEPTH, which is then no number.
 
 ghost use Rattle.std.specs.Prelude.{◌≡◌, ◌≤◌, MatchOption};
 

@@ -4,7 +4,7 @@
 //! subset is made COUNT times. The line `ok MEDIAN LEAST LENGTH HASH` tells the median and the least nanoseconds of a
 //! call, the output's length and its FNV-1a hash of 64 bits in hexadecimal; where the font is refused the line is
 //! `error TEXT`. With OUT the output is written there. `subset_bench --list FILE` does the same for each line of FILE,
-//! which holds the words of one task.
+//! which holds the arguments of one task.
 #![tactic(auto)]
 
 mod digest;

@@ -1,4 +1,11 @@
 //! Writes a subset of a font: `subset_font [OPTIONS] IN OUT INDEX GID[,GID..]`.
+//!
+//! ```text
+//! subset_font --widths DejaVuSans.ttf subset.ttf 0 36,37,38
+//! ```
+//!
+//! `run` reads the arguments and the files, and tells what failed; `carried` is a run between a reader and two writers,
+//! of which it is proved what is written.
 #![tactic(auto)]
 
 mod asked;

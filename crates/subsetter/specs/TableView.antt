@@ -1,7 +1,7 @@
 -- What the code's tables of a new font stand for.
 use Rattle.std.specs.Prelude.{ℕ, List, map}
 use Rattle.std.specs.Option.{option_map}
-use Rattle.subsetter_cff.specs.TableBy.{table_bytes as piece_bytes}
+use Rattle.subsetter_cff.specs.Write.TableBy.{table_bytes as piece_bytes}
 use Rattle.subsetter.specs.declared.tables.TableData.{TableData}
 use Rattle.subsetter.specs.declared.tables.TableData.TheVariants.{Whole, Outlines, Pieces, Head, Hhea, Hmtx, Maxp, Names}
 use Rattle.subsetter_sfnt.specs.declared.tables.NewTable.{NewTable}

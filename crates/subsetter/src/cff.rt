@@ -15,7 +15,7 @@ use crate::shared::{self, SharedTables};
 use crate::tables::TableData;
 use std::alloc::Global;
 use subsetter_base::{Error, GlyphRemapper};
-use subsetter_cff::NewCffTable;
+use subsetter_cff::CffPieces;
 use subsetter_sfnt::face::Face;
 use subsetter_sfnt::flavor::FontFlavor;
 use subsetter_sfnt::tables::FontTables;
@@ -25,7 +25,7 @@ use subsetter_type2::limits::Limits;
 #[derive(Drop)]
 pub struct Made<'a> {
     /// `CFF `.
-    pub table: NewCffTable,
+    pub table: CffPieces,
     /// The tables that do not depend on the kind of outlines.
     pub shared: SharedTables<'a>,
 }

@@ -3,6 +3,10 @@
 //! Version 0 has records, each of which says for a platform, an encoding, a language and a name where in the storage behind
 //! the records its string stands. The new table keeps the Unicode records of the names 0 to 14 but the description, and
 //! stores each string once. A table of another version is copied.
+//!
+//! The source's table is read without copying (`Table`). What a subset keeps of it is `NewNames`, which is written into
+//! the output at once. Distinct strings are scanned up to the first 32; those after them are keys of a map of their own
+//! type (`Text`), which is compared by its bytes and hashed as one piece.
 
 ghost use Rattle.std.specs.HashMap.{get, IsUnchanged};
 ghost use Rattle.std.specs.Str.{bytes_eq};

@@ -3,6 +3,10 @@
 //! Version 2.0 has after its header of 32 bytes an index for each glyph: below 258 it is the number of a standard
 //! Macintosh name, from there on that of a Pascal string among those that follow. The new table has the source's header,
 //! an index for each new glyph, and for each name of the font's own a string. A table of another version is copied.
+//!
+//! The names stand one after another, so the place of every eighth is kept in 32 bits, up to the greatest that is asked
+//! for; past what 32 bits reach a name is found from the first on. More than 65,278 names of the font's own are said by
+//! a list of distinct reached glyphs with such names that is longer than that.
 
 ghost use Rattle.std.specs.Prelude.{◌≡◌, ◌≤◌, ◌<◌, ◌+◌, ◌++◌, ℕ, [], length, drop, slice_index, get_or, flat_map, OnOk, IfOk, IfErr, IfSome};
 ghost use Rattle.std.specs.Option.{option_copied, option_map};

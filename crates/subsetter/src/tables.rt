@@ -1,4 +1,7 @@
 //! The tables of a new font.
+//!
+//! A table that is made of the source's (`NewHead`, `NewMetrics`, `NewMaxp`, `NewNames`) is written into the output at
+//! once: it knows its length and writes itself, and its value in contracts is the bytes that it writes.
 
 ghost use Rattle.std.specs.Prelude.{◌≡◌, ◌+◌, ◌<◌, ◌≤◌, ◌^◌, ◌++◌, length, vec_capacity, IfOk, IfErr};
 ghost use Rattle.std.specs.Option.{option_copied, option_map};
@@ -11,7 +14,7 @@ use crate::head::NewHead;
 use crate::hmtx::NewMetrics;
 use crate::maxp::NewMaxp;
 use crate::name::NewNames;
-use subsetter_cff::NewCffTable;
+use subsetter_cff::CffPieces;
 use subsetter_sfnt::checksum::checksum;
 use subsetter_sfnt::room::put;
 use subsetter_sfnt::tables::TableBytes;
@@ -27,7 +30,7 @@ pub enum TableData<'b, 'a> {
         long: bool,
     },
     /// `CFF ` in two pieces: what stands before the charstrings' data, and that data.
-    Pieces(&'b NewCffTable),
+    Pieces(&'b CffPieces),
     /// `head`.
     Head(&'b NewHead<'a>),
     /// `hhea`.

@@ -6,11 +6,11 @@ use Rattle.subsetter_base.specs.Bytes.{IsBytes, ◌>>=◌}
 use Rattle.subsetter_base.specs.declared.error.Error.{Error}
 use Rattle.subsetter_base.specs.declared.error.Error.TheVariants.{MalformedFont, OverflowError}
 use Rattle.subsetter_base.proofs.Results.{done_is, bind_ok}
-use Rattle.subsetter_cff.specs.CffFault.{in_glyph}
-use Rattle.subsetter_cff.specs.Headline.{IsSubsetTable}
-use Rattle.subsetter_cff.specs.Again.{composed, AreGlyphs, AreAll, HaveSameCharStrings}
-use Rattle.subsetter_cff.proofs.AgainLaws.Faults.{unknown_is_fault}
-use Rattle.subsetter_cff.proofs.AgainLaws.ThreeTables.{tables_compose, tables_keep_char_strings}
+use Rattle.subsetter_cff.specs.Write.CffFault.{in_glyph}
+use Rattle.subsetter_cff.specs.Write.Headline.{IsSubsetTable}
+use Rattle.subsetter_cff.specs.Write.Again.{composed, AreGlyphs, AreAll, HaveSameCharStrings}
+use Rattle.subsetter_cff.proofs.WriteLaws.AgainLaws.Faults.{unknown_is_fault}
+use Rattle.subsetter_cff.proofs.WriteLaws.AgainLaws.ThreeTables.{tables_compose, tables_keep_char_strings}
 use Rattle.subsetter_sfnt.specs.declared.flavor.FontFlavor.TheVariants.{Cff}
 use Rattle.subsetter_sfnt.specs.Container.{IsSoundContainer}
 use Rattle.subsetter_sfnt.specs.Plain.{file_of}

@@ -4,10 +4,10 @@ use Rattle.std.specs.Prelude.{codes, is_some, IsSome}
 use Rattle.std.specs.Option.{option_map}
 use Rattle.std.specs.Str.{bytes_eq}
 use Rattle.subsetter_base.specs.Bytes.{IsBytes}
-use Rattle.subsetter_cff.specs.Cff.{cff_parts}
-use Rattle.subsetter_cff.specs.Plain.{cff_subset}
-use Rattle.subsetter_cff.specs.Again.{composed, AreGlyphs, IsAsked}
-use Rattle.subsetter_cff.proofs.AgainLaws.Tables.{is_same_table}
+use Rattle.subsetter_cff.specs.Read.Cff.{cff_parts}
+use Rattle.subsetter_cff.specs.Write.Plain.{cff_subset}
+use Rattle.subsetter_cff.specs.Write.Again.{composed, AreGlyphs, IsAsked}
+use Rattle.subsetter_cff.proofs.WriteLaws.AgainLaws.Tables.{is_same_table}
 use Rattle.subsetter_sfnt.specs.declared.flavor.FontFlavor.TheVariants.{Cff}
 use Rattle.subsetter_sfnt.specs.Read.{Font, as_font, table}
 use Rattle.subsetter_sfnt.specs.Rows.{called_for, tags_of}

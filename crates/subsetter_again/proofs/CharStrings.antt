@@ -5,7 +5,7 @@ use Rattle.std.specs.Str.{bytes_eq}
 use Rattle.subsetter_base.specs.Bytes.{◌>>=◌}
 use Rattle.subsetter_base.specs.declared.error.Error.{Error}
 use Rattle.subsetter_base.proofs.Results.{done_is, bind_ok}
-use Rattle.subsetter_cff.specs.Plain.{cff_subset}
+use Rattle.subsetter_cff.specs.Write.Plain.{cff_subset}
 use Rattle.subsetter_sfnt.specs.declared.flavor.FontFlavor.TheVariants.{TrueType, Cff}
 use Rattle.subsetter_sfnt.specs.Read.{Font, as_font, table, flavor}
 use Rattle.subsetter_sfnt.specs.Rows.{bytes_of, rows}

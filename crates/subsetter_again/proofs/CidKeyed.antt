@@ -3,10 +3,10 @@ use Rattle.std.proofs.Common.{◌≡◌, ℕ, true, List, Option, Some, None, re
 use Rattle.std.specs.Prelude.{is_some}
 use Rattle.std.specs.Option.{option_and_then}
 use Rattle.subsetter_cffdata.specs.Numbers.{Number}
-use Rattle.subsetter_cff.specs.Cff.{Cff, is_cid_keyed}
-use Rattle.subsetter_cff.specs.Keying.{Keying, keying, keying_by}
-use Rattle.subsetter_cff.specs.Lookup.{last_of}
-use Rattle.subsetter_cff.specs.Operators.{registry_operator}
+use Rattle.subsetter_cff.specs.Read.Cff.{Cff, is_cid_keyed}
+use Rattle.subsetter_cff.specs.Read.Keying.{Keying, keying, keying_by}
+use Rattle.subsetter_cff.specs.Read.Lookup.{last_of}
+use Rattle.subsetter_cff.specs.Read.Operators.{registry_operator}
 use Rattle.subsetter_sfnt.specs.Read.{Font, as_font}
 use Rattle.subsetter_again.specs.CidKeyed.{IsCidKeyed}
 use Rattle.subsetter_again.proofs.ByKind.{IsCharStringSubset}

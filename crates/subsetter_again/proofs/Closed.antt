@@ -1,7 +1,7 @@
 -- All glyphs of a subset reach no others.
 use Rattle.std.proofs.Common.{◌≡◌, ℕ, ◌<◌, Bool, List, [], ◌∷◌, length, Some, sym, ap, subst, ◌∙◌}
 use Rattle.std.specs.Prelude.{Contains}
-use Rattle.subsetter_cff.specs.Again.{AreAll}
+use Rattle.subsetter_cff.specs.Write.Again.{AreAll}
 use Rattle.subsetter_again.proofs.ByKind.{IsOutlineSubset}
 use Rattle.subsetter_again.proofs.Basics.{one_found, has_parts}
 use Rattle.subsetter_again.proofs.OneOrder.{own_order, one_order, all_once, among_all, below_all}

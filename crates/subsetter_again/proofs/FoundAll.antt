@@ -7,7 +7,7 @@ use Rattle.subsetter_sfnt.specs.Read.{Font, as_font}
 use Rattle.subsetter.specs.Glyf.Closure.{components_in, others_in, Finds, all_found, follows}
 use Rattle.subsetter.specs.Glyf.Read.{Outlines, outlines, outline_in}
 use Rattle.subsetter.proofs.GlyfLaws.Unfold.{outline_is}
-use Rattle.subsetter_cff.specs.Again.{AreAll}
+use Rattle.subsetter_cff.specs.Write.Again.{AreAll}
 use Rattle.subsetter_again.proofs.ByKind.{IsOutlineSubset}
 use Rattle.subsetter_again.proofs.Closed.{component_below}
 use Rattle.subsetter_again.proofs.OneOrder.{among_all, below_all}

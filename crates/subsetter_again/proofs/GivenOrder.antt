@@ -4,7 +4,7 @@ use Rattle.std.specs.Prelude.{codes, Contains}
 use Rattle.std.specs.List.{AllByRecursion}
 use Rattle.subsetter_base.specs.Places.{IsWithoutRepeats}
 use Rattle.subsetter_base.proofs.Options.{some_not_none}
-use Rattle.subsetter_cff.specs.Again.{composed}
+use Rattle.subsetter_cff.specs.Write.Again.{composed}
 use Rattle.subsetter_sfnt.specs.declared.flavor.FontFlavor.TheVariants.{Cff}
 use Rattle.subsetter_sfnt.specs.Read.{Font, table, flavor}
 use Rattle.subsetter.specs.Glyf.Read.{outline}

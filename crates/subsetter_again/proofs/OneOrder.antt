@@ -5,7 +5,7 @@ use Rattle.std.proofs.lemmas.List.{append-nil, length-append, get_or_default, ge
 use Rattle.subsetter_base.specs.Places.{place, IsWithoutRepeats}
 use Rattle.subsetter_sfnt.specs.Read.{Font}
 use Rattle.subsetter.specs.Glyf.Reach.{IsReachable, given, IsGlyphOrder}
-use Rattle.subsetter_cff.specs.Again.{AreAll}
+use Rattle.subsetter_cff.specs.Write.Again.{AreAll}
 use Rattle.subsetter_again.proofs.Basics.{one_found}
 use Rattle.subsetter_again.proofs.Distinct.{without_repeats}
 

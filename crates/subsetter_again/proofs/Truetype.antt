@@ -24,7 +24,7 @@ use Rattle.subsetter.proofs.GlyfLaws.Fault.{has_tables}
 use Rattle.subsetter.proofs.TruetypeLaws.Fault.{no_fault}
 use Rattle.subsetter.proofs.TruetypeLaws.Steps.{made_steps, tables_steps}
 use Rattle.subsetter.proofs.TruetypeLaws.Subset.{made_subset}
-use Rattle.subsetter_cff.specs.Again.{AreAll, composed}
+use Rattle.subsetter_cff.specs.Write.Again.{AreAll, composed}
 use Rattle.subsetter_again.specs.Again.{asked_less}
 use Rattle.subsetter_again.proofs.Basics.{one_found, has_parts}
 use Rattle.subsetter_again.proofs.ByKind.{IsOutlineSubset}

@@ -3,7 +3,7 @@ use Rattle.std.specs.Prelude.{◌≡◌, ◌≤◌, ◌⊎◌, ℕ, Bool, ◌&&�
 use Rattle.subsetter_base.specs.Bytes.{IsBytes}
 use Rattle.subsetter_base.specs.declared.error.Error.{Error}
 use Rattle.subsetter_base.specs.declared.error.Error.TheVariants.{MalformedFont}
-use Rattle.subsetter_cff.specs.Again.{composed, AreAll, HaveSameCharStrings}
+use Rattle.subsetter_cff.specs.Write.Again.{composed, AreAll, HaveSameCharStrings}
 use Rattle.subsetter_sfnt.specs.declared.flavor.FontFlavor.TheVariants.{TrueType, Cff}
 use Rattle.subsetter.specs.Fault.{HasFault}
 use Rattle.subsetter_sfnt.specs.Read.{Font, as_font, table, flavor}

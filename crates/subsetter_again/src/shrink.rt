@@ -10,7 +10,7 @@ ghost use Rattle.subsetter_sfnt.specs.Fault.{HasOpeningFault};
 ghost use Rattle.subsetter_sfnt.specs.Read.{as_font};
 ghost use Rattle.subsetter_again.specs.Again.{IsTrueTypeOrCidKeyed};
 ghost use Rattle.subsetter_again.specs.Shrink.{OfEachSource, IsShrunk, IsGivenBack, HasNoFaultForAll, HasFaultForUnknown};
-ghost use Rattle.subsetter_cff.specs.Again.{AreAll};
+ghost use Rattle.subsetter_cff.specs.Write.Again.{AreAll};
 ghost use Rattle.std.specs.Prelude.{length};
 
 use std::alloc::Global;

@@ -1,4 +1,6 @@
 //! Arrays whose items are read from their bytes only when they are asked for.
+//!
+//! `LazyArray16` keeps its bytes and its count. It isn't `Copy`; `iter` stands beside `into_iter`.
 
 ghost use Rattle.std.specs.Prelude.{◌≡◌, ◌*◌, ◌/◌, ◌<◌, ◌≤◌, [], length};
 ghost use Rattle.std.specs.Iterator.{YieldsFirst, item_count};

@@ -1,4 +1,6 @@
 //! New consecutive numbers for values, in the order in which these come.
+//!
+//! `get` and `remap` answer the counter's type.
 
 ghost use Rattle.std.specs.Prelude.{◌≡◌, ◌+◌, ◌<◌, ◌⊎◌, ℕ, [], length, Some, is_ok, IfOk, IfErr, IsOk, IsSome, IsTrue, if◌then◌else◌};
 ghost use Rattle.std.specs.Cmp.{partial_equiv_from_equiv};

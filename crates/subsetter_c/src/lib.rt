@@ -3,6 +3,10 @@
 //! Each exported function takes a font and glyph numbers, calls one function of the libraries below, hands what that
 //! answers over in buffers of the caller or in memory of its own, and answers a status. `bindings/c/subsetter.h` declares
 //! them for C. A slice is passed as a pointer and a count.
+//!
+//! ```text
+//! uint32_t status = subsetter_subset(font, size, 0, glyphs, 2, out, room, &length);
+//! ```
 #![tactic(auto)]
 
 mod calls;

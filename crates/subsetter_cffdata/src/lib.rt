@@ -1,4 +1,14 @@
-//! The values of a CFF table: numbers, operators, INDEX structures and DICT structures.
+//! The values of a CFF table (Technical Note 5176): numbers, operators, INDEX structures and DICT structures, read and
+//! written.
+//!
+//! [`index::parse_index`] takes an INDEX, [`dict`]'s `DictionaryParser` the entries of a DICT one after the other, and
+//! `index::create_index` writes an INDEX. [`laws`] says that what is written is read again.
+//!
+//! ```text
+//! let strings = parse_index::<u16>(&mut r)?;
+//! let mut parser = DictionaryParser::new(dict, &mut operands);
+//! while let Some(operator) = parser.parse_next() { .. }
+//! ```
 #![tactic(auto)]
 
 mod card;

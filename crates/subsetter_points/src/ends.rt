@@ -1,4 +1,7 @@
 //! The last points of contours.
+//!
+//! A contour has a point at least: endPtsOfContours ascends, as OpenType says, so an end that isn't above the one
+//! before it makes the glyph unreadable.
 
 ghost use Rattle.std.specs.Prelude.{◌≡◌, IfOk, IfErr};
 ghost use Rattle.std.specs.Option.{option_map};

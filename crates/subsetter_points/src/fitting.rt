@@ -1,4 +1,7 @@
 //! Whether an outline can be written.
+//!
+//! An outline has at most 65,535 points, which is what maxPoints of `maxp` can say, though endPtsOfContours can number
+//! 65,536, and at most 32,767 contours, as numberOfContours is an int16. None of its contours is empty.
 
 ghost use Rattle.std.specs.Prelude.{◌≡◌, pos};
 ghost use Rattle.subsetter_points.specs.Simple.{are_ends, deltas_fit, xs_of, ys_of, points_fit, parts_fit};

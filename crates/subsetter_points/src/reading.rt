@@ -1,4 +1,10 @@
 //! A simple glyph description, read.
+//!
+//! A glyph whose numberOfContours is 0 has no points, and what follows the ten bytes of its header is not looked at, as
+//! in FreeType, HarfBuzz and fontTools. Bytes after the last y coordinate are padding, as `loca` may count them to a
+//! glyph. Bytes that are missing are a fault: no coordinate is made up. A flag that is repeated past the last point
+//! makes the glyph unreadable. A coordinate has 16 bits, as each side of a glyph's bounding box has; a glyph whose
+//! deltas lead beyond has no reading. The bounding box that a glyph states is passed over.
 
 ghost use Rattle.std.specs.Prelude.{◌≡◌, IfOk, IfErr, IfSome, IsTrue, length};
 ghost use Rattle.std.specs.Option.{option_map};

@@ -1,4 +1,7 @@
 //! Laying out a font file.
+//!
+//! The checksum adjustment is a patch of four bytes, the last step. That the tables' places fit 32 bits is checked by
+//! `measured`, which takes no memory and whose clause names its one error.
 
 ghost use Rattle.std.specs.Prelude.{◌≡◌, ◌+◌, ◌-◌, ◌*◌, ◌<◌, ◌≤◌, ◌^◌, ◌++◌, ◌%◌, [], length, map, take, drop, true, false, vec_capacity, IfOk, IfErr};
 ghost use Rattle.std.specs.Int.{w16, w32, to_be_bytes};

@@ -1,5 +1,13 @@
 //! Type 2 charstrings (Technical Note 5177): flattening, which inlines the subroutines that a charstring calls,
 //! and the machine that it agrees with.
+//!
+//! [`charstring::Decompiler::flatten`] answers the charstring without subroutines that says the same, within a number
+//! of tokens and a depth; `decompile` answers its instructions. [`laws`] has what the definitions come to.
+//!
+//! ```text
+//! let decompiler = Decompiler::new(global.get_handler(), local.get_handler());
+//! let flat = decompiler.flatten(alloc, charstring)?;
+//! ```
 #![tactic(auto)]
 
 pub mod argstack;

@@ -1,4 +1,7 @@
 //! The bytes of the flat form, with the operands that no operator has taken yet at their end.
+//!
+//! The operands are read at the end of the output and not kept beside it: only a call takes one, the last. Where it
+//! begins is known after a stretch; else the numbers are walked from the last operator on (`last_number`).
 
 ghost use Rattle.std.specs.Prelude.{◌≡◌, ◌≤◌, ◌++◌, [], length, OnOk, OnErr, IfOk, IfErr, MatchOption};
 ghost use Rattle.subsetter_base.specs.declared.error.Error.TheVariants.{OutOfMemory};

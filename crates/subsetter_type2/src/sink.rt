@@ -1,4 +1,6 @@
 //! What takes the numbers and the operators of a run.
+//!
+//! By this trait one machine serves `flatten`, which writes bytes, and `decompile`, which makes a `Program`.
 
 ghost use Rattle.std.specs.Prelude.{◌≡◌, ◌++◌, ◌∷◌, [], ◌<◌, length, OnOk, IfErr};
 ghost use Rattle.subsetter_type2.specs.Machine.{last_operand, but_last};

@@ -1,4 +1,6 @@
 //! The axes of a variable font (OpenType, "fvar").
+//!
+//! An axis whose least coordinate lies above its default, which OpenType doesn't allow, has nothing below its default.
 
 ghost use Rattle.std.specs.Prelude.{◌≡◌, ◌+◌, ◌<◌, ◌≤◌, ◌-ℤ◌, ◌<ℤ◌, length, unsigned_abs};
 ghost use Rattle.std.specs.Option.{ok_or};

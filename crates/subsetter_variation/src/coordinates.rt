@@ -1,4 +1,8 @@
 //! The coordinates of an instance on the axes of its font.
+//!
+//! A user coordinate is clamped to its axis first, goes to 16.16, through `avar` in 16.16, and then to F2Dot14, each
+//! rounded by `nearest`. Below the default of an axis that has nothing below it the place is 0, as in HarfBuzz and
+//! fontTools.
 
 ghost use Rattle.std.specs.Prelude.{◌≡◌, ◌≤◌, ◌^◌, length, map, Some, None, Ok, unsigned_abs};
 ghost use Rattle.std.specs.Option.{ok_or, option_copied};

@@ -1,4 +1,10 @@
 //! Item variation stores, and the advances of `HVAR` (OpenType, "Item Variation Store" and "HVAR").
+//!
+//! An item, a region or item variation data that aren't there have no reading, nor has a map of indexes without entries
+//! (FreeType and HarfBuzz take 0 there). The indexes 0xFFFF, 0xFFFF are 0, as OpenType says; an offset of 0 is no
+//! table. The sum of an item's deltas is taken in 128 bits, as 65,535 long words don't fit 64; where an advance changes
+//! by 2^32 units or more the answer is `OverflowError`. The version of the store has to be 1, that of `HVAR` isn't
+//! looked at.
 
 ghost use Rattle.std.specs.Prelude.{[], ◌∷◌, MatchOption, ◌≡◌, ◌+◌, ◌*◌, ◌<◌, ◌≤◌, ◌^◌, Some, IfSome, length, pos, ◌*ℤ◌, ◌≤ℤ◌, unsigned_abs};
 ghost use Rattle.std.specs.Option.{ok_or};

@@ -1,4 +1,7 @@
 //! Rounding to whole numbers: the one function that rounds, and the products that it takes.
+//!
+//! `nearest a b` is a / b to the nearest whole number, halves up. Scalars and sums are in parts of 2^30: sums stay
+//! within 2^57 and an inferred numerator within 2^62, so all fit 64 bits.
 
 ghost use Rattle.std.specs.Prelude.{◌≡◌, ◌<◌, ◌≤◌, ◌^◌, ◌*◌, ◌+◌, ℕ, pos, ◌≤ℤ◌, ◌+ℤ◌, ◌-ℤ◌, ◌*ℤ◌, unsigned_abs};
 ghost use Rattle.subsetter_variation.specs.Nearest.{nearest, part};

@@ -1,4 +1,7 @@
 //! The segments that bend an axis (OpenType, "avar").
+//!
+//! A number past the last pair stays as it is, as in FreeType. OpenType asks for the pairs of -1, 0 and 1, past which
+//! no number lies. The major version has to be 1.
 
 ghost use Rattle.std.specs.Prelude.{◌≡◌, ◌+◌, ◌*◌, ◌<◌, ◌≤◌, ◌^◌, Some, true, ◌-ℤ◌, ◌≤ℤ◌, ◌<ℤ◌, IfSome, true, unsigned_abs};
 ghost use Rattle.subsetter_variation.specs.Segments.{axis_value_map_of, segment_map_at, axis_value_maps, fine, passed, on_segment, is_on, mapped};

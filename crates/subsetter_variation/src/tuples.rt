@@ -1,4 +1,8 @@
 //! The variations of a glyph (OpenType, "gvar" and "Tuple Variation Store"), read one tuple at a time.
+//!
+//! One tuple is decoded at a time, and the shared point numbers are read once and lent to each, so the largest memory
+//! is that of one glyph's points. Bytes left over after a tuple's deltas are passed over, and so are the deltas of a
+//! tuple whose scalar is 0: no library reads them, so a fault in them is none. The version of `gvar` isn't looked at.
 
 ghost use Rattle.std.specs.Prelude.{◌<◌, ◌≡◌, ◌+◌, ◌++◌, ◌*◌, ◌<◌, ◌≤◌, Some, None, Ok, MatchOption, IfSome, IfOk, length, drop};
 ghost use Rattle.std.specs.Option.{ok_or, option_copied, option_map};

@@ -1,4 +1,9 @@
-//! The numbers and the lists that the words of a command line write.
+//! Numbers and lists as the arguments of a command line write them.
+//!
+//! ```text
+//! u16_of("36")                  // Some(36); None for "+36", "" and "65536"
+//! parts_of(alloc, "36,68")?     // "36" and "68"
+//! ```
 #![tactic(auto)]
 
 ghost use Rattle.std.specs.Prelude.{◌≡◌, ◌==◌, map, IfOk, slice_index};

@@ -1,4 +1,4 @@
-//! Want of memory. What stands between two readings of the clock is run by `compare/refusals.py` with its requests for
+//! Out of memory. What stands between two readings of the clock is run by `compare/refusals.py` with its requests for
 //! memory refused.
 
 use std::fmt;
@@ -79,7 +79,7 @@ fn a_mapper_is_whole_or_wants_memory(rt: HostRuntime) -> Result<(), Fail> {
     Ok(())
 }
 
-/// A text of at most 8192 bytes.
+/// A text of at most 8,192 bytes.
 #[derive(Drop)]
 struct Text {
     bytes: [u8; 8192],

@@ -7,9 +7,9 @@ use Rattle.subsetter_base.specs.declared.error.Error.{Error}
 use Rattle.subsetter_base.specs.declared.error.Error.TheVariants.{OverflowError}
 use Rattle.subsetter_base.proofs.Options.{just_is, some_not_none}
 use Rattle.subsetter_base.proofs.Results.{done_is}
-use Rattle.subsetter_cff.specs.CffFault.{HasCffFault}
-use Rattle.subsetter_cff.proofs.CffFaults.{refused_stands}
-use Rattle.subsetter_cff.proofs.Excluded.{answered_excludes}
+use Rattle.subsetter_cff.specs.Write.CffFault.{HasCffFault}
+use Rattle.subsetter_cff.proofs.WriteLaws.CffFaults.{refused_stands}
+use Rattle.subsetter_cff.proofs.WriteLaws.Excluded.{answered_excludes}
 use Rattle.subsetter_sfnt.specs.declared.flavor.FontFlavor.TheVariants.{Cff}
 use Rattle.subsetter_sfnt.specs.Read.{Font, table, flavor}
 use Rattle.subsetter_sfnt.specs.Fault.{HasOpeningFault}

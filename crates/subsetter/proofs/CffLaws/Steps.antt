@@ -8,7 +8,7 @@ use Rattle.subsetter_base.specs.Bytes.{◌>>=◌}
 use Rattle.subsetter_base.specs.declared.error.Error.{Error}
 use Rattle.subsetter_base.specs.declared.error.Error.TheVariants.{MalformedFont}
 use Rattle.subsetter_base.proofs.Results.{done_is, bind_ok, bind_err, named_ok, named_err}
-use Rattle.subsetter_cff.specs.Plain.{cff_subset}
+use Rattle.subsetter_cff.specs.Write.Plain.{cff_subset}
 use Rattle.subsetter_sfnt.specs.declared.flavor.FontFlavor.TheVariants.{Cff}
 use Rattle.subsetter_sfnt.specs.declared.tables.NewTable.{NewTable}
 use Rattle.subsetter.specs.declared.tables.TableData.{TableData}

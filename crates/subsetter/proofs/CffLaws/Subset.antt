@@ -7,7 +7,7 @@ use Rattle.subsetter_base.specs.Bytes.{IsBytes}
 use Rattle.subsetter_base.specs.Places.{IsWithoutRepeats}
 use Rattle.subsetter_base.specs.declared.error.Error.{Error}
 use Rattle.subsetter_base.proofs.Options.{some_not_none}
-use Rattle.subsetter_cff.proofs.Headline.{answered_is_subset}
+use Rattle.subsetter_cff.proofs.WriteLaws.Headline.{answered_is_subset}
 use Rattle.subsetter_sfnt.specs.declared.flavor.FontFlavor.TheVariants.{Cff}
 use Rattle.subsetter_sfnt.specs.Container.{IsSoundContainer}
 use Rattle.subsetter_sfnt.specs.Read.{Font, as_font, table, flavor}

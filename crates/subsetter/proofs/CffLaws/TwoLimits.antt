@@ -8,12 +8,12 @@ use Rattle.subsetter_base.proofs.Results.{done_is}
 use Rattle.subsetter_type2.specs.Machine.{Library, Trace, Outcome, Finishes, Stops, outcome}
 use Rattle.subsetter_type2.specs.Flat.{bytes_of, flat_form}
 use Rattle.subsetter_type2.proofs.TraceLimits.{same_trace}
-use Rattle.subsetter_cff.specs.Cff.{Cff, char_string}
-use Rattle.subsetter_cff.specs.Private.{Private, private_of}
-use Rattle.subsetter_cff.specs.GlyphTrace.{library}
-use Rattle.subsetter_cff.specs.Layout.{Parts, cff_table}
-use Rattle.subsetter_cff.specs.Opened.{opened}
-use Rattle.subsetter_cff.specs.Plain.{KeptGlyph, source_number, kept_glyph, kept_glyphs, counted_parts, limited, parts_of, cff_subset}
+use Rattle.subsetter_cff.specs.Read.Cff.{Cff, char_string}
+use Rattle.subsetter_cff.specs.Read.Private.{Private, private_of}
+use Rattle.subsetter_cff.specs.Read.GlyphTrace.{library}
+use Rattle.subsetter_cff.specs.Write.Layout.{Parts, cff_table}
+use Rattle.subsetter_cff.specs.Read.Opened.{opened}
+use Rattle.subsetter_cff.specs.Write.Plain.{KeptGlyph, source_number, kept_glyph, kept_glyphs, counted_parts, limited, parts_of, cff_subset}
 use Rattle.subsetter_sfnt.specs.declared.flavor.FontFlavor.TheVariants.{Cff as CffKind}
 use Rattle.subsetter_sfnt.specs.Written.{Table}
 use Rattle.subsetter.specs.Shared.Plain.{shared_of}

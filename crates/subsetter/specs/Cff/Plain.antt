@@ -4,7 +4,7 @@ use Rattle.std.specs.Option.{ok_or}
 use Rattle.subsetter_base.specs.Bytes.{◌>>=◌}
 use Rattle.subsetter_base.specs.declared.error.Error.{Error}
 use Rattle.subsetter_base.specs.declared.error.Error.TheVariants.{MalformedFont}
-use Rattle.subsetter_cff.specs.Plain.{cff_subset}
+use Rattle.subsetter_cff.specs.Write.Plain.{cff_subset}
 use Rattle.subsetter_sfnt.specs.declared.flavor.FontFlavor.TheVariants.{Cff}
 use Rattle.subsetter_sfnt.specs.Written.{Table, kind_word}
 use Rattle.subsetter_sfnt.specs.Plain.{file_of}

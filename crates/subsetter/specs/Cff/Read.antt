@@ -1,6 +1,6 @@
 -- What a subset keeps of outlines in a CFF table, read afresh (Technical Notes 5176 and 5177).
 use Rattle.std.specs.Prelude.{◌≡◌, ℕ, List, codes, Some}
-use Rattle.subsetter_cff.specs.Headline.{IsSubsetTable}
+use Rattle.subsetter_cff.specs.Write.Headline.{IsSubsetTable}
 use Rattle.subsetter_sfnt.specs.Read.{Font, table}
 
 -- both fonts have the table, and one is a subset of the other: each glyph draws as its source within the two limits

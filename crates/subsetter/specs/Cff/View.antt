@@ -1,5 +1,5 @@
 -- What the code's parts of a subset with a CFF table stand for.
-use Rattle.subsetter_cff.specs.TableBy.{table_bytes}
+use Rattle.subsetter_cff.specs.Write.TableBy.{table_bytes}
 use Rattle.subsetter.specs.declared.cff.Made.{Made as MadeTables}
 use Rattle.subsetter.specs.Shared.View.{shared_seen}
 use Rattle.subsetter.specs.Cff.Plain.{Made}

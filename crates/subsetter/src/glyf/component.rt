@@ -1,4 +1,8 @@
 //! The components of a composite glyph (OpenType, "glyf": composite glyph description).
+//!
+//! The definition `chain_at n bytes` reads at most n components. The count of the bytes is always enough, as a
+//! component has six at least. A component that is missing from the order would count as number 0 in the layout; a law
+//! shows that none is.
 
 ghost use Rattle.std.specs.Prelude.{◌≡◌, ◌+◌, ◌-◌, ◌≤◌, [], ◌∷◌, ◌++◌, length, take, drop, if◌then◌else◌, ◌&&◌, nat_le, Some, Ok, OnOk, OnErr, IfErr};
 ghost use Rattle.std.specs.Int.{w16, to_be_bytes};

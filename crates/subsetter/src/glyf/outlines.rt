@@ -1,4 +1,10 @@
 //! The outlines of a new `glyf`.
+//!
+//! A borrowed outline stays a slice of the source; a composite is written under its new numbers after those before it.
+//! (A `CowSlice` has 32 bytes, and an owned one an allocation of its own: for 50,000 small glyphs as much as the whole
+//! output.) The list is written to in place, and a composite that turns out to be cut is taken back, so that the list
+//! is whole after an error too. The zero byte after an odd outline, in the short format, is written with the output and
+//! not kept here.
 
 ghost use Rattle.std.specs.Prelude.{◌≡◌, ◌+◌, ◌<◌, ◌≤◌, ◌^◌, ◌++◌, ◌∷◌, [], length, vec_capacity, Ok, OnOk, OnErr, IfOk, IfErr};
 ghost use Rattle.std.specs.Iterator.{YieldsFirstRef, item_count};

@@ -1,6 +1,0 @@
-use Rattle.subsetter_cff.proofs.again.same_char_strings.Goals as goal
-use Rattle.subsetter_cff.proofs.AgainLaws.Composition as laws
-
--- src/again.rt
-pub returns : goal.returns
-returns c = laws.keeps_char_strings

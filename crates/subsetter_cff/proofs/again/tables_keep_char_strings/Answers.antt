@@ -1,6 +1,0 @@
-use Rattle.subsetter_cff.proofs.again.tables_keep_char_strings.Goals as goal
-use Rattle.subsetter_cff.proofs.AgainLaws.ThreeTables as laws
-
--- src/again.rt
-pub returns : goal.returns
-returns c = laws.tables_keep_char_strings

@@ -1,6 +1,0 @@
-use Rattle.subsetter_cff.proofs.again.unknown_is_fault.Goals as goal
-use Rattle.subsetter_cff.proofs.AgainLaws.Faults as laws
-
--- src/again.rt
-pub returns : goal.returns
-returns c = laws.unknown_is_fault

@@ -1,7 +1,0 @@
-use Rattle.std.proofs.Common.{◌≡◌, ◌++◌, drop}
-use Rattle.std.specs.List.{concat}
-use Rattle.subsetter_cff.specs.SidRemapping.{views}
-use Rattle.subsetter_cff.proofs.slice_index.put_items.Given as goal
-
-abbrev pub invariant-loop-item : goal.invariant-loop-item
-invariant-loop-item l = l.w ++ concat (views (drop l.item-index l.items)) ≡ l.initial.w ++ concat (views l.items)

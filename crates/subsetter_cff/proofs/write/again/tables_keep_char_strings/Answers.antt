@@ -1,0 +1,6 @@
+use Rattle.subsetter_cff.proofs.write.again.tables_keep_char_strings.Goals as goal
+use Rattle.subsetter_cff.proofs.WriteLaws.AgainLaws.ThreeTables as laws
+
+-- src/again.rt
+pub returns : goal.returns
+returns c = laws.tables_keep_char_strings

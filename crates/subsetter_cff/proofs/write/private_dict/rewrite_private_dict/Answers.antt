@@ -1,0 +1,41 @@
+use Rattle.std.proofs.Common.{◌≡◌, Some, length, map, sym, ◌∙◌, ap}
+use Rattle.std.proofs.lemmas.Result.{err_from_is_err_and}
+use Rattle.subsetter_cffdata.specs.Operands.{operands_at}
+use Rattle.subsetter_cffdata.specs.ParserView.{left}
+use Rattle.subsetter_cffdata.specs.Views.{number_of, operator_of}
+use Rattle.subsetter_cff.specs.Write.Rewritten.{rewritten_private}
+use Rattle.subsetter_cff.proofs.ReadLaws.Failing.{fails_on, goes_on}
+use Rattle.subsetter_cff.proofs.WriteLaws.Rewriting.{shorter, left_out, taken_by, at_end}
+use Rattle.subsetter_cff.proofs.write.private_dict.rewrite_private_dict.Goals as goal
+
+pub loop-operator-smaller-in-Continue-1 : goal.loop-operator-smaller-in-Continue-1
+loop-operator-smaller-in-Continue-1 c = shorter (left c.loop-operator.parser) (operator_of c.in-Some.operator) (left c.parse_entry.new.self) c.in-Some.ensures.value
+
+pub loop-operator-preserved-in-Continue-1 : goal.loop-operator-preserved-in-Continue-1
+unfolding rewritten_private
+loop-operator-preserved-in-Continue-1 c =
+    let shown : Some (map number_of c.operands.result.now) ≡ operands_at (length c.loop-operator.parser.operands.now) (left c.loop-operator.parser) = ap Some c.operands.ensures ∙ c.in-Some.ensures.operands in
+    record {
+      written = goes_on _ _ _ c.write_entry.new.w (taken_by c.loop-operator.w (left c.loop-operator.parser) (operator_of c.in-Some.operator) (left c.parse_entry.new.self) _ _ c.in-Some.ensures.value (sym c.is_subroutines.ensures ∙ c.if-not-is_subroutines.true) c.loop-operator.invariant.room shown ∙ c.loop-operator.invariant.written) c.in_ok-write_entry.ensures.ok;
+      room = c.in-Some.ensures.room ∙ c.loop-operator.invariant.room;
+    }
+
+pub returns-in_err-write_entry-clause-err : goal.returns-in_err-write_entry-clause-err
+unfolding rewritten_private
+returns-in_err-write_entry-clause-err c =
+    let p = err_from_is_err_and c.from_residual.result c.from_residual.ensures.1 in
+    let shown : Some (map number_of c.operands.result.now) ≡ operands_at (length c.loop-operator.parser.operands.now) (left c.loop-operator.parser) = ap Some c.operands.ensures ∙ c.in-Some.ensures.operands in
+    rw (p.1, p.2) (fails_on _ _ _ c.in_err-write_entry.field-0.0 (taken_by c.loop-operator.w (left c.loop-operator.parser) (operator_of c.in-Some.operator) (left c.parse_entry.new.self) _ _ c.in-Some.ensures.value (sym c.is_subroutines.ensures ∙ c.if-not-is_subroutines.true) c.loop-operator.invariant.room shown ∙ c.loop-operator.invariant.written) c.in_err-write_entry.ensures.err)
+
+pub loop-operator-smaller : goal.loop-operator-smaller
+loop-operator-smaller c = shorter (left c.loop-operator.parser) (operator_of c.in-Some.operator) (left c.parse_entry.new.self) c.in-Some.ensures.value
+
+pub loop-operator-preserved : goal.loop-operator-preserved
+loop-operator-preserved c = record {
+  written = sym (left_out c.loop-operator.w (left c.loop-operator.parser) (operator_of c.in-Some.operator) (left c.parse_entry.new.self) c.in-Some.ensures.value (sym c.is_subroutines.ensures ∙ c.if-not-is_subroutines.false)) ∙ c.loop-operator.invariant.written;
+  room = c.in-Some.ensures.room ∙ c.loop-operator.invariant.room;
+}
+
+pub returns-clause-ok : goal.returns-clause-ok
+unfolding rewritten_private
+returns-clause-ok c = sym c.loop-operator.invariant.written ∙ at_end c.loop-operator.w (left c.loop-operator.parser) c.in_default.ensures.value

@@ -1,0 +1,16 @@
+use Rattle.std.proofs.Common.{◌≡◌, length}
+use Rattle.subsetter_cffdata.specs.Dict.{entries, operand_limit}
+use Rattle.subsetter_cffdata.specs.ParserView.{left}
+use Rattle.subsetter_cff.specs.Read.Lookup.{without}
+use Rattle.subsetter_cff.specs.Read.Operators.{subroutines_operator}
+use Rattle.subsetter_cff.specs.Write.Rewritten.{behind, written_entries}
+use Rattle.subsetter_cff.proofs.write.private_dict.rewrite_private_dict.Given as goal
+
+abbrev pub invariant-loop-operator : goal.invariant-loop-operator
+invariant-loop-operator l = record {
+  written : behind l.w (written_entries (without subroutines_operator (entries (left l.parser)))) ≡ behind l.initial.w (written_entries (without subroutines_operator (entries l.private_dict)));
+  room : length l.parser.operands.now ≡ operand_limit;
+}
+
+abbrev pub decreases-loop-operator : goal.decreases-loop-operator
+decreases-loop-operator l = length (left l.parser)

@@ -1,0 +1,25 @@
+-- What is made of a CFF table that was read, and written.
+pub mod Layout
+pub mod Fits
+pub mod ReadsAs
+pub mod Subset
+pub mod Made
+pub mod WrittenNumbers
+pub mod Plain
+pub mod PlainLaws
+pub mod TopDictView
+pub mod Headline
+pub mod LimitFault
+pub mod CffFault
+pub mod Rewritten
+pub mod SidRemapping
+pub mod UsedFontDicts
+pub mod MatrixView
+pub mod KeptView
+pub mod FlatIndex
+pub mod PartsView
+pub mod TableBy
+pub mod FrontDraft
+pub mod PartsBy
+pub mod TableLimits
+pub mod Again

@@ -1,0 +1,36 @@
+-- DICT entries of the source as they are written again.
+use Rattle.std.specs.Prelude.{ℕ, Bool, if◌then◌else◌, List, [], ◌++◌, Option, Some, None, Result, Ok, Err}
+use Rattle.std.specs.List.{list_any}
+use Rattle.subsetter_base.specs.Bytes.{◌>>=◌}
+use Rattle.subsetter_base.specs.declared.error.Error.{Error}
+use Rattle.subsetter_base.specs.declared.error.Error.TheVariants.{OverflowError}
+use Rattle.subsetter_cffdata.specs.Numbers.{Number, is_too_long}
+use Rattle.subsetter_cffdata.specs.Dict.{Entry, entries, dict, line}
+use Rattle.subsetter_cff.specs.Read.Lookup.{without}
+use Rattle.subsetter_cff.specs.Read.Operators.{subroutines_operator}
+use Rattle.subsetter_cff.specs.Write.Layout.{plain_line, private_lines}
+
+-- a real among the operands is too long to be written
+abbrev pub is_refused : Entry → Bool
+is_refused e = list_any is_too_long e.operands
+
+-- bytes behind a front
+abbrev pub behind : List ℕ → Result (List ℕ) Error → Result (List ℕ) Error
+behind front bytes = bytes >>= λ more. Ok (front ++ more)
+
+-- the dict of entries, unless a real among their operands is too long
+unfoldable pub written_entries : List Entry → Result (List ℕ) Error
+written_entries es = if list_any is_refused es then Err OverflowError else Ok (dict (private_lines es))
+
+-- of an operator and its operands
+unfoldable pub written_entry : List ℕ → List Number → Result (List ℕ) Error
+written_entry operator xs = if list_any is_too_long xs then Err OverflowError else Ok (line (plain_line operator xs))
+
+-- of an entry that is there
+abbrev pub written_if_there : List ℕ → Option (List Number) → Result (List ℕ) Error
+written_if_there operator None = Ok []
+written_if_there operator (Some xs) = written_entry operator xs
+
+-- a private dict without its subroutines
+unfoldable pub rewritten_private : List ℕ → Result (List ℕ) Error
+rewritten_private bytes = written_entries (without subroutines_operator (entries bytes))

@@ -1,0 +1,55 @@
+//! The laws of the CFF table: what is laid out is read afresh as it was meant, what is answered is a subset, and what is
+//! refused has a fault.
+
+ghost use Rattle.subsetter_cff.specs.Write.CffFault.{RefusedStands, AnsweredExcludes, FaultIsNamed};
+ghost use Rattle.subsetter_cff.specs.Write.Headline.{AnsweredIsSubset};
+ghost use Rattle.subsetter_cff.specs.Write.Made.{MadeIsSubset};
+ghost use Rattle.subsetter_cff.specs.Write.ReadsAs.{CharsetIsRead, SelectIsRead, LaidOutIsRead};
+
+/// The charset that is written says of each glyph that its CID is its number, whatever bytes follow.
+#[tactic(auto, using(crate::proofs::WriteLaws::Charsets::charset_is_read))]
+pub fn charset_is_read()
+    ensures { CharsetIsRead }
+{}
+
+/// The FDSelect that is written gives each glyph the font dict of the number that it was written with, whatever bytes follow.
+#[tactic(auto, using(crate::proofs::WriteLaws::Charsets::select_is_read))]
+pub fn select_is_read()
+    ensures { SelectIsRead }
+{}
+
+/// A table that was laid out is read afresh as the parts that it was laid out for.
+#[tactic(auto, using(crate::proofs::WriteLaws::Whole::laid_out_is_read))]
+pub fn laid_out_is_read()
+    ensures { LaidOutIsRead }
+{}
+
+/// A table whose parts were made of a source is a subset of it, read afresh.
+#[tactic(auto, using(crate::proofs::WriteLaws::Keeping::made_is_subset))]
+pub fn made_is_subset()
+    ensures { MadeIsSubset }
+{}
+
+/// Where the plain way answers a table, that table read afresh is a subset of the source.
+#[tactic(auto, using(crate::proofs::WriteLaws::Headline::answered_is_subset))]
+pub fn answered_is_subset()
+    ensures { AnsweredIsSubset }
+{}
+
+/// What is refused has a fault of the name that is answered.
+#[tactic(auto, using(crate::proofs::WriteLaws::CffFaults::refused_stands))]
+pub fn refused_stands()
+    ensures { RefusedStands }
+{}
+
+/// Where a table is answered, no fault stands in its source.
+#[tactic(auto, using(crate::proofs::WriteLaws::Excluded::answered_excludes))]
+pub fn answered_excludes()
+    ensures { AnsweredExcludes }
+{}
+
+/// Faults have five names, and want of memory is none of them.
+#[tactic(auto, using(crate::proofs::WriteLaws::FaultNames::fault_is_named))]
+pub fn fault_is_named()
+    ensures { FaultIsNamed }
+{}

@@ -1,0 +1,50 @@
+//! Private dicts, written again (Technical Note 5176, section 15 "Private DICT Data").
+
+ghost use Rattle.std.specs.Prelude.{◌≡◌, map, OnOk, IfErr};
+ghost use Rattle.std.specs.Str.{bytes_eq};
+ghost use Rattle.subsetter_base.specs.Gives.{Fails};
+ghost use Rattle.subsetter_cffdata.specs.Views.{number_of, operator_of};
+ghost use Rattle.subsetter_cff.specs.Read.Operators.{subroutines_operator};
+ghost use Rattle.subsetter_cff.specs.Write.Rewritten.{behind, written_entry, rewritten_private};
+
+use crate::read::operators::same_operator;
+use subsetter_base::error::Error;
+use subsetter_base::write::Writer;
+use subsetter_cffdata::dict::DictionaryParser;
+use subsetter_cffdata::dict::operators::SUBRS;
+use subsetter_cffdata::number::Number;
+use subsetter_cffdata::operator::Operator;
+
+/// Whether an operator is that of the local subroutines.
+fn is_subroutines(operator: &Operator) -> bool
+    ensures { result ≡ bytes_eq (operator_of operator.now) subroutines_operator }
+{
+    same_operator(operator, &SUBRS)
+}
+
+/// Writes an entry. A real that is too long is `OverflowError`.
+#[tactic(auto, unfolding(crate::specs::Write::Rewritten::written_entry))]
+pub fn write_entry(w: &mut Writer, operator: Operator, operands: &[Number]) -> Result<(), Error>
+    ensures ok { OnOk result (behind w.old (written_entry (operator_of operator) (map number_of operands.now)) ≡ Ok w.new) }
+    ensures err { IfErr result (λ e. Fails e (behind w.old (written_entry (operator_of operator) (map number_of operands.now)))) }
+{
+    w.write(&operands)?;
+    w.write(&operator)?;
+    Ok(())
+}
+
+/// Writes the entries of a private dict without those that lead to subroutines. A real that is too long is `OverflowError`.
+#[tactic(auto, unfolding(crate::specs::Write::Rewritten::rewritten_private))]
+pub fn rewrite_private_dict(w: &mut Writer, private_dict: &[u8]) -> Result<(), Error>
+    ensures ok { OnOk result (behind w.old (rewritten_private private_dict.now) ≡ Ok w.new) }
+    ensures err { IfErr result (λ e. Fails e (behind w.old (rewritten_private private_dict.now))) }
+{
+    let mut operands = [Number::zero(); 48];
+    let mut parser = DictionaryParser::new(private_dict, &mut operands);
+    while let Some(operator) = parser.parse_entry() {
+        if !is_subroutines(&operator) {
+            write_entry(w, operator, parser.operands())?;
+        }
+    }
+    Ok(())
+}

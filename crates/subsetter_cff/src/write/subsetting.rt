@@ -1,0 +1,65 @@
+//! The subset of a CFF table.
+
+ghost use Rattle.std.specs.Prelude.{◌≡◌, ◌⊎◌, IfOk, IfErr};
+ghost use Rattle.subsetter_base.specs.Gives.{Gives};
+ghost use Rattle.subsetter_base.specs.declared.error.Error.{Error as SpecError};
+ghost use Rattle.subsetter_base.specs.declared.error.Error.TheVariants.{OutOfMemory};
+ghost use Rattle.subsetter_cff.specs.Write.CffFault.{HasCffFault};
+ghost use Rattle.subsetter_cff.specs.Write.Headline.{IsSubsetLaidOut};
+ghost use Rattle.subsetter_cff.specs.Write.Plain.{cff_subset};
+ghost use Rattle.subsetter_cff.specs.Write.TableBy.{table_bytes};
+
+use crate::read::source::Table;
+use crate::write::kept_glyphs::keep_glyphs;
+use crate::write::parts::new_table_of;
+use crate::write::writing::{CffPieces, write_table};
+use std::alloc::Global;
+use subsetter_base::GlyphRemapper;
+use subsetter_base::error::Error;
+use subsetter_type2::limits::Limits;
+
+// The subset, exactly as the plain way answers it.
+fn subset_exactly(
+    alloc: Global,
+    table: &[u8],
+    mapper: &GlyphRemapper,
+    limits: Limits,
+) -> Result<CffPieces, Error>
+    ensures { Gives table_bytes result (cff_subset table.now limits.tokens limits.depth mapper.now) }
+{
+    let opened = Table::parse(alloc, table);
+    let source = match &opened {
+        Ok(source) => source,
+        Err(error) => return Err(*error),
+    };
+    let kept = keep_glyphs(alloc, source, limits, mapper)?;
+    match new_table_of(alloc, source, kept) {
+        Ok(new) => write_table(alloc, new, mapper.num_gids()),
+        Err(error) => Err(error),
+    }
+}
+
+/// The table of the glyphs that a mapper keeps, by their new numbers. A first byte that isn't 1, and a charstring that
+/// can't be run, are `CFFError`; a charstring with the operands of an accented character is `Unimplemented`; a string that
+/// can't be read is `SubsetError`; 256 font dicts, a real of more than 64 characters and a table that is too large are
+/// `OverflowError`; all else that is wrong with the table is `MalformedFont`. Once the glyphs are kept, the font dicts are
+/// counted before strings are read, and reals are judged after that.
+pub fn subset(
+    alloc: Global,
+    table: &[u8],
+    mapper: &GlyphRemapper,
+    limits: Limits,
+) -> Result<CffPieces, Error>
+    // What is answered is a subset of the table, laid out byte for byte.
+    ensures ok { IfOk result (λ new. IsSubsetLaidOut table.now limits.tokens limits.depth mapper.now (table_bytes new)) }
+    // And then no fault stands in the source.
+    ensures clean { IfOk result (λ new. (e : SpecError) → HasCffFault table.now limits.tokens limits.depth mapper.now e → ⊥) }
+    // What is refused has a fault of that name.
+    ensures err { IfErr result (λ e. (e ≡ OutOfMemory) ⊎ HasCffFault table.now limits.tokens limits.depth mapper.now e) }
+    // Both are what the plain way answers.
+    ensures exact { Gives table_bytes result (cff_subset table.now limits.tokens limits.depth mapper.now) }
+{
+    let _count = mapper.num_gids();
+    let _depth = limits.depth();
+    subset_exactly(alloc, table, mapper, limits)
+}
