@@ -81,7 +81,10 @@ fn print_font<R: Print>(
 fn perform<R: Env + Files + Print + AllocGlobal>(rt: &R) -> Result<(), Failure> {
     let arguments = env::args(rt).map_err(|_| Failure::Usage)?;
     let arguments: Vec<String> = arguments.skip(1).collect(rt.alloc())?;
-    let arguments: Vec<&str> = arguments.iter().map(|argument| argument.as_str()).collect(rt.alloc())?;
+    let arguments: Vec<&str> = arguments
+        .iter()
+        .map(|argument| argument.as_str())
+        .collect(rt.alloc())?;
     let request = read_request(rt.alloc(), &arguments)?;
     let font = fs::read(rt, request.font.as_str()).map_err(|_| Failure::Read)?;
     print_font(rt, rt.alloc(), &font, &request)
