@@ -24,8 +24,8 @@ MuPDF, Poppler and Ghostscript draw both. Of each reader
 
 --faces N takes N faces of the fonts that are installed (one after another TrueType, SID-keyed, CID-keyed), some glyphs
 of each, and prints a line a face and the sum. A font that is refused is named, and the next is taken.
---bare takes subsets without hinting, names and glyph names, and has Ghostscript draw both fonts without hinting (MuPDF
-and Poppler hint nothing).
+--bare takes subsets without hinting, names and glyph names. MuPDF and Poppler hint nothing, Ghostscript 10 always does: the
+TrueType source without `cmap` and `post`, which it draws where pictures differ, is then without instructions too.
 --specimen draws four scripts from subsets of three fonts into a picture.
 --keep FOLDER leaves the files there. Status 0 where nothing differs, else 1.
 
@@ -33,6 +33,7 @@ Needs Debian's mupdf-tools, poppler-utils and ghostscript, for --specimen also l
 (`rt run` in crates/subset_font builds it).
 """
 import argparse
+import io
 import os
 import random
 import re
@@ -54,9 +55,8 @@ NAMES = "cmap", "post"
 CELL, GRID, LINE = 56, 32, 10
 
 
-# With --bare: the words of the program, and of Ghostscript.
+# With --bare: the words of the program.
 BARE = ["--no-hinting", "--no-names", "--no-glyph-names"]
-UNHINTED = ["-dGridFitTT=0"]
 
 
 class Refused(Exception):
@@ -112,15 +112,32 @@ def line_of(face, glyphs):
     return held, places
 
 
-def write(source, copy, glyphs, numbers, widths, program, folder):
+def without_instructions(data):
+    """A TrueType font without its programs and its glyphs' instructions, by fontTools."""
+    from fontTools.ttLib import TTFont
+
+    font, out = TTFont(io.BytesIO(data), recalcBBoxes=False, recalcTimestamp=False), io.BytesIO()
+    for tag in ("cvt ", "fpgm", "prep"):
+        if tag in font:
+            del font[tag]
+    for name in font.getGlyphOrder():
+        font["glyf"][name].removeHinting()
+    font.save(out)
+    return out.getvalue()
+
+
+def write(source, copy, glyphs, numbers, widths, program, folder, bare):
     """The files for one way to embed the font, with the glyphs' names and without; the number of glyphs in the line."""
+    nameless = source.file_without(*NAMES)
+    if bare and not source.is_cff:
+        nameless = without_instructions(nameless)
     old = cids(source.tables["CFF "], max(glyphs) + 1) if source.is_cff else range(65536)
     line, places = line_of(source, glyphs)
     own = "[" + " ".join(f"{old[g]} [{source.advance(g) * 1000 / source.units:.4f}]" for g in sorted(set(glyphs))) + "]"
     by_places = line_by_places([old[g] for g in line], places)
     for name, face, codes, array, second in (
             ("source", source, [old[g] for g in glyphs], own, by_places),
-            ("source-nameless", Face(source.file_without(*NAMES)), [old[g] for g in glyphs], own, by_places),
+            ("source-nameless", Face(nameless), [old[g] for g in glyphs], own, by_places),
             ("subset", copy, [numbers[g] for g in glyphs], widths, line_by_widths([numbers[g] for g in line])),
             ("subset-nameless", Face(copy.file_without(*NAMES)), [numbers[g] for g in glyphs], widths, "")):
         pdf = Pdf()
@@ -139,10 +156,10 @@ READERS = {
 }
 
 
-def drawn(reader, folder, bare):
+def drawn(reader, folder):
     """A reader's pictures of the two pages, each as (width, height, bytes), and the lines that it says."""
     program, *words = READERS[reader]
-    said = subprocess.run([program, *(UNHINTED if bare and program == "gs" else []), *words], cwd=folder, capture_output=True, text=True, errors="replace")
+    said = subprocess.run([program, *words], cwd=folder, capture_output=True, text=True, errors="replace")
     lines = {line for line in (said.stdout + said.stderr).splitlines() if line and not line.startswith("page page.pdf")}
     if said.returncode:
         lines.add(f"status {said.returncode}")
@@ -173,17 +190,17 @@ def places_by_trace(folder):
     return [float(x) for x in re.findall(r'<g [^>]*\bx="([-0-9.e]+)"', said)]
 
 
-def differences(folder, count, bare):
+def differences(folder, count):
     """What the readers show otherwise for the subset than for the source, and which of them do so by names alone."""
     wrong, noted = [], []
     source, copy = os.path.join(folder, "source"), os.path.join(folder, "subset")
     for reader in READERS:
-        (before, said), (after, answer) = drawn(reader, source, bare), drawn(reader, copy, bare)
+        (before, said), (after, answer) = drawn(reader, source), drawn(reader, copy)
         if before is None or after is None:
             wrong.append(f"{reader} draws nothing of the {'source' if before is None else 'subset'}")
             continue
         if before[0] != after[0]:
-            (one, _), (other, _) = (drawn(reader, os.path.join(folder, f"{it}-nameless"), bare) for it in ("source", "subset"))
+            (one, _), (other, _) = (drawn(reader, os.path.join(folder, f"{it}-nameless")) for it in ("source", "subset"))
             same = one is not None and other is not None and one[0] == other[0]
             (noted if same else wrong).append(f"{reader}: {'without names' if same else 'other pixels'}")
         if set(after[0][2]) == {255}:
@@ -213,7 +230,7 @@ def compare(font, index, glyphs, folder, bare):
     ways = ["CIDFontType0C", "OpenType"] if source.is_cff else ["TrueType"]
     for way in ways:
         room = os.path.join(folder, way)
-        found, known = differences(room, write(source, copy, glyphs, numbers, widths, way, room), bare)
+        found, known = differences(room, write(source, copy, glyphs, numbers, widths, way, room, bare))
         wrong += [f"{way}: {it}" for it in found]
         noted += known
     return ways, wrong, noted
