@@ -180,6 +180,7 @@ def main():
     words = parser.parse_args()
     if not words.no_install:
         fonts.install([it[0] for it in fonts.TRUETYPE_FONTS + fonts.CFF_FONTS])
+    build.program(words.program)
     failures, counts = [], {}
     with tempfile.TemporaryDirectory() as room:
         for path, index in CHAINS:

@@ -36,8 +36,8 @@ def build_binding():
 
 def drivers_of(wanted):
     """The drivers by their names."""
-    if wanted and not os.path.exists(build.BENCH):
-        build.rt("subset_bench")
+    if wanted:
+        build.program(build.BENCH)
     drivers = {"port": build.BENCH} if os.path.exists(build.BENCH) else {}
     drivers["binding"] = build_binding() if wanted else build.cargo_driver("binding")
     if os.environ.get("ORIGINAL"):

@@ -1,6 +1,7 @@
 """What the scripts of this folder run: where each program stands, and how it is built."""
 import os
 import subprocess
+import sys
 
 HERE = os.path.dirname(os.path.realpath(__file__))
 ROOT = os.path.dirname(HERE)
@@ -20,6 +21,16 @@ BENCH, FONT, PARTS = built("subset_bench"), built("subset_font"), built("instanc
 def rt(crate, verb="run"):
     """Proves and builds a crate. `run` runs its program without arguments, which may print its usage and end with status 2."""
     subprocess.run([os.environ.get("RT", "rt"), verb], cwd=os.path.join(ROOT, "crates", crate), stdout=subprocess.DEVNULL)
+
+
+def program(path):
+    """A program's path. One of the crates is built where it is missing; the script ends where there is none then."""
+    crates = os.path.join(ROOT, "crates") + os.sep
+    if not os.path.exists(path) and path.startswith(crates):
+        rt(path.removeprefix(crates).split(os.sep)[0])
+    if not os.path.exists(path):
+        sys.exit(f"{os.path.basename(sys.argv[0])}: no program {path}")
+    return path
 
 
 def gcc(source, *more, to):

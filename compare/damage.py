@@ -2,12 +2,22 @@
 """Damaged copies of fonts, and what two drivers answer on them.
 
     ORIGINAL=FOLDER compare/damage.py [--no-build] [--copies N] [--seed S] [--jobs J] [--only WORD] [--truetype]
+    ORIGINAL=FOLDER compare/damage.py --kinds [FOLDER ..] [--library] [--pieces FILE] [--copies N] ..
 
-builds both drivers, as run.py does, gives N damaged copies (20,000) of fonts with CFF outlines to both, and prints how
-often each pair of answers came, and for those that differ which intended difference stands in the copy and not in the
-font (explain.py), or `not explained`. With --truetype they are the fonts and the damage of run.py without --cff.
+builds both drivers, as run.py does, gives N damaged copies (20,000) of fonts to both, and prints how often each pair of
+answers came, and for those that differ which intended difference stands in the copy and not in the font (explain.py), or
+`not explained`; then the status is 1. The fonts have CFF outlines; with --truetype they are those of run.py without --cff.
+
+With --kinds they are of all kinds (kinds.py), with the variable fonts of a FOLDER besides, and their damage keeps them
+plausible (plausible.py). --library takes the C library under AddressSanitizer (fuzz) in the port's place. --pieces FILE
+makes the copies in pieces of 100,000 (10,000 with --library), each with a seed of its own, S and its number; each is a line of FILE when it is done.
+Those that stand there aren't made again, so that a run may be stopped at any time; --backwards takes the last piece first,
+for a second run at the same time. --tell makes none, and prints what those that stand there say together.
 """
 import argparse
+import collections
+import datetime
+import json
 import os
 import random
 import subprocess
@@ -15,151 +25,49 @@ import sys
 import tempfile
 from concurrent.futures import ThreadPoolExecutor
 
+import build
+import copies
 import explain
 import fonts
 from build import BUILD
-from fonts import directory, glyph_count
+from fonts import glyph_count
 
-# Tables in which a changed byte changes what the font says, and how many of their first bytes are changed.
-SMALL = {tag: 64 for tag in ("head", "hhea", "maxp", "hmtx", "loca", "name", "post")} | {"CFF ": 512}
-# Seconds for a list of tasks, and how many copies are made at once.
-AT_MOST, AT_ONCE = 30, 100
-# Words that are often a limit of something.
-WORDS = (0, 1, 2, 127, 128, 255, 256, 390, 391, 32767, 32768, 65535)
+# Seconds for a task, and for a list of them; how many copies are made at once, and are a piece.
+AT_MOST, FOR_ALL, AT_ONCE, PIECE = 30, 200, 100, 100000
+# (the library under AddressSanitizer takes ten times as long)
+PIECE_OF_LIBRARY = 10000
+# A file system in memory, where there is one.
+ROOM = "/dev/shm" if os.path.isdir("/dev/shm") else None
 
+# The driver of the C library under AddressSanitizer.
+LIBRARY = os.path.join(build.HERE, "fuzz", "out", "driver")
 
-def regions(data, glyphs):
-    """The places of a CFF table that a damage is aimed at, as names and ranges of the file."""
-    start, length = directory(data)["CFF "]
-    cff = data[start:start + length]
-    table = explain.Table(cff, glyphs)
-    found = [("header", (0, table.tops.end)), ("top dict", table.top_range), ("strings", (table.strings.start, table.strings.end))]
-    found += [("private dict", place) for place, _, _ in table.privates.values()]
-    charstrings = [("charstring", place) for place in map(table.charstrings.range, glyphs) if place]
-    for index in [table.subroutines] + [local for _, _, local in table.privates.values() if local]:
-        found.append(("offsets of subroutines", (index.start, index.base)))
-        charstrings += [("subroutine", place) for place in map(index.range, range(index.count)) if place][:40]
-    if table.is_keyed:
-        select = 1 + table.charstrings.count if cff[table.select] == 0 else 5 + 3 * fonts.u16(cff, table.select + 1)
-        found += [("FDSelect", (table.select, table.select + select))] * 2
-        found += [("FDArray", (table.font_dicts.start, table.font_dicts.end))] * 2
-    found += [("offsets of charstrings", (table.charstrings.start, table.charstrings.base))]
-    # (as often as all the others together)
-    found += [(name, place) for name, place in charstrings[::max(1, len(charstrings) // len(found))]]
-    return [(name, (start + first, start + last)) for name, (first, last) in found if first < last]
+Copy = collections.namedtuple("Copy", "number kind path source index glyphs what data file")
 
 
-def changed_bytes(rng, copy, first, last):
-    places = [rng.randrange(first, last) for _ in range(rng.randint(1, 3))]
-    for place in places:
-        copy[place] ^= 1 << rng.randrange(8) if rng.random() < 0.5 else rng.randint(1, 255)
-    return f"bytes {places} are {[copy[it] for it in places]}"
-
-
-def changed_word(rng, copy, first, last):
-    size = rng.choice((2, 4))
-    place = rng.randrange(first, max(first + 1, last - size + 1))
-    value = rng.choice(WORDS) if rng.random() < 0.7 else rng.randrange(256 ** size)
-    size = min(size, len(copy) - place)
-    copy[place:place + size] = (value % 256 ** size).to_bytes(size, "big")
-    return f"word {place} is {value}"
-
-
-def changed_stretch(rng, copy, first, last):
-    length = min(rng.randint(2, 40), last - first)
-    place = rng.randrange(first, last - length + 1)
-    source = rng.randrange(len(copy) - length)
-    made = rng.choice((bytes(length), b"\xff" * length, bytes(copy[source:source + length]), rng.randbytes(length)))
-    copy[place:place + length] = made
-    return f"{length} bytes at {place} are {made.hex()}"
-
-
-def moved(rng, copy, first, last):
-    """Some bytes of a place are cut out, or stand twice; the last ones of the place are made or lost for it."""
-    length = min(rng.randint(1, 12), (last - first + 1) // 2)
-    place = rng.randrange(first, last - length + 1)
-    if rng.random() < 0.5:
-        copy[first:last] = copy[first:place] + copy[place + length:last] + bytes(length)
-        return f"{length} bytes at {place} are cut out of {first} to {last}"
-    copy[first:last] = (copy[first:place + length] + copy[place:last])[:last - first]
-    return f"{length} bytes at {place} stand twice in {first} to {last}"
-
-
-def record_moved(rng, copy):
-    """A record of the directory is cut out, or stands twice."""
-    count = fonts.u16(copy, 4)
-    at = 12 + 16 * rng.randrange(count)
-    if rng.random() < 0.5:
-        copy[at:12 + 16 * count] = copy[at + 16:12 + 16 * count] + bytes(16)
-        copy[4:6] = (count - 1).to_bytes(2, "big")
-        return f"the record at {at} is cut out"
-    to = 12 + 16 * rng.randrange(count)
-    copy[to:to + 16] = copy[at:at + 16]
-    return f"the record at {to} is that at {at}"
-
-
-KINDS = (changed_bytes, changed_bytes, changed_word, changed_stretch, moved)
-
-
-def aimed_damage(rng, data, places):
-    """A damaged copy of a font with a CFF table, and what was done to it."""
-    draw = rng.random()
-    if draw < 0.03:
-        length = rng.randrange(len(data))
-        return data[:length], f"cut to {length} bytes"
-    copy = bytearray(data)
-    if draw < 0.06:
-        return bytes(copy), record_moved(rng, copy)
-    if draw < 0.12:
-        first, last, name = 0, len(data), "anywhere"
-    elif draw < 0.16:
-        first, last, name = 0, 12 + 16 * len(directory(data)), "directory"
-    else:
-        name = rng.choice(sorted({it for it, _ in places}))
-        first, last = rng.choice([place for it, place in places if it == name])
-    done = [rng.choice(KINDS)(rng, copy, first, last) for _ in range(rng.choice((1, 1, 1, 2)))]
-    return bytes(copy), f"{name}: {', '.join(done)}"
-
-
-def damage(rng, data):
-    """A damaged copy of any font, and what was done to it."""
-    kind = rng.randrange(4)
-    if kind == 0:
-        length = rng.randrange(len(data))
-        return data[:length], f"cut to {length} bytes"
-    copy = bytearray(data)
-    tables = directory(data)
-    if kind == 1:
-        places = [rng.randrange(len(data)) for _ in range(rng.randint(1, 8))]
-    elif kind == 2:
-        places = [rng.randrange(12 + 16 * len(tables)) for _ in range(rng.randint(1, 3))]
-    else:
-        tag = rng.choice([tag for tag in sorted(tables) if tag in SMALL])
-        start, length = tables[tag]
-        places = [start + rng.randrange(min(length, SMALL[tag])) for _ in range(rng.randint(1, 3))]
-    done = []
-    for place in places:
-        copy[place] ^= 1 << rng.randrange(8) if rng.random() < 0.5 else rng.randint(1, 255)
-        done.append(f"byte {place} is {copy[place]}")
-    return bytes(copy), ", ".join(done)
+def lines_of(program, tasks, room):
+    """The lines of a driver for some tasks, and why there are fewer where it has died (`died`) or not ended (`no end`)."""
+    name = os.path.join(room, "list")
+    with open(name, "w") as file:
+        file.write("".join(f"{task}\n" for task in tasks))
+    # (AddressSanitizer takes more addresses than there are)
+    limit = "unlimited" if program == LIBRARY else "4000000"
+    words = ["sh", "-c", f'ulimit -v {limit}; exec "$@"', "", program, "--list", name]
+    try:
+        said = subprocess.run(words, stdout=subprocess.PIPE, stderr=subprocess.DEVNULL, timeout=FOR_ALL if len(tasks) > 1 else AT_MOST).stdout
+        return said.decode().splitlines(), "died"
+    except subprocess.TimeoutExpired as ended:
+        return (ended.stdout or b"").decode().splitlines(), "no end"
 
 
 def run_list(program, tasks, room):
-    """A line for each task. A task at which the driver dies gives `died`, one without an end `no end`."""
+    """A line for each task. Where the driver stops at one, this one is given to it once more by itself."""
     lines = []
     while len(lines) < len(tasks):
-        name = os.path.join(room, "list")
-        with open(name, "w") as file:
-            file.write("".join(f"{task}\n" for task in tasks[len(lines):]))
-        how = "died"
-        try:
-            words = ["sh", "-c", 'ulimit -v 4000000; exec "$@"', "", program, "--list", name]
-            said = subprocess.run(words, stdout=subprocess.PIPE, stderr=subprocess.DEVNULL, timeout=AT_MOST).stdout
-        except subprocess.TimeoutExpired as ended:
-            said, how = ended.stdout or b"", "no end"
-        lines += said.decode().splitlines()
+        lines += lines_of(program, tasks[len(lines):], room)[0]
         if len(lines) < len(tasks):
-            lines.append(how)
+            said, how = lines_of(program, [tasks[len(lines)]], room)
+            lines.append(said[0] if said else how)
     return lines
 
 
@@ -169,24 +77,67 @@ def without_times(line):
     return f"ok {words[3]} {words[4]}" if words[0] == "ok" else line
 
 
-def numbers_of(glyphs):
-    return [0, *map(int, glyphs.split(","))]
+def kept(copy):
+    return [0, *map(int, copy.glyphs.split(","))]
 
 
-def make_copies(rng, sources, numbers, room, is_aimed):
-    """Damaged copies as (number, name, path of the source, what was done, glyphs, bytes)."""
-    made = []
-    for number in numbers:
-        path = list(sources)[number % len(sources)]
+def task(copy, file):
+    return f"{file} {copy.index} {copy.glyphs} 1"
+
+
+# ---- what makes the copies: each answers kind, path, source, index, glyphs, what was done, and the bytes
+
+def by_bytes(sources, is_aimed):
+    """Copies of fonts whose bytes are changed."""
+    paths = list(sources)
+
+    def make(rng, number):
+        path = paths[number % len(paths)]
         data = sources[path]
         glyphs = ",".join(str(rng.randrange(glyph_count(path, 0))) for _ in range(20))
-        copy, what = aimed_damage(rng, data, regions(data, numbers_of(glyphs))) if is_aimed else damage(rng, data)
+        places = copies.regions(data, [0, *map(int, glyphs.split(","))]) if is_aimed else []
+        done, what = copies.aimed_damage(rng, data, places) if is_aimed else copies.damage(rng, data)
+        return "", path, data, 0, glyphs, what, done
+    return make
+
+
+def by_kinds(found):
+    """Copies of fonts of all kinds that stay plausible."""
+    import plausible
+
+    faces, kinds = [], {}
+    for kind, path in found:
+        with open(path, "rb") as file:
+            data = file.read()
+        count = fonts.u32(data, 8) if data[:4] == b"ttcf" else 1
+        faces.append([plausible.Face(path, data, index) for index in range(count)])
+        kinds[path] = kind
+    others = [face for lot in faces for face in lot]
+
+    def make(rng, number):
+        face = rng.choice(faces[number % len(faces)])
+        glyphs = [rng.randrange(face.glyphs) for _ in range(rng.choice((1, 3, 10, 20, 20)))]
+        if rng.random() < 0.02:
+            glyphs.append(face.glyphs + rng.choice((0, 1, 100)))
+        index = rng.randrange(4) if rng.random() < 0.02 else face.index
+        data, what = plausible.damaged(rng, face, glyphs, others)
+        return kinds[face.name], face.name, face.data, index, ",".join(map(str, glyphs)), what, data
+    return make
+
+
+def written(make, rng, numbers, room):
+    """Damaged copies, each in a file."""
+    made = []
+    for number in numbers:
+        *before, data = make(rng, number)
         name = os.path.join(room, f"{number}.font")
         with open(name, "wb") as file:
-            file.write(copy)
-        made.append((number, name, path, what, glyphs, copy))
+            file.write(data)
+        made.append(Copy(number, *before, data, name))
     return made
 
+
+# ---- what they are answered
 
 def names_of(found):
     return "; ".join(sorted({reason for reason, _ in found}))
@@ -197,23 +148,19 @@ def answers_of(drivers, tasks, room):
     return list(zip(*([without_times(line) for line in run_list(program, tasks, room)] for program in drivers.values())))
 
 
-def reasons_of(drivers, sources, differing, room):
+def reasons_of(drivers, differing, room):
     """Why the answers on some copies differ: the intended differences that stand in the copy and not in its source, where
     the answers agree when what can be mended of them is mended, or one is left that can't be."""
-    kept = [numbers_of(glyphs) for _, _, _, _, glyphs, _ in differing]
-    before = [explain.reasons(sources[path], 0, it) for (_, _, path, _, _, _), it in zip(differing, kept)]
-    mended = [explain.mended(copy, it) for (_, _, _, _, _, copy), it in zip(differing, kept)]
-    tasks = []
-    for (_, name, _, _, glyphs, _), copy in zip(differing, mended):
-        with open(f"{name}.mended", "wb") as file:
-            file.write(copy)
-        tasks.append(f"{name}.mended 0 {glyphs} 1")
+    mended, tasks = [explain.mended(it.data, kept(it), it.index) for it in differing], []
+    for copy, data in zip(differing, mended):
+        with open(f"{copy.file}.mended", "wb") as file:
+            file.write(data)
+        tasks.append(task(copy, f"{copy.file}.mended"))
     found = []
-    for (*_, copy), it, old, new, answers in zip(differing, kept, before, mended, answers_of(drivers, tasks, room)):
-        stands = explain.reasons(copy, 0, it) - old
-        left = explain.reasons(new, 0, it) - old
-        is_laid = stands and (len(set(answers)) == 1 or left)
-        found.append(names_of(stands) if is_laid else "not explained")
+    for copy, data, answers in zip(differing, mended, answers_of(drivers, tasks, room)):
+        before, stands, left = (explain.reasons(it, copy.index, kept(copy)) for it in (copy.source, copy.data, data))
+        is_laid = stands - before and (len(set(answers)) == 1 or left - before)
+        found.append(names_of(stands - before) if is_laid else "not explained")
     return found
 
 
@@ -223,50 +170,133 @@ def kind_of(answers):
     return ("ok", "ok, other bytes") if len(set(answers)) > 1 and set(key) == {"ok"} else key
 
 
-def judged(drivers, sources, numbers, seed, is_aimed):
-    """The kind of each copy of some numbers, the number, the bytes where the answers differ, and what was done to it."""
+def judged(drivers, make, numbers, seed):
+    """The answers on each copy of some numbers with the reason where they differ, the copy's kind, its number, its bytes
+    where they differ, and what was done to it."""
     rng = random.Random(f"{seed} {numbers[0]}")
-    with tempfile.TemporaryDirectory(prefix="compare-") as room:
-        made = make_copies(rng, sources, numbers, room, is_aimed)
-        said = answers_of(drivers, [f"{name} 0 {glyphs} 1" for _, name, _, _, glyphs, _ in made], room)
+    with tempfile.TemporaryDirectory(prefix="compare-", dir=ROOM) as room:
+        made = written(make, rng, numbers, room)
+        said = answers_of(drivers, [task(it, it.file) for it in made], room)
         differing = [it for it, answers in zip(made, said) if len(set(answers)) > 1]
-        reasons = dict(zip((it[0] for it in differing), reasons_of(drivers, sources, differing, room)))
+        reasons = dict(zip((it.number for it in differing), reasons_of(drivers, differing, room)))
     found = []
-    for (number, _, path, what, glyphs, copy), answers in zip(made, said):
-        example = f"{number}.font: {os.path.basename(path)}, {what}; glyphs {glyphs}<br>"
-        found.append(((*kind_of(answers), reasons.get(number, "")), number, copy if number in reasons else b"", example))
+    for copy, answers in zip(made, said):
+        reason = reasons.get(copy.number, "")
+        example = f"{copy.number}.font: {os.path.basename(copy.path)} {copy.index}, {copy.what}; glyphs {copy.glyphs}<br>"
+        found.append(((*kind_of(answers), reason), copy.kind, copy.number, copy.data if reason else b"", example))
     return found
 
 
-def refusals(drivers, paths, copies, kept, seed=20240607, jobs=1, is_aimed=False):
-    """How often each pair of answers came, with three examples where they differ. These copies are kept in a folder, and
-    all that aren't explained."""
-    sources = {}
-    for path in paths:
-        with open(path, "rb") as file:
-            sources[path] = file.read()
-    os.makedirs(kept, exist_ok=True)
-    pairs = {}
-    lots = [range(first, min(copies, first + AT_ONCE)) for first in range(0, copies, AT_ONCE)]
+def counted(drivers, make, numbers, where, seed, jobs, at_once=AT_ONCE):
+    """How often each pair of answers came, with three examples where they differ, and how often in each kind of font. These
+    copies are written to a folder, and all that aren't explained."""
+    os.makedirs(where, exist_ok=True)
+    pairs, kinds = {}, {}
+    lots = [range(first, min(numbers[-1] + 1, first + at_once)) for first in range(numbers[0], numbers[-1] + 1, at_once)]
     with ThreadPoolExecutor(jobs) as pool:
-        for lot, found in zip(lots, pool.map(lambda it: judged(drivers, sources, it, seed, is_aimed), lots)):
-            for key, number, copy, example in found:
+        for lot, found in zip(lots, pool.map(lambda it: judged(drivers, make, it, seed), lots)):
+            for key, kind, number, data, example in found:
                 seen = pairs.setdefault(key, [0, ""])
                 seen[0] += 1
                 if key[-1] and (seen[0] <= 3 or key[-1] == "not explained"):
                     seen[1] += example
-                    with open(os.path.join(kept, f"{number}.font"), "wb") as file:
-                        file.write(copy)
+                    with open(os.path.join(where, f"{number}.font"), "wb") as file:
+                        file.write(data)
+                of = kinds.setdefault(kind, collections.Counter())
+                of["not explained" if key[-1] == "not explained" else "different" if key[-1] else "made" if key[0] == "ok" else "refused"] += 1
             print(f"{lot[-1] + 1} damaged copies", file=sys.stderr, flush=True)
-    return [[count, *key, example] for key, (count, example) in sorted(pairs.items(), key=lambda it: -it[1][0])]
+    return [[count, *key, example] for key, (count, example) in sorted(pairs.items(), key=lambda it: -it[1][0])], kinds
+
+
+def refusals(drivers, paths, number, where, seed=20240607, jobs=1, is_aimed=False):
+    """How often each pair of answers came on so many copies of fonts whose bytes are changed."""
+    if not number:
+        return []
+    sources = {}
+    for path in paths:
+        with open(path, "rb") as file:
+            sources[path] = file.read()
+    return counted(drivers, by_bytes(sources, is_aimed), range(number), where, seed, jobs)[0]
+
+
+def sentence(number, different, unexplained):
+    return f"Of {number} copies the answers differ on {different}, of which {unexplained} are not explained."
 
 
 def summed(rows):
     """The sum of the rows in a sentence, and how many copies aren't explained."""
     differing = [row for row in rows if row[3]]
     unexplained = sum(row[0] for row in differing if row[3] == "not explained")
-    copies, different = sum(row[0] for row in rows), sum(row[0] for row in differing)
-    return f"Of {copies} copies the answers differ on {different}, of which {unexplained} are not explained.", unexplained
+    return sentence(sum(row[0] for row in rows), sum(row[0] for row in differing), unexplained), unexplained
+
+
+def print_rows(rows):
+    print("| Copies | Original | Port | Why they differ | Examples |\n|---|---|---|---|---|")
+    for row in rows:
+        print("|", " | ".join(map(str, row)), "|")
+
+
+# ---- pieces
+
+def pieces_there(name, seed):
+    """The pieces of a seed that stand in a file, by number."""
+    if not os.path.exists(name):
+        return {}
+    with open(name) as file:
+        return {it["piece"]: it for it in map(json.loads, file) if it["seed"] == seed}
+
+
+def make_piece(name, drivers, make, piece, number, given, count):
+    """Makes a piece, and writes its line."""
+    before = datetime.datetime.now()
+    where = os.path.join(BUILD, "damaged", f"{given.seed} {piece}")
+    size = PIECE_OF_LIBRARY if given.library else PIECE
+    rows, kinds = counted(drivers, make, range(piece * size, piece * size + number), where, f"{given.seed} {piece}", given.jobs, 500)
+    commit, changed = build.commit()
+    line = {"seed": given.seed, "piece": piece, "commit": commit + (" with changes" if changed else ""), "date": str(before.date()),
+            "seconds": round((datetime.datetime.now() - before).total_seconds()), "copies": number, "fonts": count,
+            "kinds": {kind: dict(sorted(of.items())) for kind, of in sorted(kinds.items())},
+            "different": [[*row[1:4], row[0]] for row in rows if row[3]]}
+    with open(name, "a") as file:
+        file.write(json.dumps(line) + "\n")
+    for number, *answers, example in rows:
+        if answers[-1] == "not explained":
+            print(f"{number} of piece {piece}: {', '.join(answers)}; in {where}\n{example[:1000]}", flush=True)
+
+
+def tell(lines):
+    """Prints what the pieces say together, and answers how many copies aren't explained."""
+    kinds, reasons = {}, collections.Counter()
+    print("commit", *sorted({it["commit"] for it in lines}), "\n")
+    for line in lines:
+        for kind, of in line["kinds"].items():
+            kinds.setdefault(kind, collections.Counter()).update(of)
+        for *_, reason, number in line["different"]:
+            reasons[reason] += number
+    print("| Kind | Copies | The same font | The same refusal | Different, as listed | Not explained |\n|---|---|---|---|---|---|")
+    for kind, of in sorted(kinds.items()):
+        print(f"| {kind} | {sum(of.values())} | " + " | ".join(str(of[it]) for it in ("made", "refused", "different", "not explained")) + " |")
+    print("\n| Copies | Why the answers differ |\n|---|---|")
+    for reason, number in reasons.most_common():
+        print(f"| {number} | {reason} |")
+    commits, fonts_of = sorted({it["commit"] for it in lines}), sorted({it["fonts"] for it in lines})
+    print(f"\n{sentence(sum(it['copies'] for it in lines), sum(reasons.values()), reasons['not explained'])} Of", *fonts_of,
+          f"fonts; seed {lines[0]['seed']}, {len(lines)} pieces in {sum(it['seconds'] for it in lines)} seconds; commit", *commits)
+    return reasons["not explained"]
+
+
+def in_pieces(drivers, make, given, count):
+    """Makes the pieces that aren't there, and answers how many copies aren't explained."""
+    size = PIECE_OF_LIBRARY if given.library else PIECE
+    wanted = [(k, min(size, given.copies - k * size)) for k in range((given.copies + size - 1) // size)]
+    with tempfile.NamedTemporaryFile(dir=BUILD) as scratch:
+        name = given.pieces or scratch.name
+        for piece, number in wanted[::-1] if given.backwards else wanted:
+            there = pieces_there(name, given.seed).get(piece)
+            if not there or there["copies"] < number:
+                make_piece(name, drivers, make, piece, number, given, count)
+        there = pieces_there(name, given.seed)
+    return tell([there[piece] for piece, _ in wanted])
 
 
 def main():
@@ -277,22 +307,36 @@ def main():
     words.add_argument("--jobs", type=int, default=2)
     words.add_argument("--only", default="")
     words.add_argument("--truetype", action="store_true")
+    words.add_argument("--library", action="store_true")
+    words.add_argument("--kinds", nargs="*", metavar="FOLDER")
+    words.add_argument("--pieces", metavar="FILE")
+    words.add_argument("--backwards", action="store_true")
+    words.add_argument("--tell", action="store_true")
     given = words.parse_args()
+    if given.tell:
+        there = pieces_there(given.pieces, given.seed)
+        sys.exit(1 if tell([there[piece] for piece in sorted(there)]) else 0)
+    import kinds
     import run  # (which takes `refusals` from here)
 
-    fonts.install(fonts.TOOLS + [it[0] for it in fonts.DAMAGED + fonts.DAMAGED_CFF + fonts.KEYED])
+    packages = kinds.PACKAGES if given.kinds is not None else [it[0] for it in fonts.DAMAGED + fonts.DAMAGED_CFF + fonts.KEYED]
+    fonts.install(fonts.TOOLS + packages)
     if not given.no_build:
-        run.build_all(False, False)
-    drivers = {"original": run.ORIGINAL, "port": run.PORT}
+        run.build_all(given.library, False)
+        if given.library:
+            build.library()
+            subprocess.run(["make", "-s"], cwd=os.path.join(build.HERE, "fuzz"), check=True)
+    drivers = {"original": run.ORIGINAL, "port": LIBRARY if given.library else run.PORT}
+    if given.kinds is not None:
+        found = [it for it in kinds.all_fonts(given.kinds) if given.only in it[1]]
+        sys.exit(1 if in_pieces(drivers, by_kinds(found), given, len(found)) else 0)
     if given.truetype:
         paths = [path for _, path in fonts.DAMAGED]
     else:
         paths = [path for _, path in fonts.DAMAGED_CFF] + [fonts.keyed_font(*it) for it in fonts.KEYED]
-    paths, kept = [it for it in paths if given.only in it], os.path.join(BUILD, "damaged")
-    rows = refusals(drivers, paths, given.copies, kept, given.seed, given.jobs, not given.truetype)
-    print("| Copies | Original | Port | Why they differ | Examples |\n|---|---|---|---|---|")
-    for row in rows:
-        print("|", " | ".join(map(str, row)), "|")
+    paths, where = [it for it in paths if given.only in it], os.path.join(BUILD, "damaged")
+    rows = refusals(drivers, paths, given.copies, where, given.seed, given.jobs, not given.truetype)
+    print_rows(rows)
     text, unexplained = summed(rows)
     print(f"\n{text}")
     sys.exit(1 if unexplained else 0)

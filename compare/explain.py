@@ -45,7 +45,7 @@ class Table:
         self.font_dicts = Index(cff, last(self.top, FDARRAY)[0]) if self.is_keyed else None
         self.select = last(self.top, FDSELECT)[0] if self.is_keyed else None
         self.privates = {}
-        for dict_number in {self.font_dict(glyph) for glyph in glyphs}:
+        for dict_number in {self.font_dict(glyph) for glyph in glyphs} - {None}:
             self.read_private(dict_number)
 
     def entries(self, dict_number):
@@ -69,12 +69,12 @@ class Table:
         self.privates[dict_number] = (start, start + length), entries, index
 
     def font_dict(self, glyph):
-        """The number of a glyph's font dict."""
+        """The number of a glyph's font dict, or None where it has none."""
         if not self.is_keyed:
             return 0
         at = self.select
         if self.cff[at] == 0:
-            return self.cff[at + 1 + glyph]
+            return self.cff[at + 1 + glyph] if at + 1 + glyph < len(self.cff) else None
         for k in range(u16(self.cff, at + 1)):
             if u16(self.cff, at + 3 + 3 * k) <= glyph < u16(self.cff, at + 6 + 3 * k):
                 return self.cff[at + 5 + 3 * k]
@@ -239,42 +239,51 @@ def note_name(found, name):
             found.add(("a string of name ends past 65535", at))
 
 
+def note_directory(found, data, index):
+    """Notes what stands in the directory."""
+    at = u32(data, 12 + 4 * index) if data[:4] == b"ttcf" else 0
+    tags = [data[r:r + 4] for r in range(at + 12, at + 12 + 16 * u16(data, at + 4), 16) if r + 16 <= len(data)]
+    if any(one >= two for one, two in zip(tags, tags[1:])):
+        # (the original searches them by halves, the port takes the first)
+        found.add(("the records don't ascend by tag", ""))
+    tables = directory(data, index)
+    if "hhea" in tables and tables["hhea"][1] != 36:
+        # (the original reads a short one at 0 and patches a long one at its end)
+        found.add(("hhea isn't 36 bytes", ""))
+
+
 def reasons(data, index, glyphs):
     """The intended differences that stand in a font, each with what it is seen by."""
+    def body(tag):
+        start, length = directory(data, index)[tag]
+        return data[start:start + length]
+
     found = set()
-    try:
-        at = u32(data, 12 + 4 * index) if data[:4] == b"ttcf" else 0
-        tags = [data[r:r + 4] for r in range(at + 12, at + 12 + 16 * u16(data, at + 4), 16) if r + 16 <= len(data)]
-        if tags != sorted(tags):
-            # (the original searches them by halves, the port takes the first)
-            found.add(("the records don't ascend by tag", ""))
-        tables = directory(data, index)
-        if "hhea" in tables and tables["hhea"][1] != 36:
-            # (the original reads a short one at 0 and patches a long one at its end)
-            found.add(("hhea isn't 36 bytes", ""))
-        for tag, note in (("post", note_post), ("name", note_name)):
-            if tag in tables:
-                note(found, data[tables[tag][0]:sum(tables[tag])])
-        if "CFF " in tables and "glyf" not in tables:
-            start, length = tables["CFF "]
-            note_table(found, data[start:start + length], glyphs)
-    except (struct.error, LookupError, ValueError, TypeError, RecursionError):
-        pass
+    notes = [lambda: note_directory(found, data, index), lambda: note_post(found, body("post")), lambda: note_name(found, body("name")),
+             lambda: "glyf" in directory(data, index) or note_table(found, body("CFF "), glyphs)]
+    for note in notes:
+        try:
+            note()
+        except (struct.error, LookupError, ValueError, TypeError, RecursionError):
+            # (where a part can't be read, what is left of it says nothing)
+            pass
     return found
 
 
 # ---- mending
 
-def mended_directory(data):
-    """The same font with its records in the order of their tags, each tag once, and 36 bytes of `hhea`."""
-    count, records = u16(data, 4), {}
-    for at in range(12, 12 + 16 * count, 16):
+def mended_directory(data, index):
+    """The same font with the records of a face in the order of their tags, each tag once, and 36 bytes of `hhea`."""
+    start = u32(data, 12 + 4 * index) if data[:4] == b"ttcf" else 0
+    count, records = u16(data, start + 4), {}
+    first, last = start + 12, start + 12 + 16 * count
+    for at in range(first, last, 16):
         record = data[at:at + 16]
         if record[:4] == b"hhea":
             record = record[:12] + (36).to_bytes(4, "big")
         records.setdefault(record[:4], record)
     front = b"".join(records[tag] for tag in sorted(records))
-    return data[:4] + len(records).to_bytes(2, "big") + data[6:12] + front + bytes(16 * count - len(front)) + data[12 + 16 * count:]
+    return data[:start + 4] + len(records).to_bytes(2, "big") + data[start + 6:first] + front + bytes(16 * count - len(front)) + data[last:]
 
 
 def mend_offsets(copy, start, index):
@@ -288,15 +297,15 @@ def mend_offsets(copy, start, index):
         copy[at:at + size] = least.to_bytes(size, "big")
 
 
-def mended(data, glyphs):
+def mended(data, glyphs, index=0):
     """The same font with what can be mended of the differences: its directory, `hhea`, and the offsets of subroutines."""
     copy = bytearray(data)
     try:
-        copy = bytearray(mended_directory(data))
-        start, length = directory(copy)["CFF "]
+        copy = bytearray(mended_directory(data, index))
+        start, length = directory(copy, index)["CFF "]
         table = Table(bytes(copy[start:start + length]), glyphs)
-        for index in [table.subroutines] + [local for _, _, local in table.privates.values() if local]:
-            mend_offsets(copy, start, index)
+        for each in [table.subroutines] + [local for _, _, local in table.privates.values() if local]:
+            mend_offsets(copy, start, each)
     except (struct.error, LookupError, ValueError, TypeError):
         pass
     return bytes(copy)

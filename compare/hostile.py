@@ -1,5 +1,6 @@
 #!/usr/bin/python3
 """The largest work from a small file: hostile.py [--no-build] [--instructions]
+                                        hostile.py --families [--no-build] [--bytes N ..] [--only WORD]
 
 It makes fonts that ask for as much as they can, subsets them by subset_bench, and prints what a kept glyph takes: the
 least time of several calls, and the most bytes that a call has asked of the allocator and not given back, its output
@@ -11,73 +12,30 @@ among them (counted by peak.c). The fonts:
     crowd      TrueType: so many glyphs that share one outline, which is put together of all of them; glyph 0 is asked for
 
 --instructions counts the instructions of a call, too (valgrind).
+
+--families takes more fonts (families.py) and the program subset_font, without a bound on the bytes of the new font and with
+each of --bytes (1,000,000 and 64,000,000), and prints the time of the whole process on the processor and what it has held at most. The status
+is 1 where that is more than the source, three times the bound and 256 bytes for each asked glyph; the program's own words
+are some 20,000 bytes of that. The last column is the time divided by the bytes of the source, those of the bound (or of the
+output) and the tokens that all asked glyphs may run.
 """
 import argparse
 import os
 import re
+import resource
 import subprocess
 import sys
 import tempfile
 
 import build
-import made
+import families
 from build import BENCH, BUILD
+from families import TOKENS, calls_font, crowd_font, masks_font, numbers_font
 
 COUNTER = os.path.join(BUILD, "peak.so")
-TOKENS = 1000000
-
-
-def call(k):
-    """A call of local subroutine k, of fewer than 1240."""
-    return made.number(k - 107) + b"\x0a"
-
-
-def repeated(body, tokens, wanted):
-    """Local subroutines, each of which calls the one before it 20 times, the first being this body of so many tokens; and
-    a charstring that calls them so that nearly as many tokens are run as are wanted, and the count of these."""
-    bodies, counts = [body], [tokens]
-    while 20 * (counts[-1] + 2) < wanted:
-        bodies.append(call(len(bodies) - 1) * 20)
-        counts.append(20 * (counts[-1] + 2))
-    charstring, left = b"", wanted
-    for k in reversed(range(len(bodies))):
-        times = left // (counts[k] + 2)
-        charstring += call(k) * times
-        left -= times * (counts[k] + 2)
-    return bodies, charstring, wanted - left
-
-
-def crowded(subroutines, charstring, glyphs):
-    """A SID-keyed font in which each of these glyphs calls a subroutine with this charstring."""
-    subroutines = subroutines + [charstring]
-    return made.cff_font(made.cff([call(len(subroutines) - 1) + b"\x0e"] * glyphs, local=subroutines))
-
-
-def calls_font(glyphs):
-    bodies, charstring, _ = repeated(b"", 0, TOKENS - 3)
-    return crowded(bodies, charstring, glyphs)
-
-
-def numbers_font(glyphs):
-    body = b"\xff\1\2\3\4" * 48 + b"\5"
-    bodies, charstring, _ = repeated(body, 49, TOKENS - 3)
-    return crowded(bodies, charstring, glyphs)
-
-
-def masks_font(glyphs, length):
-    """Stems come in lots of 24, so that a mask has three bytes for each lot."""
-    stems = b"\x8b" * 48 + b"\1"
-    lots = (length + 2) // 3
-    bodies, masks, _ = repeated(b"\x13" + b"\xaa" * (3 * lots), 1, TOKENS - 3 - lots * 51)
-    bodies.append(stems)
-    return crowded(bodies, call(len(bodies) - 1) * lots + masks, glyphs)
-
-
-def crowd_font(glyphs):
-    """Each even number is a glyph of all the bytes of `glyf`; the entries of the odd ones descend."""
-    outline = made.composite([2 * k for k in range(glyphs)])
-    loca = made.u32s(*[0, len(outline)] * glyphs)
-    return made.font([("glyf", outline), ("head", made.HEAD), ("loca", loca)])
+BOUNDS = (1000000, 64000000)
+# A run that takes more seconds isn't repeated, and one without an end is stopped.
+ONCE, AT_MOST = 0.1, 600
 
 
 def measured(path, glyphs, room):
@@ -115,14 +73,80 @@ def row(name, font, kept, drawn, room, counts):
     print("|", " | ".join(map(str, cells)), "|", flush=True)
 
 
+# ---- families
+
+def seen(words, env):
+    """The seconds of a run on the processor, and what it answers: nothing, or why it fails."""
+    def spent():
+        used = resource.getrusage(resource.RUSAGE_CHILDREN)
+        return used.ru_utime + used.ru_stime
+
+    before = spent()
+    try:
+        ran = subprocess.run(words, stdout=subprocess.DEVNULL, stderr=subprocess.PIPE, text=True, env=env, timeout=AT_MOST)
+    except subprocess.TimeoutExpired:
+        return AT_MOST, "no end"
+    took = spent() - before
+    return took, "" if ran.returncode == 0 else (ran.stderr.splitlines() or [f"died with {ran.returncode}"])[0]
+
+
+def family_row(name, font, asked, bound, room):
+    """A line of the table, and whether the run holds no more than it should."""
+    path, out, gids, peak = (os.path.join(room, it) for it in ("font", "out", "gids", "peak"))
+    with open(path, "wb") as file:
+        file.write(font)
+    with open(gids, "w") as file:
+        file.write(f"0-{asked - 1}" if asked > 1 else "0")
+    limits = f"{TOKENS},64" + (f",{bound}" if bound else "")
+    words = [build.FONT, "--quiet", "--limits", limits, "--gids-file", gids, path, out, "0"]
+    env = {"PATH": os.environ["PATH"], "LD_PRELOAD": COUNTER, "PEAK": peak}
+    took, answer = seen(words, env)
+    for _ in range(2 if took < ONCE else 0):
+        took = min(took, seen(words, env)[0])
+    length = 0 if answer else os.path.getsize(out)
+    with open(peak) as file:
+        held = int(file.read())
+    may = len(font) + 3 * bound + 256 * asked
+    work = len(font) + (bound or length) + asked * TOKENS
+    cells = [name, len(font), asked, bound or "none", answer or f"a font of {length} bytes", f"{took * 1e3:.1f}", held,
+             f"{held / may:.2f}" if bound else "", f"{took * 1e9 / work:.3f}"]
+    print("|", " | ".join(map(str, cells)), "|", flush=True)
+    return not bound or held <= may, took * 1e9 / work
+
+
+def all_families(bounds, only):
+    """Prints the table, and answers whether each run under a bound holds no more than it should."""
+    head = ["Family", "Bytes of the file", "Glyphs", "Bound", "Answer", "Process, ms", "Held, bytes", "Part of what it may hold",
+            "ns of each byte and token"]
+    print("|", " | ".join(head), "|\n|" + "---|" * len(head), flush=True)
+    sound, slowest = [], 0
+    with tempfile.TemporaryDirectory(prefix="hostile-") as room:
+        for name, large, many, small, few in families.ALL:
+            if only not in name:
+                continue
+            font = large()
+            for bound in (0, *bounds):
+                made, asked = (font, many) if bound or not small else (small(), few)
+                holds, constant = family_row(name, made, asked, bound, room)
+                sound.append(holds)
+                slowest = max(slowest, constant if bound else 0)
+    print(f"\n{len(sound)} runs, of which {sound.count(False)} hold more than they may; at most {slowest:.2f} ns under a bound")
+    return all(sound)
+
+
 def main():
     words = argparse.ArgumentParser(usage=__doc__)
     words.add_argument("--no-build", action="store_true")
     words.add_argument("--instructions", action="store_true")
+    words.add_argument("--families", action="store_true")
+    words.add_argument("--bytes", type=int, nargs="*", default=BOUNDS)
+    words.add_argument("--only", default="")
     given = words.parse_args()
     if not given.no_build:
         build.preload("peak.c", to="peak.so")
-        build.rt("subset_bench")
+        build.rt("subset_font" if given.families else "subset_bench")
+    if given.families:
+        sys.exit(0 if all_families(given.bytes, given.only) else 1)
     head = ["Font", "Bytes of the file", "Glyphs", "Call, ms", "A glyph, µs", "Bytes of the output", "Held a glyph, bytes"]
     head += ["Instructions a glyph"] if given.instructions else []
     print("|", " | ".join(head), "|\n|" + "---|" * len(head))

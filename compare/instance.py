@@ -70,6 +70,10 @@ def port_lines(program, path, glyphs, place):
         if name == "glyph":
             glyph = int(words[0])
             answers[glyph] = {}
+        elif name == "instance":
+            continue
+        elif name == "instance":
+            continue
         elif name == "error":
             answers[glyph]["error"] = " ".join(words)
         else:
@@ -513,6 +517,7 @@ def main():
     words = parser.parse_args()
     if not words.no_install:
         fonts.install(PACKAGES)
+    build.program(words.program)
     paths = font_paths(words.folders, words.only)
     with concurrent.futures.ProcessPoolExecutor(words.jobs) as pool:
         reports = list(pool.map(compare_font, [words] * len(paths), paths))

@@ -1,5 +1,6 @@
 """Small fonts, made from their parts."""
 import struct
+from itertools import accumulate
 
 HEAD = bytes(51) + b"\1\0\0"  # (the long format of `loca`)
 
@@ -23,7 +24,7 @@ def font(tables, kind=b"\0\1\0\0"):
 
 def truetype(outlines, further=()):
     """A TrueType font of these outlines, with further tables."""
-    ends = [sum(map(len, outlines[:k])) for k in range(len(outlines) + 1)]
+    ends = [0, *accumulate(map(len, outlines))]
     tables = [("glyf", b"".join(outlines)), ("head", HEAD), ("loca", u32s(*ends)), *further]
     return font(sorted(tables))
 
@@ -79,16 +80,17 @@ def private_dict(entries, subroutines):
     return entries + entry(SUBRS, length) + index(subroutines), length
 
 
-def cff(charstrings, top=b"", strings=(), subroutines=(), dicts=None, select=b"", entries=b"", local=()):
+def cff(charstrings, top=b"", strings=(), subroutines=(), dicts=None, select=b"", entries=b"", local=(), times=1):
     """A CFF table. `dicts` holds private entries and local subroutines of each font dict of a CID-keyed font, `select` is
-    its FDSelect; a SID-keyed font has the one private dict of `entries` and `local`."""
+    its FDSelect; a SID-keyed font has the one private dict of `entries` and `local`. So many `times` a font dict leads to
+    each of the private dicts."""
     keyed = dicts is not None
     privates = [private_dict(*it) for it in (dicts if keyed else [(entries, local)])]
 
     def laid(places):
         start = dict(zip(("privates", "select", "array", "charstrings"), places))
         ends = [start["privates"] + sum(len(it[0]) for it in privates[:k]) for k in range(len(privates))]
-        fonts = [entry(PRIVATE, length, at) for (_, length), at in zip(privates, ends)]
+        fonts = [entry(PRIVATE, length, at) for (_, length), at in zip(privates, ends)] * times
         keys = entry(ROS, 0, 0, 0) if keyed else b""
         keys += top + entry(CHARSTRINGS, start["charstrings"])
         keys += entry(FDARRAY, start["array"]) + entry(FDSELECT, start["select"]) if keyed else fonts[0]

@@ -374,10 +374,11 @@ def sizes(program):
     from fontTools.ttLib import TTFont
 
     commit, _ = build.commit()
-    columns = [(), ("names",), ("glyph_names",), ("names", "glyph_names"), ("hinting",), tuple(WORDS)]
+    columns = [(), ("names",), ("hinting",), tuple(WORDS), ("glyph_names",)]
     print(f"Bytes of a subset with {len(TEXT)} Latin glyphs (`compare/options.py --sizes` at {commit}):\n")
-    print("| Font | All | No names | No glyph names | Neither | No hinting | None of the three |")
-    print("| --- | ---: | ---: | ---: | ---: | ---: | ---: |")
+    print("| Font | All | No names | No hinting | None of the three |")
+    print("| --- | ---: | ---: | ---: | ---: |")
+    glyph_names = {}
     with tempfile.TemporaryDirectory() as room:
         for name, path in TEXT_FACES:
             font = TTFont(path, lazy=True)
@@ -387,7 +388,9 @@ def sizes(program):
             if any(isinstance(it, str) for it in made):
                 print(f"FAILED {name}: {made}")
                 return False
-            print(f"| {name} | " + " | ".join(f"{len(it):,}" for it in made) + " |")
+            print(f"| {name} | " + " | ".join(f"{len(it):,}" for it in made[:-1]) + " |")
+            glyph_names[name] = len(made[0]) - len(made[-1])
+    print("\nBytes that are names of glyphs: " + ", ".join(f"{name} {it}" for name, it in glyph_names.items()))
     return True
 
 
@@ -403,6 +406,7 @@ def main():
     parser.add_argument("--same")
     given = parser.parse_args()
     folders = FOLDERS + given.fonts
+    build.program(given.bench if given.same else given.program)
     if given.sizes:
         good = sizes(given.program)
     elif given.same:

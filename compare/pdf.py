@@ -304,7 +304,9 @@ def all_faces(count, keep, bare):
         print(f"{kind:9} {name}: {len(asked)} glyphs: {said}", flush=True)
     print(f"{alike + different + refused} faces, {glyphs} glyphs: {alike} drawn alike by three readers ({nameless} of them by "
           f"one reader without the glyphs' names alone), {different} not, {refused} refused")
-    return different == 0
+    if not alike + different:
+        print("nothing was compared")
+    return different == 0 and alike > 0
 
 
 def main():
@@ -317,6 +319,7 @@ def main():
     words.add_argument("--keep")
     words.add_argument("--bare", action="store_true")
     given = words.parse_args()
+    build.program(PROGRAM)
     if given.specimen:
         import specimen
         return specimen.draw(given.specimen)

@@ -36,6 +36,8 @@ CALLS = ("open", "size", "read", "write", "write1", "write2", "rename", "sync")
 NO_MEMORY = b"error out of memory\n"
 
 
+# Simple glyphs and a composite, which vary by one axis.
+VARIABLE = os.path.join(build.ROOT, "crates", "instance_parts", "data", "variable.ttf")
 BENCH, FONT, TESTS = build.BENCH, build.FONT, build.built("subset_rows", "subset_rows_tests")
 
 
@@ -116,16 +118,17 @@ def remove(room, name):
 
 # ---- the library
 
-def check_subset(name, path, glyphs, room):
-    """`subset` answers that memory ran out at each request, and nothing else changes. Where it is refused to give back a part
-    of a block, it answers as ever."""
-    words = [BENCH, path, "0", glyphs, "1", "out"]
+def check_subset(name, path, glyphs, room, settings=()):
+    """`subset`, or with coordinates `instance`, answers that memory ran out at each request, and nothing else changes. Where
+    it is refused to give back a part of a block, it answers as ever."""
+    words = [BENCH, path, "0", glyphs, "1", "out", *settings]
     base = run(words, room, WITHIN="clock")
     demand(base.status == 0 and base.out.startswith(b"ok "), f"subset of {name}", base)
     whole, count = take(room, "out"), 0
     for count, got in each_refusal(words, room, WITHIN="clock"):
         what, out = f"subset of {name}, request {count}", take(room, "out")
-        if got.is_less:
+        # (an instance may do without a room that it asks for ahead)
+        if got.is_less or (settings and got.out != NO_MEMORY):
             demand((got.status, got.out.split()[3:], out) == (0, base.out.split()[3:], whole), what, got)
         else:
             demand((got.status, got.out, got.err, out) == (0, NO_MEMORY, b"", None), what, got)
@@ -304,6 +307,10 @@ def check_library(cases, room):
         count = check_subset(name, put(room, "font", data), glyphs, room)
         print(f"subset, {name}: {count} requests refused")
         refused += count
+    with open(VARIABLE, "rb") as file:
+        count = check_subset("an instance", put(room, "font", file.read()), "1,2,3", room, ["wght=42598400"])
+    print(f"instance: {count} requests refused")
+    refused += count
     count = check_mapper(room)
     print(f"the calls of a mapper: {count} requests refused")
     print(f"without memory: {check_without_memory(room)} fonts are refused as ever, and the calls that take none answer")

@@ -67,7 +67,7 @@ def compared(program, path, index, folder):
 
 def main():
     """Compares each font."""
-    program = sys.argv[1] if len(sys.argv) > 1 else PROGRAM
+    program = build.program(sys.argv[1] if len(sys.argv) > 1 else PROGRAM)
     wrong = []
     with tempfile.TemporaryDirectory() as folder:
         for path, index in FONTS:

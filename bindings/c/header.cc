@@ -72,12 +72,18 @@ static void check_calls()
     subsetter_sizes sizes = {7, 7, 7};
     subsetter_made made = {out, 7, cids, 7, widths, 7};
     subsetter_options options = SUBSETTER_DEFAULT_OPTIONS;
-    check(options.size == sizeof options && sizeof options == 16, "the size of the options");
+    check(options.size == sizeof options && sizeof options == 20, "the size of the options");
     check(subsetter_subset(font, 55, 0, NULL, 0, out, 164, &length) == SUBSETTER_DONE && length == 164, "subset");
     check(subsetter_subset_with_limits(font, 55, 0, NULL, 0, 1, 1, out, 164, &length) == SUBSETTER_DONE, "limits");
     check(subsetter_subset_with_limits(font, 55, 0, NULL, 0, 1, 0, out, 164, &length) == SUBSETTER_NO_DEPTH, "no depth");
     check(subsetter_subset_with_options(font, 55, 0, NULL, 0, &options, out, 163, &length) == SUBSETTER_BUFFER_TOO_SMALL
         && length == 164, "options");
+    subsetter_options bounded = options;
+    bounded.bytes = 163;
+    check(subsetter_subset_with_options(font, 55, 0, NULL, 0, &bounded, out, 164, &length) == SUBSETTER_OVERFLOW_ERROR
+        && length == 0, "a bound on the bytes");
+    bounded.bytes = 164;
+    check(subsetter_subset_with_options(font, 55, 0, NULL, 0, &bounded, out, 164, &length) == SUBSETTER_DONE, "within it");
     check(subsetter_subset_with_options(font, 55, 0, NULL, 0, NULL, out, 164, &length) == SUBSETTER_DONE, "no options");
     check(subsetter_embed(font, 55, 0, NULL, 0, out, 164, cids, 1, widths, 1, &sizes) == SUBSETTER_MALFORMED_FONT
         && sizes.font == 0, "embed");
@@ -92,7 +98,7 @@ static void check_calls()
     check(made.font == NULL && made.font_size == 0, "freed");
     subsetter_free(&made);
     subsetter_free(NULL);
-    check(options.size == sizeof options && options.tokens == 0 && options.depth == 0 && options.drop == 0, "the default options");
+    check(options.size == sizeof options && options.tokens == 0 && options.depth == 0 && options.drop == 0 && options.bytes == 0, "the default options");
     options.drop = SUBSETTER_DROP_HINTING | SUBSETTER_DROP_NAMES | SUBSETTER_DROP_GLYPH_NAMES;
     check(options.drop == 7, "the bits");
     check(subsetter_make_subset(font, 55, 0, NULL, 0, &options, &made) == SUBSETTER_DONE, "all dropped");

@@ -114,13 +114,16 @@ typedef struct subsetter_options {
     uint32_t depth;
     /* The sum of some of SUBSETTER_DROP_HINTING, .._NAMES and .._GLYPH_NAMES. Another bit is status 10. */
     uint32_t drop;
+    /* The most bytes that the new font may have; 0 for no bound. Where it would have more: status 5, told before it is
+     * made. */
+    uint32_t bytes;
 } subsetter_options;
 
-#define SUBSETTER_DEFAULT_OPTIONS { sizeof(subsetter_options), 0, 0, 0 }
+#define SUBSETTER_DEFAULT_OPTIONS { sizeof(subsetter_options), 0, 0, 0, 0 }
 
 /* The exported calls take the options as the list of their 32-bit words (`options`, `option_count`): the size in bytes of
- * all of them, which is 4 * option_count, then tokens, depth and drop as far as they are given. No words: all defaults.
- * These two make that list of a struct. */
+ * all of them, which is 4 * option_count, then tokens, depth, drop and bytes as far as they are given. No words: all
+ * defaults. These two make that list of a struct. */
 static inline const uint32_t *subsetter_option_words(const subsetter_options *options)
 {
     return options == NULL ? NULL : &options->size;

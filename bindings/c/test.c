@@ -72,7 +72,7 @@ void __wrap_free(void *block)
 
 /* ---- rows */
 
-enum { MOST = 1024, WORDS = 12, BEHIND = 8, LINES = 4096 };
+enum { MOST = 1024, WORDS = 13, BEHIND = 8, LINES = 4096 };
 
 struct row {
     char *words[WORDS];
@@ -80,7 +80,7 @@ struct row {
     const uint16_t *glyphs, *cids;
     const uint32_t *widths;
     size_t font_size, size, glyph_count, cid_count, width_count;
-    uint32_t index, tokens, depth, drop, status;
+    uint32_t index, tokens, depth, drop, most, status;
     int embeds, limits, options;
 };
 
@@ -204,6 +204,8 @@ static void add_row(char **words)
     }
     if (row->options)
         row->drop = number(words[next++]);
+    if (strstr(words[0], "bounded") != NULL)
+        row->most = number(words[next++]);
     row->status = number(words[next++]);
     row->bytes = hex(words[next++], &row->size);
     if (row->embeds) {
@@ -221,7 +223,8 @@ static int is_one_of(const char *word, const char *const *words)
 
 static void read_line(char *line)
 {
-    static const char *const kinds[] = {"subset", "limits", "options", "embed", "embed_options", NULL};
+    static const char *const kinds[] = {"subset", "limits", "options", "bounded_options", "embed", "embed_options",
+        "embed_bounded_options", NULL};
     char *words[WORDS] = {0};
     int count = 0;
     for (char *word = strtok(line, " \n"); word != NULL && count < WORDS; word = strtok(NULL, " \n"))
@@ -310,6 +313,7 @@ static subsetter_options options_of(const struct row *row)
     options.tokens = row->tokens;
     options.depth = row->depth;
     options.drop = row->drop;
+    options.bytes = row->most;
     return options;
 }
 
@@ -452,8 +456,8 @@ static void check_size(const struct row *row, uint32_t size, int is_known)
         subsetter_options known;
         uint32_t further;
     } options = {options_of(row), 0};
-    uint32_t *const fields[] = {&options.known.tokens, &options.known.depth, &options.known.drop};
-    for (uint32_t i = 0; i < 3; i++)
+    uint32_t *const fields[] = {&options.known.tokens, &options.known.depth, &options.known.drop, &options.known.bytes};
+    for (uint32_t i = 0; i < 4; i++)
         if (4 * (i + 2) > size)
             *fields[i] = 4294967295u;
     options.known.size = size;
@@ -471,9 +475,12 @@ static void check_size(const struct row *row, uint32_t size, int is_known)
 /* Options without the fields that have their defaults answer the same, down to none at all. */
 static void check_sizes(const struct row *row)
 {
-    static const uint32_t unknown[] = {0, 1, 2, 3, 5, 7, 9, 13, 15, 17, 18, 19, 20, 4294967295u};
+    static const uint32_t unknown[] = {0, 1, 2, 3, 5, 7, 9, 13, 15, 17, 18, 19, 21, 24, 4294967295u};
     for (size_t i = 0; i < sizeof unknown / sizeof *unknown; i++)
         check_size(row, unknown[i], 0);
+    check_size(row, 20, 1);
+    if (row->most != 0)
+        return;
     check_size(row, 16, 1);
     if (row->drop == 0)
         check_size(row, 12, 1);
@@ -486,6 +493,26 @@ static void check_sizes(const struct row *row)
         call_with(row, NULL, &a);
         check(a.status == row->status && told(&a, row->size, row->cid_count, row->width_count)
             && is_same(a.font, row->bytes, row->size), "no options", row->words[1]);
+        give_up(&a);
+    }
+}
+
+/* A font of exactly so many bytes is within the bound, and one byte less is refused. */
+static void check_bound(const struct row *row)
+{
+    if (row->status != 0)
+        return;
+    for (uint32_t less = 0; less < 2; less++) {
+        struct answer a;
+        subsetter_options options = options_of(row);
+        options.bytes = (uint32_t)row->size - less;
+        prepare(&a, row->size, row->cid_count, row->width_count);
+        call_with(row, &options, &a);
+        if (less == 0)
+            check(a.status == 0 && told(&a, row->size, row->cid_count, row->width_count)
+                && is_same(a.font, row->bytes, row->size), "a font at its bound", row->words[1]);
+        else
+            check(a.status == 5 && told(&a, 0, 0, 0) && untouched(&a, 0, 0, 0), "a font past its bound", row->words[1]);
         give_up(&a);
     }
 }
@@ -533,7 +560,7 @@ static void check_made(const struct row *row)
     check(held == before && is_nothing(&made) && made.font == NULL && made.cids == NULL && made.widths == NULL, "given back", row->words[1]);
     subsetter_free(&made);
     check(held == before, "given back once", row->words[1]);
-    if (row->tokens == 0 && row->depth == 0 && row->drop == 0) {
+    if (row->tokens == 0 && row->depth == 0 && row->drop == 0 && row->most == 0) {
         check(make(row, NULL, &made) == row->status && is_made(row, &made), "made without options", row->words[1]);
         subsetter_free(&made);
     }
@@ -619,6 +646,7 @@ int main(int argc, char **argv)
         if (is_short) {
             check_made_memory(row);
             check_sizes(row);
+            check_bound(row);
         }
     }
     check_threads();

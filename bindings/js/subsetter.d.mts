@@ -21,12 +21,14 @@ export class OutOfMemory extends SubsetterError {}
 /** The bytes of a whole file, OpenType or a collection. They are copied, and never written. */
 export type FontData = ArrayBufferLike | ArrayBufferView;
 
-/** How far the charstring of a glyph may run (fonts with CFF outlines). */
+/** How far the charstring of a glyph may run (fonts with CFF outlines), and how many bytes the new font may have. */
 export interface Limits {
     /** At most so many numbers and operators, from 1 to 4294967295. Without it 1000000. */
     readonly tokens?: number;
     /** At most so deep, from 1 to 255; the glyph's own charstring is at depth 1. Without it 64. */
     readonly depth?: number;
+    /** The most bytes that the new font may have, of any kind, from 1 to 4294967295. Without it there is no bound. */
+    readonly bytes?: number;
 }
 
 /** What is kept of a font besides its outlines and metrics: all, where nothing is said. */

@@ -112,10 +112,11 @@ const CHOICES = ["limits", "hinting", "names", "glyphNames"];
 
 /** The limits, and what is dropped, of the options. */
 function choicesOf({ limits, hinting, names, glyphNames }) {
-    const { tokens = TOKENS, depth = DEPTH } = named(limits, ["tokens", "depth"], "limits");
+    const { tokens = TOKENS, depth = DEPTH, bytes } = named(limits, ["tokens", "depth", "bytes"], "limits");
     return {
         tokens: whole(tokens, 1, WORD_AT_MOST, "tokens"),
         depth: whole(depth, 1, 255, "depth"),
+        bytes: bytes === undefined ? 0 : whole(bytes, 1, WORD_AT_MOST, "bytes"),
         drop: (kept(hinting, "hinting") ? 0 : 1) | (kept(names, "names") ? 0 : 2) | (kept(glyphNames, "glyphNames") ? 0 : 4),
     };
 }
@@ -254,8 +255,8 @@ class Library {
     }
 
     /** What the call `name` makes of a font that is held here: its three lists, as copies. */
-    make(name, font, index, glyphs, { tokens, depth, drop }) {
-        const options = Uint32Array.of(16, tokens, depth, drop);
+    make(name, font, index, glyphs, { tokens, depth, drop, bytes }) {
+        const options = Uint32Array.of(20, tokens, depth, drop, bytes);
         const words = (list, choices, made) =>
             [BigInt(font.at), BigInt(font.size), index, list, BigInt(glyphs.length), choices, BigInt(options.length), made];
         const { status, buffer, made } = this.#call(name, words, [glyphs, options], 48);

@@ -59,7 +59,8 @@ def hexadecimal(word):
 
 
 # By the kind of a row: how many choices it has, and whether it embeds.
-KINDS = {"subset": (0, False), "limits": (2, False), "options": (3, False), "embed": (0, True), "embed_options": (3, True)}
+KINDS = {"subset": (0, False), "limits": (2, False), "options": (3, False), "bounded_options": (4, False),
+         "embed": (0, True), "embed_options": (3, True), "embed_bounded_options": (4, True)}
 
 
 class Row:
@@ -67,7 +68,7 @@ class Row:
         choices, self.embeds = KINDS[words[0]]
         self.kind, self.name = words[:2]
         self.font, self.index, self.glyphs = fonts[words[2]], int(words[3]), numbers(words[4])
-        self.tokens, self.depth, self.drop = (list(map(int, words[5:5 + choices])) + [0, 0, 0])[:3]
+        self.tokens, self.depth, self.drop, self.most_bytes = (list(map(int, words[5:5 + choices])) + [0, 0, 0, 0])[:4]
         status, font, *lists = words[5 + choices:]
         assert len(lists) == (2 if self.embeds else 0), words[1]
         self.status = int(status)
@@ -91,10 +92,13 @@ class Row:
         for bit, name in ((1, "hinting"), (2, "names"), (4, "glyph_names")):
             if self.drop & bit:
                 found[name] = False
+        if self.most_bytes:
+            found["most_bytes"] = self.most_bytes
         return found
 
     def all_choices(self):
-        return {"hinting": True, "names": True, "glyph_names": True, "tokens": None, "depth": None, **self.choices()}
+        return {"hinting": True, "names": True, "glyph_names": True, "tokens": None, "depth": None, "most_bytes": None,
+                **self.choices()}
 
 
 def answer(call, *arguments, **choices):
@@ -255,7 +259,7 @@ def check_refusals(font):
             check(type(raised(call, font, [2], index)) is ValueError, f"index {index}")
         for index in (None, "0", 0.0, b"0", [0]):
             check(type(raised(call, font, [2], index)) is TypeError, f"index {index!r}")
-        for name, most in (("tokens", 4294967295), ("depth", 255)):
+        for name, most in (("tokens", 4294967295), ("depth", 255), ("most_bytes", 4294967295)):
             for number in (0, -1, most + 1, most + 2, 1 << 70):
                 check(type(raised(call, font, [2], **{name: number})) is ValueError, f"{name} {number}")
             for number in ("1", 1.0, b"1", [1]):
@@ -317,8 +321,8 @@ def check_names(texts):
         found = [(it.name, it.default, it.kind) for it in inspect.signature(call).parameters.values()]
         both, named, none = inspect.Parameter.POSITIONAL_OR_KEYWORD, inspect.Parameter.KEYWORD_ONLY, inspect.Parameter.empty
         check(found == [("data", none, both), ("glyphs", none, both), ("index", 0, both), ("tokens", None, named),
-                        ("depth", None, named), ("hinting", True, named), ("names", True, named),
-                        ("glyph_names", True, named)], "the signature")
+                        ("depth", None, named), ("most_bytes", None, named), ("hinting", True, named),
+                        ("names", True, named), ("glyph_names", True, named)], "the signature")
         check(set(call.__annotations__) == {name for name, _, _ in found} | {"return"}, "each argument has its type")
 
 

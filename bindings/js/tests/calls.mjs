@@ -63,10 +63,10 @@ function wrongArguments({ library, subsetter, fonts }) {
     for (const options of [{ hinting: 0 }, { names: "no" }, { glyphNames: null }, { hinting: new Boolean(false) }]) {
         wrong(TypeError, `the options ${JSON.stringify(options)}`, font, [1], options);
     }
-    for (const limits of [{ tokens: "5" }, { tokens: null }, { depth: 1n }, { depth: "64" }, { depth: [1] }]) {
+    for (const limits of [{ tokens: "5" }, { tokens: null }, { depth: 1n }, { depth: "64" }, { depth: [1] }, { bytes: "5" }, { bytes: null }]) {
         wrong(TypeError, `limits of a wrong type: ${Object.keys(limits)}`, font, [1], { limits });
     }
-    for (const limits of [{ tokens: 0 }, { tokens: -1 }, { tokens: 2 ** 32 }, { tokens: 0.5 }, { depth: 0 }, { depth: 256 }, { depth: 1.5 }, { depth: NaN }]) {
+    for (const limits of [{ tokens: 0 }, { tokens: -1 }, { tokens: 2 ** 32 }, { tokens: 0.5 }, { depth: 0 }, { depth: 256 }, { depth: 1.5 }, { depth: NaN }, { bytes: 0 }, { bytes: 2 ** 32 }, { bytes: 1.5 }]) {
         wrong(RangeError, `the limits ${JSON.stringify(limits)}`, font, [1], { limits });
     }
     throws(() => opened.subset([1], { index: 0 }), TypeError, "an index for an opened font");
@@ -109,7 +109,7 @@ function kindsOfArguments({ subsetter }) {
     ok(subsetter.subset(font, [255 & 39]).length > 0, "one glyph");
     same(subsetter.subset(font, [3, 1, 2], { index: undefined, limits: undefined, hinting: undefined, names: true, glyphNames: true }), wanted, "all said");
     same(subsetter.subset(font, [3, 1, 2], { limits: {} }), wanted, "no limits said");
-    same(subsetter.subset(font, [3, 1, 2], { limits: { tokens: undefined, depth: undefined } }), wanted, "limits not said");
+    same(subsetter.subset(font, [3, 1, 2], { limits: { tokens: undefined, depth: undefined, bytes: undefined } }), wanted, "limits not said");
     // An iterator may call as well.
     const outer = function* () {
         for (const glyph of [3, 1, 2]) {

@@ -20,9 +20,9 @@ const NAMES = [, "UnknownKind", "MalformedFont", "Unimplemented", "SubsetError",
 /** The options of a call for the module. */
 function optionsOf({ choices }) {
     if (!choices) return undefined;
-    const [, tokens, depth, drop] = choices;
+    const [, tokens, depth, drop, bytes] = choices;
     return {
-        limits: { ...(tokens && { tokens }), ...(depth && { depth }) },
+        limits: { ...(tokens && { tokens }), ...(depth && { depth }), ...(bytes && { bytes }) },
         hinting: !(drop & 1),
         names: !(drop & 2),
         glyphNames: !(drop & 4),

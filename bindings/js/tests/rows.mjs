@@ -3,6 +3,8 @@ import { equal, same, throws } from "./assert.mjs";
 
 const ERRORS = [, "UnknownKind", "MalformedFont", "Unimplemented", "SubsetError", "OverflowError", "CFFError", "OutOfMemory"];
 
+const KINDS = ["subset", "limits", "options", "bounded_options", "embed", "embed_options", "embed_bounded_options"];
+
 /** What stands in a status's place where the module throws a RangeError, and for what can't be said to it at all. */
 const NOT_WHOLE = "RangeError", NOT_SAID = "not said";
 
@@ -34,6 +36,10 @@ function callOf(words, fonts) {
             if (drop & (1 << i)) options[choice] = false;
         });
     }
+    if (kind.includes("bounded")) {
+        const bytes = Number(rest.shift());
+        if (bytes !== 0) options.limits = { ...options.limits, bytes };
+    }
     const [given, made, cids, widths] = rest;
     // Not to be said here: limits of no tokens, which every charstring passes, of no depth, and of too much; unknown bits.
     const { tokens, depth } = options.limits ?? {};
@@ -59,7 +65,7 @@ export function readRows(table) {
         if (line === "" || line.startsWith("#")) continue;
         if (words[0] === "font") fonts[words[1]] = bytesOf(words[2]);
         else if (words[0] === "text") texts[words[1]] = String.fromCharCode(...bytesOf(words[2]));
-        else if (["subset", "limits", "embed", "options", "embed_options"].includes(words[0])) calls.push(callOf(words, fonts));
+        else if (KINDS.includes(words[0])) calls.push(callOf(words, fonts));
         else throw new Error(`a row of an unknown kind: ${words[0]}`);
     }
     return { fonts, texts, calls };

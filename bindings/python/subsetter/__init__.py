@@ -216,10 +216,11 @@ def _number(what: str, value: SupportsIndex, least: int, most: int) -> int:
 
 
 def _words(
-    tokens: Optional[SupportsIndex], depth: Optional[SupportsIndex], hinting: bool, names: bool, glyph_names: bool
+    tokens: Optional[SupportsIndex], depth: Optional[SupportsIndex], most_bytes: Optional[SupportsIndex], hinting: bool,
+    names: bool, glyph_names: bool,
 ) -> array[int]:
-    """The options as the library takes them: their size in bytes, the limits, and what is left out. (Later ones go behind
-    these.)"""
+    """The options as the library takes them: their size in bytes, the limits of a charstring, what is left out, and the
+    most bytes of the font. (Later ones go behind these.)"""
     drop = 0
     for name, kept, bit in (
         ("hinting", hinting, _DROP_HINTING), ("names", names, _DROP_NAMES),
@@ -230,10 +231,11 @@ def _words(
         if not kept:
             drop |= bit
     return array("I", [
-        16,
+        20,
         0 if tokens is None else _number("tokens", tokens, 1, 0xFFFFFFFF),
         0 if depth is None else _number("depth", depth, 1, 255),
         drop,
+        0 if most_bytes is None else _number("most_bytes", most_bytes, 1, 0xFFFFFFFF),
     ])
 
 
@@ -274,6 +276,7 @@ def subset(
     *,
     tokens: Optional[SupportsIndex] = None,
     depth: Optional[SupportsIndex] = None,
+    most_bytes: Optional[SupportsIndex] = None,
     hinting: bool = True,
     names: bool = True,
     glyph_names: bool = True,
@@ -287,6 +290,8 @@ def subset(
 
     `tokens` and `depth` limit the charstring of a glyph (CFF outlines), for fonts that nobody vouches for: how many numbers
     and operators it may run for (1 to 4294967295, by default 1000000), and how deep it may call (1 to 255, by default 64).
+    `most_bytes` bounds the new font (1 to 4294967295, by default no bound): `OverflowError` where it would have more bytes,
+    raised before it is made.
 
     What a PDF doesn't need can be left out. Without `hinting` there are no instructions of TrueType outlines and no `cvt `,
     `fpgm` and `prep` (not for fonts that draw by their instructions, as MingLiU does); without `names` no `name`; without
@@ -294,7 +299,7 @@ def subset(
 
     Raises an `Error` by its name; `TypeError` for arguments of another kind, and `ValueError` for numbers out of range.
     """
-    words = _words(tokens, depth, hinting, names, glyph_names)
+    words = _words(tokens, depth, most_bytes, hinting, names, glyph_names)
     with _made("subsetter_make_subset_by_words", data, glyphs, index, words) as made:
         return ctypes.string_at(made.font, made.font_size)
 
@@ -306,6 +311,7 @@ def embed(
     *,
     tokens: Optional[SupportsIndex] = None,
     depth: Optional[SupportsIndex] = None,
+    most_bytes: Optional[SupportsIndex] = None,
     hinting: bool = True,
     names: bool = True,
     glyph_names: bool = True,
@@ -315,7 +321,7 @@ def embed(
     The arguments and errors are those of `subset`; besides, `MalformedFont` is raised where the font has no `hmtx` or no
     `head`, or 0 units per em.
     """
-    words = _words(tokens, depth, hinting, names, glyph_names)
+    words = _words(tokens, depth, most_bytes, hinting, names, glyph_names)
     with _made("subsetter_make_embedded_by_words", data, glyphs, index, words) as made:
         return Embedded(
             ctypes.string_at(made.font, made.font_size), made.cids[:made.cid_count], made.widths[:made.width_count]

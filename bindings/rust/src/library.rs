@@ -59,22 +59,24 @@ const DROP_HINTING: u32 = 1;
 const DROP_NAMES: u32 = 2;
 const DROP_GLYPH_NAMES: u32 = 4;
 
-/// The options as the library takes them: their size in bytes, the limits, and what is left out. (Later ones go behind
-/// these.)
-fn words(options: &Options) -> [u32; 4] {
+/// The options as the library takes them: their size in bytes, the limits of a charstring, what is left out, and the most
+/// bytes of the font. (Later ones go behind these.)
+fn words(options: &Options) -> [u32; 5] {
     let drop = [
         (options.hinting, DROP_HINTING),
         (options.names, DROP_NAMES),
         (options.glyph_names, DROP_GLYPH_NAMES),
     ];
     [
-        16,
+        20,
         options.limits.tokens(),
         u32::from(options.limits.depth()),
         drop.iter()
             .filter(|(kept, _)| !kept)
             .map(|(_, bit)| bit)
             .sum(),
+        // 0 stands for no bound; no font has 1 byte.
+        options.limits.bytes().map_or(0, |bytes| bytes.max(1)),
     ]
 }
 
@@ -253,11 +255,15 @@ mod tests {
 
     #[test]
     fn options_are_words() {
-        assert_eq!(super::words(&Options::new()), [16, 1_000_000, 64, 0]);
+        assert_eq!(super::words(&Options::new()), [20, 1_000_000, 64, 0, 0]);
         let limits = Limits::new(5, 6).unwrap();
         let words = |options: Options| super::words(&options.limits(limits));
-        assert_eq!(words(Options::new().hinting(false)), [16, 5, 6, 1]);
-        assert_eq!(words(Options::new().names(false)), [16, 5, 6, 2]);
-        assert_eq!(words(Options::new().glyph_names(false)), [16, 5, 6, 4]);
+        assert_eq!(words(Options::new().hinting(false)), [20, 5, 6, 1, 0]);
+        assert_eq!(words(Options::new().names(false)), [20, 5, 6, 2, 0]);
+        assert_eq!(words(Options::new().glyph_names(false)), [20, 5, 6, 4, 0]);
+        let bytes = |bytes| super::words(&Options::new().limits(limits.with_bytes(bytes)));
+        assert_eq!(bytes(7), [20, 5, 6, 0, 7]);
+        assert_eq!(bytes(0), [20, 5, 6, 0, 1]);
+        assert_eq!(bytes(u32::MAX), [20, 5, 6, 0, u32::MAX]);
     }
 }

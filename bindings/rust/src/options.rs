@@ -2,7 +2,8 @@
 
 use std::num::{NonZeroU32, NonZeroU8};
 
-/// How far the charstring of a glyph may run (CFF outlines; TrueType outlines know no such limits).
+/// How far the charstring of a glyph may run (CFF outlines; TrueType outlines know no such limits), and how many bytes the
+/// new font may have (any font).
 ///
 /// ```
 /// use subsetter::Limits;
@@ -11,20 +12,25 @@ use std::num::{NonZeroU32, NonZeroU8};
 /// assert_eq!((limits.tokens(), limits.depth()), (20_000, 10));
 /// assert_eq!(Limits::new(20_000, 0), None);
 /// assert_eq!(Limits::default(), Limits::new(1_000_000, 64).unwrap());
+/// assert_eq!(limits.bytes(), None);
+/// assert_eq!(limits.with_bytes(1 << 20).bytes(), Some(1 << 20));
 /// ```
 #[derive(Debug, Copy, Clone, Eq, PartialEq, Hash)]
 pub struct Limits {
     tokens: NonZeroU32,
     depth: NonZeroU8,
+    bytes: Option<u32>,
 }
 
 impl Limits {
     /// At most `tokens` numbers and operators, and at most `depth` deep, where the glyph's own charstring is at depth 1 and
-    /// a subroutine one deeper than its caller. None where one of the two is 0, with which no charstring could run.
+    /// a subroutine one deeper than its caller; the font has no bound. None where one of the two is 0, with which no
+    /// charstring could run.
     pub fn new(tokens: u32, depth: u8) -> Option<Self> {
         Some(Self {
             tokens: NonZeroU32::new(tokens)?,
             depth: NonZeroU8::new(depth)?,
+            bytes: None,
         })
     }
 
@@ -37,14 +43,29 @@ impl Limits {
     pub fn depth(&self) -> u8 {
         self.depth.get()
     }
+
+    /// The same, where the new font may have so many bytes at most. One that would have more is `OverflowError`, told
+    /// before it is made.
+    pub fn with_bytes(self, bytes: u32) -> Self {
+        Self {
+            bytes: Some(bytes),
+            ..self
+        }
+    }
+
+    /// The most bytes that the new font may have, if there is a bound.
+    pub fn bytes(&self) -> Option<u32> {
+        self.bytes
+    }
 }
 
 impl Default for Limits {
-    /// 1,000,000 tokens and a depth of 64.
+    /// 1,000,000 tokens, a depth of 64, and no bound on the font.
     fn default() -> Self {
         Self {
             tokens: NonZeroU32::new(1_000_000).unwrap(),
             depth: NonZeroU8::new(64).unwrap(),
+            bytes: None,
         }
     }
 }

@@ -1,6 +1,7 @@
 -- What `embed` promises, by what `subset` promises and what is read of its answer.
-use Rattle.std.proofs.Common.{◌≡◌, ℕ, ◌<◌, ◌||◌, true, eqb, List, [], length, get_or, map, Some, Result, Ok, Err, refl, sym, ap, subst, ◌∙◌, ◌⊎◌, inl, inr}
-use Rattle.std.specs.Prelude.{IsSome}
+use Rattle.std.proofs.Common.{◌≡◌, ℕ, ◌<◌, ◌||◌, true, eqb, List, [], length, get_or, map, Option, Some, None, Result, Ok, Err, refl, sym, ap, subst, ◌∙◌, ◌⊎◌, inl, inr}
+use Rattle.std.specs.Prelude.{IsSome, IfErr}
+use Rattle.subsetter_base.proofs.Options.{some_not_none}
 use Rattle.std.proofs.Math.Bool.{or-true}
 use Rattle.std.proofs.lemmas.List.{get_or_default}
 use Rattle.subsetter_base.specs.Gives.{Gives}
@@ -11,9 +12,11 @@ use Rattle.subsetter_base.proofs.GlyphLemmas.{known, known-all, Contains-place}
 use Rattle.subsetter_sfnt.specs.Read.{Font}
 use Rattle.subsetter.specs.Fault.{HasFault, in_opening}
 use Rattle.subsetter.specs.Subset.{IsSubset}
-use Rattle.subsetter.specs.Answer.{HasNoAnswer, IsAnswer}
+use Rattle.subsetter.specs.Answer.{IsAnswer}
+use Rattle.subsetter.specs.Bound as bounds
+use Rattle.subsetter.specs.Bound.{IsWithin, HasFaultWithin, HasNoAnswerWithin}
 use Rattle.cid_embed.specs.Afresh.{table_of, widths_of}
-use Rattle.cid_embed.specs.Embed.{numbering, HasMapperFault, all_asked, unopened, IsEmbedded, HasEmbedFault, HasNoEmbedding, in_numbering, in_subset, in_widths}
+use Rattle.cid_embed.specs.Embed.{numbering, HasMapperFault, all_asked, unopened, IsEmbedded, HasEmbedFault, HasEmbedFaultWithin, HasNoEmbedding, HasNoEmbeddingWithin, in_numbering, in_subset, in_widths, in_font, beyond}
 use Rattle.cid_embed.specs.Width.{HasWidthFault}
 use Rattle.cid_embed.specs.declared.embedding.Embedded.{Embedded}
 use Rattle.cid_embed.proofs.Reading.{IsReading, is_reading}
@@ -29,37 +32,54 @@ asked_known glyphs mapper k d m lt =
 abbrev pub IsFaultless : ℕ → ℕ → Font → List ℕ → List ℕ → Type 0
 IsFaultless tokens depth font glyphs out = (s : IsSubset tokens depth font glyphs out) × ((e : Error) → ¬ (HasFault tokens depth font glyphs s.keeps.order e))
 
--- why nothing is answered
-abbrev pub IsRefusal : ℕ → ℕ → Font → List ℕ → Error → Type 0
-IsRefusal tokens depth font glyphs why = (why ≡ OutOfMemory) ⊎ ((order : List ℕ) × HasEmbedFault tokens depth font glyphs order why)
+-- why nothing is answered within a bound
+abbrev pub IsRefusal : Option ℕ → ℕ → ℕ → Font → List ℕ → Error → Type 0
+IsRefusal bound tokens depth font glyphs why = (why ≡ OutOfMemory) ⊎ ((order : List ℕ) × HasEmbedFaultWithin bound tokens depth font glyphs order why)
 
--- or it has no answer
-abbrev pub IsFinal : ℕ → ℕ → Font → List ℕ → Error → Type 0
-IsFinal tokens depth font glyphs why = (why ≡ OutOfMemory) ⊎ HasNoEmbedding tokens depth font glyphs
+-- or it has no answer within it
+abbrev pub IsFinal : Option ℕ → ℕ → ℕ → Font → List ℕ → Error → Type 0
+IsFinal bound tokens depth font glyphs why = (why ≡ OutOfMemory) ⊎ HasNoEmbeddingWithin bound tokens depth font glyphs
+
+-- the same where no bound is set
+pub no_bound_refusal : {X : Type 0} (bound : Option ℕ) (tokens depth : ℕ) (font : Font) (glyphs : List ℕ) (r : Result X Error) → bound ≡ None → IfErr r (λ why. IsRefusal bound tokens depth font glyphs why) → IfErr r (λ why. (why ≡ OutOfMemory) ⊎ ((order : List ℕ) × HasEmbedFault tokens depth font glyphs order why))
+no_bound_refusal bound tokens depth font glyphs (Ok x) none h = tt
+no_bound_refusal bound tokens depth font glyphs (Err why) none h = elim h [ inl m ↦ inl m | inr s ↦ inr (s.0, by s.0 why s.1) ]
+  where
+    by : (order : List ℕ) (why : Error) → HasEmbedFaultWithin bound tokens depth font glyphs order why → HasEmbedFault tokens depth font glyphs order why
+    by order why (in_font f) = f
+    by order why (beyond b) = absurd (some_not_none bound b.most b.is_set none)
+
+pub no_bound_final : {X : Type 0} (bound : Option ℕ) (tokens depth : ℕ) (font : Font) (glyphs : List ℕ) (r : Result X Error) → bound ≡ None → IfErr r (λ why. IsFinal bound tokens depth font glyphs why) → IfErr r (λ why. (why ≡ OutOfMemory) ⊎ HasNoEmbedding tokens depth font glyphs)
+no_bound_final bound tokens depth font glyphs (Ok x) none h = tt
+no_bound_final bound tokens depth font glyphs (Err why) none h = elim h [ inl m ↦ inl m | inr n ↦ inr (λ e a. n e (subst (λ (b : Option ℕ). IsWithin b e.font.items) (sym none) tt) a) ]
 
 -- what a mapper refuses, as a fault of numbering
 pub unnumbered : (font : Font) (glyphs : List ℕ) (why : Error) → (why ≡ OutOfMemory) ⊎ ((why ≡ OverflowError) × HasAllAboveZero glyphs) → (why ≡ OutOfMemory) ⊎ HasMapperFault font glyphs why
 unnumbered font glyphs why (inl memory) = inl memory
 unnumbered font glyphs why (inr full) = inr (subst (HasMapperFault font glyphs) (sym full.0) (all_asked full.1))
 
-module _ (tokens depth : ℕ) (font : Font) (glyphs : List ℕ) where
-  pub mapper_refused : (why : Error) → (why ≡ OutOfMemory) ⊎ HasMapperFault font glyphs why → IsRefusal tokens depth font glyphs why
+module _ (bound : Option ℕ) (tokens depth : ℕ) (font : Font) (glyphs : List ℕ) where
+  pub mapper_refused : (why : Error) → (why ≡ OutOfMemory) ⊎ HasMapperFault font glyphs why → IsRefusal bound tokens depth font glyphs why
   mapper_refused why (inl memory) = inl memory
-  mapper_refused why (inr (all_asked all)) = inr ([], in_numbering all)
-  mapper_refused why (inr (unopened fault)) = inr ([], in_subset (in_opening fault))
+  mapper_refused why (inr (all_asked all)) = inr ([], in_font (in_numbering all))
+  mapper_refused why (inr (unopened fault)) = inr ([], in_font (in_subset (in_opening fault)))
 
-  pub subset_refused : (mapper : List ℕ) (why : Error) → mapper ≡ numbering glyphs → (why ≡ OutOfMemory) ⊎ ((order : List ℕ) × HasFault tokens depth font mapper order why) → IsRefusal tokens depth font glyphs why
+  fault_within : (order : List ℕ) (why : Error) → HasFaultWithin bound tokens depth font (numbering glyphs) order why → HasEmbedFaultWithin bound tokens depth font glyphs order why
+  fault_within order why (bounds.in_font f) = in_font (in_subset f)
+  fault_within order why (bounds.beyond b) = beyond b
+
+  pub subset_refused : (mapper : List ℕ) (why : Error) → mapper ≡ numbering glyphs → (why ≡ OutOfMemory) ⊎ ((order : List ℕ) × HasFaultWithin bound tokens depth font mapper order why) → IsRefusal bound tokens depth font glyphs why
   subset_refused mapper why m (inl memory) = inl memory
-  subset_refused mapper why m (inr fault) = inr (fault.0, in_subset (subst (λ (l : List ℕ). HasFault tokens depth font l fault.0 why) m fault.1))
+  subset_refused mapper why m (inr fault) = inr (fault.0, fault_within fault.0 why (subst (λ (l : List ℕ). HasFaultWithin bound tokens depth font l fault.0 why) m fault.1))
 
-  pub mapper_final : (why : Error) → (why ≡ OutOfMemory) ⊎ HasMapperFault font glyphs why → IsFinal tokens depth font glyphs why
+  pub mapper_final : (why : Error) → (why ≡ OutOfMemory) ⊎ HasMapperFault font glyphs why → IsFinal bound tokens depth font glyphs why
   mapper_final why (inl memory) = inl memory
-  mapper_final why (inr (all_asked all)) = inr (λ e a. a.clean OverflowError (in_numbering all))
-  mapper_final why (inr (unopened fault)) = inr (λ e a. a.clean why (in_subset (in_opening fault)))
+  mapper_final why (inr (all_asked all)) = inr (λ e within a. a.clean OverflowError (in_numbering all))
+  mapper_final why (inr (unopened fault)) = inr (λ e within a. a.clean why (in_subset (in_opening fault)))
 
-  pub subset_final : (mapper : List ℕ) (why : Error) → mapper ≡ numbering glyphs → (why ≡ OutOfMemory) ⊎ HasNoAnswer tokens depth font mapper → IsFinal tokens depth font glyphs why
+  pub subset_final : (mapper : List ℕ) (why : Error) → mapper ≡ numbering glyphs → (why ≡ OutOfMemory) ⊎ HasNoAnswerWithin bound tokens depth font mapper → IsFinal bound tokens depth font glyphs why
   subset_final mapper why m (inl memory) = inl memory
-  subset_final mapper why m (inr none) = inr (λ e a. none e.font.items (subst (λ (l : List ℕ). IsAnswer tokens depth font l e.font.items) (sym m) a.font_is))
+  subset_final mapper why m (inr none) = inr (λ e within a. none e.font.items within (subst (λ (l : List ℕ). IsAnswer tokens depth font l e.font.items) (sym m) a.font_is))
 
   -- a reading that refuses has a fault of widths, unless memory ran out
   unread : {X : Type 0} (view : X → List ℕ) (r : Result (List ℕ) Error) (why : Error) → Gives view (Err why) r → IsReading font (numbering glyphs) r → (why ≡ OutOfMemory) ⊎ HasWidthFault font why
@@ -81,18 +101,18 @@ module _ (tokens depth : ℕ) (font : Font) (glyphs : List ℕ) where
         (subst (λ (k : ℕ). IsReading font (numbering glyphs) (widths_of (table_of out) k)) (sym (n ∙ ap length m))
         (is_reading tokens depth font (numbering glyphs) out renamed.0 renamed.1))
 
-    pub widths_refused : {X : Type 0} (view : X → List ℕ) (why : Error) → Gives view (Err why) (widths_of (table_of bytes) count) → IsRefusal tokens depth font glyphs why
+    pub widths_refused : {X : Type 0} (view : X → List ℕ) (why : Error) → Gives view (Err why) (widths_of (table_of bytes) count) → IsRefusal bound tokens depth font glyphs why
     widths_refused view why g =
         elim (unread view (widths_of (table_of bytes) count) why g reading) [
           | inl memory ↦ inl memory
-          | inr fault ↦ inr (renamed.0.keeps.order, in_widths fault)
+          | inr fault ↦ inr (renamed.0.keeps.order, in_font (in_widths fault))
         ]
 
-    pub widths_final : {X : Type 0} (view : X → List ℕ) (why : Error) → Gives view (Err why) (widths_of (table_of bytes) count) → IsFinal tokens depth font glyphs why
+    pub widths_final : {X : Type 0} (view : X → List ℕ) (why : Error) → Gives view (Err why) (widths_of (table_of bytes) count) → IsFinal bound tokens depth font glyphs why
     widths_final view why g =
         elim (unread view (widths_of (table_of bytes) count) why g reading) [
           | inl memory ↦ inl memory
-          | inr fault ↦ inr (λ e a. a.clean why (in_widths fault))
+          | inr fault ↦ inr (λ e within a. a.clean why (in_widths fault))
         ]
 
     -- all that is answered

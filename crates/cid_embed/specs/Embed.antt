@@ -1,11 +1,12 @@
 -- What a PDF writer gets of a font for the glyphs that it asks for, and why it doesn't.
-use Rattle.std.specs.Prelude.{◌≡◌, ℕ, List, [], ◌∷◌, map, Some}
+use Rattle.std.specs.Prelude.{◌≡◌, ℕ, List, [], ◌∷◌, map, Option, Some}
 use Rattle.subsetter_base.specs.Places.{place, with_glyphs, HasAllAboveZero}
 use Rattle.subsetter_base.specs.declared.error.Error.{Error}
 use Rattle.subsetter_base.specs.declared.error.Error.TheVariants.{OverflowError}
 use Rattle.subsetter_sfnt.specs.Read.{Font}
 use Rattle.subsetter.specs.Subset.{IsSubset}
 use Rattle.subsetter.specs.Answer.{IsAnswer}
+use Rattle.subsetter.specs.Bound.{IsWithin, IsBeyond}
 use Rattle.subsetter.specs.Fault.{HasFault}
 use Rattle.subsetter_sfnt.specs.Fault.{HasOpeningFault}
 use Rattle.cid_embed.specs.Width.{width, HasWidthFault}
@@ -48,3 +49,15 @@ pub record IsEmbeddingAnswer (tokens depth : ℕ) (font : Font) (glyphs : List �
 -- nothing is answered for the asked glyphs of a font
 abbrev pub HasNoEmbedding : ℕ → ℕ → Font → List ℕ → Type 0
 HasNoEmbedding tokens depth font glyphs = (e : Embedded) → ¬ (IsEmbeddingAnswer tokens depth font glyphs e)
+
+-- ---- within a bound on the bytes of the font
+
+-- what can stand against it within a bound, under the name of the error
+pub data HasEmbedFaultWithin (bound : Option ℕ) (tokens depth : ℕ) (font : Font) (glyphs order : List ℕ) : Error → Type 0 where
+  in_font : {e : Error} → HasEmbedFault tokens depth font glyphs order e → HasEmbedFaultWithin bound tokens depth font glyphs order e
+  -- a bound is set, and every answer is longer
+  beyond : IsBeyond bound tokens depth font (numbering glyphs) → HasEmbedFaultWithin bound tokens depth font glyphs order OverflowError
+
+-- nothing within the bound is answered for the asked glyphs of a font
+abbrev pub HasNoEmbeddingWithin : Option ℕ → ℕ → ℕ → Font → List ℕ → Type 0
+HasNoEmbeddingWithin bound tokens depth font glyphs = (e : Embedded) → IsWithin bound e.font.items → ¬ (IsEmbeddingAnswer tokens depth font glyphs e)

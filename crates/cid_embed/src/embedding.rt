@@ -9,7 +9,8 @@ ghost use Rattle.subsetter_sfnt.specs.Extras.{all_extras};
 ghost use Rattle.subsetter_sfnt.specs.Fault.{HasOpeningFault};
 ghost use Rattle.subsetter.specs.Limits.{token_limit, depth_limit};
 ghost use Rattle.subsetter.specs.Answer.{IsAnswer, IsTheAnswer};
-ghost use Rattle.cid_embed.specs.Embed.{numbering, HasMapperFault, IsEmbedded, HasEmbedFault, HasNoEmbedding};
+ghost use Rattle.subsetter.specs.Bound.{IsWithin};
+ghost use Rattle.cid_embed.specs.Embed.{numbering, HasMapperFault, IsEmbedded, HasEmbedFault, HasEmbedFaultWithin, HasNoEmbedding, HasNoEmbeddingWithin};
 
 use crate::widths::read_widths;
 use std::alloc::Global;
@@ -102,7 +103,8 @@ pub fn embed(alloc: Global, data: &[u8], index: u32, glyphs: &[u16]) -> Result<E
     embed_with_limits(alloc, data, index, glyphs, &Limits::default())
 }
 
-/// As `embed`, where the charstring of a glyph may run for other limits than 1,000,000 tokens and depth 64.
+/// As `embed`, where the charstring of a glyph may run for other limits than 1,000,000 tokens and depth 64, and where the
+/// font may have a bound on its bytes.
 ///
 /// # Errors
 ///
@@ -121,10 +123,12 @@ pub fn embed_with_limits(
     // Its font is the one that `subset_with_limits` answers.
     ensures exact { IfOk result (λ e. IsAnswer limits.now.tokens limits.now.depth (font_at «data».now index all_extras) (numbering glyphs.now) e.font.items) }
     ensures same { IfOk result (λ e. IsTheAnswer (font_at «data».now index all_extras) (numbering glyphs.now) e.font.items) }
-    // What is refused has a fault of that name.
-    ensures err { IfErr result (λ why. (why ≡ OutOfMemory) ⊎ ((order : List ℕ) × HasEmbedFault limits.now.tokens limits.now.depth (font_at «data».now index all_extras) glyphs.now order why)) }
+    // Its font has no more bytes than it may have.
+    ensures within { IfOk result (λ e. IsWithin limits.now.bytes e.font.items) }
+    // What is refused has a fault of that name, or the bound on bytes is set and every answer passes it.
+    ensures err { IfErr result (λ why. (why ≡ OutOfMemory) ⊎ ((order : List ℕ) × HasEmbedFaultWithin limits.now.bytes limits.now.tokens limits.now.depth (font_at «data».now index all_extras) glyphs.now order why)) }
     // And, unless memory ran out, it has no answer: no call answers it within these limits.
-    ensures no_answer { IfErr result (λ why. (why ≡ OutOfMemory) ⊎ HasNoEmbedding limits.now.tokens limits.now.depth (font_at «data».now index all_extras) glyphs.now) }
+    ensures no_answer { IfErr result (λ why. (why ≡ OutOfMemory) ⊎ HasNoEmbeddingWithin limits.now.bytes limits.now.tokens limits.now.depth (font_at «data».now index all_extras) glyphs.now) }
     // Where a fault stands that is found before memory is taken, the answer isn't out of memory.
     ensures before_memory { (e : SpecError) → HasOpeningFault (font_at «data».now index all_extras) e → result ≢ Err OutOfMemory }
 {
@@ -155,10 +159,12 @@ pub fn embed_with_options(
     // Its font is the one that `subset_with_options` answers.
     ensures exact { IfOk result (λ e. IsAnswer options.now.limits.tokens options.now.limits.depth (font_at «data».now index options.now.extras) (numbering glyphs.now) e.font.items) }
     ensures same { IfOk result (λ e. IsTheAnswer (font_at «data».now index options.now.extras) (numbering glyphs.now) e.font.items) }
-    // What is refused has a fault of that name.
-    ensures err { IfErr result (λ why. (why ≡ OutOfMemory) ⊎ ((order : List ℕ) × HasEmbedFault options.now.limits.tokens options.now.limits.depth (font_at «data».now index options.now.extras) glyphs.now order why)) }
+    // Its font has no more bytes than it may have.
+    ensures within { IfOk result (λ e. IsWithin options.now.limits.bytes e.font.items) }
+    // What is refused has a fault of that name, or the bound on bytes is set and every answer passes it.
+    ensures err { IfErr result (λ why. (why ≡ OutOfMemory) ⊎ ((order : List ℕ) × HasEmbedFaultWithin options.now.limits.bytes options.now.limits.tokens options.now.limits.depth (font_at «data».now index options.now.extras) glyphs.now order why)) }
     // And, unless memory ran out, it has no answer: no call answers it within these limits.
-    ensures no_answer { IfErr result (λ why. (why ≡ OutOfMemory) ⊎ HasNoEmbedding options.now.limits.tokens options.now.limits.depth (font_at «data».now index options.now.extras) glyphs.now) }
+    ensures no_answer { IfErr result (λ why. (why ≡ OutOfMemory) ⊎ HasNoEmbeddingWithin options.now.limits.bytes options.now.limits.tokens options.now.limits.depth (font_at «data».now index options.now.extras) glyphs.now) }
     // Where a fault stands that is found before memory is taken, the answer isn't out of memory.
     ensures before_memory { (e : SpecError) → HasOpeningFault (font_at «data».now index options.now.extras) e → result ≢ Err OutOfMemory }
 {

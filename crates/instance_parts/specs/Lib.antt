@@ -1,3 +1,2 @@
 pub mod Failure
 pub mod Lines
-pub mod Tables

@@ -4,9 +4,9 @@ ghost use Rattle.std.specs.Prelude.{◌≡◌, ◌+◌, ◌≤◌, ◌<◌, ◌^
 ghost use Rattle.subsetter_points.specs.Simple.{are_ends};
 ghost use Rattle.subsetter_variation.specs.Varied.{AreEnds};
 
-use crate::tables::Tables;
 use std::alloc::Global;
 use subsetter_base::Error;
+use subsetter_instance::source::Source;
 use subsetter_points::read_simple;
 use subsetter_variation::movement::{Outline, moved_points};
 use subsetter_variation::region::scalar;
@@ -109,14 +109,14 @@ fn scalars_of(
 /// The parts of a simple glyph at a place; `MalformedFont` where it is none or can't be read.
 pub fn parts_of(
     alloc: Global,
-    tables: &Tables<'_>,
+    source: &Source<'_>,
     gvar: &Gvar<'_>,
     at: &[i32],
     glyph: u16,
 ) -> Result<Parts, Error>
     requires { length at.now ≡ gvar.now.axis_count }
 {
-    let description = tables.description(glyph).ok_or(Error::MalformedFont)?;
+    let description = source.description(glyph).ok_or(Error::MalformedFont)?;
     let outline = read_simple(alloc, description)?.ok_or(Error::MalformedFont)?;
     let xs = xs_of(alloc, &outline)?;
     let ys = ys_of(alloc, &outline)?;

@@ -7,15 +7,18 @@ use crate::failure::{Failure, status_of_run};
 use crate::glyph::{Parts, parts_of};
 use crate::line::Line;
 use crate::request::{Request, read_request};
-use crate::tables::{Tables, tables_of};
 use std::alloc::Global;
 use std::rt::{Env, Files};
 use std::{env, fs};
-use subsetter_base::Error;
+use subsetter_base::{Error, GlyphRemapper};
+use subsetter_instance::instance;
+use subsetter_instance::source::{Source, place, source_in};
 use subsetter_sfnt::extras::Extras;
 use subsetter_sfnt::parse::parse;
-use subsetter_variation::coordinates::coordinates;
-use subsetter_variation::tuples::{Gvar, gvar_table};
+use subsetter_variation::tuples::Gvar;
+
+/// How many steps a glyph of the instance may take.
+const STEPS: u32 = 1_000_000;
 
 /// Prints a name and the numbers behind it.
 fn print_line<R: Print>(rt: &R, name: &str, numbers: &[i64]) -> Result<(), Failure> {
@@ -42,7 +45,7 @@ fn print_parts<R: Print>(rt: &R, parts: &Parts) -> Result<(), Failure> {
 fn print_glyph<R: Print>(
     rt: &R,
     alloc: Global,
-    tables: &Tables<'_>,
+    source: &Source<'_>,
     gvar: &Gvar<'_>,
     at: &[i32],
     glyph: u16,
@@ -50,31 +53,58 @@ fn print_glyph<R: Print>(
     requires { length at.now ≡ gvar.now.axis_count }
 {
     print_line(rt, "glyph", &[i64::from(glyph)])?;
-    match parts_of(alloc, tables, gvar, at, glyph) {
+    match parts_of(alloc, source, gvar, at, glyph) {
         Ok(parts) => print_parts(rt, &parts),
         Err(error) => println!(rt; "error {error}").map_err(|_| Failure::Write),
     }
 }
 
-/// Prints the glyphs of a font that a request asks for.
+/// Prints the bytes of an instance.
+fn print_bytes<R: Print>(rt: &R, alloc: Global, bytes: &[u8]) -> Result<(), Failure> {
+    let mut numbers = Vec::with_capacity(alloc, bytes.len())?;
+    for byte in bytes {
+        numbers.push(i64::from(*byte))?;
+    }
+    print_line(rt, "instance", &numbers)
+}
+
+/// Prints the instance that has the glyphs of a request, or why there is none.
+fn print_instance<R: Print>(
+    rt: &R,
+    alloc: Global,
+    font: &[u8],
+    request: &Request,
+) -> Result<(), Failure> {
+    let mapper = GlyphRemapper::new_from_glyphs(alloc, &request.glyphs)?;
+    match instance(
+        alloc,
+        font,
+        request.index,
+        &request.settings,
+        &mapper,
+        STEPS,
+    ) {
+        Ok(bytes) => print_bytes(rt, alloc, &bytes),
+        Err(error) => println!(rt; "instance error {error}").map_err(|_| Failure::Write),
+    }
+}
+
+/// Prints the glyphs of a font that a request asks for, and the instance that has them.
 fn print_font<R: Print>(
     rt: &R,
     alloc: Global,
     font: &[u8],
     request: &Request,
 ) -> Result<(), Failure> {
-    let face = parse(font, request.index, Extras::NONE)?;
-    let tables = tables_of(&face)?;
-    let at = coordinates(alloc, tables.fvar, tables.avar, &request.settings)?;
-    let gvar = gvar_table(tables.gvar).ok_or(Error::MalformedFont)?;
-    if usize::from(gvar.axis_count()) != at.len() {
-        return Err(Failure::Error(Error::MalformedFont));
-    }
+    let face = parse(font, request.index, Extras::ALL)?;
+    let at = place(alloc, &face, &request.settings)?;
+    let source = source_in(&face, at.len()).ok_or(Error::MalformedFont)?;
+    let gvar = source.gvar().ok_or(Error::MalformedFont)?;
     print_place(rt, alloc, &at)?;
     for glyph in &request.glyphs {
-        print_glyph(rt, alloc, &tables, &gvar, &at, *glyph)?;
+        print_glyph(rt, alloc, &source, gvar, &at, *glyph)?;
     }
-    Ok(())
+    print_instance(rt, alloc, font, request)
 }
 
 /// Does what the arguments ask for.

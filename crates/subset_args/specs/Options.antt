@@ -2,7 +2,7 @@
 use Rattle.std.specs.Prelude.{Bool, true, false, if◌then◌else◌, ℕ, List, [], ◌∷◌, Option, Some, None, codes, is_some}
 use Rattle.std.specs.Option.{option_map, option_and_then}
 use Rattle.std.specs.Str.{bytes_eq}
-use Rattle.subset_args.specs.Limits.{TokensAndDepth, limits_in}
+use Rattle.subset_args.specs.Limits.{Bounds, limits_in}
 use Rattle.subset_args.specs.declared.options.Switch.{Switch}
 use Rattle.subset_args.specs.declared.options.Switch.TheVariants.{Widths, NoHinting, NoNames, NoGlyphNames, Json, Quiet}
 use Rattle.subset_args.specs.declared.options.Setting.{Setting}
@@ -74,7 +74,7 @@ pub data GlyphSource : Type 0 where
 -- what the options choose
 pub record Choice : Type 0 where
   pub switches : Switches
-  pub limits : Option TokensAndDepth
+  pub limits : Option Bounds
   pub source : Option GlyphSource
 
 -- nothing

@@ -4,7 +4,7 @@ use Rattle.std.specs.Option.{option_map, option_and_then}
 use Rattle.std.specs.List.{slice_split}
 use Rattle.std.specs.Str.{bytes_eq}
 use Rattle.subsetter_words.specs.Numbers.{number_in_bits}
-use Rattle.subset_args.specs.Limits.{TokensAndDepth}
+use Rattle.subset_args.specs.Limits.{Bounds}
 use Rattle.subset_args.specs.Options.{GlyphSource, in_file, by_text, Choice, Options, helped, versioned, chosen, no_choice, parsed}
 use Rattle.subset_args.specs.declared.options.Switches.{Switches}
 
@@ -25,7 +25,7 @@ pub data Asked : Type 0 where
 -- what a run that makes a subset is to do
 pub record Request : Type 0 where
   pub switches : Switches
-  pub limits : Option TokensAndDepth
+  pub limits : Option Bounds
   pub input : List ℕ
   pub output : List ℕ
   pub index : ℕ

@@ -1,5 +1,5 @@
 -- What was read of the arguments, as the definitions name it.
-use Rattle.std.specs.Prelude.{ℕ, List, map, string_bytes}
+use Rattle.std.specs.Prelude.{map, string_bytes}
 use Rattle.std.specs.Option.{option_map}
 use Rattle.subset_args.specs.Limits.{limits_view}
 use Rattle.subset_args.specs.Options.{GlyphSource, in_file, by_text, Choice, Options, helped, versioned, chosen}

@@ -2,7 +2,7 @@
 
 ghost use Rattle.std.specs.Prelude.{◌≡◌, map, string_bytes, None};
 ghost use Rattle.std.specs.Option.{option_map};
-ghost use Rattle.subset_args.specs.Limits.{limits_in, limits_view};
+ghost use Rattle.subset_args.specs.Limits.{limits_from, limits_in, limits_view};
 ghost use Rattle.subset_args.specs.Options.{switch_of, setting_of, kind_of, is_on, switched_on, with_switch, with_limits, with_source, with_setting, parsed};
 ghost use Rattle.subset_args.specs.View.{source_view, chosen_view, parsed_view};
 
@@ -29,7 +29,7 @@ pub enum Switch {
 /// An option that a value follows.
 #[derive(Clone, Copy, Debug)]
 pub enum Setting {
-    /// `--limits TOKENS,DEPTH`
+    /// `--limits TOKENS,DEPTH[,BYTES]`
     Limits,
     /// `--gids-file FILE`
     GidsFile,
@@ -187,12 +187,22 @@ impl<'a> Chosen<'a> {
     }
 }
 
-/// The limits that an argument `TOKENS,DEPTH` writes.
+/// The limits that the parts of an argument write.
+fn limits_from(tokens: &str, depth: &str, bytes: Option<u32>) -> Option<RunLimits>
+    ensures { option_map limits_view result ≡ limits_from tokens.now depth.now bytes }
+{
+    RunLimits::new(u32_of(tokens)?, u8_of(depth)?, bytes)
+}
+
+/// The limits that an argument `TOKENS,DEPTH[,BYTES]` writes.
 fn limits_of(word: &str) -> Option<RunLimits>
     ensures { option_map limits_view result ≡ limits_in word.now }
 {
-    let (tokens, depth) = word.split_once(',')?;
-    RunLimits::new(u32_of(tokens)?, u8_of(depth)?)
+    let (tokens, rest) = word.split_once(',')?;
+    match rest.split_once(',') {
+        Some((depth, bytes)) => limits_from(tokens, depth, Some(u32_of(bytes)?)),
+        None => limits_from(tokens, rest, None),
+    }
 }
 
 /// The option without a value that an argument is.

@@ -20,7 +20,7 @@ status_of_end (Err failure) = status_of failure
 
 abbrev pub text_of : Failure → List ℕ
 text_of (Error e) = error_text e
-text_of Usage = codes "usage: subset_bench FONT INDEX GLYPHS COUNT [OUT] | --list FILE"
+text_of Usage = codes "usage: subset_bench FONT INDEX GLYPHS COUNT [OUT [TAG=VALUE ..]] | --list FILE"
 text_of Read = codes "cannot read"
 text_of Write = codes "cannot write"
 text_of Clock = codes "no clock"

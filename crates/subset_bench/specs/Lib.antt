@@ -1,4 +1,5 @@
 pub mod Digest
 pub mod Failure
 pub mod Lines
+pub mod Measured
 pub mod Words

@@ -1,7 +1,9 @@
 -- What the words of a task ask for.
-use Rattle.std.specs.Prelude.{ℕ, ◌+◌, ◌-◌, ◌==◌, nat_lt, if◌then◌else◌, List, [], ◌∷◌, ◌++◌, length, Option, Some, None}
+use Rattle.std.specs.Prelude.{ℕ, ◌+◌, ◌-◌, ◌==◌, nat_lt, if◌then◌else◌, List, [], ◌∷◌, ◌++◌, length, Option, Some, None, ℤ}
+use Rattle.std.specs.Int.{w32, cast_signed}
 use Rattle.std.specs.Option.{option_map, option_and_then}
 use Rattle.std.specs.List.{slice_split, range_with_len, position_or_len, before_first, after_first}
+use Rattle.subsetter_base.specs.declared.tag.Tag.{Tag}
 use Rattle.subsetter_words.specs.Numbers.{number_in_bits}
 
 -- the numbers from one to another, none where the first is greater
@@ -29,20 +31,34 @@ glyph_list text = all_glyphs (slice_split (λ b. b == 44) text)
 abbrev pub count_of : List ℕ → Option ℕ
 count_of word = option_and_then (λ n. if n == 0 then None else Some n) (number_in_bits 32 word)
 
--- a subset to measure
+-- a tag has four bytes
+abbrev pub tag_of : List ℕ → Option Tag
+tag_of text = if length text == 4 then Some (record { 0 = text }) else None
+
+-- the user coordinate of a word with an equals sign (61) between its tag and the 32 bits of its value in 16.16
+abbrev pub setting_of : List ℕ → Option (Tag × ℤ)
+setting_of word = if nat_lt (position_or_len (λ b. b == 61) word) (length word) then option_and_then (λ tag. option_map (λ bits. (tag, cast_signed w32 bits)) (number_in_bits 32 (after_first (λ b. b == 61) word))) (tag_of (before_first (λ b. b == 61) word)) else None
+
+-- the user coordinates of all words in order, if each has one
+abbrev pub settings_of : List (List ℕ) → Option (List (Tag × ℤ))
+settings_of [] = Some []
+settings_of (word ∷ words) = option_and_then (λ setting. option_map (λ more. setting ∷ more) (settings_of words)) (setting_of word)
+
+-- what to measure: a subset, or where there are user coordinates an instance
 pub record Request : Type 0 where
   pub font : List ℕ
   pub index : ℕ
   pub glyphs : List ℕ
   pub count : ℕ
   pub output : Option (List ℕ)
+  pub settings : List (Tag × ℤ)
 
--- the subset that these words ask for, if each is as it should be
-abbrev pub request_of : List ℕ → List ℕ → List ℕ → List ℕ → Option (List ℕ) → Option Request
-request_of font index glyphs count output = option_and_then (λ i. option_and_then (λ g. option_map (λ n. record { font = font; index = i; glyphs = g; count = n; output = output }) (count_of count)) (glyph_list glyphs)) (number_in_bits 32 index)
+-- what these words ask for, if each is as it should be
+abbrev pub request_of : List ℕ → List ℕ → List ℕ → List ℕ → Option (List ℕ) → List (List ℕ) → Option Request
+request_of font index glyphs count output words = option_and_then (λ i. option_and_then (λ g. option_and_then (λ n. option_map (λ settings. record { font = font; index = i; glyphs = g; count = n; output = output; settings = settings }) (settings_of words)) (count_of count)) (glyph_list glyphs)) (number_in_bits 32 index)
 
--- what the words `FONT INDEX GLYPHS COUNT [OUT]` ask for; none where their count is another or one isn't as it should be
+-- what the words `FONT INDEX GLYPHS COUNT [OUT [TAG=VALUE ..]]` ask for; none where they are fewer or one isn't as it should be
 abbrev pub request : List (List ℕ) → Option Request
-request (font ∷ index ∷ glyphs ∷ count ∷ []) = request_of font index glyphs count None
-request (font ∷ index ∷ glyphs ∷ count ∷ output ∷ []) = request_of font index glyphs count (Some output)
+request (font ∷ index ∷ glyphs ∷ count ∷ []) = request_of font index glyphs count None []
+request (font ∷ index ∷ glyphs ∷ count ∷ output ∷ words) = request_of font index glyphs count (Some output) words
 request _ = None

@@ -35,7 +35,9 @@ impl fmt::Display for Failure {
         match self {
             Failure::Error(error) => write!(f, "{error}"),
             Failure::Usage => {
-                f.write_str("usage: subset_bench FONT INDEX GLYPHS COUNT [OUT] | --list FILE")
+                f.write_str(
+                    "usage: subset_bench FONT INDEX GLYPHS COUNT [OUT [TAG=VALUE ..]] | --list FILE",
+                )
             }
             Failure::Read => f.write_str("cannot read"),
             Failure::Write => f.write_str("cannot write"),

@@ -3,10 +3,9 @@
 ghost use Rattle.subsetter_sfnt.specs.FontAt.{font_at};
 ghost use Rattle.std.specs.Prelude.{◌≡◌, ◌≤◌, [], ◌∷◌, IfOk};
 ghost use Rattle.subsetter_sfnt.specs.Extras.{all_extras};
-ghost use Rattle.subsetter.specs.Limits.{token_limit, depth_limit};
-ghost use Rattle.subsetter.specs.Subset.{IsSubset};
 ghost use Rattle.subsetter_base.specs.Places.{with_glyphs};
 ghost use Rattle.subset_bench.specs.Failure.{status_of_end};
+ghost use Rattle.subset_bench.specs.Measured.{IsMeasured};
 
 use crate::failure::{Failure, status_of_run};
 use crate::line::Done;
@@ -19,38 +18,60 @@ use std::rt::{Clock, Env, Files};
 use std::time::Instant;
 use std::{env, fs, io};
 use subsetter::{GlyphRemapper, subset};
+use subsetter_base::{Error, Tag};
+use subsetter_instance::instance;
 
-/// Subsets a font once, and answers how many nanoseconds it took and the output.
+/// The steps that a glyph of an instance may take.
+const STEPS: u32 = 1_000_000;
+
+/// The subset of a font, or where there are user coordinates an instance of it.
+fn make(
+    alloc: Global,
+    font: &[u8],
+    index: u32,
+    settings: &[(Tag, i32)],
+    mapper: &GlyphRemapper,
+) -> Result<Vec<u8>, Error>
+    ensures { IfOk result (λ out. IsMeasured (font_at font.now index all_extras) settings.now mapper.now out.items) }
+{
+    if settings.is_empty() {
+        subset(alloc, font, index, mapper)
+    } else {
+        instance(alloc, font, index, settings, mapper, STEPS)
+    }
+}
+
+/// Makes what is measured once, and answers how many nanoseconds it took and the output.
 fn measure_call<R: Clock>(
     rt: &R,
     alloc: Global,
     font: &[u8],
-    index: u32,
+    task: &Task,
     mapper: &GlyphRemapper,
 ) -> Result<(u64, Vec<u8>), Failure>
-    ensures { IfOk result (λ call. IsSubset token_limit depth_limit (font_at font.now index all_extras) mapper.now call.1.items) }
+    ensures { IfOk result (λ call. IsMeasured (font_at font.now task.now.index all_extras) task.now.settings.items mapper.now call.1.items) }
 {
     let start = Instant::now(rt).map_err(|_| Failure::Clock)?;
-    let output = subset(alloc, font, index, mapper)?;
+    let output = make(alloc, font, task.index, &task.settings, mapper)?;
     let took = start.elapsed(rt).map_err(|_| Failure::Clock)?;
     Ok((u64::try_from(took.as_nanos()).unwrap_or(u64::MAX), output))
 }
 
-/// Subsets a font so many times, and answers the times and the last output.
+/// Makes what is measured so many times, and answers the times and the last output.
 fn measure<R: Clock>(
     rt: &R,
     alloc: Global,
     font: &[u8],
     task: &Task,
 ) -> Result<(Times, Vec<u8>), Failure>
-    // What is measured is the subset of the font that the task asks for.
-    ensures { IfOk result (λ measured. IsSubset token_limit depth_limit (font_at font.now task.now.index all_extras) (with_glyphs (0 ∷ []) task.now.glyphs.items) measured.1.items) }
+    // What is measured is what the task asks for.
+    ensures { IfOk result (λ measured. IsMeasured (font_at font.now task.now.index all_extras) task.now.settings.items (with_glyphs (0 ∷ []) task.now.glyphs.items) measured.1.items) }
 {
     let mapper = GlyphRemapper::new_from_glyphs(alloc, &task.glyphs)?;
     let mut times = Vec::new(alloc);
     let mut last = Vec::new(alloc);
     'calls: for _ in 0..task.count {
-        let (time, output) = measure_call(rt, alloc, font, task.index, &mapper)?;
+        let (time, output) = measure_call(rt, alloc, font, task, &mapper)?;
         times.push(time)?;
         last = output;
     }

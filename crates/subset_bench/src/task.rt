@@ -2,14 +2,15 @@
 
 ghost use Rattle.std.specs.Prelude.{◌≡◌, ◌⊎◌, ◌++◌, ℕ, List, map, OnOk, IfOk, IfErr, Some, None, string_bytes};
 ghost use Rattle.std.specs.Option.{option_map};
-ghost use Rattle.subset_bench.specs.Words.{numbers_between, part_glyphs, glyph_list, count_of, request};
+ghost use Rattle.subset_bench.specs.Words.{numbers_between, part_glyphs, glyph_list, count_of, request, setting_of, settings_of};
 ghost use Rattle.subset_bench.specs.declared.failure.Failure.TheVariants.{Usage, Memory};
 
 use crate::failure::Failure;
 use std::alloc::{AllocError, Global};
+use subsetter_base::Tag;
 use subsetter_words::{parts_of, u16_of, u32_of};
 
-/// A subset to measure.
+/// What to measure: a subset, or where there are user coordinates an instance.
 #[derive(Debug, Drop)]
 pub struct Task {
     /// The name of the source font's file.
@@ -22,6 +23,8 @@ pub struct Task {
     pub count: u32,
     /// The name of the file that the output goes to, if it is written.
     pub output: Option<String>,
+    /// The user coordinates, each a tag and a value in 65536ths.
+    pub settings: Vec<(Tag, i32)>,
 }
 
 /// The first and the last glyph that a part of the list names; both are the same where it is one number.
@@ -76,10 +79,34 @@ fn calls_of(word: &str) -> Option<u32>
     Some(count)
 }
 
-/// Reads a task from its words: `FONT INDEX GLYPHS COUNT [OUT]`, with COUNT at least 1.
+/// The user coordinate of a word `TAG=VALUE`, where VALUE is the 32 bits of a number in 65536ths.
+fn setting_of(word: &str) -> Option<(Tag, i32)>
+    ensures { result ≡ setting_of word.now }
+{
+    let (tag, value) = word.split_once('=')?;
+    let tag = tag.parse::<Tag>().ok()?;
+    let bits = u32_of(value)?;
+    Some((tag, bits.cast_signed()))
+}
+
+/// The user coordinates of words, in order.
+fn settings_of(alloc: Global, words: &[&str]) -> Result<Vec<(Tag, i32)>, Failure>
+    ensures ok { IfOk result (λ v. settings_of (map (λ word. word.now) words.now) ≡ Some v.items) }
+    ensures err { IfErr result (λ e. (e ≡ Memory) ⊎ ((e ≡ Usage) × (settings_of (map (λ word. word.now) words.now) ≡ None))) }
+{
+    let mut settings = Vec::new(alloc);
+    for word in words {
+        let setting = setting_of(word).ok_or(Failure::Usage)?;
+        settings.push(setting).map_err(|_| Failure::Memory)?;
+    }
+    Ok(settings)
+}
+
+/// Reads a task from its words: `FONT INDEX GLYPHS COUNT [OUT [TAG=VALUE ..]]`, with COUNT at least 1.
 ///
-/// `Usage` where their number is another, where INDEX or COUNT isn't one or more ASCII digits whose value fits `u32`,
-/// where a number of GLYPHS isn't one whose value fits `u16`, or where COUNT is 0; `Memory` where memory ran out.
+/// `Usage` where they are fewer, where INDEX or COUNT isn't one or more ASCII digits whose value fits `u32`, where a
+/// number of GLYPHS isn't one whose value fits `u16`, where COUNT is 0, or where a TAG hasn't four bytes or its VALUE no
+/// 32 bits; `Memory` where memory ran out.
 pub fn read_task(alloc: Global, words: &[&str]) -> Result<Task, Failure>
     ensures ok { IfOk result (λ task. request (map (λ word. word.now) words.now) ≡ Some (record {
       font = string_bytes task.font;
@@ -87,14 +114,15 @@ pub fn read_task(alloc: Global, words: &[&str]) -> Result<Task, Failure>
       glyphs = task.glyphs.items;
       count = task.count;
       output = option_map (λ name. string_bytes name) task.output;
+      settings = task.settings.items;
     })) }
     ensures err { IfErr result (λ e. (e ≡ Memory) ⊎ ((e ≡ Usage) × (request (map (λ word. word.now) words.now) ≡ None))) }
 {
-    let (font, index, glyphs, count, output) = match words {
-        [font, index, glyphs, count] => (*font, *index, *glyphs, *count, None),
-        [font, index, glyphs, count, output] => {
+    let (font, index, glyphs, count, output, settings) = match words {
+        [font, index, glyphs, count] => (*font, *index, *glyphs, *count, None, &words[4..]),
+        [font, index, glyphs, count, output, settings @ ..] => {
             let output = String::from_str(alloc, output).map_err(|_| Failure::Memory)?;
-            (*font, *index, *glyphs, *count, Some(output))
+            (*font, *index, *glyphs, *count, Some(output), settings)
         }
         _ => return Err(Failure::Usage),
     };
@@ -103,11 +131,13 @@ pub fn read_task(alloc: Global, words: &[&str]) -> Result<Task, Failure>
     let font = String::from_str(alloc, font).map_err(|_| Failure::Memory)?;
     let mut glyphs = glyphs_of(alloc, glyphs)?;
     glyphs.shrink_to_fit();
+    let settings = settings_of(alloc, settings)?;
     Ok(Task {
         font,
         index,
         glyphs,
         count,
         output,
+        settings,
     })
 }

@@ -18,8 +18,8 @@ use Rattle.subset_font.specs.declared.task.Form.TheVariants.{Lines, Json, Silenc
 
 -- the limits that are said, else the default ones
 abbrev pub LimitsAreChosen : Option RunLimits → Limits → Type 0
-LimitsAreChosen (Some said) limits = (limits.tokens ≡ said.tokens) × (limits.depth ≡ said.depth)
-LimitsAreChosen None limits = (limits.tokens ≡ token_limit) × (limits.depth ≡ depth_limit)
+LimitsAreChosen (Some said) limits = (limits.tokens ≡ said.tokens) × (limits.depth ≡ said.depth) × (limits.bytes ≡ said.bytes)
+LimitsAreChosen None limits = (limits.tokens ≡ token_limit) × (limits.depth ≡ depth_limit) × (limits.bytes ≡ None)
 
 -- all that isn't declined
 abbrev pub extras_chosen : Switches → Extras

@@ -1,13 +1,14 @@
 -- What is made of a font that is read, and why it isn't.
-use Rattle.std.specs.Prelude.{◌≡◌, ◌⊎◌, ℕ, List, [], ◌∷◌, map, Some, MatchBool}
+use Rattle.std.specs.Prelude.{◌≡◌, ◌⊎◌, ℕ, List, [], ◌∷◌, map, Option, Some, MatchBool}
 use Rattle.subsetter_sfnt.specs.Extras.{all_extras}
+use Rattle.subsetter.specs.Bound.{IsWithin, HasFaultWithin}
 use Rattle.subsetter.specs.Fault.{HasFault}
 use Rattle.subsetter_sfnt.specs.Read.{Font}
 use Rattle.subsetter.specs.Subset.{IsSubset}
 use Rattle.subsetter_base.specs.Places.{with_glyphs, HasAllAboveZero}
 use Rattle.subsetter_base.specs.declared.error.Error.{Error as Refusal}
 use Rattle.subsetter_base.specs.declared.error.Error.TheVariants.{OutOfMemory, OverflowError}
-use Rattle.cid_embed.specs.Embed.{numbering, HasEmbedFault}
+use Rattle.cid_embed.specs.Embed.{numbering, HasEmbedFault, HasEmbedFaultWithin}
 use Rattle.cid_embed.specs.Text.{width_array}
 use Rattle.cid_embed.specs.Width.{width}
 use Rattle.subset_lines.specs.Json.{array_of}
@@ -60,19 +61,21 @@ pub record IsMade (task : Task) (bytes : List ℕ) (made : Made) : Type 0 where
   pub asked : IsAsked (face_of task bytes) task.asked made.picked.characters.items made.picked.glyphs.items
   pub order : made.mapper ≡ numbering made.picked.glyphs.items
   pub subset : IsCleanSubset task bytes made.picked.glyphs.items made.font.items
+  -- no longer than it may be
+  pub within : IsWithin task.options.limits.bytes made.font.items
   pub text : IsLastText task bytes made.picked.glyphs.items made.text.items
 
--- the given glyphs leave no number for glyph 0, or a fault stands in the font
-abbrev pub IsRefusal : ℕ → ℕ → Font → List ℕ → Refusal → Type 0
-IsRefusal tokens depth font glyphs why = ((why ≡ OverflowError) × HasAllAboveZero glyphs) ⊎ ((order : List ℕ) × HasFault tokens depth font (numbering glyphs) order why)
+-- the given glyphs leave no number for glyph 0, or a fault stands in the font, or a bound is set that every subset passes
+abbrev pub IsRefusal : Option ℕ → ℕ → ℕ → Font → List ℕ → Refusal → Type 0
+IsRefusal bound tokens depth font glyphs why = ((why ≡ OverflowError) × HasAllAboveZero glyphs) ⊎ ((order : List ℕ) × HasFaultWithin bound tokens depth font (numbering glyphs) order why)
 
 -- or one against its widths
-abbrev pub IsRefusalOfWidths : ℕ → ℕ → Font → List ℕ → Refusal → Type 0
-IsRefusalOfWidths tokens depth font glyphs why = (order : List ℕ) × HasEmbedFault tokens depth font glyphs order why
+abbrev pub IsRefusalOfWidths : Option ℕ → ℕ → ℕ → Font → List ℕ → Refusal → Type 0
+IsRefusalOfWidths bound tokens depth font glyphs why = (order : List ℕ) × HasEmbedFaultWithin bound tokens depth font glyphs order why
 
 -- why there is no subset for glyphs
 abbrev pub IsRefused : Task → List ℕ → List ℕ → Refusal → Type 0
-IsRefused task bytes glyphs why = MatchBool task.widths (IsRefusalOfWidths task.options.limits.tokens task.options.limits.depth (font_of task bytes) glyphs why) (IsRefusal task.options.limits.tokens task.options.limits.depth (font_of task bytes) glyphs why)
+IsRefused task bytes glyphs why = MatchBool task.widths (IsRefusalOfWidths task.options.limits.bytes task.options.limits.tokens task.options.limits.depth (font_of task bytes) glyphs why) (IsRefusal task.options.limits.bytes task.options.limits.tokens task.options.limits.depth (font_of task bytes) glyphs why)
 
 -- the asked glyphs are refused
 pub record IsRefusedTask (task : Task) (bytes : List ℕ) (failure : Failure) : Type 0 where

@@ -28,8 +28,9 @@ Options stand in front of IN, each once, in any order:
   --no-hinting      leave out the instructions of TrueType outlines
   --no-names        leave out the table name
   --no-glyph-names  leave out the glyphs' names in post
-  --limits TOKENS,DEPTH
-                    how far a charstring may run (default 1000000,64)
+  --limits TOKENS,DEPTH[,BYTES]
+                    how far a charstring may run (default 1000000,64), and how
+                    many bytes the font may have
   --json            print one JSON object in place of the lines
   --quiet           print no lines
   --                end the options

@@ -2,6 +2,7 @@
 
 ghost use Rattle.std.specs.Prelude.{◌≡◌, ◌⊎◌, [], ◌∷◌, IfOk, OnOk, IfErr};
 ghost use Rattle.cid_embed.specs.Embed.{numbering};
+ghost use Rattle.subsetter.specs.Bound.{IsWithin};
 ghost use Rattle.subset_font.specs.Asked.{IsAsked};
 ghost use Rattle.subset_font.specs.Made.{face_of, font_of, IsFaultless, IsFaultlessWithWidths, IsWidthText, IsMade, IsRefusal, IsRefusalOfWidths, IsRefusedTask, IsUnmade, width_text};
 ghost use Rattle.subset_font.specs.declared.failure.Failure.TheVariants.{Error as Refused};
@@ -48,7 +49,8 @@ fn make_plain(
 ) -> Result<(Vec<u8>, GlyphRemapper), Error>
     ensures mapper { IfOk result (λ made. made.1 ≡ numbering glyphs.now) }
     ensures clean { IfOk result (λ made. IsFaultless task.now.options.limits.tokens task.now.options.limits.depth (font_of task.now font.now) glyphs.now made.0.items) }
-    ensures err { IfErr result (λ e. (e ≡ OutOfMemory) ⊎ IsRefusal task.now.options.limits.tokens task.now.options.limits.depth (font_of task.now font.now) glyphs.now e) }
+    ensures within { IfOk result (λ made. IsWithin task.now.options.limits.bytes made.0.items) }
+    ensures err { IfErr result (λ e. (e ≡ OutOfMemory) ⊎ IsRefusal task.now.options.limits.bytes task.now.options.limits.tokens task.now.options.limits.depth (font_of task.now font.now) glyphs.now e) }
 {
     let mapper = GlyphRemapper::new_from_glyphs(alloc, glyphs)?;
     let subset = subset_with_options(alloc, font, task.index, &mapper, &task.options)?;
@@ -64,8 +66,9 @@ fn make_with_widths(
 ) -> Result<(Vec<u8>, GlyphRemapper, Vec<u8>), Error>
     ensures mapper { IfOk result (λ made. made.1 ≡ numbering glyphs.now) }
     ensures clean { IfOk result (λ made. IsFaultlessWithWidths task.now.options.limits.tokens task.now.options.limits.depth (font_of task.now font.now) glyphs.now made.0.items) }
+    ensures within { IfOk result (λ made. IsWithin task.now.options.limits.bytes made.0.items) }
     ensures text { IfOk result (λ made. IsWidthText task.now.form (font_of task.now font.now) glyphs.now made.2.items) }
-    ensures err { IfErr result (λ e. (e ≡ OutOfMemory) ⊎ IsRefusalOfWidths task.now.options.limits.tokens task.now.options.limits.depth (font_of task.now font.now) glyphs.now e) }
+    ensures err { IfErr result (λ e. (e ≡ OutOfMemory) ⊎ IsRefusalOfWidths task.now.options.limits.bytes task.now.options.limits.tokens task.now.options.limits.depth (font_of task.now font.now) glyphs.now e) }
 {
     let mapper = GlyphRemapper::new_from_glyphs(alloc, glyphs)?;
     let embedded = embed_with_options(alloc, font, task.index, glyphs, &task.options)?;

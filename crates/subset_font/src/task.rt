@@ -1,6 +1,6 @@
 //! What is made of the font that is read.
 
-ghost use Rattle.std.specs.Prelude.{◌≡◌};
+ghost use Rattle.std.specs.Prelude.{◌≡◌, None};
 ghost use Rattle.subset_font.specs.Chosen.{LimitsAreChosen, extras_chosen, form_chosen};
 
 use subset_args::{RunLimits, Switches};
@@ -43,12 +43,27 @@ pub struct Task<'a> {
     pub form: Form,
 }
 
+/// With a bound on the bytes of the font, if there is one.
+fn bounded(limits: Limits, bytes: Option<u32>) -> Limits
+    ensures tokens { result.tokens ≡ limits.tokens }
+    ensures depth { result.depth ≡ limits.depth }
+    ensures bytes { limits.bytes ≡ None → result.bytes ≡ bytes }
+{
+    match bytes {
+        Some(most) => limits.with_bytes(most),
+        None => limits,
+    }
+}
+
 /// The limits that are said, else the default ones.
 pub fn limits_of(limits: Option<RunLimits>) -> Limits
     ensures { LimitsAreChosen limits result }
 {
     match limits {
-        Some(limits) => Limits::new(limits.tokens, limits.depth).unwrap_or(Limits::default()),
+        Some(said) => {
+            let limits = Limits::new(said.tokens, said.depth).unwrap_or(Limits::default());
+            bounded(limits, said.bytes)
+        }
         None => Limits::default(),
     }
 }

@@ -92,7 +92,8 @@ fn miss_by_kind(alloc: Global, font: &[u8], row: &Row<'_>, limits: &Limits) -> O
         Kind::Subset => "subset",
         Kind::Limits => "subset_with_limits",
         Kind::Embed => "embed",
-        Kind::Options | Kind::EmbedOptions => return None,
+        Kind::Options | Kind::BoundedOptions | Kind::EmbedOptions | Kind::EmbedBoundedOptions =>
+            return None,
     };
     let answered = by_kind(alloc, font, row, limits);
     let difference = compare(&answered, &row.wanted)?;

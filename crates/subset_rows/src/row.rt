@@ -13,8 +13,10 @@ pub enum Kind {
     Subset,
     Limits,
     Options,
+    BoundedOptions,
     Embed,
     EmbedOptions,
+    EmbedBoundedOptions,
 }
 
 /// The kind that a word says.
@@ -23,8 +25,10 @@ pub fn kind_of(word: &str) -> Option<Kind> {
         "subset" => Some(Kind::Subset),
         "limits" => Some(Kind::Limits),
         "options" => Some(Kind::Options),
+        "bounded_options" => Some(Kind::BoundedOptions),
         "embed" => Some(Kind::Embed),
         "embed_options" => Some(Kind::EmbedOptions),
+        "embed_bounded_options" => Some(Kind::EmbedBoundedOptions),
         _ => None,
     }
 }
@@ -32,7 +36,10 @@ pub fn kind_of(word: &str) -> Option<Kind> {
 impl Kind {
     /// Whether the row has CIDs and widths.
     pub fn embeds(&self) -> bool {
-        matches!(self, Kind::Embed | Kind::EmbedOptions)
+        matches!(
+            self,
+            Kind::Embed | Kind::EmbedOptions | Kind::EmbedBoundedOptions
+        )
     }
 }
 
@@ -90,6 +97,23 @@ fn options_of(tokens: u32, depth: u32, drop: u32) -> Result<Options, u32> {
     Ok(Options { limits, extras })
 }
 
+/// Limits with the most bytes that a new font may have, where 0 stands for no such limit.
+fn bounded(limits: Limits, bytes: u32) -> Limits {
+    if bytes == 0 {
+        limits
+    } else {
+        limits.with_bytes(bytes)
+    }
+}
+
+/// Options with the most bytes that a new font may have.
+fn bounded_options(options: Options, bytes: u32) -> Options {
+    Options {
+        limits: bounded(options.limits, bytes),
+        extras: options.extras,
+    }
+}
+
 /// A number of a row.
 fn number(word: &str) -> Result<u32, Failure> {
     u32_of(word).ok_or(Failure::Row)
@@ -111,6 +135,17 @@ fn choices<'a, 'b>(
             let options = options_of(number(tokens)?, number(depth)?, number(drop)?);
             Ok((options, behind))
         }
+        (
+            Kind::BoundedOptions | Kind::EmbedBoundedOptions,
+            [tokens, depth, drop, bytes, behind @ ..],
+        ) => {
+            let bytes = number(bytes)?;
+            let options = options_of(number(tokens)?, number(depth)?, number(drop)?);
+            Ok((
+                options.map(|options| bounded_options(options, bytes)),
+                behind,
+            ))
+        }
         _ => Err(Failure::Row),
     }
 }
@@ -118,10 +153,13 @@ fn choices<'a, 'b>(
 /// The answer of a row by its kind.
 fn wanted(alloc: Global, kind: Kind, words: &[&str]) -> Result<Answer, Failure> {
     let (status, font, cids, widths) = match (kind, words) {
-        (Kind::Embed | Kind::EmbedOptions, [status, font, cids, widths]) => {
-            (status, font, *cids, *widths)
-        }
-        (Kind::Subset | Kind::Limits | Kind::Options, [status, font]) => (status, font, "-", "-"),
+        (
+            Kind::Embed | Kind::EmbedOptions | Kind::EmbedBoundedOptions,
+            [status, font, cids, widths],
+        ) => (status, font, *cids, *widths),
+        (Kind::Subset | Kind::Limits | Kind::Options | Kind::BoundedOptions, [status, font]) => (
+            status, font, "-", "-",
+        ),
         _ => return Err(Failure::Row),
     };
     Ok(Answer {

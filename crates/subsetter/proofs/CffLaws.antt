@@ -4,3 +4,4 @@ pub mod Order
 pub mod Subset
 pub mod Fault
 pub mod TwoLimits
+pub mod Bound

@@ -5,19 +5,23 @@ use Rattle.std.specs.Option.{option_and_then}
 use Rattle.subsetter_base.specs.Bytes.{IsBytes}
 use Rattle.subsetter_base.specs.Places.{IsWithoutRepeats}
 use Rattle.subsetter_base.specs.declared.error.Error.{Error}
-use Rattle.subsetter_base.specs.declared.error.Error.TheVariants.{UnknownKind, Unimplemented, OutOfMemory}
+use Rattle.subsetter_base.specs.declared.error.Error.TheVariants.{UnknownKind, Unimplemented, OverflowError, OutOfMemory}
 use Rattle.subsetter_sfnt.specs.declared.flavor.FontFlavor.{FontFlavor}
 use Rattle.subsetter_sfnt.specs.declared.flavor.FontFlavor.TheVariants.{TrueType, Cff}
 use Rattle.subsetter.specs.Truetype.Answered.{IsAnswered, IsRefused}
 use Rattle.subsetter.specs.Cff.Plain.{cff_file}
 use Rattle.subsetter.specs.Fault as faults
 use Rattle.subsetter.specs.Fault.{HasFault}
-use Rattle.subsetter.specs.Answer.{IsAnswer, HasNoAnswer}
+use Rattle.subsetter.specs.Answer.{IsAnswer}
+use Rattle.subsetter.specs.Bound.{IsBeyond, HasNoAnswerWithin, in_font, beyond}
+use Rattle.subsetter_base.specs.Within.{IsTooLong}
 use Rattle.subsetter_sfnt.specs.Extras.{asked}
 use Rattle.subsetter_sfnt.specs.Read.{Font, table, table_in, flavor}
 use Rattle.subsetter_sfnt.specs.Plain.{opened, flavored}
 use Rattle.subsetter_sfnt.specs.Fault.{HasOpeningFault, no_kind, no_entry, entry_outside, no_face, nested, cut_directory, no_outlines, lone_cff2}
-use Rattle.subsetter.proofs.TruetypeLaws.Fault.{Stands, has_fault, no_fault}
+use Rattle.subsetter.proofs.TruetypeLaws.Fault.{StandsWithin, has_fault, no_fault}
+use Rattle.subsetter.proofs.TruetypeLaws.Bound.{none_within}
+use Rattle.subsetter.proofs.CffLaws.Bound.{is_beyond}
 use Rattle.subsetter_sfnt.proofs.Laws.Fault.{opened_refused, opened_records, flavored_refused, opened_clean}
 use Rattle.subsetter.proofs.TruetypeLaws.Subset.{is_subset}
 use Rattle.subsetter.proofs.CffLaws.Fault.{cff_has_fault, is_cff_subset}
@@ -67,18 +71,18 @@ not_memory font e (cut_directory at a b) h = cc
 not_memory font e (no_outlines a b c d) h = cc
 not_memory font e (lone_cff2 a b c) h = cc
 
-module _ (tokens depth : ℕ) (font : Font) (glyphs : List ℕ) where
-  pub unopened : (e : Error) → opened font ≡ Err e → (e ≡ OutOfMemory) ⊎ Stands tokens depth font glyphs e
-  unopened e h = inr ([], faults.in_opening (opened_refused font e h))
+module _ (bound : Option ℕ) (tokens depth : ℕ) (font : Font) (glyphs : List ℕ) where
+  pub unopened : (e : Error) → opened font ≡ Err e → (e ≡ OutOfMemory) ⊎ StandsWithin bound tokens depth font glyphs e
+  unopened e h = inr ([], in_font (faults.in_opening (opened_refused font e h)))
 
-  pub unflavored : (d : List ℕ) (e : Error) → opened font ≡ Ok d → flavored (asked font.extras (table_in font.bytes d)) ≡ Err e → (e ≡ OutOfMemory) ⊎ Stands tokens depth font glyphs e
-  unflavored d e o h = inr ([], faults.in_opening (flavored_refused font d e o h))
+  pub unflavored : (d : List ℕ) (e : Error) → opened font ≡ Ok d → flavored (asked font.extras (table_in font.bytes d)) ≡ Err e → (e ≡ OutOfMemory) ⊎ StandsWithin bound tokens depth font glyphs e
+  unflavored d e o h = inr ([], in_font (faults.in_opening (flavored_refused font d e o h)))
 
-  pub unopened_no_answer : (e : Error) → opened font ≡ Err e → (e ≡ OutOfMemory) ⊎ HasNoAnswer tokens depth font glyphs
-  unopened_no_answer e h = inr (not_opened tokens depth font glyphs e (opened_refused font e h))
+  pub unopened_no_answer : (e : Error) → opened font ≡ Err e → (e ≡ OutOfMemory) ⊎ HasNoAnswerWithin bound tokens depth font glyphs
+  unopened_no_answer e h = inr (λ out within a. not_opened tokens depth font glyphs e (opened_refused font e h) out a)
 
-  pub unflavored_no_answer : (d : List ℕ) (e : Error) → opened font ≡ Ok d → flavored (asked font.extras (table_in font.bytes d)) ≡ Err e → (e ≡ OutOfMemory) ⊎ HasNoAnswer tokens depth font glyphs
-  unflavored_no_answer d e o h = inr (not_opened tokens depth font glyphs e (flavored_refused font d e o h))
+  pub unflavored_no_answer : (d : List ℕ) (e : Error) → opened font ≡ Ok d → flavored (asked font.extras (table_in font.bytes d)) ≡ Err e → (e ≡ OutOfMemory) ⊎ HasNoAnswerWithin bound tokens depth font glyphs
+  unflavored_no_answer d e o h = inr (λ out within a. not_opened tokens depth font glyphs e (flavored_refused font d e o h) out a)
 
   module _ (d : List ℕ) (o : opened font ≡ Ok d) (h : flavored (asked font.extras (table_in font.bytes d)) ≡ Ok TrueType) where
     glyf_there : IsSome (table font (codes "glyf"))
@@ -89,14 +93,14 @@ module _ (tokens depth : ℕ) (font : Font) (glyphs : List ℕ) where
         let b : IsAnswered font.extras.hinting (table font) glyphs out = subst (λ (find : List ℕ → Option (List ℕ)). IsAnswered font.extras.hinting find glyphs out) (find_is font d o) a in
         is_subset tokens depth font glyphs out bytes (some_given glyphs first) (has_flavor font d TrueType o h) b (no_fault tokens depth font glyphs out bytes glyf_there (λ e. opened_clean font d TrueType e o h) b)
 
-    refused : (e : Error) → IsRefused font.extras.hinting (asked font.extras (table_in font.bytes d)) glyphs e → IsRefused font.extras.hinting (table font) glyphs e
-    refused e r = subst (λ (find : List ℕ → Option (List ℕ)). IsRefused font.extras.hinting find glyphs e) (find_is font d o) r
+    refused : (e : Error) → IsRefused font.extras.hinting (asked font.extras (table_in font.bytes d)) bound glyphs e → IsRefused font.extras.hinting (table font) bound glyphs e
+    refused e r = subst (λ (find : List ℕ → Option (List ℕ)). IsRefused font.extras.hinting find bound glyphs e) (find_is font d o) r
 
-    pub truetype_refused : (e : Error) → IsRefused font.extras.hinting (asked font.extras (table_in font.bytes d)) glyphs e → (e ≡ OutOfMemory) ⊎ Stands tokens depth font glyphs e
-    truetype_refused e r = has_fault tokens depth font glyphs e glyf_there (refused e r)
+    pub truetype_refused : (e : Error) → IsRefused font.extras.hinting (asked font.extras (table_in font.bytes d)) bound glyphs e → (e ≡ OutOfMemory) ⊎ StandsWithin bound tokens depth font glyphs e
+    truetype_refused e r = has_fault bound tokens depth font glyphs e glyf_there (refused e r)
 
-    pub truetype_no_answer : (e : Error) → IsRefused font.extras.hinting (asked font.extras (table_in font.bytes d)) glyphs e → (e ≡ OutOfMemory) ⊎ HasNoAnswer tokens depth font glyphs
-    truetype_no_answer e r = no_truetype tokens depth font glyphs e glyf_there (refused e r)
+    pub truetype_no_answer : (e : Error) → IsRefused font.extras.hinting (asked font.extras (table_in font.bytes d)) bound glyphs e → (e ≡ OutOfMemory) ⊎ HasNoAnswerWithin bound tokens depth font glyphs
+    truetype_no_answer e r = no_truetype tokens depth font glyphs bound e glyf_there (refused e r)
 
     pub opening_clean : (e : Error) → HasOpeningFault font e → ⊥
     opening_clean e f = opened_clean font d TrueType e o h f
@@ -114,11 +118,20 @@ module _ (tokens depth : ℕ) (font : Font) (glyphs : List ℕ) where
     cff_stands e once r =
         cff_has_fault tokens depth font glyphs kind (has_cff (table font (codes "glyf")) (table font (codes "CFF ")) kind) once e (subst (λ (find : List ℕ → Option (List ℕ)). cff_file find tokens depth glyphs ≡ Err e) (find_is font d o) r)
 
-    pub cff_refused : (e : Error) → IsWithoutRepeats glyphs → cff_file (asked font.extras (table_in font.bytes d)) tokens depth glyphs ≡ Err e → (e ≡ OutOfMemory) ⊎ Stands tokens depth font glyphs e
-    cff_refused e once r = inr (glyphs, cff_stands e once r)
+    pub cff_refused : (e : Error) → IsWithoutRepeats glyphs → cff_file (asked font.extras (table_in font.bytes d)) tokens depth glyphs ≡ Err e → (e ≡ OutOfMemory) ⊎ StandsWithin bound tokens depth font glyphs e
+    cff_refused e once r = inr (glyphs, in_font (cff_stands e once r))
 
-    pub cff_no_answer : (e : Error) → IsWithoutRepeats glyphs → cff_file (asked font.extras (table_in font.bytes d)) tokens depth glyphs ≡ Err e → (e ≡ OutOfMemory) ⊎ HasNoAnswer tokens depth font glyphs
-    cff_no_answer e once r = inr (no_charstrings tokens depth font glyphs e kind (cff_stands e once r))
+    pub cff_no_answer : (e : Error) → IsWithoutRepeats glyphs → cff_file (asked font.extras (table_in font.bytes d)) tokens depth glyphs ≡ Err e → (e ≡ OutOfMemory) ⊎ HasNoAnswerWithin bound tokens depth font glyphs
+    cff_no_answer e once r = inr (λ out within a. no_charstrings tokens depth font glyphs e kind (cff_stands e once r) out a)
+
+    long : IsTooLong bound length (cff_file (asked font.extras (table_in font.bytes d)) tokens depth glyphs) → IsBeyond bound tokens depth font glyphs
+    long p = is_beyond tokens depth font glyphs kind bound (subst (λ (find : List ℕ → Option (List ℕ)). IsTooLong bound length (cff_file find tokens depth glyphs)) (find_is font d o) p)
+
+    pub cff_long : IsTooLong bound length (cff_file (asked font.extras (table_in font.bytes d)) tokens depth glyphs) → (OverflowError ≡ OutOfMemory) ⊎ StandsWithin bound tokens depth font glyphs OverflowError
+    cff_long p = inr (glyphs, beyond (long p))
+
+    pub cff_long_no_answer : IsTooLong bound length (cff_file (asked font.extras (table_in font.bytes d)) tokens depth glyphs) → (OverflowError ≡ OutOfMemory) ⊎ HasNoAnswerWithin bound tokens depth font glyphs
+    cff_long_no_answer p = inr (none_within bound tokens depth font glyphs (long p))
 
     pub cff_opening_clean : (e : Error) → HasOpeningFault font e → ⊥
     cff_opening_clean e f = opened_clean font d Cff e o h f

@@ -11,3 +11,4 @@ pub mod Headline
 pub mod TwoLimits
 pub mod NoAnswer
 pub mod NoInstructions
+pub mod NoBound

@@ -3,3 +3,4 @@ pub mod Steps
 pub mod Subset
 pub mod Fault
 pub mod PlainAnswers
+pub mod Bound

@@ -4,6 +4,7 @@ pub mod Parts
 pub mod Bare
 pub mod Instructions
 pub mod Reach
+pub mod Size
 pub mod Unfold
 pub mod Written
 pub mod Plain

@@ -13,3 +13,4 @@ pub mod Limits
 pub mod Fault
 pub mod Subset
 pub mod Answer
+pub mod Bound

@@ -3,8 +3,8 @@
 //! The new table is made by `subsetter_cff`, in two pieces. Its glyphs are the given ones and no others, as a charstring
 //! leads to no further glyph.
 
-ghost use Rattle.std.specs.Prelude.{◌≡◌};
-ghost use Rattle.subsetter_base.specs.Gives.{Gives};
+ghost use Rattle.std.specs.Prelude.{◌≡◌, length};
+ghost use Rattle.subsetter_base.specs.Within.{GivesWithin};
 ghost use Rattle.subsetter_sfnt.specs.FontAt.{tables_of};
 ghost use Rattle.subsetter.specs.TableView.{font_seen};
 ghost use Rattle.subsetter.specs.Cff.Plain.{made_of, font_of};
@@ -40,7 +40,7 @@ impl<'a> CffTables<'a> {
         limits: Limits,
         mapper: &GlyphRemapper,
     ) -> Result<Self, Error>
-        ensures { Gives made_seen result (made_of (tables_of face.now) source.now limits.tokens limits.depth mapper.now) }
+        ensures { GivesWithin made_seen limits.bytes (λ m. length m.cff) result (made_of (tables_of face.now) source.now limits.tokens limits.depth mapper.now) }
     {
         let table = subsetter_cff::subset(alloc, source, mapper, limits)?;
         let shared = SharedTables::build(alloc, face, FontFlavor::Cff, false, mapper)?;

@@ -14,16 +14,17 @@
 //! the code's own tables. An outline needs `loca`, `glyf` and 52 bytes of `head`, as the format of `loca` stands at
 //! byte 50.
 
-ghost use Rattle.std.specs.Prelude.{◌≡◌, ◌+◌, ◌<◌, ◌≤◌, ◌^◌, [], ◌++◌, ◌⊎◌, length, map, IfOk, IfErr, IfSome, OnOk, Ok, Err};
+ghost use Rattle.std.specs.Prelude.{◌≡◌, ◌+◌, ◌<◌, ◌≤◌, ◌^◌, ◌||◌, true, false, if◌then◌else◌, [], ◌++◌, ◌⊎◌, length, map, IfOk, IfErr, IfSome, OnOk, Ok, Err};
 ghost use Rattle.std.specs.Option.{option_copied};
 ghost use Rattle.subsetter_base.specs.Gives.{Gives, Fails};
 ghost use Rattle.subsetter_base.specs.Places.{IsWithoutRepeats};
-ghost use Rattle.subsetter.specs.Glyf.Closure.{first_byte_in, AreFound, EndsWith, IsTaken, components_in, others_in, lacks_glyph_header, LacksParts, IsFaulty, IsFull, IsVisited, StopsClosure, Finds};
+ghost use Rattle.subsetter.specs.Glyf.Closure.{first_byte_in, AreFound, EndsWith, IsTaken, components_in, others_in, LacksParts, IsFaulty, IsFull, IsVisited, StopsClosure, Finds};
 ghost use Rattle.subsetter_sfnt.specs.FontAt.{tables_of};
 ghost use Rattle.subsetter.specs.Glyf.Read.{offset, outline_in};
 ghost use Rattle.subsetter.specs.Glyf.View.{seen};
 ghost use Rattle.subsetter.specs.Glyf.Plain.{outlines_read, kept_outlines, with_outlines};
 ghost use Rattle.subsetter.specs.Glyf.Reach.{IsGlyphOrderBy};
+ghost use Rattle.subsetter.specs.Glyf.Size.{asked_size, asked_sizes};
 ghost use Rattle.subsetter_base.specs.declared.error.Error.TheVariants.{OutOfMemory, MalformedFont, OverflowError};
 
 mod component;
@@ -31,7 +32,7 @@ pub mod f2dot14;
 pub mod outlines;
 mod pieces;
 
-use crate::glyf::component::{Components, is_composite};
+use crate::glyf::component::{Count, is_composite, push_components};
 use crate::glyf::outlines::OutlineList;
 use crate::head::loca_format;
 use std::alloc::Global;
@@ -100,6 +101,12 @@ impl<'a> GlyfTables<'a> {
         Reader::new_at(self.glyf, from).read_bytes(to - from)
     }
 }
+
+/// What is counted of an outline that isn't followed.
+const NOTHING: Count = Count {
+    bytes: 0,
+    cut: false,
+};
 
 /// The order of the glyphs of a subset, and the outline of each as it is looked up, if it is there.
 #[derive(Drop)]
@@ -176,62 +183,34 @@ pub fn subset<'a>(
     Ok(list)
 }
 
-/// Whether an outline has one byte, or is a composite that is shorter than its head.
-#[tactic(auto, unfolding(crate::specs::Glyf::Closure::lacks_glyph_header))]
-fn lacks_glyph_header(outline: &[u8]) -> bool
-    ensures { result ≡ lacks_glyph_header outline.now }
-{
-    match outline {
-        [] => false,
-        [_] => true,
-        [high, _, ..] => is_composite(*high) && outline.len() < 10,
-    }
-}
-
-/// Puts the components of a composite that are not in the order behind those that wait.
-/// `MalformedFont` where the outline has one byte or is shorter than its head.
-fn push_components(
-    outline: Option<&[u8]>,
-    order: &GlyphRemapper,
-    waiting: &mut Vec<u16>,
-) -> Result<(), Error>
-    ensures ok { OnOk result (waiting.new.items ≡ waiting.old.items ++ others_in order.now (components_in (option_copied outline.entry))) }
-    ensures err { IfErr result (λ e. (e ≡ OutOfMemory) ⊎ ((e ≡ MalformedFont) × LacksParts (option_copied outline.entry))) }
-{
-    let Some(outline) = outline else {
-        return Ok(());
-    };
-    if lacks_glyph_header(outline) {
-        return Err(Error::MalformedFont);
-    }
-    for component in Components::new(outline) {
-        if order.get(component).is_none() {
-            waiting.push(component)?;
-        }
-    }
-    Ok(())
-}
-
-/// Puts the components of an outline with this first byte, which a simple one doesn't have, behind those that wait.
-/// `MalformedFont` where the outline has one byte or is a composite that is shorter than its head.
+/// Puts the components of an outline with this first byte, which a simple one doesn't have, behind those that wait, and
+/// counts the bytes of a composite. A simple outline counts as 0 here: it is never followed, and `OutlineList` counts it.
+/// `MalformedFont` where the outline has one byte or is a composite of fewer than ten.
 fn follow(
     first: u8,
     outline: Option<&[u8]>,
     order: &GlyphRemapper,
     waiting: &mut Vec<u16>,
-) -> Result<(), Error>
+    hinting: bool,
+) -> Result<Count, Error>
     requires { first ≡ first_byte_in (option_copied outline) }
     ensures ok { OnOk result (waiting.new.items ≡ waiting.old.items ++ others_in order.now (components_in (option_copied outline.entry))) }
+    ensures size { IfOk result (λ n. n.cut ≡ false → n.bytes ≤ asked_size hinting (option_copied outline.entry)) }
+    ensures cut { IfOk result (λ n. n.cut ≡ true → LacksParts (option_copied outline.entry)) }
     ensures err { IfErr result (λ e. (e ≡ OutOfMemory) ⊎ ((e ≡ MalformedFont) × LacksParts (option_copied outline.entry))) }
 {
     if is_composite(first) {
-        push_components(outline, order, waiting)
+        let Some(outline) = outline else {
+            return Ok(NOTHING);
+        };
+        push_components(outline, order, waiting, hinting)
     } else {
-        Ok(())
+        Ok(NOTHING)
     }
 }
 
 /// Takes a glyph that waited: a new one goes last in the order, its outline last, and its components wait.
+/// Counts the bytes of a new composite.
 /// `OverflowError` where there is no room for it; otherwise the errors of its components.
 fn visit<'a>(
     table: &GlyfTables<'a>,
@@ -239,24 +218,49 @@ fn visit<'a>(
     outlines: &mut Vec<Option<&'a [u8]>>,
     waiting: &mut Vec<u16>,
     glyph: u16,
-) -> Result<(), Error>
+) -> Result<Count, Error>
     requires { AreFound (seen table.now) order.old outlines.old.items }
     ensures ok { OnOk result (IsVisited (seen table.now) order.old waiting.old.items glyph order.new waiting.new.items) }
     ensures found { OnOk result (AreFound (seen table.now) order.new outlines.new.items) }
+    ensures size { IfOk result (λ n. n.cut ≡ false → n.bytes + asked_sizes table.now.hinting (outline_in (seen table.now)) order.old ≤ asked_sizes table.now.hinting (outline_in (seen table.now)) order.new) }
+    ensures cut { IfOk result (λ n. n.cut ≡ true → IsFaulty (seen table.now) glyph) }
     ensures err { IfErr result (λ e. (e ≡ OutOfMemory) ⊎ (((e ≡ MalformedFont) × IsFaulty (seen table.now) glyph) ⊎ ((e ≡ OverflowError) × IsFull order.old glyph))) }
 {
-    let count = order.num_gids();
+    let known = order.num_gids();
     if order.get(glyph).is_some() {
-        return Ok(());
+        return Ok(NOTHING);
     }
-    if count == u16::MAX {
+    if known == u16::MAX {
         return Err(Error::OverflowError);
     }
     order.remap(glyph)?;
     let outline = table.glyph_data(glyph);
     outlines.push(outline)?;
-    follow(first_byte(outline), outline, order, waiting)?;
-    Ok(())
+    let count = follow(first_byte(outline), outline, order, waiting, table.hinting)?;
+    Ok(count)
+}
+
+/// What is counted of composites, and of one more. Where these are more than `most` bytes: `MalformedFont` if one of them
+/// is cut, otherwise `OverflowError`. No memory is taken.
+fn longer(size: Count, more: Count, most: u32) -> Result<Count, Error>
+    requires { size.bytes ≤ most }
+    ensures bytes { IfOk result (λ n. n.bytes ≡ size.bytes + more.bytes) }
+    ensures cut { IfOk result (λ n. n.cut ≡ (size.cut || more.cut)) }
+    ensures within { IfOk result (λ n. n.bytes ≤ most) }
+    ensures err { IfErr result (λ e. (e ≡ (if size.cut || more.cut then MalformedFont else OverflowError)) × (most < size.bytes + more.bytes)) }
+{
+    let cut = size.cut || more.cut;
+    if more.bytes > most as usize - size.bytes {
+        return Err(if cut {
+            Error::MalformedFont
+        } else {
+            Error::OverflowError
+        });
+    }
+    Ok(Count {
+        bytes: size.bytes + more.bytes,
+        cut,
+    })
 }
 
 /// Stands for the first byte of an outline that has no other one, so that it counts as a composite. The closure follows it
@@ -308,29 +312,34 @@ fn pop_first_byte(first_bytes: &mut Vec<u8>, outlines: &[Option<&[u8]>]) -> Resu
 ///
 /// The last of the waiting glyphs is taken first, and the mapper's glyphs lie below all others. The outlines of these are
 /// begun a block at a time, and the components of a block are read while it is at hand.
-/// `OverflowError` where all 65536 numbers are reached; `MalformedFont` where a reached glyph has
-/// one byte or is a composite that is shorter than its head.
+/// `OverflowError` where all 65536 numbers are reached, or composites that have more than `most` bytes together in the new
+/// `glyf`, before their components are followed; `MalformedFont` where a reached glyph has one byte or is a composite of
+/// fewer than ten, or the composites with those that are cut have more than `most`.
 pub fn closure<'a>(
     alloc: Global,
     table: &GlyfTables<'a>,
     mapper: &GlyphRemapper,
+    most: u32,
 ) -> Result<GlyphClosure<'a>, Error>
     ensures ok { IfOk result (λ r. IsGlyphOrderBy (outline_in (seen table.now)) mapper.now r.order) }
     ensures found { IfOk result (λ r. Finds (seen table.now) r.order mapper.now [] mapper.now) }
     ensures outlines { IfOk result (λ r. AreFound (seen table.now) r.order r.outlines.items) }
-    ensures err { IfErr result (λ e. StopsClosure (seen table.now) mapper.now e) }
+    ensures err { IfErr result (λ e. StopsClosure (seen table.now) mapper.now most e) }
 {
     let mut order = mapper.clone()?;
     let mut outlines = find_outlines(alloc, table, mapper)?;
     let mut left = mapper.num_gids() as usize;
     let mut first_bytes = Vec::with_capacity(alloc, left.min(PREFETCH_BLOCK))?;
     let mut waiting = Vec::new(alloc);
+    let mut size = NOTHING;
     while left > 0 {
         let first = pop_first_byte(&mut first_bytes, &outlines[..left])?;
         left -= 1;
-        follow(first, outlines[left], &order, &mut waiting)?;
+        let given = follow(first, outlines[left], &order, &mut waiting, table.hinting)?;
+        size = longer(size, given, most)?;
         while let Some(component) = waiting.pop() {
-            visit(table, &mut order, &mut outlines, &mut waiting, component)?;
+            let further = visit(table, &mut order, &mut outlines, &mut waiting, component)?;
+            size = longer(size, further, most)?;
         }
     }
     Ok(GlyphClosure { order, outlines })

@@ -31,6 +31,8 @@ const STANDARD_NAMES: u16 = 258;
 const FIRST_CUSTOM: usize = STANDARD_NAMES as usize;
 /// How many own names have an index of 16 bits.
 const CUSTOM_MAX: usize = 65_278;
+/// From how many bytes of names on their room is counted before they are written, and not grown.
+const LARGE_NAMES: usize = 1_048_576;
 
 /// Names, each behind its length byte. An empty name is a name; a cut one ends them.
 #[derive(Drop)]
@@ -335,6 +337,23 @@ fn write_names(w: &mut Writer, indexes: &[u16], names: &NameList<'_>) -> Result<
     Ok(())
 }
 
+/// How many bytes the names take that the indexes name, where the font's are large; else 0, and room grows as they are written.
+fn room_for_names(indexes: &[u16], names: &NameList<'_>) -> usize {
+    if names.all.len() < LARGE_NAMES {
+        return 0;
+    }
+    let mut room: usize = 0;
+    for index in indexes {
+        if *index >= STANDARD_NAMES {
+            let place = usize::from(*index) - FIRST_CUSTOM;
+            room = room
+                .saturating_add(names.name(place).len())
+                .saturating_add(1);
+        }
+    }
+    room
+}
+
 /// Writes a table of version 2.0.
 #[tactic(auto, unfolding(crate::specs::Post::Plain::post_of_indexes))]
 fn write_table(
@@ -351,7 +370,8 @@ fn write_table(
     if count_custom(indexes) > CUSTOM_MAX {
         return Err(Error::OverflowError);
     }
-    let mut w = Writer::with_capacity(alloc, 34 + 2 * indexes.len())?;
+    let room = room_for_names(indexes, names).saturating_add(34 + 2 * indexes.len());
+    let mut w = Writer::with_capacity(alloc, room)?;
     w.extend(table.header)?;
     w.write(&count)?;
     write_indexes(&mut w, indexes)?;

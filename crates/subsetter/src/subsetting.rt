@@ -1,10 +1,10 @@
 //! Subsetting a font.
 
-ghost use Rattle.std.specs.Prelude.{◌≡◌, ◌≢◌, ◌⊎◌, ℕ, List, IfOk, IfErr, OnOk, Err};
+ghost use Rattle.std.specs.Prelude.{◌≡◌, ◌≢◌, ◌⊎◌, ℕ, List, false, length, IfOk, IfErr, OnOk, Err};
 ghost use Rattle.std.specs.Bool.{OnFalse};
 ghost use Rattle.subsetter_base.specs.declared.error.Error.TheVariants.{OutOfMemory};
 ghost use Rattle.subsetter_base.specs.declared.error.Error.{Error as SpecError};
-ghost use Rattle.subsetter_base.specs.Gives.{Gives};
+ghost use Rattle.subsetter_base.specs.Within.{GivesWithin, is_past};
 ghost use Rattle.subsetter.specs.Cff.Plain.{cff_file};
 ghost use Rattle.subsetter_sfnt.specs.Read.{as_font};
 ghost use Rattle.subsetter_sfnt.specs.Extras.{all_extras};
@@ -16,6 +16,7 @@ ghost use Rattle.subsetter_sfnt.specs.Fault.{HasOpeningFault};
 ghost use Rattle.subsetter.specs.Limits.{token_limit, depth_limit};
 ghost use Rattle.subsetter.specs.Subset.{IsSubset};
 ghost use Rattle.subsetter.specs.Answer.{IsAnswer, HasNoAnswer, IsTheAnswer};
+ghost use Rattle.subsetter.specs.Bound.{IsWithin, HasFaultWithin, HasNoAnswerWithin};
 
 use crate::cff::{self, CffTables};
 use crate::choice::Options;
@@ -31,13 +32,19 @@ use subsetter_sfnt::parse::parse;
 use subsetter_sfnt::tables::in_order;
 use subsetter_type2::limits::Limits;
 
-/// A subset of a TrueType font.
-fn subset_truetype(alloc: Global, face: &Face<'_>, mapper: &GlyphRemapper) -> Result<Vec<u8>, Error>
+/// A subset of a TrueType font that has at most so many bytes.
+fn subset_truetype(
+    alloc: Global,
+    face: &Face<'_>,
+    bytes: Option<u32>,
+    mapper: &GlyphRemapper,
+) -> Result<Vec<u8>, Error>
     ensures ok { IfOk result (λ v. IsAnswered face.now.extras.hinting (tables_of face.now) mapper.now v.items) }
-    ensures err { IfErr result (λ e. IsRefused face.now.extras.hinting (tables_of face.now) mapper.now e) }
+    ensures within { IfOk result (λ v. is_past bytes (length v.items) ≡ false) }
+    ensures err { IfErr result (λ e. IsRefused face.now.extras.hinting (tables_of face.now) bytes mapper.now e) }
 {
     let table = GlyfTables::new(face)?;
-    let reached = glyf::closure(alloc, &table, mapper)?;
+    let reached = glyf::closure(alloc, &table, mapper, bytes.unwrap_or(u32::MAX))?;
     let GlyphClosure { order, outlines } = reached;
     // What `num_gids` says of the order, that it has fewer than 65536 glyphs, is a premise of the proof.
     let _count = order.num_gids();
@@ -45,7 +52,7 @@ fn subset_truetype(alloc: Global, face: &Face<'_>, mapper: &GlyphRemapper) -> Re
     // Its memory is free before room for the output is taken.
     drop(order);
     let list = in_order(alloc, truetype::font_tables(face, &made))?;
-    finish(alloc, FontFlavor::TrueType, &list)
+    finish(alloc, FontFlavor::TrueType, &list, bytes)
 }
 
 /// A subset of a font with a CFF table.
@@ -56,12 +63,13 @@ fn subset_cff(
     limits: Limits,
     mapper: &GlyphRemapper,
 ) -> Result<Vec<u8>, Error>
-    ensures { Gives (λ v. v.items) result (cff_file (tables_of face.now) limits.tokens limits.depth mapper.now) }
+    ensures gives { GivesWithin (λ v. v.items) limits.bytes length result (cff_file (tables_of face.now) limits.tokens limits.depth mapper.now) }
+    ensures within { IfOk result (λ v. is_past limits.bytes (length v.items) ≡ false) }
 {
     let source = face.table(Tag::CFF).ok_or(Error::MalformedFont)?;
     let made = CffTables::build(alloc, face, source, limits, mapper)?;
     let list = in_order(alloc, cff::font_tables(&made))?;
-    finish(alloc, FontFlavor::Cff, &list)
+    finish(alloc, FontFlavor::Cff, &list, limits.bytes())
 }
 
 /// A font that holds the glyphs of the mapper under their new numbers, then each further glyph that these reach through components, once.
@@ -145,15 +153,17 @@ pub fn subset(
     subset_with_limits(alloc, data, index, mapper, &Limits::default())
 }
 
-/// As `subset`, where the charstring of a glyph may run for other limits than 1,000,000 tokens and depth 64.
+/// As `subset`, where the charstring of a glyph may run for other limits than 1,000,000 tokens and depth 64, and where the
+/// new font may have a bound on its bytes.
 ///
-/// The outlines of `glyf` know no such limits: for them the answer is that of `subset`.
+/// The outlines of `glyf` know no tokens and no depth, but the bound holds for every font.
 ///
 /// # Errors
 ///
 /// Those of `subset`, with the chosen limits in place of the default ones: `CFFError` where the charstring of a glyph of
 /// the mapper comes to a call from the depth `limits.depth()`, its own charstring being at depth 1, or to a token past
-/// `limits.tokens()`.
+/// `limits.tokens()`. `OverflowError` also where the new font would have more than `limits.bytes()` bytes: the reached
+/// composites and the charstrings are counted while they are read, all else before a byte of the font is written.
 pub fn subset_with_limits(
     alloc: Global,
     data: &[u8],
@@ -168,10 +178,12 @@ pub fn subset_with_limits(
     // Its glyphs stand in the order in which they are found, so that there is one answer, whatever the limits.
     ensures exact { IfOk result (λ out. IsAnswer limits.now.tokens limits.now.depth (font_at «data».now index all_extras) mapper.now out.items) }
     ensures same { IfOk result (λ out. IsTheAnswer (font_at «data».now index all_extras) mapper.now out.items) }
-    // What is refused has a fault of that name.
-    ensures err { IfErr result (λ e. (e ≡ OutOfMemory) ⊎ ((order : List ℕ) × HasFault limits.now.tokens limits.now.depth (font_at «data».now index all_extras) mapper.now order e)) }
+    // It has no more bytes than it may have.
+    ensures within { IfOk result (λ out. IsWithin limits.now.bytes out.items) }
+    // What is refused has a fault of that name, or the bound on bytes is set and every answer passes it.
+    ensures err { IfErr result (λ e. (e ≡ OutOfMemory) ⊎ ((order : List ℕ) × HasFaultWithin limits.now.bytes limits.now.tokens limits.now.depth (font_at «data».now index all_extras) mapper.now order e)) }
     // And, unless out of memory, it has no answer: no call answers it within these limits.
-    ensures no_answer { IfErr result (λ e. (e ≡ OutOfMemory) ⊎ HasNoAnswer limits.now.tokens limits.now.depth (font_at «data».now index all_extras) mapper.now) }
+    ensures no_answer { IfErr result (λ e. (e ≡ OutOfMemory) ⊎ HasNoAnswerWithin limits.now.bytes limits.now.tokens limits.now.depth (font_at «data».now index all_extras) mapper.now) }
     // Where a fault stands that is found before memory is taken, the answer isn't out of memory.
     ensures before_memory { (e : SpecError) → HasOpeningFault (font_at «data».now index all_extras) e → result ≢ Err OutOfMemory }
 {
@@ -205,10 +217,12 @@ pub fn subset_with_options(
     // Its glyphs stand in the order in which they are found, so that there is one answer, whatever the limits.
     ensures exact { IfOk result (λ out. IsAnswer options.now.limits.tokens options.now.limits.depth (font_at «data».now index options.now.extras) mapper.now out.items) }
     ensures same { IfOk result (λ out. IsTheAnswer (font_at «data».now index options.now.extras) mapper.now out.items) }
-    // What is refused has a fault of that name.
-    ensures err { IfErr result (λ e. (e ≡ OutOfMemory) ⊎ ((order : List ℕ) × HasFault options.now.limits.tokens options.now.limits.depth (font_at «data».now index options.now.extras) mapper.now order e)) }
+    // It has no more bytes than it may have.
+    ensures within { IfOk result (λ out. IsWithin options.now.limits.bytes out.items) }
+    // What is refused has a fault of that name, or the bound on bytes is set and every answer passes it.
+    ensures err { IfErr result (λ e. (e ≡ OutOfMemory) ⊎ ((order : List ℕ) × HasFaultWithin options.now.limits.bytes options.now.limits.tokens options.now.limits.depth (font_at «data».now index options.now.extras) mapper.now order e)) }
     // And, unless out of memory, it has no answer: no call answers it within these limits.
-    ensures no_answer { IfErr result (λ e. (e ≡ OutOfMemory) ⊎ HasNoAnswer options.now.limits.tokens options.now.limits.depth (font_at «data».now index options.now.extras) mapper.now) }
+    ensures no_answer { IfErr result (λ e. (e ≡ OutOfMemory) ⊎ HasNoAnswerWithin options.now.limits.bytes options.now.limits.tokens options.now.limits.depth (font_at «data».now index options.now.extras) mapper.now) }
     // Where a fault stands that is found before memory is taken, the answer isn't out of memory.
     ensures before_memory { (e : SpecError) → HasOpeningFault (font_at «data».now index options.now.extras) e → result ≢ Err OutOfMemory }
     // Without hinting the new font has no instructions, read afresh.
@@ -220,7 +234,7 @@ pub fn subset_with_options(
     let _depth = options.limits.depth();
     let face = parse(data, index, options.extras)?;
     match flavor(&face)? {
-        FontFlavor::TrueType => subset_truetype(alloc, &face, mapper),
+        FontFlavor::TrueType => subset_truetype(alloc, &face, options.limits.bytes(), mapper),
         FontFlavor::Cff => subset_cff(alloc, &face, options.limits, mapper),
     }
 }

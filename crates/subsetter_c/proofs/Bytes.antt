@@ -1,5 +1,5 @@
 -- What is said of bytes that are handed over, in other words.
-use Rattle.std.proofs.Common.{◌≡◌, ℕ, ◌<◌, ◌≤◌, true, false, List, [], length, refl, ap, subst, ◌⊎◌, inl, inr, arith, Vec, Global, Result, Ok, Err}
+use Rattle.std.proofs.Common.{◌≡◌, ℕ, ◌<◌, ◌≤◌, true, false, List, [], length, refl, ap, subst, ◌⊎◌, inl, inr, arith, Vec, Global, Option, Result, Ok, Err}
 use Rattle.std.specs.Prelude.{IfOk, IfErr, leb}
 use Rattle.std.proofs.lemmas.Bool.Decides.{leb_tells}
 use Rattle.std.proofs.lemmas.List.{length-append}
@@ -10,7 +10,8 @@ use Rattle.subsetter_base.specs.declared.error.Error.TheVariants.{OutOfMemory}
 use Rattle.subsetter_sfnt.specs.Read.{Font}
 use Rattle.subsetter.specs.Answer.{IsAnswer, HasNoAnswer, IsTheAnswer}
 use Rattle.subsetter_sfnt.specs.Fault.{HasOpeningFault}
-use Rattle.subsetter.specs.Fault.{HasFault, in_opening}
+use Rattle.subsetter.specs.Bound.{IsWithin, HasFaultWithin, HasNoAnswerWithin, in_font}
+use Rattle.subsetter.specs.Fault.{in_opening}
 use Rattle.cid_embed.specs.Embed.{numbering, HasMapperFault, all_asked, unopened}
 use Rattle.subsetter_c.specs.Handed.{begun_with, IsHandedOver, whole, short, refused, IsAnswered, IsSoundSubset, IsWantOfMemory, IsRefusal, in_numbering, in_subset}
 use Rattle.subsetter_c.specs.Status.{too_small}
@@ -42,7 +43,7 @@ failed e = Err e
 pub wanting : {X : Type 0} (font : Font) (e : Error) → e ≡ OutOfMemory → ((why : Error) → HasOpeningFault font why → failed {X = X} e ≡ Err OutOfMemory → ⊥) → IsWantOfMemory font e
 wanting {X = X} font e memory before = record { is = memory; opens = λ why fault. before why fault (ap (failed {X = X}) memory) }
 
-module _ (tokens depth : ℕ) (font : Font) (glyphs : List ℕ) where
+module _ (bound : Option ℕ) (tokens depth : ℕ) (font : Font) (glyphs : List ℕ) where
   -- a subset has fewer than 65536 glyphs
   no_room : HasAllAboveZero glyphs → HasNoAnswer tokens depth font (numbering glyphs)
   no_room all out a =
@@ -50,25 +51,26 @@ module _ (tokens depth : ℕ) (font : Font) (glyphs : List ℕ) where
       let o = a.subset.keeps.is_order in
       room_left_for_zero glyphs (omega (arith, a.subset.keeps.few, ap length o.begins, length-append (numbering glyphs) o.others)) all
 
-  pub mapper_refused : {X : Type 0} (e : Error) → (e ≡ OutOfMemory) ⊎ HasMapperFault font glyphs e → ((why : Error) → HasOpeningFault font why → failed {X = X} e ≡ Err OutOfMemory → ⊥) → IsRefusal tokens depth font glyphs e
+  pub mapper_refused : {X : Type 0} (e : Error) → (e ≡ OutOfMemory) ⊎ HasMapperFault font glyphs e → ((why : Error) → HasOpeningFault font why → failed {X = X} e ≡ Err OutOfMemory → ⊥) → IsRefusal bound tokens depth font glyphs e
   mapper_refused e (inl memory) before = inl (wanting font e memory before)
-  mapper_refused e (inr (all_asked all)) before = inr (in_numbering all, no_room all)
-  mapper_refused e (inr (unopened fault)) before = inr (in_subset [] (in_opening fault), λ out a. a.clean e (in_opening fault))
+  mapper_refused e (inr (all_asked all)) before = inr (in_numbering all, λ out within a. no_room all out a)
+  mapper_refused e (inr (unopened fault)) before = inr (in_subset [] (in_font (in_opening fault)), λ out within a. a.clean e (in_opening fault))
 
-  pub subset_refused : (mapper : List ℕ) (r : Result (Vec ℕ Global) Error) → mapper ≡ numbering glyphs → IfErr r (λ e. (e ≡ OutOfMemory) ⊎ ((order : List ℕ) × HasFault tokens depth font mapper order e)) → IfErr r (λ e. (e ≡ OutOfMemory) ⊎ HasNoAnswer tokens depth font mapper) → ((why : Error) → HasOpeningFault font why → r ≡ Err OutOfMemory → ⊥) → IfErr r (IsRefusal tokens depth font glyphs)
+  pub subset_refused : (mapper : List ℕ) (r : Result (Vec ℕ Global) Error) → mapper ≡ numbering glyphs → IfErr r (λ e. (e ≡ OutOfMemory) ⊎ ((order : List ℕ) × HasFaultWithin bound tokens depth font mapper order e)) → IfErr r (λ e. (e ≡ OutOfMemory) ⊎ HasNoAnswerWithin bound tokens depth font mapper) → ((why : Error) → HasOpeningFault font why → r ≡ Err OutOfMemory → ⊥) → IfErr r (IsRefusal bound tokens depth font glyphs)
   subset_refused mapper (Ok v) m h none before = h
   subset_refused mapper (Err e) m (inl memory) none before = inl (wanting font e memory before)
   subset_refused mapper (Err e) m (inr fault) (inl memory) before = inl (wanting font e memory before)
   subset_refused mapper (Err e) m (inr fault) (inr none) before =
-      inr (in_subset fault.0 (subst (λ (l : List ℕ). HasFault tokens depth font l fault.0 e) m fault.1), subst (HasNoAnswer tokens depth font) m none)
+      inr (in_subset fault.0 (subst (λ (l : List ℕ). HasFaultWithin bound tokens depth font l fault.0 e) m fault.1), subst (HasNoAnswerWithin bound tokens depth font) m none)
 
-  pub subset_sound : (mapper : List ℕ) (r : Result (Vec ℕ Global) Error) → mapper ≡ numbering glyphs → IfOk r (λ v. IsAnswer tokens depth font mapper v.items) → IfOk r (λ v. IsTheAnswer font mapper v.items) → IfOk r (λ v. IsSoundSubset tokens depth font glyphs v.items)
-  subset_sound mapper (Ok v) m exact same = record {
+  pub subset_sound : (mapper : List ℕ) (r : Result (Vec ℕ Global) Error) → mapper ≡ numbering glyphs → IfOk r (λ v. IsAnswer tokens depth font mapper v.items) → IfOk r (λ v. IsTheAnswer font mapper v.items) → IfOk r (λ v. IsWithin bound v.items) → IfOk r (λ v. IsSoundSubset bound tokens depth font glyphs v.items)
+  subset_sound mapper (Ok v) m exact same within = record {
+    within = within;
     answer = subst (λ (l : List ℕ). IsAnswer tokens depth font l v.items) m exact;
     same = subst (λ (l : List ℕ). IsTheAnswer font l v.items) m same;
   }
-  subset_sound mapper (Err e) m exact same = exact
+  subset_sound mapper (Err e) m exact same within = exact
 
--- what holds at two limits holds at others that equal them
-pub at_limits : (P : ℕ → ℕ → Type 0) (tokens t depth d : ℕ) → tokens ≡ t → depth ≡ d → P tokens depth → P t d
-at_limits P tokens t depth d et ed p = subst (λ (n : ℕ). P n d) et (subst (λ (n : ℕ). P tokens n) ed p)
+-- what holds at limits holds at others that equal them
+pub at_limits : (P : Option ℕ → ℕ → ℕ → Type 0) (bound b : Option ℕ) (tokens t depth d : ℕ) → bound ≡ b → tokens ≡ t → depth ≡ d → P bound tokens depth → P b t d
+at_limits P bound b tokens t depth d eb et ed p = subst (λ (n : ℕ). P b t n) ed (subst (λ (n : ℕ). P b n depth) et (subst (λ (x : Option ℕ). P x tokens depth) eb p))

@@ -1,5 +1,5 @@
 -- What is said of lists that are handed over, in other words.
-use Rattle.std.proofs.Common.{◌≡◌, ℕ, List, [], ◌∷◌, map, Some, refl, sym, ap, ◌∙◌, subst, ◌⊎◌, inl, inr, Result, Ok, Err}
+use Rattle.std.proofs.Common.{◌≡◌, ℕ, List, [], ◌∷◌, map, Option, Some, None, refl, sym, ap, ◌∙◌, subst, ◌⊎◌, inl, inr, Result, Ok, Err}
 use Rattle.std.specs.Prelude.{IfOk, IfErr}
 use Rattle.subsetter_base.specs.declared.error.Error.{Error}
 use Rattle.subsetter_base.specs.declared.error.Error.TheVariants.{OutOfMemory}
@@ -7,7 +7,8 @@ use Rattle.cid_embed.specs.declared.embedding.Embedded.{Embedded}
 use Rattle.subsetter_sfnt.specs.Read.{Font}
 use Rattle.subsetter_sfnt.specs.Fault.{HasOpeningFault}
 use Rattle.subsetter.specs.Answer.{IsAnswer, IsTheAnswer}
-use Rattle.cid_embed.specs.Embed.{numbering, IsEmbedded, HasEmbedFault, IsEmbeddingAnswer, HasNoEmbedding}
+use Rattle.cid_embed.specs.Embed.{numbering, IsEmbedded, HasEmbedFault, HasEmbedFaultWithin, in_font, IsEmbeddingAnswer, HasNoEmbedding, HasNoEmbeddingWithin}
+use Rattle.subsetter.specs.Bound.{IsWithin}
 use Rattle.subsetter_c.specs.Embedding.{AreHandedOver, whole, short, refused, Buffers, all_begun, lists_of, IsSoundEmbedding, IsEmbeddingRefusal}
 use Rattle.subsetter_c.specs.Handed.{begun_with}
 use Rattle.subsetter_c.specs.declared.handing.Sizes.{Sizes}
@@ -42,7 +43,7 @@ same_members (x ∷ xs) (y ∷ ys) e =
     let tail : map Some xs ≡ map Some ys = cc in
     ap (λ l. x ∷ l) (same_members xs ys tail) ∙ ap (λ z. z ∷ ys) head
 
-module _ (tokens depth : ℕ) (font : Font) (glyphs : List ℕ) where
+module _ (bound : Option ℕ) (tokens depth : ℕ) (font : Font) (glyphs : List ℕ) where
   -- where the font is the one answer, the CIDs and the widths are too
   same_lists : (more deeper : ℕ) (e other : Embedded) → IsEmbedded tokens depth font glyphs e → IsTheAnswer font (numbering glyphs) e.font.items → IsEmbeddingAnswer more deeper font glyphs other → lists_of e ≡ lists_of other
   same_lists more deeper e other a same b =
@@ -50,15 +51,33 @@ module _ (tokens depth : ℕ) (font : Font) (glyphs : List ℕ) where
       let widths : e.widths.items ≡ other.widths.items = same_members e.widths.items other.widths.items (a.widths ∙ sym b.embedded.widths) in
       ap (λ x. make_buffers x e.cids.items e.widths.items) (same more deeper other.font.items b.font_is) ∙ ap (λ x. make_buffers other.font.items x e.widths.items) cids ∙ ap (make_buffers other.font.items other.cids.items) widths
 
-  pub embedding_sound : (r : Result Embedded Error) → IfOk r (λ e. (s : IsEmbedded tokens depth font glyphs e) × ((why : Error) → ¬ (HasEmbedFault tokens depth font glyphs s.subset.keeps.order why))) → IfOk r (λ e. IsAnswer tokens depth font (numbering glyphs) e.font.items) → IfOk r (λ e. IsTheAnswer font (numbering glyphs) e.font.items) → IfOk r (IsSoundEmbedding tokens depth font glyphs)
-  embedding_sound (Ok e) clean exact same = record {
+  pub embedding_sound : (r : Result Embedded Error) → IfOk r (λ e. (s : IsEmbedded tokens depth font glyphs e) × ((why : Error) → ¬ (HasEmbedFault tokens depth font glyphs s.subset.keeps.order why))) → IfOk r (λ e. IsAnswer tokens depth font (numbering glyphs) e.font.items) → IfOk r (λ e. IsTheAnswer font (numbering glyphs) e.font.items) → IfOk r (λ e. IsWithin bound e.font.items) → IfOk r (IsSoundEmbedding bound tokens depth font glyphs)
+  embedding_sound (Ok e) clean exact same within = record {
+    within = within;
     answer = record { embedded = clean.0; clean = clean.1; font_is = exact };
     same = λ more deeper other b. same_lists more deeper e other clean.0 same b;
   }
-  embedding_sound (Err why) clean exact same = clean
+  embedding_sound (Err why) clean exact same within = clean
 
-  pub embedding_refused : (r : Result Embedded Error) → IfErr r (λ why. (why ≡ OutOfMemory) ⊎ ((order : List ℕ) × HasEmbedFault tokens depth font glyphs order why)) → IfErr r (λ why. (why ≡ OutOfMemory) ⊎ HasNoEmbedding tokens depth font glyphs) → ((e : Error) → HasOpeningFault font e → r ≡ Err OutOfMemory → ⊥) → IfErr r (IsEmbeddingRefusal tokens depth font glyphs)
+  pub embedding_refused : (r : Result Embedded Error) → IfErr r (λ why. (why ≡ OutOfMemory) ⊎ ((order : List ℕ) × HasEmbedFaultWithin bound tokens depth font glyphs order why)) → IfErr r (λ why. (why ≡ OutOfMemory) ⊎ HasNoEmbeddingWithin bound tokens depth font glyphs) → ((e : Error) → HasOpeningFault font e → r ≡ Err OutOfMemory → ⊥) → IfErr r (IsEmbeddingRefusal bound tokens depth font glyphs)
   embedding_refused (Ok e) fault none before = fault
   embedding_refused (Err why) (inl memory) none before = inl (wanting font why memory before)
   embedding_refused (Err why) (inr fault) (inl memory) before = inl (wanting font why memory before)
   embedding_refused (Err why) (inr fault) (inr none) before = inr (fault, none)
+
+-- ---- where no bound is set
+
+module _ (tokens depth : ℕ) (font : Font) (glyphs : List ℕ) where
+  pub unbounded : (r : Result Embedded Error) → IfOk r (λ e. IsWithin None e.font.items)
+  unbounded (Ok e) = tt
+  unbounded (Err why) = tt
+
+  pub unbounded_fault : (r : Result Embedded Error) → IfErr r (λ why. (why ≡ OutOfMemory) ⊎ ((order : List ℕ) × HasEmbedFault tokens depth font glyphs order why)) → IfErr r (λ why. (why ≡ OutOfMemory) ⊎ ((order : List ℕ) × HasEmbedFaultWithin None tokens depth font glyphs order why))
+  unbounded_fault (Ok e) h = tt
+  unbounded_fault (Err why) (inl memory) = inl memory
+  unbounded_fault (Err why) (inr fault) = inr (fault.0, in_font fault.1)
+
+  pub unbounded_none : (r : Result Embedded Error) → IfErr r (λ why. (why ≡ OutOfMemory) ⊎ HasNoEmbedding tokens depth font glyphs) → IfErr r (λ why. (why ≡ OutOfMemory) ⊎ HasNoEmbeddingWithin None tokens depth font glyphs)
+  unbounded_none (Ok e) h = tt
+  unbounded_none (Err why) (inl memory) = inl memory
+  unbounded_none (Err why) (inr none) = inr (λ e within a. none e a)

@@ -1,8 +1,9 @@
 -- How a subset with its CIDs and widths is handed to C: in three buffers of the caller, by sizes and a status.
-use Rattle.std.specs.Prelude.{◌≡◌, ◌⊎◌, ◌≤◌, ℕ, List, length}
+use Rattle.std.specs.Prelude.{◌≡◌, ◌⊎◌, ◌≤◌, ℕ, List, length, Option}
 use Rattle.subsetter_base.specs.declared.error.Error.{Error}
 use Rattle.subsetter_sfnt.specs.Read.{Font}
-use Rattle.cid_embed.specs.Embed.{HasEmbedFault, IsEmbeddingAnswer, HasNoEmbedding}
+use Rattle.cid_embed.specs.Embed.{HasEmbedFaultWithin, IsEmbeddingAnswer, HasNoEmbeddingWithin}
+use Rattle.subsetter.specs.Bound.{IsWithin}
 use Rattle.cid_embed.specs.declared.embedding.Embedded.{Embedded}
 use Rattle.subsetter_c.specs.Handed.{begun_with, IsWantOfMemory}
 use Rattle.subsetter_c.specs.Status.{status_of, too_small}
@@ -42,14 +43,16 @@ abbrev pub lists_of : Embedded → Buffers
 lists_of e = record { font = e.font.items; cids = e.cids.items; widths = e.widths.items }
 
 -- what is answered
-pub record IsSoundEmbedding (tokens depth : ℕ) (font : Font) (glyphs : List ℕ) (e : Embedded) : Type 0 where
+pub record IsSoundEmbedding (bound : Option ℕ) (tokens depth : ℕ) (font : Font) (glyphs : List ℕ) (e : Embedded) : Type 0 where
   pub answer : IsEmbeddingAnswer tokens depth font glyphs e
   -- whatever is answered for the same glyphs of the font, within these limits or others, is these three lists: so is what a second call answers
   pub same : (more deeper : ℕ) (other : Embedded) → IsEmbeddingAnswer more deeper font glyphs other → lists_of e ≡ lists_of other
+  -- its font is no longer than it may be
+  pub within : IsWithin bound e.font.items
 
 -- why nothing is answered: memory ran out, or a fault stands, and then no call answers anything
-abbrev pub IsEmbeddingRefusal : ℕ → ℕ → Font → List ℕ → Error → Type 0
-IsEmbeddingRefusal tokens depth font glyphs why = IsWantOfMemory font why ⊎ (((order : List ℕ) × HasEmbedFault tokens depth font glyphs order why) × HasNoEmbedding tokens depth font glyphs)
+abbrev pub IsEmbeddingRefusal : Option ℕ → ℕ → ℕ → Font → List ℕ → Error → Type 0
+IsEmbeddingRefusal bound tokens depth font glyphs why = IsWantOfMemory font why ⊎ (((order : List ℕ) × HasEmbedFaultWithin bound tokens depth font glyphs order why) × HasNoEmbeddingWithin bound tokens depth font glyphs)
 
 -- nothing is handed over, for the reason of a status
 pub record AreNoneHanded (why : ℕ) (before after : Buffers) (told : Sizes) (status : ℕ) : Type 0 where
@@ -58,5 +61,5 @@ pub record AreNoneHanded (why : ℕ) (before after : Buffers) (told : Sizes) (st
   pub status_is : status ≡ why
 
 -- a subset with its CIDs and widths is handed over
-abbrev pub IsEmbeddingHanded : ℕ → ℕ → Font → List ℕ → Buffers → Buffers → Sizes → ℕ → Type 0
-IsEmbeddingHanded tokens depth font glyphs = AreHandedOver (IsSoundEmbedding tokens depth font glyphs) (IsEmbeddingRefusal tokens depth font glyphs)
+abbrev pub IsEmbeddingHanded : Option ℕ → ℕ → ℕ → Font → List ℕ → Buffers → Buffers → Sizes → ℕ → Type 0
+IsEmbeddingHanded bound tokens depth font glyphs = AreHandedOver (IsSoundEmbedding bound tokens depth font glyphs) (IsEmbeddingRefusal bound tokens depth font glyphs)

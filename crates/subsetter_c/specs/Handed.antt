@@ -1,12 +1,12 @@
 -- How bytes are handed to C: in a buffer of the caller, by a size and a status.
-use Rattle.std.specs.Prelude.{◌≡◌, ◌⊎◌, ◌<◌, ◌≤◌, ℕ, List, ◌++◌, length, drop, Result, Ok, Vec}
+use Rattle.std.specs.Prelude.{◌≡◌, ◌⊎◌, ◌<◌, ◌≤◌, ℕ, List, ◌++◌, length, drop, Option, Result, Ok, Vec}
 use Rattle.std.specs.Global.{Global}
 use Rattle.subsetter_base.specs.Places.{HasAllAboveZero}
 use Rattle.subsetter_base.specs.declared.error.Error.{Error}
 use Rattle.subsetter_base.specs.declared.error.Error.TheVariants.{OutOfMemory, OverflowError}
 use Rattle.subsetter_sfnt.specs.Read.{Font}
-use Rattle.subsetter.specs.Answer.{IsAnswer, HasNoAnswer, IsTheAnswer}
-use Rattle.subsetter.specs.Fault.{HasFault}
+use Rattle.subsetter.specs.Answer.{IsAnswer, IsTheAnswer}
+use Rattle.subsetter.specs.Bound.{IsWithin, HasFaultWithin, HasNoAnswerWithin}
 use Rattle.subsetter_sfnt.specs.Fault.{HasOpeningFault}
 use Rattle.cid_embed.specs.Embed.{numbering}
 use Rattle.subsetter_c.specs.Status.{status_of, too_small}
@@ -39,17 +39,19 @@ pub record IsNothingHanded (why : ℕ) (before after : List ℕ) (told status : 
 -- ---- a subset
 
 -- what is answered for glyph 0 and the given glyphs
-pub record IsSoundSubset (tokens depth : ℕ) (font : Font) (glyphs out : List ℕ) : Type 0 where
+pub record IsSoundSubset (bound : Option ℕ) (tokens depth : ℕ) (font : Font) (glyphs out : List ℕ) : Type 0 where
   -- a subset, where no fault stands in the source, the size limits being judged for its order of glyphs; they stand in the order in which they are found
   pub answer : IsAnswer tokens depth font (numbering glyphs) out
   -- whatever is answered for the same glyphs of the font, within these limits or others, is these bytes: so is what a second call answers
   pub same : IsTheAnswer font (numbering glyphs) out
+  -- no longer than it may be
+  pub within : IsWithin bound out
 
--- what can stand against it, but for want of memory
-pub data HasCallFault (tokens depth : ℕ) (font : Font) (glyphs : List ℕ) : Error → Type 0 where
+-- what can stand against it within a bound, but for want of memory
+pub data HasCallFault (bound : Option ℕ) (tokens depth : ℕ) (font : Font) (glyphs : List ℕ) : Error → Type 0 where
   -- the glyphs leave no number for glyph 0
-  in_numbering : HasAllAboveZero glyphs → HasCallFault tokens depth font glyphs OverflowError
-  in_subset : {e : Error} → (order : List ℕ) → HasFault tokens depth font (numbering glyphs) order e → HasCallFault tokens depth font glyphs e
+  in_numbering : HasAllAboveZero glyphs → HasCallFault bound tokens depth font glyphs OverflowError
+  in_subset : {e : Error} → (order : List ℕ) → HasFaultWithin bound tokens depth font (numbering glyphs) order e → HasCallFault bound tokens depth font glyphs e
 
 -- memory ran out, and no fault stands that is found before memory is taken
 pub record IsWantOfMemory (font : Font) (e : Error) : Type 0 where
@@ -57,9 +59,9 @@ pub record IsWantOfMemory (font : Font) (e : Error) : Type 0 where
   pub opens : (why : Error) → ¬ (HasOpeningFault font why)
 
 -- why no subset is answered: memory ran out, or a fault stands, and then no call answers one
-abbrev pub IsRefusal : ℕ → ℕ → Font → List ℕ → Error → Type 0
-IsRefusal tokens depth font glyphs e = IsWantOfMemory font e ⊎ (HasCallFault tokens depth font glyphs e × HasNoAnswer tokens depth font (numbering glyphs))
+abbrev pub IsRefusal : Option ℕ → ℕ → ℕ → Font → List ℕ → Error → Type 0
+IsRefusal bound tokens depth font glyphs e = IsWantOfMemory font e ⊎ (HasCallFault bound tokens depth font glyphs e × HasNoAnswerWithin bound tokens depth font (numbering glyphs))
 
 -- a subset is handed over
-abbrev pub IsSubsetHanded : ℕ → ℕ → Font → List ℕ → List ℕ → List ℕ → ℕ → ℕ → Type 0
-IsSubsetHanded tokens depth font glyphs = IsHandedOver (IsSoundSubset tokens depth font glyphs) (IsRefusal tokens depth font glyphs)
+abbrev pub IsSubsetHanded : Option ℕ → ℕ → ℕ → Font → List ℕ → List ℕ → List ℕ → ℕ → ℕ → Type 0
+IsSubsetHanded bound tokens depth font glyphs = IsHandedOver (IsSoundSubset bound tokens depth font glyphs) (IsRefusal bound tokens depth font glyphs)

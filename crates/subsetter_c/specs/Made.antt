@@ -1,5 +1,5 @@
 -- How lists are handed to C in memory of the library: by where they stand and how long they are, and a status.
-use Rattle.std.specs.Prelude.{◌≡◌, ℕ, List, []}
+use Rattle.std.specs.Prelude.{◌≡◌, ℕ, List, [], Option}
 use Rattle.subsetter_base.specs.declared.error.Error.{Error}
 use Rattle.subsetter_sfnt.specs.Read.{Font}
 use Rattle.cid_embed.specs.declared.embedding.Embedded.{Embedded}
@@ -27,9 +27,9 @@ pub record IsNothingMade (why : ℕ) (made : Buffers) (status : ℕ) : Type 0 wh
   pub status_is : status ≡ why
 
 -- a subset, without CIDs and widths
-abbrev pub IsSubsetMade : ℕ → ℕ → Font → List ℕ → Buffers → ℕ → Type 0
-IsSubsetMade tokens depth font glyphs = IsMade (λ made. (bytes : List ℕ) × IsSoundSubset tokens depth font glyphs bytes × (made ≡ only_font bytes)) (IsRefusal tokens depth font glyphs)
+abbrev pub IsSubsetMade : Option ℕ → ℕ → ℕ → Font → List ℕ → Buffers → ℕ → Type 0
+IsSubsetMade bound tokens depth font glyphs = IsMade (λ made. (bytes : List ℕ) × IsSoundSubset bound tokens depth font glyphs bytes × (made ≡ only_font bytes)) (IsRefusal bound tokens depth font glyphs)
 
 -- a subset with its CIDs and widths
-abbrev pub IsEmbeddingMade : ℕ → ℕ → Font → List ℕ → Buffers → ℕ → Type 0
-IsEmbeddingMade tokens depth font glyphs = IsMade (λ made. (e : Embedded) × IsSoundEmbedding tokens depth font glyphs e × (made ≡ lists_of e)) (IsEmbeddingRefusal tokens depth font glyphs)
+abbrev pub IsEmbeddingMade : Option ℕ → ℕ → ℕ → Font → List ℕ → Buffers → ℕ → Type 0
+IsEmbeddingMade bound tokens depth font glyphs = IsMade (λ made. (e : Embedded) × IsSoundEmbedding bound tokens depth font glyphs e × (made ≡ lists_of e)) (IsEmbeddingRefusal bound tokens depth font glyphs)

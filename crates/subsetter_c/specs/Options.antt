@@ -1,5 +1,5 @@
--- What the words of `struct subsetter_options` ask for (bindings/c/subsetter.h): their size in bytes, the limits of a charstring, and what is left out.
-use Rattle.std.specs.Prelude.{◌≡◌, ℕ, ◌*◌, ◌<◌, ◌≤◌, List, length, slice_index_or, Bool, ◌==◌, if◌then◌else◌}
+-- What the words of `struct subsetter_options` ask for (bindings/c/subsetter.h): their size in bytes, the limits of a charstring, what is left out, and the most bytes of the font.
+use Rattle.std.specs.Prelude.{◌≡◌, ℕ, ◌*◌, ◌<◌, ◌≤◌, List, length, slice_index_or, Bool, Option, Some, None, ◌==◌, if◌then◌else◌}
 use Rattle.std.specs.Int.Bits.{bit_and}
 use Rattle.subsetter.specs.Limits.{token_limit, depth_limit}
 use Rattle.subsetter_sfnt.specs.declared.extras.Extras.{Extras}
@@ -13,8 +13,8 @@ word words at = slice_index_or words at 0
 pub record AreKnown (words : List ℕ) : Type 0 where
   -- the first is their size in bytes
   pub size : word words 0 ≡ 4 * length words
-  -- there are four at most
-  pub count : length words ≤ 4
+  -- there are five at most
+  pub count : length words ≤ 5
   -- the third is a depth of at most 255
   pub depth : word words 2 ≤ 255
   -- the fourth has no other bits than 1, 2 and 4
@@ -30,6 +30,10 @@ tokens_asked words = or_default (word words 1) token_limit
 abbrev pub depth_asked : List ℕ → ℕ
 depth_asked words = or_default (word words 2) depth_limit
 
+-- 0 stands for no bound
+abbrev pub bytes_asked : List ℕ → Option ℕ
+bytes_asked words = if word words 4 == 0 then None else Some (word words 4)
+
 -- a bit that isn't set drops nothing
 abbrev pub keeps : List ℕ → ℕ → Bool
 keeps words bit = bit_and (word words 3) bit == 0
@@ -41,4 +45,5 @@ extras_asked words = record { hinting = keeps words 1; names = keeps words 2; gl
 pub record AreAsked (words : List ℕ) (options : Options) : Type 0 where
   pub tokens : options.limits.tokens ≡ tokens_asked words
   pub depth : options.limits.depth ≡ depth_asked words
+  pub bytes : options.limits.bytes ≡ bytes_asked words
   pub extras : options.extras ≡ extras_asked words

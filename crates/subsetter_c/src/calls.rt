@@ -1,13 +1,13 @@
 //! The calls.
 
-ghost use Rattle.std.specs.Prelude.{◌≡◌, ◌⊎◌, ◌<◌, IfOk, IfErr};
+ghost use Rattle.std.specs.Prelude.{◌≡◌, ◌⊎◌, ◌<◌, None, IfOk, IfErr};
 ghost use Rattle.subsetter_base.specs.Bytes.{be};
 ghost use Rattle.subsetter_sfnt.specs.Extras.{all_extras};
 ghost use Rattle.subsetter.specs.Limits.{token_limit, depth_limit};
 ghost use Rattle.subsetter_c.specs.Embedding.{IsEmbeddingHanded, AreNoneHanded};
 ghost use Rattle.subsetter_c.specs.Handed.{IsHandedOver, IsSoundSubset, IsRefusal, IsSubsetHanded, IsNothingHanded};
 ghost use Rattle.subsetter_c.specs.Made.{lists_in, IsSubsetMade, IsEmbeddingMade, IsNothingMade};
-ghost use Rattle.subsetter_c.specs.Options.{AreKnown, tokens_asked, depth_asked, extras_asked};
+ghost use Rattle.subsetter_c.specs.Options.{AreKnown, bytes_asked, tokens_asked, depth_asked, extras_asked};
 ghost use Rattle.subsetter_c.specs.Status.{status_text, no_depth, unknown_option};
 ghost use Rattle.subsetter_c.specs.Version.{version};
 
@@ -27,8 +27,8 @@ fn subset_for(
     glyphs: &[u16],
     options: &Options,
 ) -> Result<Vec<u8>, Error>
-    ensures ok { IfOk result (λ v. IsSoundSubset options.now.limits.tokens options.now.limits.depth (record { bytes = font.now; index = index; extras = options.now.extras }) glyphs.now v.items) }
-    ensures err { IfErr result (λ e. IsRefusal options.now.limits.tokens options.now.limits.depth (record { bytes = font.now; index = index; extras = options.now.extras }) glyphs.now e) }
+    ensures ok { IfOk result (λ v. IsSoundSubset options.now.limits.bytes options.now.limits.tokens options.now.limits.depth (record { bytes = font.now; index = index; extras = options.now.extras }) glyphs.now v.items) }
+    ensures err { IfErr result (λ e. IsRefusal options.now.limits.bytes options.now.limits.tokens options.now.limits.depth (record { bytes = font.now; index = index; extras = options.now.extras }) glyphs.now e) }
 {
     let mapper = mapper_for(alloc, font, index, glyphs, options.extras)?;
     subset_with_options(alloc, font, index, &mapper, options)
@@ -42,8 +42,8 @@ fn whole_subset_for(
     glyphs: &[u16],
     limits: Limits,
 ) -> Result<Vec<u8>, Error>
-    ensures ok { IfOk result (λ v. IsSoundSubset limits.tokens limits.depth (record { bytes = font.now; index = index; extras = all_extras }) glyphs.now v.items) }
-    ensures err { IfErr result (λ e. IsRefusal limits.tokens limits.depth (record { bytes = font.now; index = index; extras = all_extras }) glyphs.now e) }
+    ensures ok { IfOk result (λ v. IsSoundSubset limits.bytes limits.tokens limits.depth (record { bytes = font.now; index = index; extras = all_extras }) glyphs.now v.items) }
+    ensures err { IfErr result (λ e. IsRefusal limits.bytes limits.tokens limits.depth (record { bytes = font.now; index = index; extras = all_extras }) glyphs.now e) }
 {
     let options = Options {
         limits,
@@ -66,7 +66,7 @@ pub extern "C" fn subsetter_subset(
     out: &mut [u8],
     length: &mut usize,
 ) -> u32
-    ensures { IsSubsetHanded token_limit depth_limit (record { bytes = font.now; index = index; extras = all_extras }) glyphs.now out.old out.new length.new result }
+    ensures { IsSubsetHanded None token_limit depth_limit (record { bytes = font.now; index = index; extras = all_extras }) glyphs.now out.old out.new length.new result }
 {
     hand_answer(
         whole_subset_for(alloc, font, index, glyphs, Limits::default()),
@@ -89,7 +89,7 @@ pub extern "C" fn subsetter_subset_with_limits(
     out: &mut [u8],
     length: &mut usize,
 ) -> u32
-    ensures { ((depth ≡ 0) × IsNothingHanded no_depth out.old out.new length.new result) ⊎ ((0 < depth) × IsSubsetHanded tokens depth (record { bytes = font.now; index = index; extras = all_extras }) glyphs.now out.old out.new length.new result) }
+    ensures { ((depth ≡ 0) × IsNothingHanded no_depth out.old out.new length.new result) ⊎ ((0 < depth) × IsSubsetHanded None tokens depth (record { bytes = font.now; index = index; extras = all_extras }) glyphs.now out.old out.new length.new result) }
 {
     match Limits::new(tokens, depth) {
         Some(limits) => hand_answer(
@@ -117,7 +117,7 @@ pub extern "C" fn subsetter_subset_by_words(
     out: &mut [u8],
     length: &mut usize,
 ) -> u32
-    ensures { ((¬ (AreKnown options.now)) × IsNothingHanded unknown_option out.old out.new length.new result) ⊎ (AreKnown options.now × IsSubsetHanded (tokens_asked options.now) (depth_asked options.now) (record { bytes = font.now; index = index; extras = extras_asked options.now }) glyphs.now out.old out.new length.new result) }
+    ensures { ((¬ (AreKnown options.now)) × IsNothingHanded unknown_option out.old out.new length.new result) ⊎ (AreKnown options.now × IsSubsetHanded (bytes_asked options.now) (tokens_asked options.now) (depth_asked options.now) (record { bytes = font.now; index = index; extras = extras_asked options.now }) glyphs.now out.old out.new length.new result) }
 {
     match options_of(options) {
         Some(options) => hand_answer(
@@ -149,7 +149,7 @@ pub extern "C" fn subsetter_embed(
     widths: &mut [u32],
     sizes: &mut Sizes,
 ) -> u32
-    ensures { IsEmbeddingHanded token_limit depth_limit (record { bytes = font.now; index = index; extras = all_extras }) glyphs.now (record { font = out.old; cids = cids.old; widths = widths.old }) (record { font = out.new; cids = cids.new; widths = widths.new }) sizes.new result }
+    ensures { IsEmbeddingHanded None token_limit depth_limit (record { bytes = font.now; index = index; extras = all_extras }) glyphs.now (record { font = out.old; cids = cids.old; widths = widths.old }) (record { font = out.new; cids = cids.new; widths = widths.new }) sizes.new result }
 {
     hand_embedded(embed(alloc, font, index, glyphs), out, cids, widths, sizes)
 }
@@ -169,7 +169,7 @@ pub extern "C" fn subsetter_embed_by_words(
     widths: &mut [u32],
     sizes: &mut Sizes,
 ) -> u32
-    ensures { ((¬ (AreKnown options.now)) × AreNoneHanded unknown_option (record { font = out.old; cids = cids.old; widths = widths.old }) (record { font = out.new; cids = cids.new; widths = widths.new }) sizes.new result) ⊎ (AreKnown options.now × IsEmbeddingHanded (tokens_asked options.now) (depth_asked options.now) (record { bytes = font.now; index = index; extras = extras_asked options.now }) glyphs.now (record { font = out.old; cids = cids.old; widths = widths.old }) (record { font = out.new; cids = cids.new; widths = widths.new }) sizes.new result) }
+    ensures { ((¬ (AreKnown options.now)) × AreNoneHanded unknown_option (record { font = out.old; cids = cids.old; widths = widths.old }) (record { font = out.new; cids = cids.new; widths = widths.new }) sizes.new result) ⊎ (AreKnown options.now × IsEmbeddingHanded (bytes_asked options.now) (tokens_asked options.now) (depth_asked options.now) (record { bytes = font.now; index = index; extras = extras_asked options.now }) glyphs.now (record { font = out.old; cids = cids.old; widths = widths.old }) (record { font = out.new; cids = cids.new; widths = widths.new }) sizes.new result) }
 {
     match options_of(options) {
         Some(options) => {
@@ -195,7 +195,7 @@ pub extern "C" fn subsetter_make_subset_by_words(
     options: &[u32],
     made: &mut Made,
 ) -> u32
-    ensures { ((¬ (AreKnown options.now)) × IsNothingMade unknown_option (lists_in made.new) result) ⊎ (AreKnown options.now × IsSubsetMade (tokens_asked options.now) (depth_asked options.now) (record { bytes = font.now; index = index; extras = extras_asked options.now }) glyphs.now (lists_in made.new) result) }
+    ensures { ((¬ (AreKnown options.now)) × IsNothingMade unknown_option (lists_in made.new) result) ⊎ (AreKnown options.now × IsSubsetMade (bytes_asked options.now) (tokens_asked options.now) (depth_asked options.now) (record { bytes = font.now; index = index; extras = extras_asked options.now }) glyphs.now (lists_in made.new) result) }
 {
     match options_of(options) {
         Some(options) => making::make_subset(
@@ -221,7 +221,7 @@ pub extern "C" fn subsetter_make_embedded_by_words(
     options: &[u32],
     made: &mut Made,
 ) -> u32
-    ensures { ((¬ (AreKnown options.now)) × IsNothingMade unknown_option (lists_in made.new) result) ⊎ (AreKnown options.now × IsEmbeddingMade (tokens_asked options.now) (depth_asked options.now) (record { bytes = font.now; index = index; extras = extras_asked options.now }) glyphs.now (lists_in made.new) result) }
+    ensures { ((¬ (AreKnown options.now)) × IsNothingMade unknown_option (lists_in made.new) result) ⊎ (AreKnown options.now × IsEmbeddingMade (bytes_asked options.now) (tokens_asked options.now) (depth_asked options.now) (record { bytes = font.now; index = index; extras = extras_asked options.now }) glyphs.now (lists_in made.new) result) }
 {
     match options_of(options) {
         Some(options) => {

@@ -1,6 +1,6 @@
 //! What the words of `subsetter_options` ask for.
 
-ghost use Rattle.std.specs.Prelude.{◌≡◌, MatchOption};
+ghost use Rattle.std.specs.Prelude.{◌≡◌, ◌==◌, if◌then◌else◌, Some, None, MatchOption};
 ghost use Rattle.subsetter_c.specs.Options.{AreAsked, AreKnown, or_default, word};
 
 use subsetter::{Extras, Limits, Options};
@@ -19,12 +19,24 @@ fn or_default(n: u32, usual: u32) -> u32
     if n == 0 { usual } else { n }
 }
 
+/// With so many bytes at most, where these aren't 0.
+fn bounded(limits: Limits, bytes: u32) -> Limits
+    ensures tokens { result.tokens ≡ limits.tokens }
+    ensures depth { result.depth ≡ limits.depth }
+    ensures bytes { limits.bytes ≡ None → result.bytes ≡ (if bytes == 0 then None else Some bytes) }
+{
+    if bytes == 0 {
+        return limits;
+    }
+    limits.with_bytes(bytes)
+}
+
 /// The options that are asked for; none where the library doesn't know them.
 pub fn options_of(words: &[u32]) -> Option<Options>
     ensures { MatchOption result (¬ (AreKnown words.now)) (λ options. AreKnown words.now × AreAsked words.now options) }
 {
     let count = words.len();
-    if count > 4 || word(words, 0) as usize != 4 * count {
+    if count > 5 || word(words, 0) as usize != 4 * count {
         return None;
     }
     let depth = u8::try_from(or_default(word(words, 2), 64)).ok()?;
@@ -33,6 +45,7 @@ pub fn options_of(words: &[u32]) -> Option<Options>
         return None;
     }
     let limits = Limits::new(or_default(word(words, 1), 1_000_000), depth)?;
+    let limits = bounded(limits, word(words, 4));
     let extras = Extras {
         hinting: drop & 1 == 0,
         names: drop & 2 == 0,

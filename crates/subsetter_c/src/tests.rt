@@ -78,15 +78,18 @@ fn each_call_answers_its_status(rt: HostRuntime) -> Result<(), Fail> {
 #[test]
 fn options_are_words(rt: HostRuntime) -> Result<(), Fail> {
     let alloc = rt.alloc();
-    // The size in bytes, tokens, depth and what is dropped: 10 for words that aren't known, 6 where the tokens don't suffice.
-    let rows: [(&[u32], u32); 8] = [
+    // The size in bytes, tokens, depth, what is dropped, and the most bytes: 10 for words that aren't known, 6 where the
+    // tokens don't suffice, 5 where the font has more bytes.
+    let rows: [(&[u32], u32); 10] = [
         (&[], 0),
         (&[4], 0),
         (&[16, 1, 1, 7], 0),
         (&[8, 0], 0),
         (&[16, 0, 256, 0], 10),
         (&[16, 0, 0, 8], 10),
-        (&[20, 0, 0, 0, 0], 10),
+        (&[20, 0, 0, 0, 164], 0),
+        (&[20, 0, 0, 0, 163], 5),
+        (&[24, 0, 0, 0, 0, 0], 10),
         (&[4, 0], 10),
     ];
     for (words, want) in rows {

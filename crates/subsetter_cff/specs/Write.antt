@@ -23,3 +23,4 @@ pub mod FrontDraft
 pub mod PartsBy
 pub mod TableLimits
 pub mod Again
+pub mod PrivatesBound

@@ -72,6 +72,10 @@ offsets from (item ∷ items) = (from + length item) ∷ offsets (from + length 
 abbrev pub numbers : ℕ → List ℕ → List ℕ
 numbers k ns = flat_map (bytes_high_first k) ns
 
+-- the count, the size of an offset, and the first offset
+abbrev pub front : ℕ → ℕ → List ℕ
+front count total = bytes_high_first 2 count ++ (offset_size total ∷ bytes_high_first (offset_size total) 1)
+
 unfoldable pub header : List (List ℕ) → List ℕ
 header items =
     let size = offset_size (length (concat items) + 1) in

@@ -163,34 +163,88 @@ pub mod operators {
     use crate::operator::OperatorType::{OneByteOperator, TwoByteOperator};
     use crate::operator::{Operator, TWO_BYTE_OPERATOR_MARK};
 
+    /// The operators of one byte.
+    pub mod first_byte {
+        /// The notice.
+        pub const NOTICE: u8 = 1;
+        /// The bounding box of the font.
+        pub const FONT_BBOX: u8 = 5;
+        /// The offset of the charset.
+        pub const CHARSET: u8 = 15;
+        /// The offset of the encoding.
+        pub const ENCODING: u8 = 16;
+        /// The offset of the CharStrings INDEX.
+        pub const CHAR_STRINGS: u8 = 17;
+        /// The length and the offset of the Private DICT.
+        pub const PRIVATE: u8 = 18;
+        /// The offset of the local subroutines, from the start of the Private DICT.
+        pub const SUBRS: u8 = 19;
+    }
+
+    /// The second bytes of the operators of two.
+    pub mod second_byte {
+        /// The copyright.
+        pub const COPYRIGHT: u8 = 0;
+        /// The matrix of the font.
+        pub const FONT_MATRIX: u8 = 7;
+        /// Registry, ordering and supplement of a CID-keyed font.
+        pub const ROS: u8 = 30;
+        /// The number of CIDs.
+        pub const CID_COUNT: u8 = 34;
+        /// The offset of the Font DICT INDEX.
+        pub const FD_ARRAY: u8 = 36;
+        /// The offset of the FDSelect.
+        pub const FD_SELECT: u8 = 37;
+        /// The name of a Font DICT.
+        pub const FONT_NAME: u8 = 38;
+    }
+
     /// The notice.
-    pub const NOTICE: Operator = Operator(OneByteOperator([1]));
+    pub const NOTICE: Operator = Operator(OneByteOperator([first_byte::NOTICE]));
     /// The bounding box of the font.
-    pub const FONT_BBOX: Operator = Operator(OneByteOperator([5]));
+    pub const FONT_BBOX: Operator = Operator(OneByteOperator([first_byte::FONT_BBOX]));
     /// The offset of the charset.
-    pub const CHARSET: Operator = Operator(OneByteOperator([15]));
+    pub const CHARSET: Operator = Operator(OneByteOperator([first_byte::CHARSET]));
     /// The offset of the encoding.
-    pub const ENCODING: Operator = Operator(OneByteOperator([16]));
+    pub const ENCODING: Operator = Operator(OneByteOperator([first_byte::ENCODING]));
     /// The offset of the CharStrings INDEX.
-    pub const CHAR_STRINGS: Operator = Operator(OneByteOperator([17]));
+    pub const CHAR_STRINGS: Operator = Operator(OneByteOperator([first_byte::CHAR_STRINGS]));
     /// The length and the offset of the Private DICT.
-    pub const PRIVATE: Operator = Operator(OneByteOperator([18]));
+    pub const PRIVATE: Operator = Operator(OneByteOperator([first_byte::PRIVATE]));
     /// The offset of the local subroutines, from the start of the Private DICT.
-    pub const SUBRS: Operator = Operator(OneByteOperator([19]));
+    pub const SUBRS: Operator = Operator(OneByteOperator([first_byte::SUBRS]));
     /// The copyright.
-    pub const COPYRIGHT: Operator = Operator(TwoByteOperator([TWO_BYTE_OPERATOR_MARK, 0]));
+    pub const COPYRIGHT: Operator = Operator(TwoByteOperator([
+        TWO_BYTE_OPERATOR_MARK,
+        second_byte::COPYRIGHT,
+    ]));
     /// The matrix of the font.
-    pub const FONT_MATRIX: Operator = Operator(TwoByteOperator([TWO_BYTE_OPERATOR_MARK, 7]));
+    pub const FONT_MATRIX: Operator = Operator(TwoByteOperator([
+        TWO_BYTE_OPERATOR_MARK,
+        second_byte::FONT_MATRIX,
+    ]));
     /// Registry, ordering and supplement of a CID-keyed font.
-    pub const ROS: Operator = Operator(TwoByteOperator([TWO_BYTE_OPERATOR_MARK, 30]));
+    pub const ROS: Operator = Operator(TwoByteOperator([TWO_BYTE_OPERATOR_MARK, second_byte::ROS]));
     /// The number of CIDs.
-    pub const CID_COUNT: Operator = Operator(TwoByteOperator([TWO_BYTE_OPERATOR_MARK, 34]));
+    pub const CID_COUNT: Operator = Operator(TwoByteOperator([
+        TWO_BYTE_OPERATOR_MARK,
+        second_byte::CID_COUNT,
+    ]));
     /// The offset of the Font DICT INDEX.
-    pub const FD_ARRAY: Operator = Operator(TwoByteOperator([TWO_BYTE_OPERATOR_MARK, 36]));
+    pub const FD_ARRAY: Operator = Operator(TwoByteOperator([
+        TWO_BYTE_OPERATOR_MARK,
+        second_byte::FD_ARRAY,
+    ]));
     /// The offset of the FDSelect.
-    pub const FD_SELECT: Operator = Operator(TwoByteOperator([TWO_BYTE_OPERATOR_MARK, 37]));
+    pub const FD_SELECT: Operator = Operator(TwoByteOperator([
+        TWO_BYTE_OPERATOR_MARK,
+        second_byte::FD_SELECT,
+    ]));
     /// The name of a Font DICT.
-    pub const FONT_NAME: Operator = Operator(TwoByteOperator([TWO_BYTE_OPERATOR_MARK, 38]));
+    pub const FONT_NAME: Operator = Operator(TwoByteOperator([
+        TWO_BYTE_OPERATOR_MARK,
+        second_byte::FONT_NAME,
+    ]));
 
     /// The codes of the tables.
     pub fn codes()

@@ -5,7 +5,7 @@ ghost use Rattle.std.specs.Int.{bytes_high_first};
 ghost use Rattle.std.specs.List.{concat};
 ghost use Rattle.subsetter_base.specs.declared.error.Error.TheVariants.{OverflowError, OutOfMemory};
 ghost use Rattle.subsetter_cffdata.specs.Owned.{views, FitIndex};
-ghost use Rattle.subsetter_cffdata.specs.Index.{offset_size, offsets, numbers, header, index};
+ghost use Rattle.subsetter_cffdata.specs.Index.{offset_size, offsets, numbers, front, header, index};
 
 use std::alloc::Global;
 use std::convert::AsSlice;
@@ -70,6 +70,18 @@ pub fn put_number(size: u8, n: usize, w: &mut Writer) -> Result<(), Error>
 {
     let bytes = n.to_be_bytes();
     w.extend(&bytes[8 - size as usize..])
+}
+
+/// Writes what stands before the offsets behind the items: how many items there are, how many bytes an offset takes, and the
+/// first offset, which is 1. The total is the length of the data together with one.
+pub fn put_front(count: u16, total: u32, w: &mut Writer) -> Result<(), Error>
+    ensures ok { OnOk result (w.new ≡ w.old ++ front count total) }
+    ensures err { IfErr result (λ e. e ≡ OutOfMemory) }
+{
+    let size = size_of_offset(total);
+    w.extend(&count.to_be_bytes())?;
+    w.extend(&[size])?;
+    put_number(size, 1, w)
 }
 
 /// The length of all items together with one, where it fits.
@@ -157,11 +169,8 @@ fn put_header<T: AsSlice<u8>>(
     ensures ok { OnOk result (w.new ≡ w.old ++ header (map T.items items.now)) }
     ensures err { IfErr result (λ e. e ≡ OutOfMemory) }
 {
-    let size = size_of_offset(total);
-    w.extend(&count.to_be_bytes())?;
-    w.extend(&[size])?;
-    put_number(size, 1, w)?;
-    put_offsets(size, items, w)
+    put_front(count, total, w)?;
+    put_offsets(size_of_offset(total), items, w)
 }
 
 /// Writes an INDEX of the items. Data of 4 GiB, or 65536 items, are `OverflowError`.

@@ -3,6 +3,7 @@ pub mod Records
 pub mod Checksum
 pub mod Weights
 pub mod Written
+pub mod Bound
 pub mod Back
 pub mod Fault
 pub mod Lookups

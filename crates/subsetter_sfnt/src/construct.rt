@@ -3,11 +3,11 @@
 //! The checksum adjustment is a patch of four bytes, the last step. That the tables' places fit 32 bits is checked by
 //! `measured`, which takes no memory and whose clause names its one error.
 
-ghost use Rattle.std.specs.Prelude.{◌≡◌, ◌+◌, ◌-◌, ◌*◌, ◌<◌, ◌≤◌, ◌^◌, ◌++◌, ◌%◌, [], length, map, take, drop, true, false, vec_capacity, IfOk, IfErr};
+ghost use Rattle.std.specs.Prelude.{◌≡◌, ◌+◌, ◌-◌, ◌*◌, ◌<◌, ◌≤◌, ◌^◌, ◌++◌, ◌%◌, [], length, map, take, drop, true, false, vec_capacity, OnOk, IfOk, IfErr};
 ghost use Rattle.std.specs.Int.{w16, w32, to_be_bytes};
 ghost use Rattle.std.specs.List.{AllByRecursion};
 ghost use Rattle.subsetter_base.specs.Bytes.{aligned};
-ghost use Rattle.subsetter_base.specs.Gives.{Gives};
+ghost use Rattle.subsetter_base.specs.Within.{GivesWithin, is_past};
 ghost use Rattle.subsetter_base.specs.declared.error.Error.TheVariants.{OverflowError};
 ghost use Rattle.subsetter_sfnt.specs.Written.{selector, header_bytes, directory_bytes, record_bytes, body, adjusted, fits, file, start_of, kind_word, IsTable};
 ghost use Rattle.subsetter_sfnt.specs.Checksum.{checksum};
@@ -238,18 +238,33 @@ pub fn construct<T: TableBytes>(
     out
 }
 
-/// Lays out a file. Its size is taken first: `OverflowError` where a place or a length is 2^32 or more. Room is reserved once.
+/// `OverflowError` where so many bytes pass a bound. No memory is taken.
+fn check_bound(size: usize, bytes: Option<u32>) -> Result<(), Error>
+    ensures ok { OnOk result (is_past bytes size ≡ false) }
+    ensures err { IfErr result (λ e. (e ≡ OverflowError) × (is_past bytes size ≡ true)) }
+{
+    match bytes {
+        Some(most) if size > most as usize => Err(Error::OverflowError),
+        _ => Ok(()),
+    }
+}
+
+/// Lays out a file. Its size is taken first: `OverflowError` where a place or a length is 2^32 or more, or where it has more
+/// bytes than it may, if these have a bound. Room is reserved once.
 #[tactic(auto, unfolding(crate::specs::Plain::file_of))]
 pub fn finish<T: TableBytes>(
     alloc: Global,
     flavor: FontFlavor,
     tables: &[NewTable<T>],
+    bytes: Option<u32>,
 ) -> Result<Vec<u8>, Error>
     requires few { length tables.now < 16 }
     requires tables { AllByRecursion IsTable (views T.bytes_of tables.now) }
-    ensures { Gives (λ v. v.items) result (file_of (kind_word flavor) (views T.bytes_of tables.now)) }
+    ensures gives { GivesWithin (λ v. v.items) bytes length result (file_of (kind_word flavor) (views T.bytes_of tables.now)) }
+    ensures within { IfOk result (λ v. is_past bytes (length v.items) ≡ false) }
 {
     let size = measured(tables)?;
+    check_bound(size, bytes)?;
     let front = Vec::with_capacity(alloc, 12 + 16 * tables.len())?;
     let out = Vec::with_capacity(alloc, size)?;
     Ok(construct(out, front, flavor, tables))

@@ -1,12 +1,16 @@
 -- A run whose bytes stand behind others, one step at a time.
-use Rattle.std.proofs.Common.{◌≡◌, ℕ, suc, ◌<◌, ◌≤◌, List, [], ◌∷◌, ◌++◌, length, Ok, Err, refl, sym, ap, ◌∙◌, subst, append-nil, append_assoc}
+use Rattle.std.proofs.Common.{◌≡◌, ℕ, zero, suc, ◌<◌, ◌≤◌, true, List, [], ◌∷◌, ◌++◌, length, Option, Some, None, Ok, Err, refl, sym, ap, ◌∙◌, subst, append-nil, append_assoc, arith}
 use Rattle.std.specs.Prelude.{Result}
+use Rattle.std.proofs.lemmas.Bool.{ltb-true}
+use Rattle.std.proofs.lemmas.Grind.{flat_map-append}
+use Rattle.std.proofs.lemmas.List.{length-append}
+use Rattle.subsetter_base.specs.Within.{is_past, IsTooLong}
 use Rattle.subsetter_base.specs.Gives.{Fails as FailsWith}
 use Rattle.subsetter_base.specs.declared.error.Error.{Error}
 use Rattle.subsetter_base.specs.declared.error.Error.TheVariants.{UnknownKind, MalformedFont, Unimplemented, SubsetError, OverflowError, CFFError, OutOfMemory}
 use Rattle.subsetter_type2.specs.Behind.{behind, ReachedBehind}
-use Rattle.subsetter_type2.specs.Flat.{flat_operands, bytes_of}
-use Rattle.subsetter_type2.specs.Machine.{Library, Registers, State, Act, Does, Fails, Lead, Outcome, Stops, unended, act_at, rests_after, outcome}
+use Rattle.subsetter_type2.specs.Flat.{flat_event, flat_events, flat_operands, bytes_of}
+use Rattle.subsetter_type2.specs.Machine.{Library, Registers, State, Event, Act, Does, Fails, Lead, Step, Goes, Faults, Trace, Outcome, Finishes, Stops, unended, want, follow, said_also, move, act_at, rests_after, run, outcome}
 use Rattle.subsetter_type2.specs.Reached.{Reached}
 use Rattle.subsetter_type2.specs.View.{said_bytes, Done, done}
 use Rattle.subsetter_type2.proofs.Runs.{reached_start, reached_over, reached_out, reached_fault, reached_deep, reached_more, reached_same}
@@ -95,3 +99,44 @@ behind_fails front r SubsetError h = ap (behind front) h
 behind_fails front r OverflowError h = ap (behind front) h
 behind_fails front r CFFError h = ap (behind front) h
 behind_fails front r OutOfMemory h = tt
+
+-- ---- what was settled stays
+
+-- a run that finishes has said more
+said_stays : (library : Library) (depth tokens : ℕ) (said : List Event) (s : State) (t : Trace) → run library depth tokens said s ≡ Finishes t → (more : List Event) × (t.events ≡ said ++ more)
+unfolding run
+said_stays library depth zero said s t h = by (unended s.rests) h
+  where
+    by : (rests : List (List ℕ)) → want rests (Finishes (record { events = said; left = s.registers.operands })) (λ bytes callers. Stops CFFError) ≡ Finishes t → (more : List Event) × (t.events ≡ said ++ more)
+    by [] e = let p : ◌≡◌ {A = Trace} (record { events = said; left = s.registers.operands }) t = cc in ([], sym (ap (λ (x : Trace). x.events) p) ∙ sym (append-nil said))
+    by (bytes ∷ callers) e = absurd (cc)
+said_stays library depth (suc tokens) said s t h = by (λ now next e. said_stays library depth tokens now next t e) (unended s.rests) h
+  where
+    event_stays : (said : List Event) (event : Option Event) (more : List Event) → (rest : List Event) × (said_also said event ++ more ≡ said ++ rest)
+    event_stays said None more = (more, refl)
+    event_stays said (Some event) more = (event ∷ more, append_assoc said (event ∷ []) more)
+
+    by_step : ((now : List Event) (next : State) → run library depth tokens now next ≡ Finishes t → (more : List Event) × (t.events ≡ now ++ more)) → (step : Step) → follow step said (run library depth tokens) ≡ Finishes t → (more : List Event) × (t.events ≡ said ++ more)
+    by_step later (Goes event next) e =
+        let m = later (said_also said event) next e in
+        let r = event_stays said event m.0 in
+        (r.0, m.1 ∙ r.1)
+    by_step later (Faults error) e = absurd (cc)
+
+    by : ((now : List Event) (next : State) → run library depth tokens now next ≡ Finishes t → (more : List Event) × (t.events ≡ now ++ more)) → (rests : List (List ℕ)) → want rests (Finishes (record { events = said; left = s.registers.operands })) (λ bytes callers. follow (move depth callers (act_at library bytes s.registers)) said (run library depth tokens)) ≡ Finishes t → (more : List Event) × (t.events ≡ said ++ more)
+    by later [] e = let p : ◌≡◌ {A = Trace} (record { events = said; left = s.registers.operands }) t = cc in ([], sym (ap (λ (x : Trace). x.events) p) ∙ sym (append-nil said))
+    by later (bytes ∷ callers) e = by_step later (move depth callers (act_at library bytes s.registers)) e
+
+-- what is settled is no longer than the whole
+pub settled_stays : (front : List ℕ) (o : Outcome) (library : Library) (depth tokens : ℕ) (s : State) (settled : List ℕ) → ReachedBehind front o library depth tokens s settled → (all : List ℕ) → behind front (bytes_of o) ≡ Ok all → length settled ≤ length all
+settled_stays front (Stops e) library depth tokens s settled h all k = absurd (cc)
+settled_stays front (Finishes t) library depth tokens s settled h all k =
+    let m = said_stays library depth tokens h.reached.said s t (sym h.reached.same) in
+    let whole : front ++ (flat_events t.events ++ flat_operands t.left) ≡ all = cc in
+    let split : flat_events t.events ≡ flat_events h.reached.said ++ flat_events m.0 = ap flat_events m.1 ∙ flat_map-append flat_event h.reached.said m.0 in
+    omega (arith, ap length (sym whole), length-append front (flat_events t.events ++ flat_operands t.left), length-append (flat_events t.events) (flat_operands t.left), ap length split, length-append (flat_events h.reached.said) (flat_events m.0), ap length h.split, length-append front h.own, ap length h.reached.settled_is)
+
+-- so a bound that it passes is passed by the whole
+pub settled_past : (bound : Option ℕ) (front : List ℕ) (o : Outcome) (library : Library) (depth tokens : ℕ) (s : State) (settled : List ℕ) → ReachedBehind front o library depth tokens s settled → is_past bound (length settled) ≡ true → IsTooLong bound length (behind front (bytes_of o))
+settled_past None front o library depth tokens s settled h p = absurd (cc)
+settled_past (Some most) front o library depth tokens s settled h p = record { most = most; is_set = refl; longer = λ all k. omega (arith, ltb-true most (length settled) p, settled_stays front o library depth tokens s settled h all k) }

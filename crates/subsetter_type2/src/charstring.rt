@@ -1,7 +1,8 @@
 //! Type 2 charstrings (Technical Note 5177).
 
-ghost use Rattle.std.specs.Prelude.{◌≡◌};
+ghost use Rattle.std.specs.Prelude.{◌≡◌, None, length};
 ghost use Rattle.subsetter_base.specs.Gives.{Gives};
+ghost use Rattle.subsetter_base.specs.Within.{GivesWithin};
 ghost use Rattle.subsetter_type2.specs.Behind.{behind};
 ghost use Rattle.subsetter_type2.specs.Flat.{flat_form};
 ghost use Rattle.subsetter_type2.specs.ProgramView.{program_bytes};
@@ -36,13 +37,14 @@ impl<'a> Model for Decompiler<'a> {
       library = record { global = d.subroutines.global; local = d.subroutines.local };
       tokens = d.limits.tokens;
       depth = d.limits.depth;
+      bytes = d.limits.bytes;
     } };
 }
 
 impl<'a> Decompiler<'a> {
     /// With these global subroutines, the local ones of the glyph's font dict, and the default limits.
     pub fn new(global: SubroutineHandler<'a>, local: SubroutineHandler<'a>) -> Self
-        ensures { result ≡ record { library = record { global = global.entry; local = local.entry }; tokens = 1000000; depth = 64 } }
+        ensures { result ≡ record { library = record { global = global.entry; local = local.entry }; tokens = 1000000; depth = 64; bytes = None } }
     {
         Self::with_limits(global, local, Limits::default())
     }
@@ -53,7 +55,7 @@ impl<'a> Decompiler<'a> {
         local: SubroutineHandler<'a>,
         limits: Limits,
     ) -> Self
-        ensures { result ≡ record { library = record { global = global.entry; local = local.entry }; tokens = limits.tokens; depth = limits.depth } }
+        ensures { result ≡ record { library = record { global = global.entry; local = local.entry }; tokens = limits.tokens; depth = limits.depth; bytes = limits.bytes } }
     {
         Decompiler {
             subroutines: Subroutines { global, local },
@@ -61,7 +63,7 @@ impl<'a> Decompiler<'a> {
         }
     }
 
-    /// The program of the charstring without its subroutines, whose bytes are the flat form of the trace.
+    /// The program of the charstring without its subroutines, whose bytes are the flat form of the trace. It has no bound.
     ///
     /// `CFFError` where the charstring is malformed or passes a limit, `Unimplemented` where it ends by putting two
     /// glyphs together.
@@ -74,15 +76,15 @@ impl<'a> Decompiler<'a> {
     /// The charstring without its subroutines: the flat form of the trace. Nothing but these bytes takes memory.
     ///
     /// `CFFError` where the charstring is malformed or passes a limit, `Unimplemented` where it ends by putting two
-    /// glyphs together.
+    /// glyphs together, `OverflowError` where the bytes pass their bound, before more of them are written.
     #[tactic(auto, using(crate::proofs::BehindRuns::behind_none))]
     pub fn flatten(self, alloc: Global, charstring: CharString<'a>) -> Result<Vec<u8>, Error>
-        ensures { Gives (λ bytes. bytes.items) result (flat_form self.entry.library self.entry.tokens self.entry.depth charstring.now) }
+        ensures { GivesWithin (λ bytes. bytes.items) self.entry.bytes length result (flat_form self.entry.library self.entry.tokens self.entry.depth charstring.now) }
     {
         self.flatten_behind(Vec::new(alloc), charstring)
     }
 
-    /// The charstring without its subroutines, written behind these bytes; they are lost where it can't be.
+    /// The charstring without its subroutines, written behind these bytes, which count too; they are lost where it can't be.
     ///
     /// The errors are those of `flatten`.
     pub fn flatten_behind(
@@ -90,7 +92,7 @@ impl<'a> Decompiler<'a> {
         bytes: Vec<u8>,
         charstring: CharString<'a>,
     ) -> Result<Vec<u8>, Error>
-        ensures { Gives (λ all. all.items) result (behind bytes.items (flat_form self.entry.library self.entry.tokens self.entry.depth charstring.now)) }
+        ensures { GivesWithin (λ all. all.items) self.entry.bytes length result (behind bytes.items (flat_form self.entry.library self.entry.tokens self.entry.depth charstring.now)) }
     {
         flattening::flatten_behind(bytes, &self.subroutines, &self.limits, charstring)
     }

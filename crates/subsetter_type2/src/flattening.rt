@@ -6,7 +6,7 @@ ghost use Rattle.subsetter_type2.specs.View.{rests_of};
 ghost use Rattle.subsetter_type2.specs.MachineView.{library_of, lead_of};
 ghost use Rattle.subsetter_type2.specs.Behind.{behind};
 ghost use Rattle.subsetter_type2.specs.Flat.{flat_form};
-ghost use Rattle.subsetter_base.specs.Gives.{Gives};
+ghost use Rattle.subsetter_base.specs.Within.{GivesWithin};
 ghost use Rattle.subsetter_base.specs.declared.error.Error.TheVariants.{CFFError};
 
 use crate::fixed_stack::FixedStack;
@@ -75,7 +75,8 @@ fn follow<'a, const N: usize>(
     }
 }
 
-/// The flat form of a charstring behind these bytes, with room for so many rests.
+/// The flat form of a charstring behind these bytes, with room for so many rests. `OverflowError` where all of these pass
+/// the bound.
 fn flatten_within<'a, const N: usize>(
     bytes: Vec<u8>,
     subroutines: &Subroutines<'a>,
@@ -84,7 +85,7 @@ fn flatten_within<'a, const N: usize>(
 ) -> Result<Vec<u8>, Error>
     requires few { N ≤ 255 }
     requires room { limits.now.depth ≤ N }
-    ensures { Gives (λ all. all.items) result (behind bytes.items (flat_form (library_of subroutines.now) limits.now.tokens limits.now.depth charstring.now)) }
+    ensures { GivesWithin (λ all. all.items) limits.now.bytes length result (behind bytes.items (flat_form (library_of subroutines.now) limits.now.tokens limits.now.depth charstring.now)) }
 {
     let mut machine = Machine::new(Output::behind(bytes));
     let mut rests: FixedStack<&'a [u8], N> = FixedStack::new(charstring);
@@ -96,6 +97,9 @@ fn flatten_within<'a, const N: usize>(
             .take_stretch(current, tokens, machine.mask_len)?;
         tokens -= stretch.tokens as u32;
         running = &current[stretch.len..];
+        if limits.is_past(machine.output.settled_len()) {
+            return Err(Error::OverflowError);
+        }
         if !running.is_empty() {
             if tokens == 0 {
                 return Err(Error::CFFError);
@@ -108,14 +112,14 @@ fn flatten_within<'a, const N: usize>(
     Ok(machine.output.finish())
 }
 
-/// The flat form of a charstring behind these bytes.
+/// The flat form of a charstring behind these bytes. `OverflowError` where all of these pass the bound.
 pub fn flatten_behind<'a>(
     bytes: Vec<u8>,
     subroutines: &Subroutines<'a>,
     limits: &Limits,
     charstring: &'a [u8],
 ) -> Result<Vec<u8>, Error>
-    ensures { Gives (λ all. all.items) result (behind bytes.items (flat_form (library_of subroutines.now) limits.now.tokens limits.now.depth charstring.now)) }
+    ensures { GivesWithin (λ all. all.items) limits.now.bytes length result (behind bytes.items (flat_form (library_of subroutines.now) limits.now.tokens limits.now.depth charstring.now)) }
 {
     if limits.depth() <= 64 {
         return flatten_within::<64>(bytes, subroutines, limits, charstring);

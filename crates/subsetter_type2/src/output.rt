@@ -133,6 +133,14 @@ impl Output {
         Ok(stretch)
     }
 
+    /// How many bytes stand before the operands.
+    #[inline(always)]
+    pub fn settled_len(&self) -> usize
+        ensures { result ≡ length self.now.settled }
+    {
+        self.settled
+    }
+
     /// All that is written.
     pub fn finish(self) -> Vec<u8>
         ensures { result.items ≡ self.settled ++ flat_operands self.operands }

@@ -30,6 +30,10 @@ pub record Walk : Type 0 where
 abbrev pub IsWithin : ℕ → Outline → Walk → Type 0
 IsWithin b o w = (length w.xs ≡ length o.xs) × (length w.ys ≡ length o.xs) × All (λ z. unsigned_abs z ≤ b) w.xs × All (λ z. unsigned_abs z ≤ b) w.ys
 
+-- the same of the coordinates alone
+abbrev pub AreWithin : ℕ → Outline → List ℤ → List ℤ → Type 0
+AreWithin b o xs ys = (length xs ≡ length o.xs) × (length ys ≡ length o.xs) × All (λ z. unsigned_abs z ≤ b) xs × All (λ z. unsigned_abs z ≤ b) ys
+
 -- n of the steps that are left
 abbrev pub spent : ℕ → ℕ → Result ℕ Error
 spent n steps = if nat_le n steps then Ok (steps - n) else Err OverflowError

@@ -45,7 +45,7 @@ fn unmapped_coordinates(
 ) -> Result<Vec<i32>, Error>
     ensures { Gives (λ v. v.items) result (Ok (unmapped_coordinates settings.now axes.now)) }
 {
-    let mut coordinates = Vec::new(alloc);
+    let mut coordinates = Vec::with_capacity(alloc, axes.len())?;
     for axis in axes {
         coordinates.push(coordinate(axis, LazyArray16::default(), settings))?;
     }
@@ -63,7 +63,7 @@ fn coordinates_at(
     ensures { Gives (λ v. v.items) result (ok_or (coordinates_at axes.now settings.now avar.now 8) MalformedFont) }
 {
     let mut r = Reader::new_at(avar, 8);
-    let mut coordinates = Vec::new(alloc);
+    let mut coordinates = Vec::with_capacity(alloc, axes.len())?;
     for axis in axes {
         let ends = next_segment_map(&mut r).ok_or(Error::MalformedFont)?;
         coordinates.push(coordinate(axis, ends, settings))?;

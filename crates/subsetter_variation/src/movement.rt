@@ -10,7 +10,7 @@ ghost use Rattle.std.specs.Prelude.{◌≡◌, ◌+◌, ◌<◌, ◌≤◌, ◌^
 ghost use Rattle.std.specs.Option.{ok_or, option_map};
 ghost use Rattle.subsetter_base.specs.Gives.{Gives};
 ghost use Rattle.subsetter_base.specs.declared.error.Error.TheVariants.{MalformedFont};
-ghost use Rattle.subsetter_variation.specs.Movement.{IsOutline, IsWithin, spent, moved_by, counted_walk, next_walk, walk_all, start, moved_in_bytes, moved_points};
+ghost use Rattle.subsetter_variation.specs.Movement.{AreWithin, IsOutline, IsWithin, spent, moved_by, counted_walk, next_walk, walk_all, start, moved_in_bytes, moved_points};
 
 use crate::region::scalar;
 use crate::tuples::{
@@ -82,7 +82,7 @@ impl<'a> Walk<'a> {
 }
 
 /// The steps that are left behind so many. Where there aren't as many it is `OverflowError`.
-fn spent(n: usize, steps: u32) -> Result<u32, Error>
+pub fn spent(n: usize, steps: u32) -> Result<u32, Error>
     ensures { result ≡ spent n steps }
 {
     if n <= steps as usize {
@@ -248,7 +248,8 @@ fn moved_in_bytes<'a>(
 ) -> Result<(Vec<i64>, Vec<i64>, u32), Error>
     requires outline { IsOutline o.now }
     requires axes { length at.now ≡ t.now.axis_count }
-    ensures { Gives (λ r. (r.0.items, r.1.items, r.2)) result (moved_in_bytes t.now o.now at.now steps bytes.now) }
+    ensures value { Gives (λ r. (r.0.items, r.1.items, r.2)) result (moved_in_bytes t.now o.now at.now steps bytes.now) }
+    ensures bound { IfOk result (λ r. AreWithin (2 ^ 57) o.now r.0.items r.1.items) }
 {
     let n = o.count() as u32;
     let (is_shared, headers) = tuple_headers(bytes).ok_or(Error::MalformedFont)?;
@@ -272,7 +273,8 @@ pub fn moved_points(
 ) -> Result<(Vec<i64>, Vec<i64>, u32), Error>
     requires outline { IsOutline o.now }
     requires axes { length at.now ≡ t.now.axis_count }
-    ensures { Gives (λ r. (r.0.items, r.1.items, r.2)) result (moved_points t.now glyph o.now at.now steps) }
+    ensures value { Gives (λ r. (r.0.items, r.1.items, r.2)) result (moved_points t.now glyph o.now at.now steps) }
+    ensures bound { IfOk result (λ r. AreWithin (2 ^ 57) o.now r.0.items r.1.items) }
 {
     let bytes = t.variations_of(glyph).ok_or(Error::MalformedFont)?;
     if bytes.is_empty() {

@@ -238,7 +238,7 @@ fn region_axes(
     ensures value { Gives (λ v. v.items) result (Ok (region_axes inner count peaks.now starts.now ends.now)) }
     ensures count { IfOk result (λ v. length v.items ≡ count) }
 {
-    let mut list = Vec::new(alloc);
+    let mut list = Vec::with_capacity(alloc, usize::from(count))?;
     let mut p = peaks;
     let mut s = starts;
     let mut e = ends;

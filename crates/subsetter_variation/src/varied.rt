@@ -54,7 +54,7 @@ fn own_delta(deltas: &[i16], k: usize) -> Option<i16>
 fn all_by_point(alloc: Global, n: usize, deltas: &[i16]) -> Result<Vec<Option<i16>>, AllocError>
     ensures { IfOk result (λ v. v.items ≡ deltas_by_point n None deltas.now) }
 {
-    let mut list = Vec::new(alloc);
+    let mut list = Vec::with_capacity(alloc, n)?;
     for k in 0..n {
         list.push(own_delta(deltas, k))?;
     }
@@ -99,7 +99,7 @@ pub fn in_units(alloc: Global, coordinates: &[i16]) -> Result<Vec<i64>, AllocErr
     ensures value { IfOk result (λ v. v.items ≡ in_units coordinates.now) }
     ensures bound { IfOk result (λ v. All (λ x. unsigned_abs x ≤ 2 ^ 45) v.items) }
 {
-    let mut sums = Vec::new(alloc);
+    let mut sums = Vec::with_capacity(alloc, coordinates.len())?;
     for x in coordinates {
         sums.push(given(UNIT, *x))?;
     }

@@ -13,8 +13,19 @@ pub enum Call {
     Subset,
     Limits,
     Options,
+    BoundedOptions,
     Embed,
     EmbedOptions,
+    EmbedBoundedOptions,
+}
+
+impl Call {
+    fn embeds(self) -> bool {
+        matches!(
+            self,
+            Call::Embed | Call::EmbedOptions | Call::EmbedBoundedOptions
+        )
+    }
 }
 
 /// The numbers of a row with choices; the others have those of the library.
@@ -23,6 +34,8 @@ pub struct Choice {
     pub tokens: u32,
     pub depth: u32,
     pub drop: u32,
+    /// The most bytes of a new font, 0 for no such limit.
+    pub bytes: u32,
 }
 
 pub struct Row {
@@ -85,11 +98,13 @@ impl Table {
             ["subset", ..] => (Call::Subset, 0),
             ["limits", ..] => (Call::Limits, 2),
             ["options", ..] => (Call::Options, 3),
+            ["bounded_options", ..] => (Call::BoundedOptions, 4),
             ["embed", ..] => (Call::Embed, 0),
             ["embed_options", ..] => (Call::EmbedOptions, 3),
+            ["embed_bounded_options", ..] => (Call::EmbedBoundedOptions, 4),
             _ => panic!("no row: {line}"),
         };
-        let embeds = matches!(call, Call::Embed | Call::EmbedOptions);
+        let embeds = call.embeds();
         assert_eq!(
             words.len(),
             7 + choices + if embeds { 2 } else { 0 },
@@ -110,6 +125,7 @@ impl Table {
                 tokens: chosen.next().unwrap_or(0),
                 depth: chosen.next().unwrap_or(0),
                 drop: chosen.next().unwrap_or(0),
+                bytes: chosen.next().unwrap_or(0),
             },
             status: behind[0].parse().unwrap(),
             wanted: Embedded {
@@ -168,21 +184,31 @@ impl Row {
     }
 
     pub fn embeds(&self) -> bool {
-        matches!(self.call, Call::Embed | Call::EmbedOptions)
+        self.call.embeds()
     }
 
     /// The limits of the row: None where they are no limits.
     pub fn limits(&self) -> Option<Limits> {
-        let Choice { tokens, depth, .. } = self.choice;
+        let Choice {
+            tokens,
+            depth,
+            bytes,
+            ..
+        } = self.choice;
         let is_default = |number| number == 0 && self.call != Call::Limits;
-        Limits::new(
+        let limits = Limits::new(
             if is_default(tokens) {
                 1_000_000
             } else {
                 tokens
             },
             if is_default(depth) { 64 } else { depth as u8 },
-        )
+        )?;
+        Some(if bytes == 0 {
+            limits
+        } else {
+            limits.with_bytes(bytes)
+        })
     }
 
     /// The options of the row, built in the order in which their bits stand.
@@ -197,7 +223,7 @@ impl Row {
         if self.choice.drop & 4 != 0 {
             options = options.glyph_names(false);
         }
-        if (self.choice.tokens, self.choice.depth) != (0, 0) {
+        if (self.choice.tokens, self.choice.depth, self.choice.bytes) != (0, 0, 0) {
             options = options.limits(limits);
         }
         options

@@ -3,7 +3,7 @@
 use super::fonts::*;
 use std::alloc::Global;
 use std::test::*;
-use subsetter::{Error, Tag};
+use subsetter::{Error, Limits, Tag, subset_with_limits};
 use subsetter_base::write::Writer;
 
 /// Glyph k is a composite of glyph k + 1, for each k below a count.
@@ -95,5 +95,43 @@ fn the_first_fault_on_the_way_names_the_error(rt: HostRuntime) -> Result<(), Fai
     // Glyph 2 gets the last number, so its one byte is seen.
     let font = crowd(rt.alloc(), 65535, 2)?;
     assert_eq!(rt; refusal(rt.alloc(), &font, &[])?, Error::MalformedFont);
+    Ok(())
+}
+
+/// The error of a font that may have so many bytes, if it is refused.
+fn error_within(alloc: Global, font: &[u8], bytes: u32) -> Result<Option<Error>, Fail> {
+    let limits = Limits::default().with_bytes(bytes);
+    let mapper = mapper(alloc, &[])?;
+    Ok(subset_with_limits(alloc, font, 0, &mapper, &limits).err())
+}
+
+#[test]
+fn a_font_has_no_more_bytes_than_it_may(rt: HostRuntime) -> Result<(), Fail> {
+    let glyf = chain_glyf(rt.alloc(), 300)?;
+    let font = long_font(rt.alloc(), &glyf, &chain_loca(rt.alloc(), 300)?)?;
+    let size = u32::try_from(subset_of(rt.alloc(), &font, &[])?.len()).unwrap_or(0);
+    assert_eq!(rt; error_within(rt.alloc(), &font, size)?, None);
+    assert_eq!(rt;
+        error_within(rt.alloc(), &font, size.wrapping_sub(1))?,
+        Some(Error::OverflowError)
+    );
+    // The composites alone have 4800 bytes.
+    assert_eq!(rt;
+        error_within(rt.alloc(), &font, 4799)?,
+        Some(Error::OverflowError)
+    );
+    assert_eq!(rt;
+        error_within(rt.alloc(), &font, 0)?,
+        Some(Error::OverflowError)
+    );
+    // A cut composite counts with all of its bytes, and is told where these are too many.
+    let mut cut = font.clone()?;
+    if let Some(flags) = cut.get_mut(71) {
+        *flags = 1;
+    }
+    assert_eq!(rt;
+        error_within(rt.alloc(), &cut, 0)?,
+        Some(Error::MalformedFont)
+    );
     Ok(())
 }

@@ -84,6 +84,7 @@ module _ (tokens depth : ℕ) (font : Font) (glyphs source : List ℕ) (bytes : 
   no_outline_fault e (outline_faults.one_byte g b r is) = some_not_none (outline font g) _ is (no_outline font g without)
   no_outline_fault e (outline_faults.cut_composite g found r is lt none) = some_not_none (outline font g) found is (no_outline font g without)
   no_outline_fault e (outline_faults.all_reached a b) = lacks a
+  no_outline_fault e (outline_faults.long_outlines a b) = lacks a
 
   small_file : (found : List ℕ) (ts : List Table) → table font (codes "CFF ") ≡ Some found → cff_tables (table font) found tokens depth glyphs ≡ Ok ts → fits (start_of ts) ts ≡ false → ⊥
   small_file found ts is k large =

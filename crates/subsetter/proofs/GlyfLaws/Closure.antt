@@ -1,35 +1,34 @@
 -- The glyphs that a list reaches, while they are found.
-use Rattle.std.proofs.Common.{◌≡◌, ℕ, zero, suc, ◌+◌, ◌-◌, ◌*◌, ◌^◌, ◌<◌, ◌≤◌, Bool, true, false, cond, ltb, ◌&&◌, List, [], ◌∷◌, ◌++◌, length, drop, Option, Some, None, refl, sym, ap, subst, ◌∙◌, ◌⊎◌, inl, inr, append_assoc, arith}
+use Rattle.std.proofs.Common.{◌≡◌, ℕ, zero, suc, ◌+◌, ◌-◌, ◌*◌, ◌^◌, ◌<◌, ◌≤◌, Bool, true, false, cond, List, [], ◌∷◌, ◌++◌, length, Option, Some, None, refl, sym, ap, subst, ◌∙◌, ◌⊎◌, inl, inr, append_assoc, arith}
 use Rattle.std.specs.Prelude.{Contains, IfSome, is_some, map, not, nat_le}
 use Rattle.std.specs.Borrow.{Bor}
-use Rattle.std.specs.Option.{option_and_then, option_copied}
-use Rattle.std.proofs.lemmas.Bool.{ltb-true, leb-false}
+use Rattle.std.specs.Option.{option_copied}
+use Rattle.std.proofs.lemmas.Bool.{leb-false}
 use Rattle.std.proofs.lemmas.List.{append-nil, length_push, length-append}
 use Rattle.std.proofs.lemmas.List.Elements.{Contains-append_left, Contains-append_right, Contains-append_cases, Contains-push, Contains-push_cases}
 use Rattle.subsetter_base.specs.Places.{place, with_glyph, IsWithoutRepeats}
 use Rattle.subsetter_base.proofs.PlaceLemmas.{IsWithoutRepeats-push}
 use Rattle.subsetter_base.proofs.GlyphLemmas.{place-Contains, length-le_small, small-push}
 use Rattle.subsetter.specs.Glyf.Read.{Outlines, outline_in}
-use Rattle.subsetter_base.proofs.ByteLemmas.{range-none}
-use Rattle.subsetter.specs.Glyf.Parts.{Simple, Composite, component_numbers, chain_at, composite_parts, outline_parts}
+use Rattle.subsetter.specs.Glyf.Parts.{component_numbers}
 use Rattle.subsetter.specs.Glyf.Reach.{IsReachableBy, given, step, IsGlyphOrderBy}
 use Rattle.subsetter_base.specs.declared.error.Error.{Error}
 use Rattle.subsetter_base.specs.declared.error.Error.TheVariants.{OutOfMemory, MalformedFont, OverflowError}
 use Rattle.subsetter_base.proofs.Lists.{Contains-later}
 use Rattle.subsetter_base.proofs.Options.{none_of}
 use Rattle.subsetter.proofs.GlyfLaws.Components.{components_few, components_simple}
-use Rattle.subsetter.specs.Glyf.Closure.{first_byte_in, AreFound, components_in, others_in, lacks_glyph_header, IsFaulty, IsFull, IsVisited, StopsClosure, no_memory, faulty_glyph, all_reached}
+use Rattle.subsetter.specs.Glyf.Closure.{first_byte_in, AreFound, components_in, others_in, IsFaulty, IsFull, IsVisited, StopsClosure, no_memory, faulty_glyph, all_reached}
 
 -- ---- members of a list
 
 pub no_member : (x : ℕ) → Contains {X = ℕ} [] x → ⊥
 no_member x c = omega (arith, c.1)
 
-cons_cases : (x h : ℕ) (xs : List ℕ) → Contains (x ∷ xs) h → (x ≡ h) ⊎ Contains xs h
+pub cons_cases : (x h : ℕ) (xs : List ℕ) → Contains (x ∷ xs) h → (x ≡ h) ⊎ Contains xs h
 cons_cases x h xs (zero, lt, is) = inl is
 cons_cases x h xs (suc k, lt, is) = inr (k, omega arith, is)
 
-here : (x h : ℕ) (xs : List ℕ) → x ≡ h → Contains (x ∷ xs) h
+pub here : (x h : ℕ) (xs : List ℕ) → x ≡ h → Contains (x ∷ xs) h
 here x h xs is = (0, omega arith, is)
 
 -- the numbers that aren't in the order are among the numbers
@@ -242,40 +241,32 @@ visited_next t glyphs left before waiting order g order_after after e v f = visi
 pub finished : (t : Outlines) (glyphs left order : List ℕ) → left ≡ [] → Follows t glyphs left [] order → IsGlyphOrderBy (outline_in t) glyphs order
 finished t glyphs left order none f = finish t glyphs order (subst (λ (l : List ℕ). Follows t glyphs l [] order) none f)
 
-pub stops_memory : (t : Outlines) (glyphs : List ℕ) (e : Error) → e ≡ OutOfMemory → StopsClosure t glyphs e
-stops_memory t glyphs e is = subst (StopsClosure t glyphs) (sym is) no_memory
+pub stops_memory : (most : ℕ) (t : Outlines) (glyphs : List ℕ) (e : Error) → e ≡ OutOfMemory → StopsClosure t glyphs most e
+stops_memory most t glyphs e is = subst (StopsClosure t glyphs most) (sym is) no_memory
 
-pub stops_faulty : (t : Outlines) (glyphs : List ℕ) (g : ℕ) (e : Error) → Reached t glyphs g → (e ≡ OutOfMemory) ⊎ ((e ≡ MalformedFont) × IsFaulty t g) → StopsClosure t glyphs e
-stops_faulty t glyphs g e r h = elim h [ inl is ↦ stops_memory t glyphs e is | inr k ↦ subst (StopsClosure t glyphs) (sym k.0) (faulty_glyph g r k.1) ]
+pub stops_faulty : (most : ℕ) (t : Outlines) (glyphs : List ℕ) (g : ℕ) (e : Error) → Reached t glyphs g → (e ≡ OutOfMemory) ⊎ ((e ≡ MalformedFont) × IsFaulty t g) → StopsClosure t glyphs most e
+stops_faulty most t glyphs g e r h = elim h [ inl is ↦ stops_memory most t glyphs e is | inr k ↦ subst (StopsClosure t glyphs most) (sym k.0) (faulty_glyph g r k.1) ]
 
-pub stops_given : (t : Outlines) (glyphs before left order : List ℕ) (g : ℕ) (e : Error) → before ≡ left ++ g ∷ [] → Follows t glyphs before [] order → (e ≡ OutOfMemory) ⊎ ((e ≡ MalformedFont) × IsFaulty t g) → StopsClosure t glyphs e
-stops_given t glyphs before left order g e is f h = stops_faulty t glyphs g e (given g (f.are_given g (subst (λ (l : List ℕ). Contains l g) (sym is) (Contains-push left g)))) h
+pub stops_given : (most : ℕ) (t : Outlines) (glyphs before left order : List ℕ) (g : ℕ) (e : Error) → before ≡ left ++ g ∷ [] → Follows t glyphs before [] order → (e ≡ OutOfMemory) ⊎ ((e ≡ MalformedFont) × IsFaulty t g) → StopsClosure t glyphs most e
+stops_given most t glyphs before left order g e is f h = stops_faulty most t glyphs g e (given g (f.are_given g (subst (λ (l : List ℕ). Contains l g) (sym is) (Contains-push left g)))) h
 
-pub stops_visit : (t : Outlines) (glyphs left before waiting order : List ℕ) (g : ℕ) (e : Error) → before ≡ waiting ++ g ∷ [] → Follows t glyphs left before order → (e ≡ OutOfMemory) ⊎ (((e ≡ MalformedFont) × IsFaulty t g) ⊎ ((e ≡ OverflowError) × IsFull order g)) → StopsClosure t glyphs e
-stops_visit t glyphs left before waiting order g e is f h =
+pub stops_visit : (most : ℕ) (t : Outlines) (glyphs left before waiting order : List ℕ) (g : ℕ) (e : Error) → before ≡ waiting ++ g ∷ [] → Follows t glyphs left before order → (e ≡ OutOfMemory) ⊎ (((e ≡ MalformedFont) × IsFaulty t g) ⊎ ((e ≡ OverflowError) × IsFull order g)) → StopsClosure t glyphs most e
+stops_visit most t glyphs left before waiting order g e is f h =
     let waited : Reached t glyphs g = f.waits g (subst (λ (l : List ℕ). Contains l g) (sym is) (Contains-push waiting g)) in
     elim h [
-      | inl a ↦ stops_memory t glyphs e a
+      | inl a ↦ stops_memory most t glyphs e a
       | inr b ↦ elim b [
-        | inl k ↦ stops_faulty t glyphs g e waited (inr k)
-        | inr k ↦ subst (StopsClosure t glyphs) (sym k.0) (all_reached (overflows t glyphs left waiting order g k.1 (subst (λ (l : List ℕ). Follows t glyphs left l order) is f)))
+        | inl k ↦ stops_faulty most t glyphs g e waited (inr k)
+        | inr k ↦ subst (StopsClosure t glyphs most) (sym k.0) (all_reached (overflows t glyphs left waiting order g k.1 (subst (λ (l : List ℕ). Follows t glyphs left l order) is f)))
       ]
     ]
 
--- an outline that lacks its head has no parts
-pub headless : (bytes : List ℕ) → lacks_glyph_header bytes ≡ true → outline_parts bytes ≡ None
-unfolding lacks_glyph_header outline_parts
-headless [] h = absurd cc
-headless (a ∷ []) h = refl
-headless (a ∷ b ∷ bytes) h = by (ltb a 128) (ltb (length (a ∷ b ∷ bytes)) 10) refl h
-  where
-    short : ltb (length (a ∷ b ∷ bytes)) 10 ≡ true → composite_parts (a ∷ b ∷ bytes) ≡ None
-    short lt = ap (λ (o : Option (List ℕ)). option_and_then (λ head. option_and_then (λ chain. Some (Composite head chain)) (chain_at (length (a ∷ b ∷ bytes)) (drop 10 (a ∷ b ∷ bytes)))) o) (range-none (a ∷ b ∷ bytes) 0 10 (ltb-true (length (a ∷ b ∷ bytes)) 10 lt))
+-- glyphs that are taken are reached
+pub given_reached : (t : Outlines) (glyphs before left waiting order : List ℕ) (g : ℕ) → before ≡ left ++ g ∷ [] → Follows t glyphs before waiting order → Reached t glyphs g
+given_reached t glyphs before left waiting order g is f = given g (f.are_given g (subst (λ (l : List ℕ). Contains l g) (sym is) (Contains-push left g)))
 
-    by : (q r : Bool) → ltb (length (a ∷ b ∷ bytes)) 10 ≡ r → (not q && r) ≡ true → cond q (Some (Simple (a ∷ b ∷ bytes))) (composite_parts (a ∷ b ∷ bytes)) ≡ None
-    by true r e k = absurd cc
-    by false true e k = short e
-    by false false e k = absurd cc
+pub waits_reached : (t : Outlines) (glyphs left before waiting order : List ℕ) (g : ℕ) → before ≡ waiting ++ g ∷ [] → Follows t glyphs left before order → Reached t glyphs g
+waits_reached t glyphs left before waiting order g is f = f.waits g (subst (λ (l : List ℕ). Contains l g) (sym is) (Contains-push waiting g))
 
 -- at most as many wait as the outline has bytes
 others_few : (order ns : List ℕ) → length (others_in order ns) ≤ length ns
@@ -308,3 +299,7 @@ room_left order after g is lt = omega (arith, ap length is, by (is_some (place o
     by : (b : Bool) → length (cond b order (order ++ g ∷ [])) ≤ length order + 1
     by true = omega arith
     by false = omega (arith, length_push order g)
+
+-- a glyph that wasn't there went last
+pub gone_last : (order after : List ℕ) (g : ℕ) → place order g ≡ None → after ≡ with_glyph order g → after ≡ order ++ g ∷ []
+gone_last order after g absent is = is ∙ ap (λ (o : Option ℕ). cond (is_some o) order (order ++ g ∷ [])) absent

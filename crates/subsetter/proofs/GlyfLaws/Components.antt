@@ -70,7 +70,7 @@ numbers_next bytes rest flags glyph le f g r =
 
 -- ---- the components of an outline
 
-drop_short : (n : ℕ) (l : List ℕ) → length l ≤ n → drop n l ≡ []
+pub drop_short : (n : ℕ) (l : List ℕ) → length l ≤ n → drop n l ≡ []
 drop_short zero [] le = refl
 drop_short zero (x ∷ l) le = absurd (omega arith)
 drop_short (suc n) [] le = refl

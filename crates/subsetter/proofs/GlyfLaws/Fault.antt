@@ -1,5 +1,5 @@
 -- What is refused of the outlines has a fault of that name, and what is taken has none.
-use Rattle.std.proofs.Common.{◌≡◌, ℕ, zero, suc, ◌<◌, ◌≤◌, Bool, true, false, cond, leb, eqb, List, [], ◌∷◌, length, get_or, take, drop, Option, Some, None, Ok, Err, refl, sym, ap, subst, ◌∙◌, ◌⊎◌, inl, inr, arith}
+use Rattle.std.proofs.Common.{◌≡◌, ℕ, zero, suc, ◌^◌, ◌<◌, ◌≤◌, Bool, true, false, cond, leb, eqb, List, [], ◌∷◌, length, get_or, take, drop, Option, Some, None, Ok, Err, refl, sym, ap, subst, ◌∙◌, ◌⊎◌, inl, inr, arith}
 use Rattle.std.specs.Prelude.{codes, not, Contains, IsSome, is_some}
 use Rattle.std.specs.Option.{option_and_then, option_map}
 use Rattle.std.specs.List.{list_any}
@@ -16,11 +16,14 @@ use Rattle.subsetter_sfnt.specs.Read.{Font, table}
 use Rattle.subsetter.specs.Glyf.Read.{Outlines, outlines_in, outlines, outline_in, outline}
 use Rattle.subsetter.specs.Glyf.Parts.{Parts, outline_parts}
 use Rattle.subsetter.specs.Glyf.Reach.{IsReachableBy, IsReachable, IsGlyphOrderBy, IsGlyphOrder}
-use Rattle.subsetter.specs.Glyf.Closure.{StopsClosure, no_memory, faulty_glyph, all_reached}
+use Rattle.subsetter.specs.Glyf.Closure.{StopsClosure, no_memory, faulty_glyph, all_reached, too_long}
 use Rattle.subsetter.specs.Glyf.Plain.{outlines_read, kept_all}
+use Rattle.subsetter.specs.Glyf.Size.{asked_size, asked_sizes, AreLonger}
+use Rattle.subsetter.specs.Glyf.Written.{glyf_bytes}
 use Rattle.subsetter.specs.Glyf.Fault as faults
 use Rattle.subsetter.specs.Glyf.Fault.{HasOutlineFault}
 use Rattle.subsetter.proofs.GlyfLaws.Kept.{some_before, not_kept, first_not_kept, kept_at}
+use Rattle.subsetter.proofs.GlyfLaws.Sizes.{sum_by_part, kept_sizes}
 use Rattle.subsetter.proofs.GlyfLaws.Unfold.{outline_is}
 
 -- ---- the tables
@@ -106,10 +109,17 @@ reached_in font glyphs t g read r = subst (λ (o : Option Outlines). IsReachable
 pub order_in : (font : Font) (glyphs order : List ℕ) (t : Outlines) → outlines font ≡ Some t → IsGlyphOrderBy (outline_in t) glyphs order → IsGlyphOrder font glyphs order
 order_in font glyphs order t read o = subst (λ (x : Option Outlines). IsGlyphOrderBy (λ h. option_and_then (λ u. outline_in u h) x) glyphs order) (sym read) o
 
+-- outlines of the tables that are too long, too long in the font
+pub longer_in : (font : Font) (glyphs : List ℕ) (t : Outlines) (most : ℕ) → outlines font ≡ Some t → AreLonger t.hinting (outline_in t) glyphs most → AreLonger font.extras.hinting (outline font) glyphs most
+longer_in font glyphs t most read l =
+    let here : AreLonger font.extras.hinting (outline_in t) glyphs most = subst (λ (b : Bool). AreLonger b (outline_in t) glyphs most) (has_tables font.extras.hinting (table font) t read).asks l in
+    subst (λ (o : Option Outlines). AreLonger font.extras.hinting (λ h. option_and_then (λ u. outline_in u h) o) glyphs most) (sym read) here
+
 -- the closure was stopped
-pub closure_refused : (font : Font) (glyphs : List ℕ) (t : Outlines) (e : Error) → outlines font ≡ Some t → StopsClosure t glyphs e → (e ≡ OutOfMemory) ⊎ HasOutlineFault font glyphs e
+pub closure_refused : (font : Font) (glyphs : List ℕ) (t : Outlines) (e : Error) → outlines font ≡ Some t → StopsClosure t glyphs 4294967295 e → (e ≡ OutOfMemory) ⊎ HasOutlineFault font glyphs e
 closure_refused font glyphs t e read no_memory = inl refl
 closure_refused font glyphs t e read (faulty_glyph g r is) = inr (no_parts font glyphs g is.bytes (reached_in font glyphs t g read r) (outline_is font t g read ∙ is.there) is.faulty)
+closure_refused font glyphs t e read (too_long l) = inr (faults.long_outlines (glyf_there font t read) (longer_in font glyphs t 4294967295 read l))
 closure_refused font glyphs t e read (all_reached r) = inr (faults.all_reached (glyf_there font t read) (λ g lt. reached_in font glyphs t g read (r g lt)))
 
 -- an outline was refused
@@ -140,6 +150,13 @@ too_many : (order : List ℕ) → length order ≤ 65535 → ((g : ℕ) → g < 
 too_many order few all = omega (arith, few, le-length_from_below order 65536 (λ q lt. any_has order q (all q lt)))
 
 module _ (font : Font) (glyphs order : List ℕ) (t : Outlines) (bs : List (List ℕ)) (read : outlines font ≡ Some t) (closed : IsGlyphOrder font glyphs order) (few : length order ≤ 65535) (keeps : kept_all t order order ≡ Ok bs) where
+  -- those of some reached glyphs are no longer than the new `glyf`
+  pub not_longer : (most : ℕ) (long : Bool) → length (glyf_bytes long bs) ≤ most → AreLonger font.extras.hinting (outline font) glyphs most → ⊥
+  not_longer most long small l =
+      let sizes = λ (hint : Bool) (o : Option Outlines). asked_sizes hint (λ h. option_and_then (λ u. outline_in u h) o) order in
+      let same : sizes font.extras.hinting (outlines font) ≡ asked_sizes t.hinting (outline_in t) order = ap (sizes font.extras.hinting) read ∙ ap (λ (b : Bool). sizes b (Some t)) (sym (has_tables font.extras.hinting (table font) t read).asks) in
+      omega (arith, l.longer, sum_by_part (λ g. asked_size font.extras.hinting (outline font g)) l.part order l.once (λ g c. (closed.members g).1 (l.reached g c)), same, kept_sizes t order order bs long keeps, small)
+
   -- a reached glyph has an outline with parts
   has_parts : (g : ℕ) → IsReachable font glyphs g → (bytes : List ℕ) × (outline font g ≡ Some bytes) × ((p : Parts) × (outline_parts bytes ≡ Some p))
   has_parts g r =
@@ -154,14 +171,15 @@ module _ (font : Font) (glyphs order : List ℕ) (t : Outlines) (bs : List (List
       let same : k.0 ≡ bytes = just_is k.0 bytes (sym k.1 ∙ there) in
       some_not_none (outline_parts k.0) k.2.0 k.2.1 (ap outline_parts same ∙ none)
 
-  pub no_outline_fault : (e : Error) → HasOutlineFault font glyphs e → ⊥
-  no_outline_fault e (faults.no_loca a b) = let h = has_tables font.extras.hinting (table font) t read in some_not_none (table font (codes "loca")) t.loca h.loca_is b
-  no_outline_fault e (faults.no_head a b) = let h = has_tables font.extras.hinting (table font) t read in some_not_none (table font (codes "head")) t.head h.head_is b
-  no_outline_fault e (faults.short_head head a b) =
+  pub no_outline_fault : (long : Bool) → length (glyf_bytes long bs) < 2 ^ 32 → (e : Error) → HasOutlineFault font glyphs e → ⊥
+  no_outline_fault long small e (faults.no_loca a b) = let h = has_tables font.extras.hinting (table font) t read in some_not_none (table font (codes "loca")) t.loca h.loca_is b
+  no_outline_fault long small e (faults.no_head a b) = let h = has_tables font.extras.hinting (table font) t read in some_not_none (table font (codes "head")) t.head h.head_is b
+  no_outline_fault long small e (faults.short_head head a b) =
       let h = has_tables font.extras.hinting (table font) t read in
       let same : t.head ≡ head = just_is t.head head (sym h.head_is ∙ a) in
       omega (arith, ap length same, h.head_len, b)
-  no_outline_fault e (faults.no_outline g a r none) = let k = has_parts g r in some_not_none (outline font g) k.0 k.1 none
-  no_outline_fault e (faults.one_byte g b r there) = without_parts g (b ∷ []) r there (one_has_none b)
-  no_outline_fault e (faults.cut_composite g bytes r there le none) = without_parts g bytes r there none
-  no_outline_fault e (faults.all_reached a r) = too_many order few (λ g lt. (closed.members g).1 (r g lt))
+  no_outline_fault long small e (faults.no_outline g a r none) = let k = has_parts g r in some_not_none (outline font g) k.0 k.1 none
+  no_outline_fault long small e (faults.one_byte g b r there) = without_parts g (b ∷ []) r there (one_has_none b)
+  no_outline_fault long small e (faults.cut_composite g bytes r there le none) = without_parts g bytes r there none
+  no_outline_fault long small e (faults.all_reached a r) = too_many order few (λ g lt. (closed.members g).1 (r g lt))
+  no_outline_fault long small e (faults.long_outlines a l) = not_longer 4294967295 long (omega (arith, small)) l

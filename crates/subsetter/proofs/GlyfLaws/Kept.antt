@@ -32,7 +32,7 @@ is_kept t order g b h =
     record { bytes = a.0; there = named_ok (outline_in t g) MalformedFont a.0 a.1; parts = m.0; parts_are = m.1; written = m.2 }
 
 -- parts that aren't asked for are there
-none_before : (hint : Bool) (o : Option Parts) → parts_asked hint o ≡ None → o ≡ None
+pub none_before : (hint : Bool) (o : Option Parts) → parts_asked hint o ≡ None → o ≡ None
 none_before true o h = h
 none_before false None h = refl
 none_before false (Some p) h = absurd cc

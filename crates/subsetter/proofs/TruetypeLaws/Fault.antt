@@ -8,9 +8,10 @@ use Rattle.subsetter_base.specs.declared.error.Error.TheVariants.{MalformedFont,
 use Rattle.subsetter_base.proofs.Options.{just_is}
 use Rattle.subsetter_base.proofs.Results.{named_ok, done_is, failed_is, bind_err}
 use Rattle.subsetter_sfnt.specs.declared.flavor.FontFlavor.TheVariants.{TrueType, Cff}
-use Rattle.subsetter.specs.Truetype.Answered.{IsAnswered, IsRefused, no_memory, unread, unclosed, unmade, unlaid}
+use Rattle.subsetter.specs.Truetype.Answered.{IsAnswered, IsRefused, no_memory, unread, unclosed, unmade, unlaid, past}
 use Rattle.subsetter.specs.Fault as faults
 use Rattle.subsetter.specs.Fault.{HasFault}
+use Rattle.subsetter.specs.Bound.{HasFaultWithin, in_font, beyond}
 use Rattle.subsetter.specs.Laid.{of_outlines, of_charstrings}
 use Rattle.subsetter_sfnt.specs.Read.{Font, table}
 use Rattle.subsetter.specs.Glyf.Read.{Outlines, outlines}
@@ -24,11 +25,16 @@ use Rattle.subsetter.specs.Glyf.Reach.{IsGlyphOrder}
 use Rattle.subsetter.specs.Glyf.Written.{is_long, glyf_bytes, loca_bytes}
 use Rattle.subsetter.proofs.GlyfLaws.Fault.{tables_refused, closure_refused, outlines_refused, order_in, no_outline_fault}
 use Rattle.subsetter.proofs.SharedLaws.Fault.{shared_refused, no_metrics_fault, no_max_profile_fault, no_name_fault, no_glyph_name_fault}
+use Rattle.subsetter.proofs.TruetypeLaws.Bound.{is_beyond}
 use Rattle.subsetter.proofs.TruetypeLaws.Steps.{MadeSteps, made_steps, tables_steps, file_steps}
 
 -- a fault of some order stands
 abbrev pub Stands : ℕ → ℕ → Font → List ℕ → Error → Type 0
 Stands tokens depth font glyphs e = (order : List ℕ) × HasFault tokens depth font glyphs order e
+
+-- the same within a bound
+abbrev pub StandsWithin : Option ℕ → ℕ → ℕ → Font → List ℕ → Error → Type 0
+StandsWithin bound tokens depth font glyphs e = (order : List ℕ) × HasFaultWithin bound tokens depth font glyphs order e
 
 -- a test that failed
 pub not_chosen : {A : Type 0} (b : Bool) (x : A) (d e : Error) → cond b (Ok x) (Err d) ≡ Err e → (b ≡ false) × (d ≡ e)
@@ -73,21 +79,22 @@ module _ (tokens depth : ℕ) (font : Font) (glyphs order : List ℕ) (t : Outli
       let c = not_chosen (fits (start_of ts) ts) (file (kind_word TrueType) ts) OverflowError e h in
       subst (HasFault tokens depth font glyphs order) c.1 (faults.large_file TrueType ts closed (of_outlines t read k) c.0)
 
--- what is refused has a fault
-pub has_fault : (tokens depth : ℕ) (font : Font) (glyphs : List ℕ) (e : Error) → IsSome (table font (codes "glyf")) → IsRefused font.extras.hinting (table font) glyphs e → (e ≡ OutOfMemory) ⊎ Stands tokens depth font glyphs e
-has_fault tokens depth font glyphs e there no_memory = inl refl
-has_fault tokens depth font glyphs e there (unread h) = inr ([], faults.in_outlines (tables_refused font glyphs e there h))
-has_fault tokens depth font glyphs e there (unclosed t h stops) =
+-- what is refused has a fault, or passes the bound
+pub has_fault : (bound : Option ℕ) (tokens depth : ℕ) (font : Font) (glyphs : List ℕ) (e : Error) → IsSome (table font (codes "glyf")) → IsRefused font.extras.hinting (table font) bound glyphs e → (e ≡ OutOfMemory) ⊎ StandsWithin bound tokens depth font glyphs e
+has_fault bound tokens depth font glyphs e there no_memory = inl refl
+has_fault bound tokens depth font glyphs e there (unread h) = inr ([], in_font (faults.in_outlines (tables_refused font glyphs e there h)))
+has_fault bound tokens depth font glyphs e there (unclosed t h stops) =
     elim (closure_refused font glyphs t e (named_ok (outlines font) MalformedFont t h) stops) [
       | inl m ↦ inl m
-      | inr f ↦ inr ([], faults.in_outlines f)
+      | inr f ↦ inr ([], in_font (faults.in_outlines f))
     ]
-has_fault tokens depth font glyphs e there (unmade t order h o found k) =
+has_fault bound tokens depth font glyphs e there (unmade t order h o found k) =
     let read = named_ok (outlines font) MalformedFont t h in
-    inr (order, tables_not_made tokens depth font glyphs order t read (order_in font glyphs order t read o) e k)
-has_fault tokens depth font glyphs e there (unlaid t order ts h o found k l) =
+    inr (order, in_font (tables_not_made tokens depth font glyphs order t read (order_in font glyphs order t read o) e k))
+has_fault bound tokens depth font glyphs e there (unlaid t order ts h o found k l) =
     let read = named_ok (outlines font) MalformedFont t h in
-    inr (order, not_laid_out tokens depth font glyphs order t read (order_in font glyphs order t read o) ts e k l)
+    inr (order, in_font (not_laid_out tokens depth font glyphs order t read (order_in font glyphs order t read o) ts e k l))
+has_fault bound tokens depth font glyphs e there (past most set longer) = inr ([], beyond (is_beyond tokens depth font glyphs there bound most set longer))
 
 -- ---- where a file is answered
 
@@ -127,7 +134,7 @@ module _ (tokens depth : ℕ) (font : Font) (glyphs out : List ℕ) (bytes : IsB
   pub no_fault : (e : Error) → HasFault tokens depth font glyphs a.order e → ⊥
   no_fault e (faults.in_opening f) = opening e f
   no_fault e (faults.in_cff b f is h) = not_cff (table font (codes "glyf")) (table font (codes "CFF ")) there f
-  no_fault e (faults.in_outlines f) = no_outline_fault font glyphs a.order a.source made.0.outlines read closed (omega (arith, a.few)) steps.kept e f
+  no_fault e (faults.in_outlines f) = no_outline_fault font glyphs a.order a.source made.0.outlines read closed (omega (arith, a.few)) steps.kept (is_long made.0.outlines) steps.small e f
   no_fault e (faults.in_metrics f) = no_metrics_fault font glyphs a.order TrueType (is_long made.0.outlines) made.0.shared bytes closed steps.shared e f
   no_fault e (faults.in_max_profile f) = no_max_profile_fault font glyphs a.order TrueType (is_long made.0.outlines) made.0.shared bytes closed steps.shared e f
   no_fault e (faults.in_names f) = no_name_fault font glyphs a.order TrueType (is_long made.0.outlines) made.0.shared bytes closed steps.shared e f

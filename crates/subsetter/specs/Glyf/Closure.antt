@@ -1,5 +1,5 @@
 -- How the glyphs that a list reaches are found.
-use Rattle.std.specs.Prelude.{◌≡◌, ℕ, ◌+◌, ◌<◌, ◌^◌, Bool, true, false, not, ◌&&◌, List, [], ◌∷◌, ◌++◌, length, Option, Some, None, is_some, filter, map, slice_index, nat_lt, if◌then◌else◌}
+use Rattle.std.specs.Prelude.{◌≡◌, ℕ, ◌+◌, ◌<◌, ◌^◌, not, List, [], ◌∷◌, ◌++◌, length, Option, Some, None, is_some, filter, map, slice_index, if◌then◌else◌}
 use Rattle.std.specs.Borrow.{Bor}
 use Rattle.std.specs.Option.{option_copied}
 use Rattle.subsetter_base.specs.Places.{place, with_glyph}
@@ -8,6 +8,7 @@ use Rattle.subsetter_base.specs.declared.error.Error.TheVariants.{MalformedFont,
 use Rattle.subsetter.specs.Glyf.Read.{Outlines, outline_in}
 use Rattle.subsetter.specs.Glyf.Parts.{component_numbers, outline_parts}
 use Rattle.subsetter.specs.Glyf.Reach.{IsReachableBy}
+use Rattle.subsetter.specs.Glyf.Size.{AreLonger}
 
 -- the numbers of the components of an outline, none where there is no outline
 abbrev pub components_in : Option (List ℕ) → List ℕ
@@ -40,12 +41,6 @@ pub record IsTaken (all : List ℕ) (last : ℕ) (end : List ℕ) : Type 0 where
   pub is : all ≡ front ++ last ∷ []
   pub ends : EndsWith front end
 
--- one byte, or a composite of fewer than ten bytes
-unfoldable pub lacks_glyph_header : List ℕ → Bool
-lacks_glyph_header [] = false
-lacks_glyph_header (a ∷ []) = true
-lacks_glyph_header (a ∷ b ∷ bytes) = not (nat_lt a 128) && nat_lt (length (a ∷ b ∷ bytes)) 10
-
 -- there is an outline, but it has no parts
 pub record LacksParts (outline : Option (List ℕ)) : Type 0 where
   pub bytes : List ℕ
@@ -72,11 +67,12 @@ pub record IsVisited (t : Outlines) (order waiting : List ℕ) (g : ℕ) (order_
   -- the order has at most 65535 glyphs
   pub room : length order_after < 65536
 
--- a glyph that the given ones reach is faulty, or they reach all numbers, or memory ran out
-pub data StopsClosure (t : Outlines) (glyphs : List ℕ) : Error → Type 0 where
-  no_memory : StopsClosure t glyphs OutOfMemory
-  faulty_glyph : (g : ℕ) → IsReachableBy (outline_in t) glyphs g → IsFaulty t g → StopsClosure t glyphs MalformedFont
-  all_reached : ((g : ℕ) → g < 65536 → IsReachableBy (outline_in t) glyphs g) → StopsClosure t glyphs OverflowError
+-- a glyph that the given ones reach is faulty, or they reach all numbers, or outlines that take more than so many bytes, or memory ran out
+pub data StopsClosure (t : Outlines) (glyphs : List ℕ) (most : ℕ) : Error → Type 0 where
+  no_memory : StopsClosure t glyphs most OutOfMemory
+  faulty_glyph : (g : ℕ) → IsReachableBy (outline_in t) glyphs g → IsFaulty t g → StopsClosure t glyphs most MalformedFont
+  all_reached : ((g : ℕ) → g < 65536 → IsReachableBy (outline_in t) glyphs g) → StopsClosure t glyphs most OverflowError
+  too_long : AreLonger t.hinting (outline_in t) glyphs most → StopsClosure t glyphs most OverflowError
 
 -- which list is found from an order, the given glyphs that are still to be followed, and the components that wait
 pub data Finds (t : Outlines) (found : List ℕ) : List ℕ → List ℕ → List ℕ → Type 0 where

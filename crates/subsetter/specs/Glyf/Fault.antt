@@ -6,6 +6,7 @@ use Rattle.subsetter_sfnt.specs.Read.{Font, table}
 use Rattle.subsetter.specs.Glyf.Read.{outline}
 use Rattle.subsetter.specs.Glyf.Parts.{outline_parts}
 use Rattle.subsetter.specs.Glyf.Reach.{IsReachable}
+use Rattle.subsetter.specs.Glyf.Size.{AreLonger}
 
 pub data HasOutlineFault (font : Font) (glyphs : List ℕ) : Error → Type 0 where
   -- a font with `glyf` lacks `loca` or `head`
@@ -21,3 +22,5 @@ pub data HasOutlineFault (font : Font) (glyphs : List ℕ) : Error → Type 0 wh
   cut_composite : (g : ℕ) (bytes : List ℕ) → IsReachable font glyphs g → outline font g ≡ Some bytes → 2 ≤ length bytes → outline_parts bytes ≡ None → HasOutlineFault font glyphs MalformedFont
   -- there is no room for a subset of all numbers
   all_reached : IsSome (table font (codes "glyf")) → ((g : ℕ) → g < 65536 → IsReachable font glyphs g) → HasOutlineFault font glyphs OverflowError
+  -- the outlines of reached glyphs have 2 ^ 32 bytes or more in the new `glyf`
+  long_outlines : IsSome (table font (codes "glyf")) → AreLonger font.extras.hinting (outline font) glyphs 4294967295 → HasOutlineFault font glyphs OverflowError

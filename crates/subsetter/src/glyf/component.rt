@@ -4,16 +4,19 @@
 //! component has six at least. A component that is missing from the order would count as number 0 in the layout; a law
 //! shows that none is.
 
-ghost use Rattle.std.specs.Prelude.{◌≡◌, ◌+◌, ◌-◌, ◌≤◌, [], ◌∷◌, ◌++◌, length, take, drop, if◌then◌else◌, ◌&&◌, nat_le, Some, Ok, OnOk, OnErr, IfErr};
+ghost use Rattle.std.specs.Prelude.{◌≡◌, ◌⊎◌, ◌+◌, ◌-◌, ◌≤◌, true, false, [], ◌∷◌, ◌++◌, length, take, drop, if◌then◌else◌, ◌&&◌, nat_le, is_some, Some, None, Ok, OnOk, OnErr, IfOk, IfErr};
 ghost use Rattle.std.specs.Int.{w16, to_be_bytes};
 ghost use Rattle.std.specs.Option.{option_map};
 ghost use Rattle.subsetter_base.specs.Gives.{Fails};
+ghost use Rattle.subsetter_base.specs.Places.{place};
+ghost use Rattle.subsetter_base.specs.declared.error.Error.TheVariants.{OutOfMemory, MalformedFont};
 ghost use Rattle.subsetter.specs.Glyf.View.{component_seen};
-ghost use Rattle.subsetter.specs.Glyf.Parts.{rest_size, has_more, has_instructions, component_at, numbers_at, component_numbers};
-ghost use Rattle.subsetter.specs.Glyf.Bare.{flags_asked};
+ghost use Rattle.subsetter.specs.Glyf.Closure.{first_byte_in, others_in};
+ghost use Rattle.subsetter.specs.Glyf.Parts.{rest_size, has_more, has_instructions, component_at, numbers_at, component_numbers, outline_parts};
+ghost use Rattle.subsetter.specs.Glyf.Size.{asked_size};
+ghost use Rattle.subsetter.specs.Glyf.Bare.{flags_asked, tail_asked};
 ghost use Rattle.subsetter.specs.Glyf.Plain.{new_number, written_behind, rewritten_composite};
 
-use std::marker::Model;
 use subsetter_base::read::u16_at;
 use subsetter_base::{Error, GlyphRemapper};
 
@@ -86,93 +89,11 @@ fn read_component(bytes: &[u8]) -> Option<Component<'_>>
     Some(Component { flags, glyph, rest })
 }
 
-/// The numbers of the components of an outline. A component counts once its flags and its number are there.
-#[derive(Drop)]
-pub struct Components<'a> {
-    rest: &'a [u8],
-}
-
-impl<'a> Model for Components<'a> {
-    ghost use Rattle.std.specs.Prelude.{ℕ, List, length};
-    ghost use Rattle.subsetter.specs.Glyf.Parts.{numbers_at};
-
-    ghost Value = { List ℕ };
-
-    ghost view = { λ c. numbers_at (length c.rest.now) c.rest.now };
-}
-
-impl<'a> Components<'a> {
-    /// The components of an outline; of an empty or a simple one there are none.
-    pub fn new(outline: &'a [u8]) -> Self
-        ensures { result ≡ component_numbers outline.now }
-    {
-        Self {
-            rest: records(outline),
-        }
-    }
-}
-
 /// Whether an outline is a composite, by the first byte of its number of contours, which is below 0 for one.
 pub fn is_composite(first: u8) -> bool
     ensures { result ≡ nat_le 128 first }
 {
     first >= 128
-}
-
-/// The records of an outline's components.
-fn records(outline: &[u8]) -> &[u8]
-    ensures { numbers_at (length result.now) result.now ≡ component_numbers outline.now }
-{
-    if outline.len() < 10 {
-        return &[];
-    }
-    if !is_composite(outline[0]) {
-        return &[];
-    }
-    &outline[10..]
-}
-
-impl<'a> Iterator for Components<'a> {
-    ghost use Rattle.std.specs.Iterator.{YieldsFirst, item_count};
-
-    type Item = u16;
-
-    ghost next_gives = { YieldsFirst (λ rest. rest) };
-
-    ghost remaining = { item_count (λ rest. rest) };
-
-    fn next(&mut self) -> Option<u16> {
-        let bytes = self.rest;
-        if bytes.len() < 4 {
-            return None;
-        }
-        let flags = u16_at(bytes, 0);
-        self.rest = next_component(bytes, flags);
-        Some(u16_at(bytes, 2))
-    }
-}
-
-/// What stands behind the component at the front, which has these flags.
-fn skip_component(bytes: &[u8], flags: u16) -> &[u8]
-    ensures { result.now ≡ drop (4 + rest_size flags) bytes.now }
-{
-    let size = 4 + rest_size(flags);
-    if size <= bytes.len() {
-        &bytes[size..]
-    } else {
-        &[]
-    }
-}
-
-/// The components behind the one at the front, which has these flags.
-fn next_component(bytes: &[u8], flags: u16) -> &[u8]
-    ensures { result.now ≡ (if has_more flags then drop (4 + rest_size flags) bytes.now else []) }
-{
-    if has_more(flags) {
-        skip_component(bytes, flags)
-    } else {
-        &[]
-    }
 }
 
 /// What stands behind a component at the front.
@@ -181,6 +102,88 @@ fn rest_after<'a>(bytes: &'a [u8], component: Component<'_>) -> &'a [u8]
     ensures { result.now ≡ drop (4 + rest_size component.entry.flags) bytes.now }
 {
     &bytes[4 + component.rest.len()..]
+}
+
+/// How many of the bytes behind the last component, which has these flags, are its instructions, if they are asked for.
+fn kept_len(flags: u16, behind: &[u8], hinting: bool) -> usize
+    ensures { result ≡ length (tail_asked hinting (if has_instructions flags then behind.now else [])) }
+{
+    if hinting && has_instructions(flags) {
+        behind.len()
+    } else {
+        0
+    }
+}
+
+/// Puts a glyph that is not in the order behind those that wait.
+fn push_new(order: &GlyphRemapper, waiting: &mut Vec<u16>, glyph: u16) -> Result<(), Error>
+    ensures ok { OnOk result (waiting.new.items ≡ (if is_some (place order.now glyph) then waiting.old.items else waiting.old.items ++ glyph ∷ [])) }
+    ensures err { IfErr result (λ e. e ≡ OutOfMemory) }
+{
+    if order.get(glyph).is_none() {
+        waiting.push(glyph)?;
+    }
+    Ok(())
+}
+
+/// Puts the component at the front, which is cut, behind those that wait, if its flags and its number are there and it is
+/// not in the order.
+fn push_cut(bytes: &[u8], order: &GlyphRemapper, waiting: &mut Vec<u16>) -> Result<(), Error>
+    requires { component_at bytes.now ≡ None }
+    ensures ok { OnOk result (waiting.new.items ≡ waiting.old.items ++ others_in order.now (numbers_at (length bytes.now) bytes.now)) }
+    ensures err { IfErr result (λ e. e ≡ OutOfMemory) }
+{
+    if bytes.len() < 4 {
+        return Ok(());
+    }
+    push_new(order, waiting, u16_at(bytes, 2))?;
+    Ok(())
+}
+
+/// What is counted of an outline that is followed.
+#[derive(Clone, Copy)]
+pub struct Count {
+    /// Its bytes in the new `glyf`, or all of its bytes where it is cut.
+    pub bytes: usize,
+    pub cut: bool,
+}
+
+/// Puts the components of a composite that are not in the order behind those that wait, and counts its bytes.
+/// `MalformedFont` where it has fewer than ten. Another cut composite is refused later, as it is written.
+pub fn push_components(
+    outline: &[u8],
+    order: &GlyphRemapper,
+    waiting: &mut Vec<u16>,
+    hinting: bool,
+) -> Result<Count, Error>
+    requires { 128 ≤ first_byte_in (Some outline.now) }
+    ensures ok { OnOk result (waiting.new.items ≡ waiting.old.items ++ others_in order.now (component_numbers outline.now)) }
+    ensures size { IfOk result (λ n. n.cut ≡ false → n.bytes ≡ asked_size hinting (Some outline.now)) }
+    ensures cut { IfOk result (λ n. n.cut ≡ true → outline_parts outline.now ≡ None) }
+    ensures err { IfErr result (λ e. (e ≡ OutOfMemory) ⊎ ((e ≡ MalformedFont) × (outline_parts outline.now ≡ None))) }
+{
+    if outline.len() < 10 {
+        return Err(Error::MalformedFont);
+    }
+    let mut rest = &outline[10..];
+    loop {
+        let Some(component) = read_component(rest) else {
+            push_cut(rest, order, waiting)?;
+            return Ok(Count {
+                bytes: outline.len(),
+                cut: true,
+            });
+        };
+        push_new(order, waiting, component.glyph)?;
+        rest = rest_after(rest, component);
+        if !has_more(component.flags) {
+            let kept = kept_len(component.flags, rest, hinting);
+            return Ok(Count {
+                bytes: outline.len() - rest.len() + kept,
+                cut: false,
+            });
+        }
+    }
 }
 
 /// Puts a number in the place of two bytes.

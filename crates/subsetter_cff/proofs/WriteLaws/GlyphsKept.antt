@@ -1,5 +1,5 @@
 -- A glyph of a source in memory.
-use Rattle.std.proofs.Common.{◌≡◌, ℕ, zero, suc, ◌+◌, ◌<◌, ◌≤◌, true, List, [], ◌∷◌, ◌++◌, length, map, Option, Some, None, refl, ap, arith, ◌∙◌, sym, subst, append_assoc, length-append}
+use Rattle.std.proofs.Common.{◌≡◌, ℕ, zero, suc, ◌+◌, ◌<◌, ◌≤◌, true, List, [], ◌∷◌, ◌++◌, length, map, Option, Some, None, refl, ap, arith, ◌∙◌, sym, subst, append_assoc, length-append, inl, inr}
 use Rattle.std.specs.Prelude.{slice_get, slice_index_or, Result, Ok, Err}
 use Rattle.std.proofs.lemmas.List.{append-nil}
 use Rattle.std.proofs.lemmas.Option.{slice_get-get_or}
@@ -7,6 +7,7 @@ use Rattle.std.specs.List.{concat}
 use Rattle.std.specs.Option.{option_map, option_and_then, ok_or}
 use Rattle.subsetter_base.specs.Bytes.{◌>>=◌}
 use Rattle.subsetter_base.specs.Gives.{Fails}
+use Rattle.subsetter_base.specs.Within.{FailsWithin}
 use Rattle.subsetter_base.specs.declared.error.Error.{Error}
 use Rattle.subsetter_base.specs.declared.error.Error.TheVariants.{UnknownKind, MalformedFont, Unimplemented, SubsetError, OverflowError, CFFError, OutOfMemory}
 use Rattle.subsetter_cffdata.specs.Dict.{entries}
@@ -23,13 +24,14 @@ use Rattle.subsetter_cff.specs.Read.Cff.{Cff, char_string, is_cid_keyed}
 use Rattle.subsetter_cff.specs.Read.FontDicts.{selected, font_dict_number, font_dict_of}
 use Rattle.subsetter_cff.specs.Read.FontDictList.{AreFontDicts}
 use Rattle.subsetter_cff.specs.Read.GlyphTrace.{library}
-use Rattle.subsetter_cff.specs.Write.KeptView.{texts_of, kept_behind, AreKept, IsPut, KeepsNext, with_kept}
+use Rattle.subsetter_cff.specs.Write.KeptView.{texts_of, texts_size, kept_behind, AreKept, IsPut, KeepsNext, with_kept}
 use Rattle.subsetter_cff.specs.Write.Plain.{KeptGlyph, source_number, kept_glyph, kept_glyphs}
 use Rattle.subsetter_cff.specs.Read.Private.{Private, private_at, private_of}
 use Rattle.subsetter_cff.specs.Read.PrivateView.{private_view}
 use Rattle.subsetter_cff.specs.Read.Source.{cff_of, IsKeyed, IsSource}
 use Rattle.subsetter_cff.specs.Read.Views.{select_view}
 use Rattle.subsetter_cff.proofs.ReadLaws.Failing.{fails_on}
+use Rattle.subsetter_cff.proofs.ReadLaws.Results.{bind_ok, same_Ok}
 
 -- ---- its font dict
 pub keyed_as : (s : Table) (cid : Option CIDMetadata) → IsSource s → s.cid ≡ cid → IsKeyed (cff_of s) cid
@@ -116,6 +118,30 @@ next_fails cff tokens depth g gs front e whole same h =
     fails_on (kept_glyphs cff tokens depth (g ∷ gs)) (λ more. Ok (front ++ more)) whole e same
     (fails_on (kept_glyph cff tokens depth g) (λ first. kept_glyphs cff tokens depth gs >>= λ rest. Ok (first ∷ rest)) (kept_glyphs cff tokens depth (g ∷ gs)) e refl h)
 
+-- glyphs that pass a bound, and those behind them
+texts_more : (before more : List KeptGlyph) (one : KeptGlyph) → texts_size before + length one.bytes ≤ texts_size (before ++ one ∷ more)
+texts_more [] more one = omega (arith, length-append one.bytes (concat (texts_of more)))
+texts_more (k ∷ before) more one = omega (arith, texts_more before more one, length-append k.bytes (concat (texts_of before)), length-append k.bytes (concat (texts_of (before ++ one ∷ more))))
+
+pub next_past : (bound : Option ℕ) (cff : Cff) (tokens depth g : ℕ) (gs : List ℕ) (front : List KeptGlyph) (chars : List ℕ) (e : Error) (whole : Result (List KeptGlyph) Error)
+    → with_kept front (kept_glyphs cff tokens depth (g ∷ gs)) ≡ whole → chars ≡ concat (texts_of front) → FailsWithin bound (λ k. length chars + length k.bytes) e (kept_glyph cff tokens depth g) → FailsWithin bound texts_size e whole
+next_past bound cff tokens depth g gs front chars e whole same is h = elim h [
+  | inl f ↦ inl (next_fails cff tokens depth g gs front e whole same f)
+  | inr p ↦ inr (
+    p.0,
+    record {
+      most = p.1.most;
+      is_set = p.1.is_set;
+      longer = λ all k.
+          let a = bind_ok (kept_glyphs cff tokens depth (g ∷ gs)) (λ more. Ok (front ++ more)) all (same ∙ k) in
+          let b = bind_ok (kept_glyph cff tokens depth g) (λ first. kept_glyphs cff tokens depth gs >>= λ rest. Ok (first ∷ rest)) a.0 a.1.0 in
+          let c = bind_ok (kept_glyphs cff tokens depth gs) (λ rest. Ok (b.0 ∷ rest)) a.0 b.1.1 in
+          let here : front ++ b.0 ∷ c.0 ≡ all = ap (λ (l : List KeptGlyph). front ++ l) (same_Ok (b.0 ∷ c.0) a.0 c.1.1) ∙ same_Ok (front ++ a.0) all a.1.1 in
+          omega (arith, p.1.longer b.0 b.1.0, texts_more front c.0 b.0, ap texts_size here, ap length is);
+    },
+  )
+]
+
 -- ---- a font dict by its number
 nothing_there : (fs : List FontDict) (n : ℕ) → length fs ≤ n → slice_get fs n ≡ None
 nothing_there [] n le = refl
@@ -191,3 +217,17 @@ keeps_next cff tokens depth glyph old new k e numbers chars ends =
         ends = ends ∙ ap (λ (l : List ℕ). old.ends.items ++ (length l + 1) ∷ []) (sym chars);
       };
     }
+
+-- a glyph behind others that pass a bound
+pub behind_past : (bound : Option ℕ) (front : List ℕ) (cff : Cff) (tokens depth glyph : ℕ) (e : Error) → FailsWithin bound (λ (k : KeptGlyph). length k.bytes) e (kept_behind front cff tokens depth glyph) → FailsWithin bound (λ (k : KeptGlyph). length front + length k.bytes) e (kept_glyph cff tokens depth glyph)
+behind_past bound front cff tokens depth glyph e h = elim h [
+  | inl f ↦ inl (behind_refused front cff tokens depth glyph e f)
+  | inr p ↦ inr (
+    p.0,
+    record {
+      most = p.1.most;
+      is_set = p.1.is_set;
+      longer = λ k is. omega (arith, p.1.longer (record { number = k.number; bytes = front ++ k.bytes }) (kept_stands front cff tokens depth glyph ∙ ap (put_behind front) is), length-append front k.bytes);
+    },
+  )
+]

@@ -8,6 +8,7 @@ use Rattle.std.proofs.lemmas.List.{length-map}
 use Rattle.subsetter_cffdata.specs.Decimals.{Decimal}
 use Rattle.subsetter_cffdata.specs.Numbers.{Number, Real, in_i32}
 use Rattle.subsetter_cffdata.specs.Values.{value, thousandfold, thousand, by_1000}
+use Rattle.subsetter_cffdata.proofs.Options.{step}
 use Rattle.subsetter_type2.specs.Machine.{Trace, trace}
 use Rattle.subsetter_type2.specs.Subroutines.{entry_at}
 use Rattle.subsetter_type2.proofs.TraceLaws.{keeps_trace}
@@ -47,11 +48,6 @@ held_is d x (Some y) same e =
 thousand_is : (x y : Number) → thousand x ≡ Some y → value y ≡ thousandfold (value x)
 unfolding thousand
 thousand_is x y e = held_is (thousandfold (value x)) y (in_i32 (thousandfold (value x)).power) (λ z. in_i32_is (thousandfold (value x)).power z) e
-
--- each step gave something
-step : {A B : Type 0} (o : Option A) (f : A → Option B) (y : B) → elim o [ None ↦ None | Some x ↦ f x ] ≡ Some y → (x : A) × ((o ≡ Some x) × (f x ≡ Some y))
-step None f y e = absurd (none-some y e)
-step (Some x) f y e = (x, (refl, e))
 
 four : (a b c d a' b' c' d' : Decimal) (rest : List Decimal) → a' ≡ a → b' ≡ b → c' ≡ c → d' ≡ d → a ∷ b ∷ c ∷ d ∷ rest ≡ a' ∷ b' ∷ c' ∷ d' ∷ rest
 four a b c d a' b' c' d' rest e f g h = rw (e, f, g, h) refl

@@ -1,18 +1,17 @@
 -- Entries of a DICT that are written again, one after the other.
-use Rattle.std.proofs.Common.{◌≡◌, ℕ, ◌<◌, Bool, true, false, cond, ◌||◌, List, [], ◌∷◌, ◌++◌, map, length, Option, Some, None, Ok, Err, refl, ap, inl, inr, ◌∙◌, sym, append_assoc}
-use Rattle.std.specs.List.{flat_map, list_any}
+use Rattle.std.proofs.Common.{◌≡◌, ℕ, ◌<◌, Bool, true, false, cond, ◌||◌, List, [], ◌∷◌, ◌++◌, map, length, Option, Some, None, Ok, Err, refl, ap, ◌∙◌, sym, append_assoc}
+use Rattle.std.specs.List.{list_any}
 use Rattle.std.specs.Option.{option_map_or, option_or}
 use Rattle.std.specs.Str.{bytes_eq}
 use Rattle.std.proofs.lemmas.Option.{none-some, same_Some}
 use Rattle.std.proofs.lemmas.List.{append-nil}
 use Rattle.subsetter_base.specs.Bytes.{◌>>=◌}
-use Rattle.subsetter_base.specs.Gives.{Fails}
-use Rattle.subsetter_base.specs.Refusals.{IsOutOfMemoryOr, first_refusal}
+use Rattle.subsetter_base.specs.Refusals.{first_refusal}
 use Rattle.subsetter_base.specs.declared.error.Error.{Error}
 use Rattle.subsetter_base.specs.declared.error.Error.TheVariants.{OverflowError}
 use Rattle.subsetter_cffdata.specs.declared.number.Number.{Number as StoredNumber}
-use Rattle.subsetter_cffdata.specs.Numbers.{Number, number, is_too_long}
-use Rattle.subsetter_cffdata.specs.Dict.{Entry, Plain, operand, entry_bytes, dict, entry_at, entries, kept, operand_limit}
+use Rattle.subsetter_cffdata.specs.Numbers.{Number, is_too_long}
+use Rattle.subsetter_cffdata.specs.Dict.{Entry, entry_bytes, dict, entry_at, entries, kept, operand_limit}
 use Rattle.subsetter_cffdata.specs.Operands.{operands_at}
 use Rattle.subsetter_cffdata.specs.Tokens.{operator_part}
 use Rattle.subsetter_cffdata.specs.Views.{number_of}

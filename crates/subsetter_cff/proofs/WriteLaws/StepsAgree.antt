@@ -1,28 +1,34 @@
 -- The steps of a subset in memory are those of the plain way.
-use Rattle.std.proofs.Common.{◌≡◌, ℕ, suc, ◌<◌, List, [], ◌∷◌, length, refl, ap, arith, ◌∙◌, sym, subst}
+use Rattle.std.proofs.Common.{◌≡◌, ℕ, suc, ◌<◌, ◌≤◌, List, [], ◌∷◌, ◌++◌, length, Option, refl, ap, arith, ◌∙◌, sym, subst, ◌⊎◌, inl, inr, length-append}
 use Rattle.std.proofs.lemmas.List.{length-map}
 use Rattle.std.specs.Prelude.{slice_index, Result, Ok, Err, IfOk}
 use Rattle.std.specs.List.{AllByRecursion, concat}
 use Rattle.subsetter_base.specs.Bytes.{◌>>=◌}
 use Rattle.subsetter_base.specs.Gives.{Fails, Gives}
+use Rattle.subsetter_base.specs.Within.{FailsWithin, GivesWithin}
 use Rattle.subsetter_base.specs.declared.error.Error.{Error}
-use Rattle.subsetter_cffdata.specs.Index.{offsets}
+use Rattle.subsetter_base.specs.declared.error.Error.TheVariants.{OutOfMemory, OverflowError}
+use Rattle.subsetter_cffdata.specs.Index.{index, offsets}
 use Rattle.subsetter_cff.specs.declared.write.kept_glyphs.KeptGlyphs.{KeptGlyphs}
 use Rattle.subsetter_cff.specs.declared.write.table.TableParts.{TableParts}
 use Rattle.subsetter_cff.specs.declared.write.writing.CffPieces.{CffPieces}
 use Rattle.subsetter_cff.specs.Read.Cff.{Cff}
-use Rattle.subsetter_cff.specs.Write.KeptView.{numbers_of, texts_of, AreAllKept}
-use Rattle.subsetter_cff.specs.Write.Layout.{Parts, strings, cff_table}
+use Rattle.subsetter_cff.specs.Write.KeptView.{numbers_of, texts_of, texts_size, AreAllKept}
+use Rattle.subsetter_cff.specs.Write.Layout.{Parts, strings, front, places, charset_of, privates, select_of, font_dicts_of, cff_table}
 use Rattle.subsetter_cff.specs.Write.PartsBy.{parts_by}
 use Rattle.subsetter_cff.specs.Write.PartsView.{font_dict_view, parts_view, HasCharStrings}
 use Rattle.subsetter_cff.specs.Read.Opened.{opened}
 use Rattle.subsetter_cff.specs.Write.Plain.{KeptGlyph, kept_glyphs, counted_parts, limited, parts_of, cff_subset}
-use Rattle.subsetter_cff.specs.Write.TableBy.{table_by, table_bytes}
+use Rattle.subsetter_cff.specs.Write.PrivatesBound.{ArePast}
+use Rattle.subsetter_cff.specs.Write.TableBy.{new_dicts, table_by, table_bytes}
 use Rattle.subsetter_cff.specs.Write.TableLimits.{table_limits}
 use Rattle.subsetter_cff.proofs.ReadLaws.Failing.{fails_on}
+use Rattle.subsetter_cff.proofs.ReadLaws.Results.{bind_ok, same_Ok}
 use Rattle.subsetter_cff.proofs.WriteLaws.FlatIndexes.{length-ends}
 use Rattle.subsetter_cff.proofs.WriteLaws.KeptSteps.{length-kept}
 use Rattle.subsetter_cff.proofs.WriteLaws.LimitsKept.{limits_are}
+use Rattle.subsetter_cff.proofs.WriteLaws.MadeOf.{parts_steps, answer_steps}
+use Rattle.subsetter_cff.proofs.WriteLaws.Sizes.{index_holds}
 use Rattle.subsetter_cff.proofs.WriteLaws.PartsMade.{parts_for_is, parts_filled, few_dicts}
 use Rattle.subsetter_cff.proofs.WriteLaws.TablesWritten.{table_is_laid_out}
 
@@ -137,3 +143,73 @@ written_is whole t r glyphs m count is checked =
 pub count_is : (cff : Cff) (tokens depth : ℕ) (glyphs : List ℕ) (k : KeptGlyphs) (t : TableParts) → AreAllKept cff tokens depth glyphs k → t.ends ≡ k.ends → length t.ends.items ≡ length glyphs
 count_is cff tokens depth glyphs k t all e =
     ap (λ v. length v.items) e ∙ ap length all.shown.ends ∙ length-ends 1 (texts_of all.kept) ∙ length-map all.kept (λ (g : KeptGlyph). g.bytes) ∙ length-kept cff tokens depth glyphs all.kept all.are
+
+-- ---- where a bound is passed
+
+-- the charstrings are in the table
+texts_in_table : (p : Parts) → length (concat p.char_strings) ≤ length (cff_table p)
+unfolding cff_table
+texts_in_table p =
+    let own = index p.char_strings in
+    let dicts = font_dicts_of p in
+    let select = select_of p in
+    let private = privates p.font_dicts in
+    let charset = charset_of p in
+    omega (arith, index_holds p.char_strings, length-append dicts own, length-append select (dicts ++ own), length-append private (select ++ (dicts ++ own)), length-append charset (private ++ (select ++ (dicts ++ own))), length-append (front p (places p)) (charset ++ (private ++ (select ++ (dicts ++ own)))))
+
+-- what is answered has the charstrings of its glyphs
+kept_in_table : (bytes : List ℕ) (cff : Cff) (tokens depth : ℕ) (glyphs new : List ℕ) → opened bytes ≡ Ok cff → cff_subset bytes tokens depth glyphs ≡ Ok new → (kept : List KeptGlyph) × (kept_glyphs cff tokens depth glyphs ≡ Ok kept) × (texts_size kept ≤ length new)
+kept_in_table bytes cff tokens depth glyphs new o h =
+    let a = bind_ok (parts_of cff tokens depth glyphs) (λ p. Ok (cff_table p)) new (sym (after_opening bytes cff tokens depth glyphs o) ∙ h) in
+    let answer = answer_steps cff tokens depth glyphs a.0 a.1.0 in
+    let s = parts_steps cff answer.kept a.0 answer.made in
+    (answer.kept, answer.kept_are, omega (arith, texts_in_table a.0, ap (λ (p : Parts). length (concat p.char_strings)) s.parts_are, ap length (same_Ok (cff_table a.0) new a.1.1)))
+
+-- so what passes a bound with its charstrings passes it
+pub keeping_fails_within : (bound : Option ℕ) (bytes : List ℕ) (cff : Cff) (tokens depth : ℕ) (glyphs : List ℕ) (e : Error) → opened bytes ≡ Ok cff → FailsWithin bound texts_size e (kept_glyphs cff tokens depth glyphs) → FailsWithin bound length e (cff_subset bytes tokens depth glyphs)
+keeping_fails_within bound bytes cff tokens depth glyphs e o h = elim h [
+  | inl f ↦ inl (keeping_fails bytes cff tokens depth glyphs e o f)
+  | inr p ↦ inr (
+    p.0,
+    record {
+      most = p.1.most;
+      is_set = p.1.is_set;
+      longer = λ new is. let k = kept_in_table bytes cff tokens depth glyphs new o is in omega (arith, p.1.longer k.0 k.1, k.2);
+    },
+  )
+]
+
+-- the private dicts are in the table
+privates_in_table : (p : Parts) → length (privates p.font_dicts) ≤ length (cff_table p)
+unfolding cff_table
+privates_in_table p =
+    let own = index p.char_strings in
+    let dicts = font_dicts_of p in
+    let select = select_of p in
+    let private = privates p.font_dicts in
+    let charset = charset_of p in
+    omega (arith, length-append private (select ++ (dicts ++ own)), length-append charset (private ++ (select ++ (dicts ++ own))), length-append (front p (places p)) (charset ++ (private ++ (select ++ (dicts ++ own)))))
+
+privates_in_whole : (whole : Result (List ℕ) Error) (t : TableParts) (new : List ℕ) (m : Made whole t) → whole ≡ Ok new → length (privates (new_dicts t)) ≤ length new
+privates_in_whole whole t new m is =
+    let a = bind_ok (table_limits (strings (parts_view t [])) t (length t.ends.items)) (λ kept. Ok (cff_table (parts_view t m.texts))) new (checked_first whole t m ∙ is) in
+    omega (arith, privates_in_table (parts_view t m.texts), ap length (same_Ok (cff_table (parts_view t m.texts)) new a.1.1))
+
+-- so what passes a bound with its private dicts passes it
+pub privates_fail_within : (bound : Option ℕ) (whole : Result (List ℕ) Error) (t : TableParts) (e : Error) → Made whole t → (e ≡ OutOfMemory) ⊎ ((e ≡ OverflowError) × ArePast bound (new_dicts t)) → FailsWithin bound length e whole
+privates_fail_within bound whole t e m h = elim h [
+  | inl f ↦ inl (rw f tt)
+  | inr p ↦ inr (
+    p.0,
+    record {
+      most = p.1.most;
+      is_set = p.1.is_set;
+      longer = λ new is. omega (arith, p.1.longer, privates_in_whole whole t new m is);
+    },
+  )
+]
+
+-- what gives it without a bound gives it within one
+pub given_within : {X : Type 0} (view : X → List ℕ) (bound : Option ℕ) (r : Result X Error) (read : Result (List ℕ) Error) → Gives view r read → GivesWithin view bound length r read
+given_within view bound (Ok x) read h = h
+given_within view bound (Err e) read h = inl h

@@ -24,6 +24,10 @@ numbers_of kept = map (λ (k : KeptGlyph). k.number) kept
 abbrev pub texts_of : List KeptGlyph → List (List ℕ)
 texts_of kept = map (λ (k : KeptGlyph). k.bytes) kept
 
+-- how many bytes the charstrings of kept glyphs have
+abbrev pub texts_size : List KeptGlyph → ℕ
+texts_size kept = length (concat (texts_of kept))
+
 -- the glyphs that stand in memory; each end is the offset that an INDEX gives
 pub record AreKept (kept : List KeptGlyph) (k : KeptGlyphs) : Type 0 where
   pub numbers : k.numbers.items ≡ numbers_of kept

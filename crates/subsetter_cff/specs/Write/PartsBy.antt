@@ -1,5 +1,5 @@
 -- The parts of a new table, by the numbers of the kept glyphs' font dicts in the source.
-use Rattle.std.specs.Prelude.{ℕ, if◌then◌else◌, List, ◌++◌, map, unwrap_or, Option, None, Result, Ok}
+use Rattle.std.specs.Prelude.{ℕ, if◌then◌else◌, List, ◌++◌, map, Option, None, Result, Ok}
 use Rattle.std.specs.Option.{option_map, ok_or}
 use Rattle.subsetter_base.specs.Bytes.{◌>>=◌}
 use Rattle.subsetter_base.specs.declared.error.Error.{Error}
@@ -8,16 +8,15 @@ use Rattle.subsetter_cffdata.specs.Numbers.{Number}
 use Rattle.subsetter_cff.specs.declared.read.font_dict.FontDict.{FontDict as StoredDict}
 use Rattle.subsetter_cff.specs.Read.Cff.{Cff, is_cid_keyed}
 use Rattle.subsetter_cff.specs.Write.Layout.{FontDict, Select, First, Numbers, Parts}
-use Rattle.subsetter_cff.specs.Read.Lookup.{last_of}
 use Rattle.subsetter_cff.specs.Write.Made.{new_matrix}
-use Rattle.subsetter_cff.specs.Read.Matrices.{thousandth_matrix, unit_matrix, zero_box}
+use Rattle.subsetter_cff.specs.Read.Matrices.{unit_matrix}
 use Rattle.subsetter_cff.specs.Write.MatrixView.{shown}
-use Rattle.subsetter_cff.specs.Read.Operators.{copyright_operator, notice_operator, font_name_operator, font_box_operator, font_matrix_operator}
+use Rattle.subsetter_cff.specs.Read.Operators.{copyright_operator, notice_operator, font_name_operator}
 use Rattle.subsetter_cff.specs.Write.Plain.{SourceDict, new_font_dicts, all_parts}
 use Rattle.subsetter_cff.specs.Read.Private.{Private, own_entries}
 use Rattle.subsetter_cff.specs.Read.PrivateView.{private_view}
 use Rattle.subsetter_cff.specs.Write.SidRemapping.{named}
-use Rattle.subsetter_cff.specs.Read.Strings.{FontString, string_at}
+use Rattle.subsetter_cff.specs.Read.Strings.{string_at}
 use Rattle.subsetter_cff.specs.Write.UsedFontDicts.{counted_font_dicts, new_place}
 
 -- what a font dict in memory says

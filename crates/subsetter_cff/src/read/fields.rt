@@ -5,12 +5,11 @@ ghost use Rattle.subsetter_cffdata.specs.Views.{number_of, operator_of};
 ghost use Rattle.subsetter_cff.specs.Read.Fields.{field_by, taken_as, holds_as, is_demanded};
 ghost use Rattle.subsetter_cff.specs.Read.Said.{said_of};
 
-use crate::read::operators::same_operator;
 use crate::read::top_dict::TopDictData;
-use subsetter_cffdata::dict::operators::*;
+use subsetter_cffdata::dict::operators::{first_byte, second_byte};
 use subsetter_cffdata::number::Number;
 use subsetter_cffdata::operands::{four_of, offset_of, range_of, six_of, string_of};
-use subsetter_cffdata::operator::Operator;
+use subsetter_cffdata::operator::{Operator, TWO_BYTE_OPERATOR_MARK};
 
 /// What an operator says.
 #[derive(Clone, Copy)]
@@ -54,30 +53,19 @@ pub enum Demands {
 pub fn field_of(operator: &Operator) -> Field
     ensures { result ≡ field_by (operator_of operator.now) }
 {
-    if same_operator(operator, &NOTICE) {
-        Field::Notice
-    } else if same_operator(operator, &COPYRIGHT) {
-        Field::Copyright
-    } else if same_operator(operator, &FONT_NAME) {
-        Field::FontName
-    } else if same_operator(operator, &CHARSET) {
-        Field::Charset
-    } else if same_operator(operator, &CHAR_STRINGS) {
-        Field::CharStrings
-    } else if same_operator(operator, &FD_ARRAY) {
-        Field::FdArray
-    } else if same_operator(operator, &FD_SELECT) {
-        Field::FdSelect
-    } else if same_operator(operator, &PRIVATE) {
-        Field::Private
-    } else if same_operator(operator, &FONT_MATRIX) {
-        Field::FontMatrix
-    } else if same_operator(operator, &FONT_BBOX) {
-        Field::FontBBox
-    } else if same_operator(operator, &ROS) {
-        Field::Ros
-    } else {
-        Field::Other
+    match operator.as_slice() {
+        [first_byte::NOTICE] => Field::Notice,
+        [first_byte::FONT_BBOX] => Field::FontBBox,
+        [first_byte::CHARSET] => Field::Charset,
+        [first_byte::CHAR_STRINGS] => Field::CharStrings,
+        [first_byte::PRIVATE] => Field::Private,
+        [TWO_BYTE_OPERATOR_MARK, second_byte::COPYRIGHT] => Field::Copyright,
+        [TWO_BYTE_OPERATOR_MARK, second_byte::FONT_MATRIX] => Field::FontMatrix,
+        [TWO_BYTE_OPERATOR_MARK, second_byte::ROS] => Field::Ros,
+        [TWO_BYTE_OPERATOR_MARK, second_byte::FD_ARRAY] => Field::FdArray,
+        [TWO_BYTE_OPERATOR_MARK, second_byte::FD_SELECT] => Field::FdSelect,
+        [TWO_BYTE_OPERATOR_MARK, second_byte::FONT_NAME] => Field::FontName,
+        _ => Field::Other,
     }
 }
 

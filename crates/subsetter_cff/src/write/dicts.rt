@@ -1,6 +1,6 @@
 //! The font dicts of a new table, with their private dicts, and its FDSelect.
 
-ghost use Rattle.std.specs.Prelude.{◌≡◌, ◌+◌, ◌<◌, ◌^◌, ◌++◌, ◌∷◌, [], length, map, OnOk, IfOk, IfErr};
+ghost use Rattle.std.specs.Prelude.{◌≡◌, ◌⊎◌, ◌+◌, ◌<◌, ◌^◌, ◌++◌, ◌∷◌, [], length, map, true, OnOk, IfOk, IfErr};
 ghost use Rattle.subsetter_base.specs.Gives.{Gives};
 ghost use Rattle.subsetter_base.specs.declared.error.Error.TheVariants.{OutOfMemory, OverflowError};
 ghost use Rattle.std.specs.Option.{option_map};
@@ -11,6 +11,8 @@ ghost use Rattle.subsetter_cffdata.specs.Views.{number_of as number_view};
 ghost use Rattle.subsetter_cff.specs.Write.Layout.{entries_of_font_dict, entries_of_font_dict_by, font_dicts_from, number_of, private_bytes, privates, select_bytes};
 ghost use Rattle.subsetter_cff.specs.Write.PartsView.{font_dict_view, select_of_table, string_view};
 ghost use Rattle.subsetter_cff.specs.Write.WrittenNumbers.{entry_numbers};
+ghost use Rattle.subsetter_cff.specs.Write.PrivatesBound.{ArePast};
+ghost use Rattle.subsetter_cff.specs.Write.TableBy.{new_dicts};
 ghost use Rattle.subsetter_cff.specs.Write.TableLimits.{limit, has_index, short, is_offset, dict_limits, dicts_limits};
 
 use crate::read::fd_select::{generate_fd_index, rewrite_fd_index};
@@ -22,6 +24,7 @@ use std::alloc::Global;
 use subsetter_base::error::Error;
 use subsetter_base::write::Writer;
 use subsetter_cffdata::index::create_index;
+use subsetter_type2::limits::Limits;
 
 /// Room for a font dict, in bytes.
 const FONT_DICT_ROOM: usize = 64;
@@ -131,6 +134,39 @@ pub fn write_dicts(
         put_dict(alloc, &mut made, place, remapper, dict)?;
     }
     Ok(made)
+}
+
+/// Whether the private dicts are longer than a bound on bytes. They are written, one behind the other, until they are; a real
+/// that is too long ends that, and is told where the table is written.
+fn privates_pass(alloc: Global, dicts: &[FontDictParts<'_>], most: u32) -> Result<bool, Error>
+    ensures past { IfOk result (λ b. b ≡ true → most < length (privates (map font_dict_view dicts.now))) }
+    ensures err { IfErr result (λ e. e ≡ OutOfMemory) }
+{
+    let mut w = Writer::with_capacity(alloc, PRIVATES_ROOM)?;
+    for dict in dicts {
+        match write_private(dict, &mut w) {
+            Ok(()) => {}
+            Err(Error::OutOfMemory) => return Err(Error::OutOfMemory),
+            Err(_) => return Ok(false),
+        }
+        if w.len() > most as usize {
+            return Ok(true);
+        }
+    }
+    Ok(false)
+}
+
+/// Refuses private dicts that are longer than the bound on bytes, by `OverflowError`, before the table is written.
+pub fn judge_privates(alloc: Global, table: &TableParts<'_>, limits: Limits) -> Result<(), Error>
+    ensures err { IfErr result (λ e. (e ≡ OutOfMemory) ⊎ ((e ≡ OverflowError) × ArePast limits.bytes (new_dicts table.now))) }
+{
+    let Some(most) = limits.bytes() else {
+        return Ok(());
+    };
+    if privates_pass(alloc, &table.font_dicts, most)? {
+        return Err(Error::OverflowError);
+    }
+    Ok(())
 }
 
 /// The INDEX of items. Data of 4 GiB, or 65536 items, are `OverflowError`.

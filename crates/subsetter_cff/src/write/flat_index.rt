@@ -9,7 +9,7 @@ ghost use Rattle.subsetter_cff.specs.Write.TableLimits.{limit};
 
 use subsetter_base::error::Error;
 use subsetter_base::write::Writer;
-use subsetter_cffdata::index::{put_number, size_of_offset};
+use subsetter_cffdata::index::{put_front, put_number, size_of_offset};
 
 /// Writes the offset behind each item.
 fn put_ends(size: u8, ends: &[usize], w: &mut Writer) -> Result<(), Error>
@@ -47,11 +47,8 @@ pub fn write_flat_header(size_of_data: usize, ends: &[usize], w: &mut Writer) ->
     if ends.is_empty() {
         return w.extend(&[0, 0]);
     }
-    let size = size_of_offset(total);
-    w.extend(&(ends.len() as u16).to_be_bytes())?;
-    w.extend(&[size])?;
-    put_number(size, 1, w)?;
-    put_ends(size, ends, w)
+    put_front(ends.len() as u16, total, w)?;
+    put_ends(size_of_offset(total), ends, w)
 }
 
 /// How many bytes stand at most before the data of an INDEX of so many items.
@@ -81,10 +78,8 @@ pub fn write_single_header(size: u32, w: &mut Writer) -> Result<(), Error>
     ensures ok { OnOk result (w.new ≡ w.old ++ single_header size) }
     ensures err { IfErr result (λ e. e ≡ OutOfMemory) }
 {
-    let width = size_of_offset(size + 1);
-    w.extend(&[0, 1, width])?;
-    put_number(width, 1, w)?;
-    put_number(width, size as usize + 1, w)
+    put_front(1, size + 1, w)?;
+    put_number(size_of_offset(size + 1), size as usize + 1, w)
 }
 
 /// What is written is the INDEX of the items.

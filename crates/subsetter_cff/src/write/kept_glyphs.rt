@@ -1,12 +1,12 @@
 //! The glyphs that are kept: their charstrings without subroutines.
 
-ghost use Rattle.std.specs.Prelude.{◌≡◌, Some, IfOk, OnOk, IfErr};
+ghost use Rattle.std.specs.Prelude.{◌≡◌, ◌+◌, length, Some, IfOk, OnOk, IfErr};
 ghost use Rattle.std.specs.Option.{option_map};
 ghost use Rattle.subsetter_base.specs.Bytes.{IsBytes};
-ghost use Rattle.subsetter_base.specs.Gives.{Gives, Fails};
+ghost use Rattle.subsetter_base.specs.Within.{GivesWithin, FailsWithin};
 ghost use Rattle.subsetter_base.specs.declared.error.Error.TheVariants.{OutOfMemory};
 ghost use Rattle.subsetter_cff.specs.Read.Cff.{char_string};
-ghost use Rattle.subsetter_cff.specs.Write.KeptView.{kept_view, kept_behind, AreKept, IsPut, AreAllKept, KeepsNext};
+ghost use Rattle.subsetter_cff.specs.Write.KeptView.{kept_view, kept_behind, texts_size, AreKept, IsPut, AreAllKept, KeepsNext};
 ghost use Rattle.subsetter_cff.specs.Write.Plain.{source_number, kept_glyph, kept_glyphs};
 ghost use Rattle.subsetter_cff.specs.Read.Private.{private_of};
 ghost use Rattle.subsetter_cff.specs.Read.PrivateView.{private_view};
@@ -75,7 +75,7 @@ fn find_char_string<'a>(source: &Table<'a>, glyph: u16) -> Option<&'a [u8]>
     source.char_strings.get(u32::from(glyph))
 }
 
-/// Flattens a glyph behind others.
+/// Flattens a glyph behind others. `OverflowError` where all of these pass the bound on bytes.
 #[tactic(auto, unfolding(crate::specs::Write::KeptView::kept_behind))]
 fn keep_glyph(
     source: &Table<'_>,
@@ -84,7 +84,7 @@ fn keep_glyph(
     char_strings: Vec<u8>,
 ) -> Result<Kept, Error>
     requires { IsSource source.now }
-    ensures { Gives kept_view result (kept_behind char_strings.items (cff_of source.now) limits.tokens limits.depth glyph) }
+    ensures { GivesWithin kept_view limits.bytes (λ k. length k.bytes) result (kept_behind char_strings.items (cff_of source.now) limits.tokens limits.depth glyph) }
 {
     let number = source_number(source, glyph).ok_or(Error::MalformedFont)?;
     let private = find_private(source, glyph, number).ok_or(Error::MalformedFont)?;
@@ -107,7 +107,7 @@ fn keep_next(
 ) -> Result<KeptGlyphs, Error>
     requires { IsSource source.now }
     ensures ok { IfOk result (λ k. KeepsNext (cff_of source.now) limits.tokens limits.depth glyph kept k) }
-    ensures err { IfErr result (λ e. Fails e (kept_glyph (cff_of source.now) limits.tokens limits.depth glyph)) }
+    ensures err { IfErr result (λ e. FailsWithin limits.bytes (λ k. length kept.char_strings.items + length k.bytes) e (kept_glyph (cff_of source.now) limits.tokens limits.depth glyph)) }
 {
     let mut numbers = kept.numbers;
     let mut ends = kept.ends;
@@ -129,9 +129,28 @@ fn are_bytes(numbers: &[u8])
 /// Room for the charstrings to begin with, in bytes. More than that is given back.
 const FIRST_ROOM: usize = 4096;
 
+/// How many bytes may be written at once, as a rule, before the bound on bytes is looked at.
+const STRETCH_ROOM: usize = 65_536;
+
+/// Room to begin with under a bound on bytes: doubled some times, it comes to the bound and a stretch more.
+fn room_under(most: usize) -> usize {
+    let mut room = most.saturating_add(most.min(STRETCH_ROOM));
+    for _ in 0..16 {
+        if room / 2 < STRETCH_ROOM {
+            break;
+        }
+        room /= 2;
+    }
+    room
+}
+
 /// Room for the charstrings of so many glyphs to begin with, in bytes.
-fn first_room(count: usize) -> usize {
-    if count < 16 { count * 256 } else { FIRST_ROOM }
+fn first_room(count: usize, bound: Option<u32>) -> usize {
+    match bound {
+        Some(most) => room_under(most as usize),
+        None if count < 16 => count * 256,
+        None => FIRST_ROOM,
+    }
 }
 
 /// Gives room back that isn't used, where there may be much.
@@ -143,7 +162,8 @@ fn give_back(bytes: &mut Vec<u8>)
     }
 }
 
-/// Flattens all glyphs that are kept.
+/// Flattens all glyphs that are kept. `OverflowError` where their charstrings pass the bound on bytes, before the next one
+/// is flattened.
 pub fn keep_glyphs(
     alloc: Global,
     source: &Table<'_>,
@@ -153,12 +173,12 @@ pub fn keep_glyphs(
     requires { IsSource source.now }
     ensures ok { IfOk result (λ k. AreAllKept (cff_of source.now) limits.tokens limits.depth mapper.now k) }
     ensures small { IfOk result (λ k. IsBytes k.numbers.items) }
-    ensures err { IfErr result (λ e. Fails e (kept_glyphs (cff_of source.now) limits.tokens limits.depth mapper.now)) }
+    ensures err { IfErr result (λ e. FailsWithin limits.bytes texts_size e (kept_glyphs (cff_of source.now) limits.tokens limits.depth mapper.now)) }
 {
     let count = usize::from(mapper.num_gids());
     let mut kept = KeptGlyphs {
         numbers: Vec::with_capacity(alloc, count)?,
-        char_strings: Vec::with_capacity(alloc, first_room(count))?,
+        char_strings: Vec::with_capacity(alloc, first_room(count, limits.bytes()))?,
         ends: Vec::with_capacity(alloc, count)?,
     };
     for glyph in mapper.remapped_gids() {

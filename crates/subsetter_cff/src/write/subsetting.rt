@@ -1,15 +1,16 @@
 //! The subset of a CFF table.
 
-ghost use Rattle.std.specs.Prelude.{◌≡◌, ◌⊎◌, IfOk, IfErr};
-ghost use Rattle.subsetter_base.specs.Gives.{Gives};
+ghost use Rattle.std.specs.Prelude.{◌≡◌, ◌⊎◌, length, IfOk, IfErr};
+ghost use Rattle.subsetter_base.specs.Within.{GivesWithin, IsTooLong};
 ghost use Rattle.subsetter_base.specs.declared.error.Error.{Error as SpecError};
-ghost use Rattle.subsetter_base.specs.declared.error.Error.TheVariants.{OutOfMemory};
+ghost use Rattle.subsetter_base.specs.declared.error.Error.TheVariants.{OutOfMemory, OverflowError};
 ghost use Rattle.subsetter_cff.specs.Write.CffFault.{HasCffFault};
 ghost use Rattle.subsetter_cff.specs.Write.Headline.{IsSubsetLaidOut};
 ghost use Rattle.subsetter_cff.specs.Write.Plain.{cff_subset};
 ghost use Rattle.subsetter_cff.specs.Write.TableBy.{table_bytes};
 
 use crate::read::source::Table;
+use crate::write::dicts::judge_privates;
 use crate::write::kept_glyphs::keep_glyphs;
 use crate::write::parts::new_table_of;
 use crate::write::writing::{CffPieces, write_table};
@@ -18,14 +19,14 @@ use subsetter_base::GlyphRemapper;
 use subsetter_base::error::Error;
 use subsetter_type2::limits::Limits;
 
-/// The subset, exactly as the plain way answers it.
+/// The subset, exactly as the plain way answers it, within the bound on bytes.
 fn subset_exactly(
     alloc: Global,
     table: &[u8],
     mapper: &GlyphRemapper,
     limits: Limits,
 ) -> Result<CffPieces, Error>
-    ensures { Gives table_bytes result (cff_subset table.now limits.tokens limits.depth mapper.now) }
+    ensures { GivesWithin table_bytes limits.bytes length result (cff_subset table.now limits.tokens limits.depth mapper.now) }
 {
     // Both matches in place of `?`: the opened table and the parts are large, and are not moved.
     let opened = Table::parse(alloc, table);
@@ -35,7 +36,10 @@ fn subset_exactly(
     };
     let kept = keep_glyphs(alloc, source, limits, mapper)?;
     match new_table_of(alloc, source, kept) {
-        Ok(new) => write_table(alloc, new, mapper.num_gids()),
+        Ok(new) => {
+            judge_privates(alloc, &new, limits)?;
+            write_table(alloc, new, mapper.num_gids())
+        }
         Err(error) => Err(error),
     }
 }
@@ -44,7 +48,9 @@ fn subset_exactly(
 /// can't be run, are `CFFError`; a charstring with the operands of an accented character is `Unimplemented`; a string that
 /// can't be read is `SubsetError`; 256 font dicts, a real of more than 64 characters and a table that is too large are
 /// `OverflowError`; all else that is wrong with the table is `MalformedFont`. Once the glyphs are kept, the font dicts are
-/// counted before strings are read, and reals are judged after that.
+/// counted before strings are read, and reals are judged after that. `OverflowError` also where the charstrings or the
+/// private dicts pass the bound on bytes, found before the table is written; a table that is answered may pass it with its
+/// other parts.
 pub fn subset(
     alloc: Global,
     table: &[u8],
@@ -55,10 +61,10 @@ pub fn subset(
     ensures ok { IfOk result (λ new. IsSubsetLaidOut table.now limits.tokens limits.depth mapper.now (table_bytes new)) }
     // And then no fault stands in the source.
     ensures clean { IfOk result (λ new. (e : SpecError) → HasCffFault table.now limits.tokens limits.depth mapper.now e → ⊥) }
-    // What is refused has a fault of that name.
-    ensures err { IfErr result (λ e. (e ≡ OutOfMemory) ⊎ HasCffFault table.now limits.tokens limits.depth mapper.now e) }
+    // What is refused has a fault of that name, or the bound on bytes is set and the new table would pass it.
+    ensures err { IfErr result (λ e. (e ≡ OutOfMemory) ⊎ (HasCffFault table.now limits.tokens limits.depth mapper.now e ⊎ ((e ≡ OverflowError) × IsTooLong limits.bytes length (cff_subset table.now limits.tokens limits.depth mapper.now)))) }
     // Both are what the plain way answers.
-    ensures exact { Gives table_bytes result (cff_subset table.now limits.tokens limits.depth mapper.now) }
+    ensures exact { GivesWithin table_bytes limits.bytes length result (cff_subset table.now limits.tokens limits.depth mapper.now) }
 {
     let _count = mapper.num_gids();
     let _depth = limits.depth();

@@ -1,12 +1,13 @@
-use Rattle.std.proofs.Common.{◌≡◌, ℕ, subst}
+use Rattle.std.proofs.Common.{◌≡◌, ℕ, List, subst, ◌⊎◌}
 use Rattle.std.specs.Prelude.{IfOk, IfErr}
 use Rattle.subsetter_base.specs.declared.error.Error.{Error}
+use Rattle.subsetter_base.specs.declared.error.Error.TheVariants.{OutOfMemory}
 use Rattle.subsetter_sfnt.specs.Extras.{all_extras}
 use Rattle.subsetter.specs.Limits.{token_limit, depth_limit}
 use Rattle.subsetter_sfnt.specs.Read.{Font}
 use Rattle.subsetter.specs.Answer.{IsAnswer}
-use Rattle.cid_embed.specs.Embed.{numbering, IsEmbedded, HasEmbedFault}
-use Rattle.cid_embed.proofs.Promises.{IsRefusal, IsFinal}
+use Rattle.cid_embed.specs.Embed.{numbering, IsEmbedded, HasEmbedFault, HasNoEmbedding}
+use Rattle.cid_embed.proofs.Promises.{no_bound_refusal, no_bound_final}
 use Rattle.cid_embed.proofs.embedding.embed.Goals as goal
 
 -- what holds at two numbers holds at the default limits, which they are
@@ -31,9 +32,11 @@ returns-clause-exact c =
 pub returns-clause-err : goal.returns-clause-err
 returns-clause-err c =
     let font : Font = record { bytes = c.args.«data».now; index = c.args.index; extras = all_extras } in
-    at_default (λ t d. IfErr c.embed_with_limits.result (λ why. IsRefusal t d font c.args.glyphs.now why)) c.default.result.tokens c.default.result.depth c.default.ensures.0 c.default.ensures.1 c.embed_with_limits.ensures.err
+    at_default (λ t d. IfErr c.embed_with_limits.result (λ why. (why ≡ OutOfMemory) ⊎ ((order : List ℕ) × HasEmbedFault t d font c.args.glyphs.now order why))) c.default.result.tokens c.default.result.depth c.default.ensures.0 c.default.ensures.1
+    (no_bound_refusal c.default.result.bytes c.default.result.tokens c.default.result.depth font c.args.glyphs.now c.embed_with_limits.result c.default.ensures.2 c.embed_with_limits.ensures.err)
 
 pub returns-clause-no_answer : goal.returns-clause-no_answer
 returns-clause-no_answer c =
     let font : Font = record { bytes = c.args.«data».now; index = c.args.index; extras = all_extras } in
-    at_default (λ t d. IfErr c.embed_with_limits.result (λ why. IsFinal t d font c.args.glyphs.now why)) c.default.result.tokens c.default.result.depth c.default.ensures.0 c.default.ensures.1 c.embed_with_limits.ensures.no_answer
+    at_default (λ t d. IfErr c.embed_with_limits.result (λ why. (why ≡ OutOfMemory) ⊎ HasNoEmbedding t d font c.args.glyphs.now)) c.default.result.tokens c.default.result.depth c.default.ensures.0 c.default.ensures.1
+    (no_bound_final c.default.result.bytes c.default.result.tokens c.default.result.depth font c.args.glyphs.now c.embed_with_limits.result c.default.ensures.2 c.embed_with_limits.ensures.no_answer)

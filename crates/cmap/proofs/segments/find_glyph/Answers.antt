@@ -1,4 +1,4 @@
-use Rattle.std.proofs.Common.{◌≡◌, sym, ◌∙◌}
+use Rattle.std.proofs.Common.{sym, ◌∙◌}
 use Rattle.cmap.proofs.Steps.{segments_here}
 use Rattle.cmap.proofs.segments.find_glyph.Goals as goal
 

@@ -1,4 +1,4 @@
-use Rattle.std.proofs.Common.{◌≡◌, ◌+◌, ◌-◌, ◌<◌, [], ◌∷◌, ◌++◌, sym, ap, ◌∙◌, append_assoc, arith}
+use Rattle.std.proofs.Common.{◌+◌, ◌-◌, ◌<◌, [], ◌∷◌, ◌++◌, sym, ap, ◌∙◌, append_assoc, arith}
 use Rattle.subset_args.specs.Lists.{counting}
 use Rattle.subset_args.proofs.Counting.{counting_step}
 use Rattle.subset_args.proofs.lists.push_range.Goals as goal

@@ -3,6 +3,7 @@ use Rattle.subsetter.specs.Glyf.Closure.{AreFound, EndsWith}
 use Rattle.subsetter.specs.Glyf.View.{seen}
 use Rattle.subsetter.proofs.GlyfLaws.Closure.{Follows}
 use Rattle.subsetter.proofs.GlyfLaws.Found.{FoundFrom}
+use Rattle.subsetter.proofs.GlyfLaws.Sizes.{IsCounted}
 use Rattle.subsetter.proofs.GlyfLaws.Taken.{heads_in}
 use Rattle.subsetter.proofs.glyf.closure.Given as goal
 
@@ -14,6 +15,8 @@ invariant-loop-left l = record {
   none_waits : l.waiting.items ≡ [];
   outlines : AreFound (seen l.table) l.order l.outlines.items;
   found : FoundFrom (seen l.table) l.mapper (take l.left l.mapper) [] l.order;
+  within_most : l.size.bytes ≤ l.most;
+  counted : IsCounted (seen l.table) l.mapper (take l.left l.mapper) l.order l.size.bytes l.size.cut;
 }
 
 abbrev pub decreases-loop-left : goal.decreases-loop-left
@@ -24,6 +27,8 @@ invariant-loop-component l = record {
   follows : Follows (seen l.table) l.mapper (take l.left l.mapper) l.waiting.items l.order;
   outlines : AreFound (seen l.table) l.order l.outlines.items;
   found : FoundFrom (seen l.table) l.mapper (take l.left l.mapper) l.waiting.items l.order;
+  within_most : l.size.bytes ≤ l.most;
+  counted : IsCounted (seen l.table) l.mapper (take l.left l.mapper) l.order l.size.bytes l.size.cut;
 }
 
 abbrev pub decreases-loop-component : goal.decreases-loop-component

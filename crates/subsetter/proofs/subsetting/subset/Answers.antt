@@ -9,6 +9,7 @@ use Rattle.subsetter.specs.Subset.{IsSubset}
 use Rattle.subsetter.specs.Fault.{HasFault}
 use Rattle.subsetter.specs.Answer.{IsAnswer, HasNoAnswer}
 use Rattle.subsetter.proofs.TruetypeLaws.Fault.{Stands}
+use Rattle.subsetter.proofs.NoBound.{no_bound_err, no_bound_answer}
 use Rattle.subsetter.proofs.subsetting.subset.Goals as goal
 
 -- what holds at two numbers holds at the default limits, which they are
@@ -28,7 +29,8 @@ returns-clause-clean c =
 pub returns-clause-err : goal.returns-clause-err
 returns-clause-err c =
     let font : Font = record { bytes = c.args.«data».now; index = c.args.index; extras = all_extras } in
-    at_default (λ t d. IfErr c.subset_with_limits.result (λ e. (e ≡ OutOfMemory) ⊎ Stands t d font c.args.mapper.now e)) c.default.result.tokens c.default.result.depth c.default.ensures.0 c.default.ensures.1 c.subset_with_limits.ensures.err
+    at_default (λ t d. IfErr c.subset_with_limits.result (λ e. (e ≡ OutOfMemory) ⊎ Stands t d font c.args.mapper.now e)) c.default.result.tokens c.default.result.depth c.default.ensures.0 c.default.ensures.1
+    (no_bound_err c.default.result.bytes c.default.result.tokens c.default.result.depth font c.args.mapper.now c.subset_with_limits.result c.default.ensures.2 c.subset_with_limits.ensures.err)
 
 pub returns-clause-exact : goal.returns-clause-exact
 returns-clause-exact c =
@@ -38,4 +40,5 @@ returns-clause-exact c =
 pub returns-clause-no_answer : goal.returns-clause-no_answer
 returns-clause-no_answer c =
     let font : Font = record { bytes = c.args.«data».now; index = c.args.index; extras = all_extras } in
-    at_default (λ t d. IfErr c.subset_with_limits.result (λ e. (e ≡ OutOfMemory) ⊎ HasNoAnswer t d font c.args.mapper.now)) c.default.result.tokens c.default.result.depth c.default.ensures.0 c.default.ensures.1 c.subset_with_limits.ensures.no_answer
+    at_default (λ t d. IfErr c.subset_with_limits.result (λ e. (e ≡ OutOfMemory) ⊎ HasNoAnswer t d font c.args.mapper.now)) c.default.result.tokens c.default.result.depth c.default.ensures.0 c.default.ensures.1
+    (no_bound_answer c.default.result.bytes c.default.result.tokens c.default.result.depth font c.args.mapper.now c.subset_with_limits.result c.default.ensures.2 c.subset_with_limits.ensures.no_answer)

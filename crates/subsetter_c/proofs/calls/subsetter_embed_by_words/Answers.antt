@@ -9,6 +9,7 @@ use Rattle.subsetter_c.proofs.calls.subsetter_embed_by_words.Goals as goal
 pub returns-in-Some : goal.returns-in-Some
 returns-in-Some c =
     let font : Extras → Font = λ x. record { bytes = c.args.font.now; index = c.args.index; extras = x } in
+    let bound = c.in-Some.options.limits.bytes in
     let tokens = c.in-Some.options.limits.tokens in
     let depth = c.in-Some.options.limits.depth in
     let asked = font c.in-Some.options.extras in
@@ -19,8 +20,8 @@ returns-in-Some c =
     let of = c.embed_with_options-answer.ensures in
     inr (
       c.in-Some.ensures.0,
-      at_asked (λ t d x. IsEmbeddingHanded t d (font x) glyphs before after c.hand_embedded.new.told c.hand_embedded.result) c.args.options.now c.in-Some.options c.in-Some.ensures.1
-          (answer_handed (IsSoundEmbedding tokens depth asked glyphs) (IsEmbeddingRefusal tokens depth asked glyphs) answer before after c.hand_embedded.new.told c.hand_embedded.result (embedding_sound tokens depth asked glyphs answer of.clean of.exact of.same) (embedding_refused tokens depth asked glyphs answer of.err of.no_answer of.before_memory) c.hand_embedded.ensures),
+      at_asked (λ b t d x. IsEmbeddingHanded b t d (font x) glyphs before after c.hand_embedded.new.told c.hand_embedded.result) c.args.options.now c.in-Some.options c.in-Some.ensures.1
+          (answer_handed (IsSoundEmbedding bound tokens depth asked glyphs) (IsEmbeddingRefusal bound tokens depth asked glyphs) answer before after c.hand_embedded.new.told c.hand_embedded.result (embedding_sound bound tokens depth asked glyphs answer of.clean of.exact of.same of.within) (embedding_refused bound tokens depth asked glyphs answer of.err of.no_answer of.before_memory) c.hand_embedded.ensures),
     )
 
 pub returns-in-None : goal.returns-in-None

@@ -10,6 +10,7 @@ use Rattle.subsetter_c.proofs.calls.subsetter_make_embedded_by_words.Goals as go
 pub returns-in-Some : goal.returns-in-Some
 returns-in-Some c =
     let font : Extras → Font = λ x. record { bytes = c.args.font.now; index = c.args.index; extras = x } in
+    let bound = c.in-Some.options.limits.bytes in
     let tokens = c.in-Some.options.limits.tokens in
     let depth = c.in-Some.options.limits.depth in
     let asked = font c.in-Some.options.extras in
@@ -18,8 +19,8 @@ returns-in-Some c =
     let of = c.embed_with_options-answer.ensures in
     inr (
       c.in-Some.ensures.0,
-      at_asked (λ t d x. IsEmbeddingMade t d (font x) glyphs (lists_in c.make_embedded.new.made) c.make_embedded.result) c.args.options.now c.in-Some.options c.in-Some.ensures.1
-          (embedding_made tokens depth asked glyphs answer (lists_in c.make_embedded.new.made) c.make_embedded.result (embedding_sound tokens depth asked glyphs answer of.clean of.exact of.same) (embedding_refused tokens depth asked glyphs answer of.err of.no_answer of.before_memory) c.make_embedded.ensures),
+      at_asked (λ b t d x. IsEmbeddingMade b t d (font x) glyphs (lists_in c.make_embedded.new.made) c.make_embedded.result) c.args.options.now c.in-Some.options c.in-Some.ensures.1
+          (embedding_made bound tokens depth asked glyphs answer (lists_in c.make_embedded.new.made) c.make_embedded.result (embedding_sound bound tokens depth asked glyphs answer of.clean of.exact of.same of.within) (embedding_refused bound tokens depth asked glyphs answer of.err of.no_answer of.before_memory) c.make_embedded.ensures),
     )
 
 pub returns-in-None : goal.returns-in-None

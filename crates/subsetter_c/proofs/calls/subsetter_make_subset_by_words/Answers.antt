@@ -9,14 +9,15 @@ use Rattle.subsetter_c.proofs.calls.subsetter_make_subset_by_words.Goals as goal
 pub returns-in-Some : goal.returns-in-Some
 returns-in-Some c =
     let font : Extras → Font = λ x. record { bytes = c.args.font.now; index = c.args.index; extras = x } in
+    let bound = c.in-Some.options.limits.bytes in
     let tokens = c.in-Some.options.limits.tokens in
     let depth = c.in-Some.options.limits.depth in
     let asked = font c.in-Some.options.extras in
     let glyphs = c.args.glyphs.now in
     inr (
       c.in-Some.ensures.0,
-      at_asked (λ t d x. IsSubsetMade t d (font x) glyphs (lists_in c.make_subset.new.made) c.make_subset.result) c.args.options.now c.in-Some.options c.in-Some.ensures.1
-          (subset_made tokens depth asked glyphs c.subset_for.result (lists_in c.make_subset.new.made) c.make_subset.result c.subset_for.ensures.ok c.subset_for.ensures.err c.make_subset.ensures),
+      at_asked (λ b t d x. IsSubsetMade b t d (font x) glyphs (lists_in c.make_subset.new.made) c.make_subset.result) c.args.options.now c.in-Some.options c.in-Some.ensures.1
+          (subset_made bound tokens depth asked glyphs c.subset_for.result (lists_in c.make_subset.new.made) c.make_subset.result c.subset_for.ensures.ok c.subset_for.ensures.err c.make_subset.ensures),
     )
 
 pub returns-in-None : goal.returns-in-None

@@ -1,4 +1,4 @@
-use Rattle.std.proofs.Common.{◌≡◌, ◌++◌, ◌∷◌, [], None, sym, ap, ◌∙◌, List, ℕ}
+use Rattle.std.proofs.Common.{◌≡◌, ◌++◌, ◌∷◌, [], None, sym, ap, ◌∙◌}
 use Rattle.std.proofs.lemmas.Slice.{pushed}
 use Rattle.subsetter_cff.specs.Write.SidRemapping.{Remapped, new_number, views, with_old}
 use Rattle.subsetter_cff.proofs.WriteLaws.StringPlaces.{new_noted, old_noted, once_after}

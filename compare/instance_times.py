@@ -1,0 +1,123 @@
+#!/usr/bin/python3
+"""How long an instance takes beside HarfBuzz, which draws the same glyphs, and fontTools' instancer; and what memory it takes.
+
+    compare/instance_times.py [FOLDER ..] [--turns N] [--no-build] [--no-instancer] [--results FOLDER]
+
+It needs what instance.py needs, libharfbuzz-dev, and subset_bench. Of Inter, and of Roboto Flex and Source Serif where a FOLDER
+has them, it takes 3, 80 and 2,000 spread glyphs (or all), at a random place. The port and HarfBuzz take turns, one call each,
+N times (12), and the medians are compared; fontTools makes its instance of the whole font once, without a file. Memory is the
+bytes that subset_bench asks for at most (peak.c), less those of a run that a font of no bytes ends.
+
+The status is 1 where the port takes more than 1.5 of HarfBuzz's time from 80 glyphs on, more than 0.01 of fontTools', or more
+memory than the source, twice the answer and 8 MB.
+"""
+import argparse
+import os
+import random
+import statistics
+import subprocess
+import sys
+import tempfile
+import time
+
+import build
+import fonts
+import instance
+import instances
+import variable
+
+NAMES = ["Inter.var.ttf", "RobotoFlex-Variable.ttf", "SourceSerifVariable-Roman.ttf"]
+COUNTS = [3, 80, 2000]
+BESIDE_HARFBUZZ, BESIDE_FONTTOOLS, MORE = 1.5, 0.01, 8 * 2 ** 20
+
+
+def said(words, **more):
+    run = subprocess.run(words, stdout=subprocess.PIPE, stderr=subprocess.PIPE, text=True, **more)
+    line = run.stdout.split()
+    if run.returncode or line[:1] != ["ok"]:
+        sys.exit(f"instance_times.py: {' '.join(words)[:200]}: status {run.returncode}, {run.stdout.strip()}")
+    return int(line[1]), int(line[3])
+
+
+def memory(words, room):
+    """The bytes that a run asks for at most, and those of a run that has no font."""
+    peaks = []
+    empty = os.path.join(room, "empty")
+    open(empty, "wb").close()
+    for path in (words[1], empty):
+        peak = os.path.join(room, "peak")
+        env = {"PATH": os.environ["PATH"], "LD_PRELOAD": os.path.join(build.BUILD, "peak.so"), "PEAK": peak}
+        subprocess.run([words[0], path, *words[2:]], stdout=subprocess.DEVNULL, env=env, check=True)
+        with open(peak) as file:
+            peaks.append(int(file.read()))
+    return peaks[0] - peaks[1]
+
+
+def instancer(path, place):
+    from fontTools.ttLib import TTFont
+    from fontTools.varLib.instancer import instantiateVariableFont
+
+    font = TTFont(path)
+    start = time.perf_counter_ns()
+    instantiateVariableFont(font, {tag: value / 65536 for tag, value in place})
+    return time.perf_counter_ns() - start
+
+
+def place_inside(axes, rng):
+    return [(tag, rng.randint(round(low * 65536), round(high * 65536))) for tag, low, _, high in axes]
+
+
+def rows_of(path, words, room):
+    source, rng = instance.Source(path), random.Random(os.path.basename(path))
+    place = place_inside(source.axes, rng)
+    with open(path, "rb") as file:
+        data = file.read()
+    at = variable.Font(data, instances.place_in(place)).at
+    whole = None if words.no_instancer else instancer(path, place)
+    for count in COUNTS:
+        count = min(count, len(source.names))
+        glyphs = fonts.spread(len(source.names), count)
+        out = os.path.join(room, "out")
+        port = [build.BENCH, *instances.words_of(path, glyphs.split(","), out, place)]
+        draw = [os.path.join(build.BUILD, "harfbuzz_draw"), path, glyphs, "1", *map(str, at)]
+        ours, theirs = zip(*((said(port)[0], said(draw)[0]) for _ in range(words.turns)))
+        length = said(port)[1]
+        yield os.path.basename(path), count, statistics.median(ours), statistics.median(theirs), whole, memory(port, room), length, len(data)
+
+
+def main():
+    parser = argparse.ArgumentParser(description=__doc__, formatter_class=argparse.RawDescriptionHelpFormatter)
+    parser.add_argument("folders", nargs="*", metavar="FOLDER")
+    parser.add_argument("--turns", type=int, default=12)
+    parser.add_argument("--no-build", action="store_true")
+    parser.add_argument("--no-instancer", action="store_true")
+    parser.add_argument("--results", metavar="FOLDER")
+    words = parser.parse_args()
+    if not words.no_build:
+        fonts.install([*instance.PACKAGES, "libharfbuzz-dev"])
+        build.gcc("harfbuzz_draw.c", "-I/usr/include/harfbuzz", "-lharfbuzz", to="harfbuzz_draw")
+        build.preload("peak.c", to="peak.so")
+    build.program(build.BENCH)
+    print(f"Commit {instance.commit()}; {instance.versions()}; {words.turns} turns, {os.cpu_count()} cores under a load of {os.getloadavg()[0]:.1f}.\n")
+    head = ["Font", "Glyphs", "Port, µs", "HarfBuzz, µs", "Ratio", "fontTools, ms", "Ratio", "Memory, bytes", "Source + 2 × answer + 8 MB"]
+    print("|", " | ".join(head), "|\n|" + "---|" * len(head))
+    lines, missed = [], 0
+    with tempfile.TemporaryDirectory(prefix="times-") as room:
+        for path in instance.font_paths(words.folders, ""):
+            for name, count, ours, theirs, whole, held, length, size in rows_of(path, words, room) if os.path.basename(path) in NAMES else []:
+                most = size + 2 * length + MORE
+                slow = (count >= 80 and ours > BESIDE_HARFBUZZ * theirs) or (whole and ours > BESIDE_FONTTOOLS * whole)
+                missed += bool(slow or held > most)
+                lines.append([name, count, round(ours / 1000), round(theirs / 1000), f"{ours / theirs:.2f}", round(whole / 1e6) if whole else "",
+                              f"{ours / whole:.5f}" if whole else "", held, most])
+                print("|", " | ".join(map(str, lines[-1])), "|" + " missed" * bool(slow or held > most), flush=True)
+    print(f"\n{len(lines)} rows, {missed} past their bound.")
+    if words.results:
+        with open(os.path.join(words.results, "instance_times.csv"), "w") as file:
+            file.write(f"# compare/instance_times.py, commit {instance.commit()}\n" + ",".join(head) + "\n")
+            file.write("".join(",".join(map(str, line)) + "\n" for line in lines))
+    sys.exit(1 if missed or not lines else 0)
+
+
+if __name__ == "__main__":
+    main()

@@ -1,0 +1,454 @@
+#!/usr/bin/python3
+"""Whole instances of variable TrueType fonts by the port, beside a second reading, HarfBuzz, fontTools and FreeType.
+
+    compare/instances.py [FOLDER ..] [--places N] [--glyphs N] [--seed S] [--only WORD] [--jobs J] [--results FOLDER]
+    compare/instances.py [FOLDER ..] --damage N [--seed S] [--only WORD] [--jobs J]
+    compare/instances.py --hostile
+
+It needs what instance.py needs, and subset_bench, which `rt run` builds in crates/subset_bench.
+
+For each font it takes N places (20) as instance.py does, and N glyphs at each (100), composites and empty ones among them.
+The port makes an instance for these glyphs. Its file is read by variable.py, and
+
+    reading      each asked glyph has the contours, the points, the advance and the bearing that variable.py computes of the
+                 source at this place, in whole numbers; every other glyph is empty, and 0 0 in `hmtx`
+    HarfBuzz     what variable.py has before rounding is within 0.01 of what HarfBuzz draws at the same normalized
+                 coordinates, and the advance is HarfBuzz's; where a font has no HVAR HarfBuzz rounds as the port does
+    fontTools    the points are those of fontTools' reader in floats, unfolded and rounded once by halves up
+    FreeType     the instance goes through `subset`, and FreeType draws of the new font what it draws of the instance
+
+Glyphs that variable.py refuses are left out, and told; the port has to refuse each of them by itself. With --damage it
+changes N copies of the fonts in fvar, avar, gvar, HVAR or glyf, at a random place and for 12 glyphs: the port has to answer
+as variable.py reads, or to refuse what that refuses, each within a second. --hostile makes four small fonts that ask for
+much, each of which has to be refused within a tenth of a second. The status is 1 where something differs.
+"""
+import argparse
+import collections
+import concurrent.futures
+import os
+import random
+import subprocess
+import sys
+import tempfile
+import time
+
+import build
+import fonts
+import instance
+import made
+import variable
+from variable import UNIT
+
+STEPS = 1000000
+DAMAGED = ["fvar", "avar", "gvar", "HVAR", "glyf"]
+TEXTS = {"UnknownKind": "unknown font kind", "MalformedFont": "malformed font", "Unimplemented": "unsupported feature in font",
+         "OverflowError": "overflow occurred"}
+KINDS = ["reading", "HarfBuzz", "HarfBuzz advance", "fontTools", "FreeType"]
+
+
+# ---- the port
+
+def words_of(path, glyphs, out, place):
+    """A task of subset_bench: an instance at a place, or without one a subset."""
+    return [path, "0", ",".join(map(str, glyphs)) or "0", "1", out, *(f"{tag}={value % 2 ** 32}" for tag, value in place)]
+
+
+def lines_of(words, tasks):
+    run = subprocess.run([build.BENCH, *words], stdout=subprocess.PIPE, stderr=subprocess.PIPE)
+    lines = run.stdout.decode().splitlines()
+    if run.returncode or len(lines) != len(tasks):
+        raise RuntimeError(f"subset_bench: status {run.returncode}, {len(lines)} lines of {len(tasks)}, {run.stderr.decode()}: {tasks[0]}")
+    return lines
+
+
+def port(tasks, room):
+    """The line that subset_bench prints for each task. (In a list blanks divide words, and a tag may have one.)"""
+    if any(" " in word for task in tasks for word in task):
+        return [lines_of(task, [task])[0] for task in tasks]
+    path = os.path.join(room, "tasks")
+    with open(path, "w", encoding="latin-1") as file:
+        file.write("".join(" ".join(task) + "\n" for task in tasks))
+    return lines_of(["--list", path], tasks)
+
+
+def place_in(place):
+    return [(tag.encode("latin-1"), value) for tag, value in place]
+
+
+def is_as_read(data, drawn):
+    """What is wrong with an instance's file for what was computed of each glyph, if anything is."""
+    font = variable.Font(data, [])
+    tables = set(font.tables) - {b"name", b"post"}
+    if tables != {b"glyf", b"head", b"hhea", b"hmtx", b"loca", b"maxp"}:
+        return f"tables {sorted(tables)}"
+    for glyph in range(font.count):
+        ends, points, advance, bearing = drawn.get(glyph, ([], [], 0, 0))
+        if variable.simple(font.description(glyph)) != (ends, points):
+            return f"glyph {glyph} has other points"
+        if font.metric(glyph) != (advance, bearing):
+            return f"glyph {glyph}: {font.metric(glyph)}, and not {(advance, bearing)}"
+        if not ends and font.description(glyph) and glyph not in drawn:
+            return f"glyph {glyph} isn't empty"
+    return None
+
+
+# ---- others
+
+class Floats:
+    """fontTools' reading in floats, unfolded."""
+
+    def __init__(self, source):
+        self.source = source
+
+    def moved(self, glyph, points, ends, at):
+        from fontTools.varLib.iup import iup_delta
+        from fontTools.varLib.models import supportScalar
+
+        location = {tag: value / 16384 for tag, value in zip(self.source.tags, at)}
+        points = points + [(0, 0)] * 4
+        moved = [list(map(float, p)) for p in points]
+        for it in self.source.gvar.get(self.source.names[glyph], []):
+            s = supportScalar(location, it.axes)
+            if s:
+                deltas = iup_delta(it.coordinates, points, ends) if None in it.coordinates else it.coordinates
+                for point, delta in zip(moved, deltas):
+                    point[0] += s * delta[0]
+                    point[1] += s * delta[1]
+        return moved
+
+    def unfolded(self, glyph, at):
+        """The points, and where the left side lies."""
+        source = self.source
+        it, bearing = source.glyf[source.names[glyph]], source.font["hmtx"][source.names[glyph]][1]
+        if not it.isComposite():
+            points = list(it.getCoordinates(source.glyf)[0]) if it.numberOfContours > 0 else []
+            ends = list(it.endPtsOfContours) if points else []
+            moved = self.moved(glyph, points, ends, at)
+            return moved[:len(points)], getattr(it, "xMin", 0) - bearing + moved[len(points)][0]
+        parts = it.components
+        moved = self.moved(glyph, [(getattr(c, "x", 0), getattr(c, "y", 0)) for c in parts], list(range(len(parts))), at)
+        points = []
+        for part, (dx, dy) in zip(parts, moved):
+            inner, _ = self.unfolded(source.font.getGlyphID(part.glyphName), at)
+            (a, b), (c, d) = getattr(part, "transform", ((1, 0), (0, 1)))
+            inner = [(a * x + c * y, b * x + d * y) for x, y in inner]
+            if hasattr(part, "firstPt"):
+                dx, dy = (points[part.firstPt][k] - inner[part.secondPt][k] for k in (0, 1))
+            points += [(x + dx, y + dy) for x, y in inner]
+        return points, it.xMin - bearing + moved[len(parts)][0]
+
+
+def advance_by(harfbuzz, glyph):
+    from ctypes import c_int, c_uint32, c_void_p
+
+    call = harfbuzz.lib.hb_font_get_glyph_h_advance
+    call.argtypes, call.restype = [c_void_p, c_uint32], c_int
+    return call(harfbuzz.font, glyph)
+
+
+def freetype_points(path, glyph):
+    import freetype
+
+    face = freetype.Face(path)
+
+    def points(g):
+        face.load_glyph(g, freetype.FT_LOAD_NO_SCALE)
+        outline = face.glyph.outline
+        return outline.points, outline.contours, [tag & 1 for tag in outline.tags], face.glyph.metrics.horiAdvance
+    return points(glyph) if isinstance(glyph, int) else [points(g) for g in glyph]
+
+
+# ---- a font
+
+class Report:
+    def __init__(self, path):
+        self.label = os.path.basename(path)
+        self.counts = collections.Counter()
+        self.worst = 0
+        self.wrong, self.refused = [], set()
+
+    def say(self, kind, text):
+        self.counts["wrong"] += 1
+        self.wrong.append(f"{self.label}: {kind}: {text}")
+
+
+def beside_others(report, font, drawn, floats, harfbuzz):
+    harfbuzz.place(font.at)
+    for glyph, (_, points, advance, _, it) in drawn.items():
+        fine = [((x - it.left) / UNIT, y / UNIT) for x, y, _ in it.points]
+        flags = [p[2] for p in it.points]
+        distance = instance.path_distance(instance.outline_path(fine, it.ends, flags), harfbuzz.drawn(glyph))
+        report.counts["HarfBuzz"] += 1
+        report.worst = max(report.worst, distance or 0)
+        if distance is None or distance > instance.HARFBUZZ_BOUND:
+            report.say("HarfBuzz", f"glyph {glyph} at {font.at}: {distance} off")
+        report.counts["HarfBuzz advance"] += 1
+        if advance != advance_by(harfbuzz, glyph):
+            report.say("HarfBuzz advance", f"glyph {glyph} at {font.at}: {advance}, and not {advance_by(harfbuzz, glyph)}")
+        if floats:
+            theirs, left = floats.unfolded(glyph, font.at)
+            report.counts["fontTools"] += 1
+            if [(instance.half_up(x - left), instance.half_up(y)) for x, y in theirs] != [p[:2] for p in points]:
+                report.say("fontTools", f"glyph {glyph} at {font.at}: other points")
+
+
+def compare_place(report, path, data, place, glyphs, others, room):
+    """One instance."""
+    font = variable.Font(data, place_in(place))
+    drawn, refused = {}, []
+    for glyph in sorted({0, *glyphs}):
+        try:
+            drawn[glyph] = font.drawn(glyph, STEPS)
+        except variable.Fault:
+            refused.append(glyph)
+    out, again = os.path.join(room, "instance"), os.path.join(room, "subset")
+    tasks = [words_of(path, [glyph], out, place) for glyph in refused] + [words_of(path, drawn, out, place)]
+    # (glyph 0 is in each instance: where it is refused, all are)
+    said = port(tasks, room)
+    for glyph, line in zip(refused, said):
+        report.refused.add(glyph)
+        if not line.startswith("error "):
+            report.say("reading", f"glyph {glyph} at {font.at} isn't refused")
+    if 0 in refused:
+        return
+    if not said[-1].startswith("ok "):
+        report.say("reading", f"refused at {font.at}: {said[-1]}")
+        return
+    with open(out, "rb") as file:
+        wrong = is_as_read(file.read(), {glyph: it[:4] for glyph, it in drawn.items()})
+    report.counts["reading"] += len(drawn)
+    if wrong:
+        report.say("reading", f"at {font.at}: {wrong}")
+    beside_others(report, font, drawn, *others)
+    asked = [glyph for glyph in drawn if glyph]
+    if not port([words_of(out, asked, again, [])], room)[0].startswith("ok "):
+        report.say("FreeType", f"at {font.at}: `subset` refuses the instance")
+        return
+    report.counts["FreeType"] += len(drawn)
+    if freetype_points(out, [0, *asked]) != freetype_points(again, list(range(len(asked) + 1))):
+        report.say("FreeType", f"at {font.at}: the subset is drawn otherwise")
+
+
+def compare_font(words, path):
+    report = Report(path)
+    source, harfbuzz = instance.Source(path), instance.HarfBuzz(path)
+    others = (None if source.has_twins else Floats(source)), harfbuzz
+    rng = random.Random(f"{words.seed} {report.label}")
+    with open(path, "rb") as file:
+        data = file.read()
+    with tempfile.TemporaryDirectory(prefix="instances-") as room:
+        for _ in range(words.places):
+            place = instance.random_place(source.axes, rng)
+            glyphs = rng.sample(range(len(source.names)), min(words.glyphs, len(source.names)))
+            compare_place(report, path, data, place, glyphs, others, room)
+    return report
+
+
+# ---- damaged copies
+
+def damaged(rng, data, source):
+    """A copy with one to three numbers changed in one of the tables, and the glyphs to ask for: those that the change may
+    reach come first where it is in gvar or glyf."""
+    tables = fonts.directory(data)
+    tag = rng.choice([it for it in DAMAGED if it in tables])
+    at, size = tables[tag]
+    copy = bytearray(data)
+    size = min(size, 4096) if rng.random() < 0.5 else size
+    for _ in range(rng.randint(1, 3)):
+        where = at + rng.randrange(size)
+        kind = rng.random()
+        if kind < 0.4:
+            copy[where] = rng.randrange(256)
+        elif kind < 0.7:
+            copy[where] ^= 1 << rng.randrange(8)
+        elif kind < 0.9 and where + 1 < len(copy):
+            copy[where:where + 2] = rng.choice([0, 1, 0x7FFF, 0x8000, 0xFFFF, rng.randrange(65536)]).to_bytes(2, "big")
+        else:
+            copy[where] = (copy[where] + rng.choice([1, 255])) % 256
+    return tag, bytes(copy)
+
+
+def answer_of(data, place, glyphs):
+    """What variable.py reads: the glyphs as drawn, or the name of a fault."""
+    try:
+        font = variable.Font(data, place_in(place))
+        return {glyph: font.drawn(glyph, STEPS)[:4] for glyph in sorted({0, *glyphs})}
+    except variable.Fault as it:
+        return it.args[0]
+
+
+def damage_piece(words, path, number, copies):
+    """So many damaged copies of a font."""
+    report = Report(path)
+    source = instance.Source(path)
+    rng = random.Random(f"{words.seed} {report.label} {number}")
+    with open(path, "rb") as file:
+        data = file.read()
+    with tempfile.TemporaryDirectory(prefix="damaged-") as room:
+        tasks, kept = [], []
+        for k in range(copies):
+            tag, copy = damaged(rng, data, source)
+            place = instance.random_place(source.axes, rng)
+            glyphs = rng.sample(range(1, len(source.names)), min(12, len(source.names) - 1))
+            name = os.path.join(room, f"{k}")
+            with open(name, "wb") as file:
+                file.write(copy)
+            tasks.append(words_of(name, glyphs, f"{name}.out", place))
+            kept.append((tag, copy, place, glyphs))
+        for k, (line, (tag, copy, place, glyphs)) in enumerate(zip(port(tasks, room), kept)):
+            judge_copy(report, os.path.join(room, f"{k}.out"), line, tag, answer_of(copy, place, glyphs), f"piece {number}, copy {k}, {tag}")
+    return report
+
+
+def judge_copy(report, out, line, tag, wanted, label):
+    kind, *rest = line.split(" ", 1)
+    report.counts["copies"] += 1
+    if kind == "error":
+        report.counts["refused"] += 1
+        report.counts["another error"] += isinstance(wanted, str) and rest[0] != TEXTS[wanted]
+        if not isinstance(wanted, str):
+            report.say("damage", f"{label}: {line}")
+        return
+    if int(line.split(" ")[1]) > 10 ** 9:
+        report.say("damage", f"{label}: took {line.split(' ')[1]} ns")
+    with open(out, "rb") as file:
+        wrong = wanted if isinstance(wanted, str) else is_as_read(file.read(), wanted)
+    if wrong:
+        report.say("damage", f"{label}: answered, {wrong}")
+
+
+# ---- hostile fonts
+
+def u16(*numbers):
+    return b"".join((n % 65536).to_bytes(2, "big") for n in numbers)
+
+
+def variable_font(outlines, variations):
+    """A font with the axis wght from 100 by 400 to 900, and of each glyph its description and its variations."""
+    n = len(outlines)
+    fvar = u16(1, 0, 16, 2, 1, 20, 0, 4) + b"wght" + b"".join((v << 16).to_bytes(4, "big") for v in (100, 400, 900)) + u16(0, 256)
+
+    def offsets(parts):
+        return b"".join(sum(map(len, parts[:k])).to_bytes(4, "big") for k in range(n + 1))
+    gvar = u16(1, 0, 1, 0) + (20 + 4 * (n + 1)).to_bytes(4, "big") + u16(n, 1) + (20 + 4 * (n + 1)).to_bytes(4, "big") + offsets(variations)
+    tables = {"fvar": fvar, "glyf": b"".join(outlines), "gvar": gvar + b"".join(variations), "head": bytes(50) + u16(1, 0),
+              "hhea": bytes(34) + u16(n), "hmtx": u16(500, 0) * n, "loca": offsets(outlines), "maxp": u16(1, 0, n) + bytes(26)}
+    return made.font(sorted(tables.items()))
+
+
+def simple_bytes(points):
+    """One contour of so many points, all at one place."""
+    flags = b"".join(bytes([0x39, min(255, points - 1 - k)]) for k in range(0, points, 256))
+    return u16(1, 0, 0, 0, 0, points - 1, 0) + flags
+
+
+def tuples_bytes(count, packed):
+    """So many tuples with private numbers, each with its peak at the axis's end, and the same packed bytes."""
+    return u16(count, 4 + 6 * count) + u16(len(packed), 0xA000, 16384) * count + packed * count
+
+
+def composite_bytes(glyphs):
+    more = [0x0020] * (len(glyphs) - 1) + [0]
+    return u16(-1, 0, 0, 0, 0) + b"".join(u16(flags | 0x0002, glyph, 0) for flags, glyph in zip(more, glyphs))
+
+
+def hostile_fonts():
+    """Each with its name and the glyph to ask for."""
+    zeros = b"\xbf" * 250 + b"\x83"
+    yield "a long outline with 4,095 tuples", variable_font([b"", simple_bytes(16000)], [b"", tuples_bytes(4095, b"\0" + zeros * 2)]), 1
+    two = b"\2\1\0\1" + b"\1\1\1" * 2
+    yield "4,095 tuples of two points each", variable_font([b"", simple_bytes(65000)], [b"", tuples_bytes(4095, two)]), 1
+    doubles = [b""] + [composite_bytes([k + 2, k + 2]) for k in range(40)] + [simple_bytes(3)]
+    yield "composites that double at each of 40 levels", variable_font(doubles, [b""] * len(doubles)), 1
+    yield "a composite of itself", variable_font([b"", composite_bytes([1])], [b"", b""]), 1
+
+
+def hostile():
+    """Whether each hostile font is refused in time."""
+    sound = True
+    with tempfile.TemporaryDirectory(prefix="hostile-") as room:
+        for name, data, glyph in hostile_fonts():
+            path = os.path.join(room, "font")
+            with open(path, "wb") as file:
+                file.write(data)
+            times = []
+            for _ in range(5):
+                start = time.perf_counter()
+                line = port([words_of(path, [glyph], path + ".out", [("wght", 900 << 16)])], room)[0]
+                times.append(time.perf_counter() - start)
+            wanted = answer_of(data, [("wght", 900 << 16)], [glyph])
+            good = line.startswith("error ") and min(times) < 0.1
+            sound = sound and good
+            print(f"{name}, {len(data)} bytes: {line} after {1000 * min(times):.0f} ms ({wanted if isinstance(wanted, str) else 'answered'} as read)"
+                  + " WRONG" * (not good))
+    return sound
+
+
+# ---- all
+
+def joined(reports):
+    counts = collections.Counter()
+    for report in reports:
+        counts.update(report.counts)
+    return counts
+
+
+def say_damage(reports):
+    counts = joined(reports)
+    print(f"Of {counts['copies']} damaged copies {counts['refused']} are refused ({counts['another error']} under another name), "
+          f"{counts['copies'] - counts['refused']} answered as read; {counts['wrong']} differ.")
+    return counts["copies"]
+
+
+def say_fonts(words, reports):
+    counts = joined(reports)
+    head = f"Commit {instance.commit()}; {instance.versions()}; seed {words.seed}, {words.places} places, at most {words.glyphs} glyphs at each"
+    refused = sum(len(report.refused) for report in reports)
+    print(f"{head}.\n\n| Beside | Glyphs at places |\n|---|---|")
+    for kind in KINDS:
+        print(f"| {kind} | {counts[kind]} |")
+    print(f"\n{len(reports)} fonts, HarfBuzz at most {max((r.worst for r in reports), default=0):.6f} off before rounding, "
+          f"{refused} glyphs refused; {counts['wrong']} differ.")
+    if words.results:
+        with open(os.path.join(words.results, "instances.csv"), "w") as file:
+            file.write(f"# compare/instances.py, commit {head.removeprefix('Commit ')}\nfont,{','.join(KINDS)},HarfBuzz largest,refused,wrong\n")
+            for report in reports:
+                figures = [*(report.counts[kind] for kind in KINDS), f"{report.worst:.6f}", len(report.refused), report.counts["wrong"]]
+                file.write(",".join(map(str, [report.label, *figures])) + "\n")
+    return counts["reading"]
+
+
+def main():
+    parser = argparse.ArgumentParser(description=__doc__, formatter_class=argparse.RawDescriptionHelpFormatter)
+    parser.add_argument("folders", nargs="*", metavar="FOLDER")
+    parser.add_argument("--places", type=int, default=20)
+    parser.add_argument("--glyphs", type=int, default=100)
+    parser.add_argument("--damage", type=int)
+    parser.add_argument("--seed", default="1")
+    parser.add_argument("--only", default="")
+    parser.add_argument("--jobs", type=int, default=2)
+    parser.add_argument("--results", metavar="FOLDER")
+    parser.add_argument("--hostile", action="store_true")
+    words = parser.parse_args()
+    build.program(build.BENCH)
+    if words.hostile:
+        sys.exit(0 if hostile() else 1)
+    fonts.install(instance.PACKAGES)
+    paths = instance.font_paths(words.folders, words.only)
+    with concurrent.futures.ProcessPoolExecutor(words.jobs) as pool:
+        if words.damage:
+            pieces = [(path, number) for number in range(-(-words.damage // (50 * len(paths)))) for path in paths]
+            reports = list(pool.map(damage_piece, [words] * len(pieces), *zip(*pieces), [50] * len(pieces)))
+            compared = say_damage(reports)
+        else:
+            reports = list(pool.map(compare_font, [words] * len(paths), paths))
+            compared = say_fonts(words, reports)
+    wrong = [line for report in reports for line in report.wrong]
+    print("\n".join(f"- {line}" for line in wrong[:40]) + "\n" * bool(wrong), end="")
+    if not compared:
+        print("nothing was compared")
+    sys.exit(1 if wrong or not compared else 0)
+
+
+if __name__ == "__main__":
+    main()

@@ -1,0 +1,5 @@
+-- Where there is no instance a fault stands, and where a fault stands there is none.
+pub mod Opening
+pub mod Glyph
+pub mod Refused
+pub mod Clean

@@ -1,0 +1,68 @@
+-- A font of which there is an instance has no fault.
+use Rattle.std.proofs.Common.{◌≡◌, ℕ, true, false, List, length, Some, Ok, ℤ, sym, ap, subst, ◌∙◌}
+use Rattle.std.specs.Prelude.{codes, Contains}
+use Rattle.subsetter_base.specs.Bytes.{IsBytes, ◌>>=◌}
+use Rattle.subsetter_base.specs.declared.tag.Tag.{Tag}
+use Rattle.subsetter_base.specs.declared.error.Error.{Error}
+use Rattle.subsetter_base.proofs.Options.{just_is, some_not_none}
+use Rattle.subsetter_base.proofs.Results.{done_is, bind_ok, ok_not_err}
+use Rattle.subsetter_sfnt.specs.Fault.{HasOpeningFault}
+use Rattle.subsetter_sfnt.specs.Plain.{opened, flavored}
+use Rattle.subsetter_sfnt.specs.Read.{Font, table_in, stored}
+use Rattle.subsetter_sfnt.specs.Written.{fits, start_of}
+use Rattle.subsetter_instance.specs.Source.{Source, place, source_in}
+use Rattle.subsetter_instance.specs.Drawn.{Drawn, drawn}
+use Rattle.subsetter_instance.specs.Plain.{drawn_all, by_flavor, instance_of}
+use Rattle.subsetter_instance.specs.Fault.{HasGlyphFault, HasInstanceFault, in_opening, no_glyf, no_place, no_source, in_glyph, large_file}
+use Rattle.subsetter_instance.specs.Answer.{IsAnswer}
+use Rattle.subsetter_instance.proofs.FaultLaws.Opening.{no_opening_fault}
+use Rattle.subsetter_instance.proofs.FaultLaws.Glyph.{drawn_clean}
+use Rattle.subsetter_instance.proofs.FileLaws.Among.{is_among, drawn_one}
+use Rattle.subsetter_instance.proofs.FileLaws.Instance.{is_instance}
+use Rattle.subsetter_instance.proofs.FileLaws.Steps.{laid_tables, source_glyf, InstanceSteps, font_steps}
+
+module _ (font : Font) (settings : List (Tag × ℤ)) (glyphs : List ℕ) (steps : ℕ) (out : List ℕ) (i : InstanceSteps (stored font) settings glyphs steps out) where
+  same_place : (at : List ℤ) → place (stored font) settings ≡ Ok at → i.at ≡ at
+  same_place at h = done_is i.at at (sym i.place_is ∙ h)
+
+  same_source : (at : List ℤ) (s : Source) → place (stored font) settings ≡ Ok at → source_in (stored font) (length at) ≡ Some s → i.source ≡ s
+  same_source at s p h = just_is i.source s (sym i.source_is ∙ ap (λ (l : List ℤ). source_in (stored font) (length l)) (same_place at p) ∙ h)
+
+  no_fault_in : (e : Error) (at : List ℤ) (s : Source) (g : ℕ) → i.at ≡ at → i.source ≡ s → Contains glyphs g → HasGlyphFault s at steps g e → ⊥
+  no_fault_in e at s g a t there f =
+      let m = is_among i.source i.at steps glyphs i.ds g i.drawn_is there in
+      let d = drawn_one i.source i.at steps g m.d m.drawn_is in
+      drawn_clean i.source i.at steps g m.d e d.0 d.1 (subst (λ (l : List ℤ). HasGlyphFault i.source l steps g e) (sym a) (subst (λ (x : Source). HasGlyphFault x at steps g e) (sym t) f))
+
+  not_large : (at : List ℤ) (s : Source) (ds : List Drawn) (head hhea : List ℕ) → i.at ≡ at → i.source ≡ s → drawn_all s at steps glyphs ≡ Ok ds → stored font (codes "head") ≡ Some head → stored font (codes "hhea") ≡ Some hhea
+      → fits (start_of (laid_tables (stored font) s glyphs ds head hhea)) (laid_tables (stored font) s glyphs ds head hhea) ≡ false → ⊥
+  not_large at s ds head hhea a t drawn at_head at_hhea h =
+      let same : i.ds ≡ ds = done_is i.ds ds (sym i.drawn_is ∙ ap (λ (l : List ℤ). drawn_all i.source l steps glyphs) a ∙ ap (λ (x : Source). drawn_all x at steps glyphs) t ∙ drawn) in
+      let x : i.head ≡ head = just_is i.head head (sym i.head_is ∙ at_head) in
+      let y : i.hhea ≡ hhea = just_is i.hhea hhea (sym i.hhea_is ∙ at_hhea) in
+      let fit = λ (s : Source) (ds : List Drawn) (head hhea : List ℕ). fits (start_of (laid_tables (stored font) s glyphs ds head hhea)) (laid_tables (stored font) s glyphs ds head hhea) in
+      let clash : true ≡ false = sym i.fit ∙ ap (λ (s : Source). fit s i.ds i.head i.hhea) t ∙ ap (λ (l : List Drawn). fit s l i.head i.hhea) same ∙ ap (λ (l : List ℕ). fit s ds l i.hhea) x ∙ ap (λ (l : List ℕ). fit s ds head l) y ∙ h in
+      cc
+
+  no_fault : (e : Error) → (HasOpeningFault font e → ⊥) → HasInstanceFault font settings glyphs steps e → ⊥
+  no_fault e opening (in_opening f) = opening f
+  no_fault e opening (no_glyf none cff) = let g = source_glyf (stored font) (length i.at) i.source i.source_is in some_not_none (stored font (codes "glyf")) g.0 g.1 none
+  no_fault e opening (no_place h) = ok_not_err (place (stored font) settings) i.at e i.place_is h
+  no_fault e opening (no_source at p h) = some_not_none (source_in (stored font) (length at)) i.source (ap (λ (l : List ℤ). source_in (stored font) (length l)) (sym (same_place at p)) ∙ i.source_is) h
+  no_fault e opening (in_glyph at s g p h there f) = no_fault_in e at s g (same_place at p) (same_source at s p h) there f
+  no_fault e opening (large_file at s ds head hhea p h drawn at_head at_hhea f) = not_large at s ds head hhea (same_place at p) (same_source at s p h) drawn at_head at_hhea f
+
+-- a font that was opened, and whose outlines are of a known kind
+pub clean_opening : (font : Font) (settings : List (Tag × ℤ)) (glyphs : List ℕ) (steps : ℕ) (out : List ℕ) (e : Error) → instance_of font settings glyphs steps ≡ Ok out → HasOpeningFault font e → ⊥
+unfolding instance_of
+clean_opening font settings glyphs steps out e h =
+    let a = bind_ok (opened font) (λ d. flavored (table_in font.bytes d) >>= λ f. by_flavor f (table_in font.bytes d) settings glyphs steps) out h in
+    let b = bind_ok (flavored (table_in font.bytes a.0)) (λ f. by_flavor f (table_in font.bytes a.0) settings glyphs steps) out a.2 in
+    no_opening_fault font a.0 b.0 e a.1 b.1
+
+pub clean : (font : Font) (settings : List (Tag × ℤ)) (glyphs : List ℕ) (steps : ℕ) (out : List ℕ) → instance_of font settings glyphs steps ≡ Ok out → (e : Error) → HasInstanceFault font settings glyphs steps e → ⊥
+clean font settings glyphs steps out h e f = no_fault font settings glyphs steps out (font_steps font settings glyphs steps out h) e (clean_opening font settings glyphs steps out e h) f
+
+-- what the plain way answers is an answer
+pub is_answer : (font : Font) (settings : List (Tag × ℤ)) (glyphs : List ℕ) (steps : ℕ) (out : List ℕ) → IsBytes font.bytes → instance_of font settings glyphs steps ≡ Ok out → IsAnswer font settings glyphs steps out
+is_answer font settings glyphs steps out bytes h = record { instance = is_instance font settings glyphs steps out bytes h; clean = clean font settings glyphs steps out h }

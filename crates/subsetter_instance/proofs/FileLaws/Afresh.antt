@@ -1,0 +1,135 @@
+-- The file of an instance, read afresh.
+use Rattle.std.proofs.Common.{◌≡◌, ℕ, ◌+◌, ◌*◌, ◌≤◌, ◌<◌, ◌^◌, Bool, false, List, [], length, get_or, drop, Option, Some, None, ℤ, refl, sym, ap, ◌∙◌, arith}
+use Rattle.std.specs.Prelude.{codes, slice_range, Contains}
+use Rattle.std.specs.Str.{bytes_eq}
+use Rattle.subsetter_base.specs.Bytes.{IsBytes, be}
+use Rattle.subsetter_base.specs.declared.tag.Tag.{Tag}
+use Rattle.subsetter_base.proofs.ByteLemmas.{number-fits, number-small}
+use Rattle.subsetter_base.proofs.Options.{just_is}
+use Rattle.subsetter_sfnt.specs.declared.flavor.FontFlavor.TheVariants.{TrueType}
+use Rattle.subsetter_sfnt.specs.Container.{IsSoundContainer}
+use Rattle.subsetter_sfnt.specs.Read.{Font, as_font, stored}
+use Rattle.subsetter_sfnt.specs.Rows.{FontTables, bytes_of, rows, present}
+use Rattle.subsetter_sfnt.specs.Written.{with_adjustment, file, kind_word}
+use Rattle.subsetter_sfnt.proofs.Laws.Back.{word_of}
+use Rattle.subsetter_sfnt.proofs.Laws.Laid.{row_back, head_row_back, rows_sound}
+use Rattle.subsetter_sfnt.proofs.Laws.Rows.{HasRoom, lookup_row, some_table}
+use Rattle.subsetter_sfnt.proofs.Laws.TableBytes.{stored_bytes}
+use Rattle.subsetter_sfnt.proofs.Laws.Written.{fitting}
+use Rattle.subsetter_instance.specs.Source.{Source, source_in, description}
+use Rattle.subsetter_instance.specs.Drawn.{Drawn}
+use Rattle.subsetter_instance.specs.Instance.{tags_with, IsDrawn, KeepsTable, KeepsHeader}
+use Rattle.subsetter_instance.specs.Written.{by_glyph, outline_bytes, glyf_bytes, is_long, offsets_from, loca_bytes, hmtx_bytes, head_bytes, hhea_bytes, maxp_bytes, tables}
+use Rattle.subsetter_instance.proofs.FileLaws.Among.{drawn_one, is_among, not_among, by_glyph_at, by_glyph_length}
+use Rattle.subsetter_instance.proofs.FileLaws.Fitting.{reads, drawn_fits}
+use Rattle.subsetter_instance.proofs.FileLaws.Head.{format_bytes, head_length, head_front, head_middle, head_end, head_format, format_back}
+use Rattle.subsetter_instance.proofs.FileLaws.Laid.{has_room}
+use Rattle.subsetter_instance.proofs.FileLaws.Metrics.{metric_back, pairs_back, hhea_length, hhea_front, hhea_end, count_back}
+use Rattle.subsetter_instance.proofs.FileLaws.Outlines.{room, description_back}
+use Rattle.subsetter_instance.proofs.FileLaws.Steps.{SourceSteps, source_steps, source_by, InstanceSteps}
+
+module _ (font : Font) (settings : List (Tag × ℤ)) (glyphs : List ℕ) (steps : ℕ) (out : List ℕ) (bytes : IsBytes font.bytes) (i : InstanceSteps (stored font) settings glyphs steps out) where
+  abbrev count : ℕ
+  count = i.source.count
+
+  -- what is drawn of each glyph
+  abbrev all : List (Option Drawn)
+  all = by_glyph glyphs i.ds count
+
+  abbrev long : Bool
+  long = is_long (glyf_bytes all)
+
+  abbrev laid : FontTables
+  laid = tables (stored font) i.head i.hhea count i.ds all
+
+  abbrev pub made : List ℕ
+  made = file (kind_word TrueType) (present (rows laid))
+
+  abbrev word : ℕ
+  word = word_of (kind_word TrueType) (present (rows laid))
+
+  -- ---- the source
+
+  read : SourceSteps (stored font) i.source
+  read = source_steps (stored font) (length i.at) i.source i.source_is
+
+  long_head : 52 ≤ length i.head
+  long_head = omega (arith, number-fits read.head 50 2 read.format read.format_is, ap length (just_is read.head i.head (sym read.head_is ∙ i.head_is)))
+
+  long_hhea : 36 ≤ length i.hhea
+  long_hhea = omega (arith, number-fits read.hhea 34 2 i.source.pairs read.pairs_is, ap length (just_is read.hhea i.hhea (sym read.hhea_is ∙ i.hhea_is)))
+
+  few : count < 2 ^ 16
+  few = number-small read.maxp 4 count (stored_bytes font (codes "maxp") read.maxp bytes read.maxp_is) read.count_is
+
+  -- ---- the tables
+
+  with_room : HasRoom laid.head
+  with_room = has_room long i.head long_head
+
+  back : (tag : List ℕ) → bytes_eq tag (codes "head") ≡ false → stored (as_font made) tag ≡ bytes_of tag (rows laid)
+  back tag other = row_back TrueType laid with_room i.fit tag other
+
+  abbrev new_head : List ℕ
+  new_head = with_adjustment word (head_bytes long i.head)
+
+  head_back : stored (as_font made) (codes "head") ≡ Some new_head
+  head_back = head_row_back TrueType laid with_room i.fit
+
+  small_glyf : length (glyf_bytes all) < 2 ^ 32
+  small_glyf = (fitting (12 + 16 * length (present (rows laid))) (record { tag = codes "glyf"; bytes = glyf_bytes all }) (present (drop 4 (rows laid))) i.fit).len
+
+  pub container : IsSoundContainer made (kind_word TrueType) (tags_with (stored font))
+  container =
+      let some = some_table (codes "glyf") (glyf_bytes all) (present (rows laid)) (lookup_row laid (codes "glyf")) in
+      rows_sound TrueType laid with_room i.fit (tables (stored font) [] [] 0 [] []) some (record { cff = refl; cvt = refl; fpgm = refl; glyf = refl; head = refl; hhea = refl; hmtx = refl; loca = refl; maxp = refl; name = refl; post = refl; prep = refl })
+
+  -- the file's own tables
+  abbrev pub afresh : Source
+  afresh = record { glyf = glyf_bytes all; loca = loca_bytes long (offsets_from 0 all); long = long; count = count; pairs = count; hmtx = hmtx_bytes all; gvar = None; hvar = None }
+
+  pub read_back : source_in (stored (as_font made)) 0 ≡ Some afresh
+  read_back =
+      source_by (stored (as_font made)) (glyf_bytes all) (loca_bytes long (offsets_from 0 all)) new_head (be (format_bytes long)) (maxp_bytes count i.ds) count (hhea_bytes count i.hhea) count (hmtx_bytes all) (back (codes "glyf") refl) (back (codes "loca") refl) head_back (head_format word long i.head long_head)
+      (back (codes "maxp") refl) (count_back count i.ds few) (back (codes "hhea") refl) (pairs_back count i.hhea few long_hhea) (back (codes "hmtx") refl) (back (codes "gvar") refl) (back (codes "HVAR") refl)
+      ∙ ap (λ (l : Bool). Some (record { glyf = glyf_bytes all; loca = loca_bytes long (offsets_from 0 all); long = l; count = count; pairs = count; hmtx = hmtx_bytes all; gvar = None; hvar = None })) (format_back long)
+
+  -- ---- glyphs
+
+  described : (g : ℕ) → g < count → description afresh g ≡ Some (outline_bytes (get_or all g None))
+  described g lt = description_back afresh all g refl refl (omega (arith, lt, by_glyph_length glyphs i.ds count)) (room long (glyf_bytes all) refl small_glyf)
+
+  pub asked_for : (g : ℕ) → Contains glyphs g → IsDrawn i.source afresh i.at steps g
+  asked_for g there =
+      let a = is_among i.source i.at steps glyphs i.ds g i.drawn_is there in
+      let d = drawn_one i.source i.at steps g a.d a.drawn_is in
+      let w = drawn_fits i.source i.at steps g a.d d.1 in
+      let at : get_or all g None ≡ Some a.d = by_glyph_at glyphs i.ds count g d.0 ∙ a.among in
+      record {
+        it = a.d;
+        drawn_is = d.1;
+        bytes = described g d.0 ∙ ap (λ (o : Option Drawn). Some (outline_bytes o)) at;
+        reads = reads a.d.ends a.d.points w.fits;
+        metrics = metric_back afresh all g a.d refl d.0 at w.advance w.bearing;
+      }
+
+  pub others : (g : ℕ) → g < count → (Contains glyphs g → ⊥) → description afresh g ≡ Some []
+  others g lt none = described g lt ∙ ap (λ (o : Option Drawn). Some (outline_bytes o)) (by_glyph_at glyphs i.ds count g lt ∙ not_among glyphs i.ds g none)
+
+  -- ---- headers
+
+  pub keeps_head : KeepsHeader font (as_font made) (codes "head") 8 52
+  keeps_head = record { source = i.head; source_is = i.head_is; copy = new_head; copy_is = head_back; same_length = head_length word long i.head long_head; front = head_front word long i.head long_head; end = head_end word long i.head long_head }
+
+  pub keeps_middle : (source copy : List ℕ) → stored font (codes "head") ≡ Some source → stored (as_font made) (codes "head") ≡ Some copy → slice_range copy 12 50 ≡ slice_range source 12 50
+  keeps_middle source copy s c =
+      ap (λ (l : List ℕ). slice_range l 12 50) (just_is copy new_head (sym c ∙ head_back)) ∙ head_middle word long i.head long_head ∙ ap (λ (l : List ℕ). slice_range l 12 50) (just_is i.head source (sym i.head_is ∙ s))
+
+  pub keeps_hhea : KeepsHeader font (as_font made) (codes "hhea") 34 36
+  keeps_hhea = record { source = i.hhea; source_is = i.hhea_is; copy = hhea_bytes count i.hhea; copy_is = back (codes "hhea") refl; same_length = hhea_length count i.hhea long_hhea; front = hhea_front count i.hhea long_hhea; end = hhea_end count i.hhea long_hhea }
+
+  pub keeps_name : KeepsTable font (as_font made) (codes "name")
+  keeps_name = back (codes "name") refl
+
+  pub keeps_post : KeepsTable font (as_font made) (codes "post")
+  keeps_post = back (codes "post") refl

@@ -1,0 +1,12 @@
+pub mod Chains
+pub mod Ends
+pub mod Glyphs
+pub mod Joins
+pub mod Points
+pub mod Reach
+mod WriteLemmas
+pub mod FileLaws
+pub mod SameLaws
+pub mod FaultLaws
+mod NoBound
+pub mod Opened

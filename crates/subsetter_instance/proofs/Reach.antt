@@ -1,0 +1,51 @@
+-- What is unfolded, and within what bounds.
+use Rattle.std.proofs.Common.{◌≡◌, ◌≤◌, ◌<◌, ◌^◌, ◌+◌, ◌++◌, ℕ, ℤ, List, length, map, unsigned_abs, get_or, drop, pos, w64, to_z, of_z, [], ◌∷◌, append_assoc, sym, subst, arith}
+use Rattle.std.specs.Prelude.{All, zip}
+use Rattle.std.proofs.lemmas.Int.{to_z-of_z, fits_signed_from_abs}
+use Rattle.std.proofs.lemmas.List.{append-nil, drop_all, drop_more, length-append}
+use Rattle.std.proofs.lemmas.List.Elements.{All-append, All-cons, All-map, All-nil, All-weaker}
+use Rattle.subsetter_instance.specs.Unfolded.{Unfolded, IsInReach, joined_parts}
+
+wide_47 : (x : ℤ) → unsigned_abs x ≤ 2 ^ 45 → unsigned_abs x ≤ 2 ^ 47
+wide_47 x h = omega arith
+
+pub wider_47 : (xs : List ℤ) → All (λ x. unsigned_abs x ≤ 2 ^ 45) xs → All (λ x. unsigned_abs x ≤ 2 ^ 47) xs
+wider_47 xs h = All-weaker (λ x. unsigned_abs x ≤ 2 ^ 45) (λ x. unsigned_abs x ≤ 2 ^ 47) wide_47 xs h
+
+more : (m n : ℕ) (es : List ℕ) → All (λ e. e < m) es → All (λ e. e < m + n) es
+more m n es h = All-weaker (λ e. e < m) (λ e. e < m + n) (λ e l. omega arith) es h
+
+behind : (m n : ℕ) (es : List ℕ) → All (λ e. e < n) es → All (λ e. e < m + n) (map (λ e. e + m) es)
+behind m n es h = All-map (λ e. e < m + n) (λ e. e + m) es (All-weaker (λ e. e < n) (λ e. e + m < m + n) (λ e l. omega arith) es h)
+
+pub joined_reach : (a b : Unfolded) → IsInReach a → IsInReach b → IsInReach (joined_parts a b)
+joined_reach a b h g =
+    let n = length-append a.on b.on in
+    let xs : length (a.xs ++ b.xs) ≡ length (a.on ++ b.on) = omega (arith, length-append a.xs b.xs, n, h.shape.xs, g.shape.xs) in
+    let ys : length (a.ys ++ b.ys) ≡ length (a.on ++ b.on) = omega (arith, length-append a.ys b.ys, n, h.shape.ys, g.shape.ys) in
+    record {
+      shape = record {
+        xs = xs;
+        ys = ys;
+        ends = subst (λ (k : ℕ). All (λ e. e < k) (a.ends ++ map (λ e. e + length a.on) b.ends)) (sym n) (All-append (λ e. e < length a.on + length b.on) a.ends (map (λ e. e + length a.on) b.ends) (more (length a.on) (length b.on) a.ends h.shape.ends) (behind (length a.on) (length b.on) b.ends g.shape.ends));
+        left = h.shape.left;
+        right = h.shape.right;
+      };
+      xs = All-append (λ x. unsigned_abs x ≤ 2 ^ 45) a.xs b.xs h.xs g.xs;
+      ys = All-append (λ x. unsigned_abs x ≤ 2 ^ 45) a.ys b.ys h.ys g.ys;
+    }
+
+-- one more pair
+pub zip_step : (f : ℤ × ℤ → ℤ) (out : List ℤ) (z : ℤ) (xs ys : List ℤ) (i : ℕ) → i < length xs → i < length ys → z ≡ f (get_or xs i (pos 0), get_or ys i (pos 0)) → (out ++ z ∷ []) ++ map f (zip (drop (i + 1) xs) (drop (i + 1) ys)) ≡ out ++ map f (zip (drop i xs) (drop i ys))
+zip_step f out z xs ys i l m e = rw (drop_more xs i (pos 0) l, drop_more ys i (pos 0) m, e) (append_assoc out (f (get_or xs i (pos 0), get_or ys i (pos 0)) ∷ []) (map f (zip (drop (i + 1) xs) (drop (i + 1) ys))))
+
+-- no pair is left
+pub zip_end : (f : ℤ × ℤ → ℤ) (out : List ℤ) (xs ys : List ℤ) (i : ℕ) → length xs ≤ i → out ++ map f (zip (drop i xs) (drop i ys)) ≡ out
+zip_end f out xs ys i l = rw (drop_all i xs l) (append-nil out)
+
+-- a number that 64 bits hold
+pub kept : (z : ℤ) → unsigned_abs z ≤ 2 ^ 62 → to_z w64 (of_z w64 z) ≡ z
+kept z h = to_z-of_z w64 z (fits_signed_from_abs w64 z (omega arith))
+
+pub one_more : (n : ℕ) (xs ys : List ℤ) (z : ℤ) → ys ≡ xs ++ z ∷ [] → unsigned_abs z ≤ n → All (λ x. unsigned_abs x ≤ n) xs → All (λ x. unsigned_abs x ≤ n) ys
+one_more n xs ys z e h a = subst (All (λ x. unsigned_abs x ≤ n)) (sym e) (All-append (λ x. unsigned_abs x ≤ n) xs (z ∷ []) a (All-cons (λ x. unsigned_abs x ≤ n) z [] h (All-nil (λ x. unsigned_abs x ≤ n))))

@@ -1,0 +1,7 @@
+use Rattle.std.proofs.Common.{◌≡◌, drop}
+use Rattle.subsetter_base.proofs.Results.{with_front}
+use Rattle.subsetter_instance.specs.Drawn.{points_or_fault}
+use Rattle.subsetter_instance.proofs.drawn.points_or_fault.Given as goal
+
+abbrev pub invariant-loop-i : goal.invariant-loop-i
+invariant-loop-i l = points_or_fault l.left l.on l.xs l.ys ≡ with_front l.points.items (points_or_fault l.left (drop l.i l.on) (drop l.i l.xs) (drop l.i l.ys))

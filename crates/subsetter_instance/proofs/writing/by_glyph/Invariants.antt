@@ -1,0 +1,8 @@
+use Rattle.std.proofs.Common.{◌≡◌, map}
+use Rattle.std.specs.Option.{option_copied}
+use Rattle.std.specs.List.{range_with_len}
+use Rattle.subsetter_instance.specs.Written.{glyph_among}
+use Rattle.subsetter_instance.proofs.writing.by_glyph.Given as goal
+
+abbrev pub invariant-loop-glyph : goal.invariant-loop-glyph
+invariant-loop-glyph l = map option_copied l.all.items ≡ map (glyph_among l.mapper l.drawn) (range_with_len 0 l.glyph)

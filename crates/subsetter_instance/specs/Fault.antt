@@ -1,0 +1,48 @@
+-- What can stand against an instance, under the name of the error that it is answered by.
+use Rattle.std.specs.Prelude.{◌≡◌, ◌≤◌, ℕ, List, length, codes, false, Contains, None, IsSome, Err, Ok, Some, ℤ, ◌-ℤ◌}
+use Rattle.subsetter_base.specs.declared.tag.Tag.{Tag}
+use Rattle.subsetter_base.specs.declared.error.Error.{Error}
+use Rattle.subsetter_base.specs.declared.error.Error.TheVariants.{MalformedFont, Unimplemented, OverflowError}
+use Rattle.subsetter_points.specs.declared.outline.Point.{Point}
+use Rattle.subsetter_points.specs.Simple.{parts_fit}
+use Rattle.subsetter_sfnt.specs.Fault.{HasOpeningFault}
+use Rattle.subsetter_sfnt.specs.Read.{Font, stored}
+use Rattle.subsetter_sfnt.specs.Rows.{rows, present}
+use Rattle.subsetter_sfnt.specs.Written.{fits, start_of}
+use Rattle.subsetter_instance.specs.Source.{Source, metric, place, source_in}
+use Rattle.subsetter_instance.specs.declared.source.Metric.{Metric}
+use Rattle.subsetter_instance.specs.Unfolded.{Unfolded, unfolded}
+use Rattle.subsetter_instance.specs.Drawn.{Drawn, levels, advance, points_or_fault}
+use Rattle.subsetter_instance.specs.Plain.{drawn_all}
+use Rattle.subsetter_instance.specs.Written.{by_glyph, tables}
+
+-- a fault of one glyph of the tables at a place, in so many steps
+pub data HasGlyphFault (s : Source) (at : List ℤ) (steps g : ℕ) : Error → Type 0 where
+  -- maxp has fewer glyphs
+  no_glyph : s.count ≤ g → HasGlyphFault s at steps g MalformedFont
+  -- no metric in hmtx
+  no_metric : metric s g ≡ None → HasGlyphFault s at steps g MalformedFont
+  -- what the walk over the glyph and its components stops at: a description, a metric or variations that can't be read, components of
+  -- components more than 64 levels deep, a matched point that isn't there, an offset that is to be scaled, the end of the steps, a point more
+  -- than 32768 units away, or more than 65535 points
+  stopped : {e : Error} → unfolded levels s at steps g ≡ Err e → HasGlyphFault s at steps g e
+  -- HVAR is cut or has no item for the glyph, or the advance has no 16 bits
+  no_advance : {e : Error} (m : Metric) (u : Unfolded × ℕ) → metric s g ≡ Some m → unfolded levels s at steps g ≡ Ok u → advance s.hvar at g m.advance (u.0.right -ℤ u.0.left) ≡ Err e → HasGlyphFault s at steps g e
+  -- a coordinate has no 16 bits
+  far_point : {e : Error} (u : Unfolded × ℕ) → unfolded levels s at steps g ≡ Ok u → points_or_fault u.0.left u.0.on u.0.xs u.0.ys ≡ Err e → HasGlyphFault s at steps g e
+  -- a delta between neighbours has no 16 bits, or there are too many points or contours
+  large_outline : (u : Unfolded × ℕ) (points : List Point) → unfolded levels s at steps g ≡ Ok u → points_or_fault u.0.left u.0.on u.0.xs u.0.ys ≡ Ok points → parts_fit u.0.ends points ≡ false → HasGlyphFault s at steps g OverflowError
+
+-- a fault stands in a font, for settings, glyphs and steps
+pub data HasInstanceFault (font : Font) (settings : List (Tag × ℤ)) (glyphs : List ℕ) (steps : ℕ) : Error → Type 0 where
+  in_opening : {e : Error} → HasOpeningFault font e → HasInstanceFault font settings glyphs steps e
+  -- outlines of CFF
+  no_glyf : stored font (codes "glyf") ≡ None → IsSome (stored font (codes "CFF ")) → HasInstanceFault font settings glyphs steps Unimplemented
+  -- fvar or avar is cut, or avar has another version
+  no_place : {e : Error} → place (stored font) settings ≡ Err e → HasInstanceFault font settings glyphs steps e
+  -- a table that outlines, metrics or variations are read from is missing or cut
+  no_source : (at : List ℤ) → place (stored font) settings ≡ Ok at → source_in (stored font) (length at) ≡ None → HasInstanceFault font settings glyphs steps MalformedFont
+  in_glyph : {e : Error} (at : List ℤ) (s : Source) (g : ℕ) → place (stored font) settings ≡ Ok at → source_in (stored font) (length at) ≡ Some s → Contains glyphs g → HasGlyphFault s at steps g e → HasInstanceFault font settings glyphs steps e
+  -- a table's place or length doesn't fit 32 bits
+  large_file : (at : List ℤ) (s : Source) (ds : List Drawn) (head hhea : List ℕ) → place (stored font) settings ≡ Ok at → source_in (stored font) (length at) ≡ Some s → drawn_all s at steps glyphs ≡ Ok ds → stored font (codes "head") ≡ Some head → stored font (codes "hhea") ≡ Some hhea
+      → fits (start_of (present (rows (tables (stored font) head hhea s.count ds (by_glyph glyphs ds s.count))))) (present (rows (tables (stored font) head hhea s.count ds (by_glyph glyphs ds s.count)))) ≡ false → HasInstanceFault font settings glyphs steps OverflowError

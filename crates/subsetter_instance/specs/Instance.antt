@@ -1,0 +1,70 @@
+-- What an instance of a font is, read afresh from the bytes of the file.
+use Rattle.std.specs.Prelude.{◌≡◌, ◌<◌, ℕ, List, [], length, take, drop, slice_range, codes, Option, Some, Ok, ℤ}
+use Rattle.std.specs.Int.{w16, cast_unsigned}
+use Rattle.std.specs.Prelude.{Contains}
+use Rattle.subsetter_base.specs.declared.tag.Tag.{Tag}
+use Rattle.subsetter_points.specs.Simple.{parts, parts_bytes}
+use Rattle.subsetter_base.specs.Bytes.{aligned}
+use Rattle.subsetter_sfnt.specs.declared.flavor.FontFlavor.TheVariants.{TrueType}
+use Rattle.subsetter_sfnt.specs.Container.{IsSoundContainer}
+use Rattle.subsetter_sfnt.specs.Read.{Font, as_font, stored}
+use Rattle.subsetter_sfnt.specs.Rows.{rows, present, tags}
+use Rattle.subsetter_sfnt.specs.Written.{kind_word}
+use Rattle.subsetter_instance.specs.Source.{Source, description, metric, place, source_in}
+use Rattle.subsetter_instance.specs.Drawn.{Drawn, drawn}
+use Rattle.subsetter_instance.specs.Written.{tables}
+use Rattle.subsetter_instance.specs.Plain.{instance_of}
+
+-- the tags of the tables; name and post where the font has them
+abbrev pub tags_with : (List ℕ → Option (List ℕ)) → List (List ℕ)
+tags_with find = tags (present (rows (tables find [] [] 0 [] [])))
+
+-- a glyph of the instance is exactly what is drawn of the font's
+pub record IsDrawn (s out : Source) (at : List ℤ) (steps g : ℕ) : Type 0 where
+  pub it : Drawn
+  pub drawn_is : drawn s at steps g ≡ Ok it
+  -- its description is these bytes, of even length, and reads as these points
+  pub bytes : description out g ≡ Some (aligned 2 (parts_bytes it.ends it.points))
+  pub reads : parts (aligned 2 (parts_bytes it.ends it.points)) ≡ Some (it.ends, it.points)
+  pub metrics : metric out g ≡ Some (record { advance = it.advance; bearing = cast_unsigned w16 it.bearing })
+
+-- a table of the file is that of the font, or neither has one
+abbrev pub KeepsTable : Font → Font → List ℕ → Type 0
+KeepsTable font out tag = stored out tag ≡ stored font tag
+
+-- a header keeps its bytes but for those between two places
+pub record KeepsHeader (font out : Font) (tag : List ℕ) (from to : ℕ) : Type 0 where
+  pub source : List ℕ
+  pub source_is : stored font tag ≡ Some source
+  pub copy : List ℕ
+  pub copy_is : stored out tag ≡ Some copy
+  pub same_length : length copy ≡ length source
+  pub front : take from copy ≡ take from source
+  pub end : drop to copy ≡ drop to source
+
+pub record IsInstance (font : Font) (settings : List (Tag × ℤ)) (glyphs : List ℕ) (file : List ℕ) : Type 0 where
+  -- a TrueType file, its directory, checksums and padding right, with these tables alone, so that none hints
+  pub container : IsSoundContainer file (kind_word TrueType) (tags_with (stored font))
+  -- the place, and the tables that are drawn from
+  pub at : List ℤ
+  pub place_is : place (stored font) settings ≡ Ok at
+  pub source : Source
+  pub source_is : source_in (stored font) (length at) ≡ Some source
+  -- the file's own tables, read as those of a font without axes
+  pub out : Source
+  pub out_is : source_in (stored (as_font file)) 0 ≡ Some out
+  -- each glyph that was asked for is drawn, in some number of steps, and each other one is empty
+  pub steps : ℕ
+  pub asked_for : (g : ℕ) → Contains glyphs g → IsDrawn source out at steps g
+  pub others : (g : ℕ) → g < source.count → (Contains glyphs g → ⊥) → description out g ≡ Some []
+  -- as many glyphs as the font has
+  pub count : out.count ≡ source.count
+  pub pairs : out.pairs ≡ source.count
+  -- head but for checksumAdjustment and indexToLocFormat, hhea but for numberOfHMetrics; name and post byte for byte
+  pub head : KeepsHeader font (as_font file) (codes "head") 8 52
+  pub head_middle : (source copy : List ℕ) → stored font (codes "head") ≡ Some source → stored (as_font file) (codes "head") ≡ Some copy → slice_range copy 12 50 ≡ slice_range source 12 50
+  pub hhea : KeepsHeader font (as_font file) (codes "hhea") 34 36
+  pub name : KeepsTable font (as_font file) (codes "name")
+  pub post : KeepsTable font (as_font file) (codes "post")
+  -- byte for byte what the plain way lays out
+  pub layout : instance_of font settings glyphs steps ≡ Ok file

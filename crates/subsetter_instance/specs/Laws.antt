@@ -1,0 +1,25 @@
+-- What is answered is an instance, and the only one; what is refused has a fault.
+use Rattle.std.specs.Prelude.{◌≡◌, ℕ, List, Ok, Err, ℤ}
+use Rattle.subsetter_base.specs.Bytes.{IsBytes}
+use Rattle.subsetter_base.specs.declared.tag.Tag.{Tag}
+use Rattle.subsetter_base.specs.declared.error.Error.{Error}
+use Rattle.subsetter_sfnt.specs.Read.{Font}
+use Rattle.subsetter_instance.specs.Fault.{HasInstanceFault}
+use Rattle.subsetter_instance.specs.Instance.{IsInstance}
+use Rattle.subsetter_instance.specs.Plain.{instance_of}
+
+-- the file that the plain way lays out is an instance, read afresh from its bytes
+abbrev pub IsReadAfresh : Type 0
+IsReadAfresh = (font : Font) (settings : List (Tag × ℤ)) (glyphs : List ℕ) (steps : ℕ) (file : List ℕ) → IsBytes font.bytes → instance_of font settings glyphs steps ≡ Ok file → IsInstance font settings glyphs file
+
+-- the number of steps decides whether there is a file, and not which
+abbrev pub IsSameAtAnySteps : Type 0
+IsSameAtAnySteps = (font : Font) (settings : List (Tag × ℤ)) (glyphs : List ℕ) (steps more : ℕ) (file other : List ℕ) → instance_of font settings glyphs steps ≡ Ok file → instance_of font settings glyphs more ≡ Ok other → file ≡ other
+
+-- an error is the name of a fault that stands
+abbrev pub HasFaultWhereRefused : Type 0
+HasFaultWhereRefused = (font : Font) (settings : List (Tag × ℤ)) (glyphs : List ℕ) (steps : ℕ) (e : Error) → instance_of font settings glyphs steps ≡ Err e → HasInstanceFault font settings glyphs steps e
+
+-- where there is a file no fault stands
+abbrev pub HasNoneWhereAnswered : Type 0
+HasNoneWhereAnswered = (font : Font) (settings : List (Tag × ℤ)) (glyphs : List ℕ) (steps : ℕ) (file : List ℕ) → instance_of font settings glyphs steps ≡ Ok file → (e : Error) → ¬ (HasInstanceFault font settings glyphs steps e)

@@ -1,0 +1,11 @@
+pub mod Answer
+pub mod Components
+pub mod Drawn
+pub mod Fault
+pub mod Instance
+pub mod Laws
+pub mod Optional
+pub mod Plain
+pub mod Source
+pub mod Unfolded
+pub mod Written

@@ -1,0 +1,92 @@
+-- The tables that an instance is made from (OpenType, "head", "hhea", "hmtx", "maxp", "loca", "glyf", "fvar", "avar", "gvar" and "HVAR").
+use Rattle.std.specs.Prelude.{◌≡◌, IfSome, ℕ, ◌+◌, ◌-◌, ◌*◌, Bool, not, List, [], codes, Option, Some, None, Result, Ok, nat_le, nat_lt, ◌==◌, if◌then◌else◌, ℤ}
+use Rattle.std.specs.Option.{option_map}
+use Rattle.subsetter_base.specs.Bytes.{range, number}
+use Rattle.subsetter_base.specs.declared.tag.Tag.{Tag}
+use Rattle.subsetter_base.specs.declared.error.Error.{Error}
+use Rattle.subsetter_variation.specs.Tuples.{Gvar, gvar_table}
+use Rattle.subsetter_variation.specs.Coordinates.{normalized_or_fault}
+use Rattle.subsetter_instance.specs.Optional.{◌>>=◌}
+use Rattle.subsetter_instance.specs.declared.source.Metric.{Metric}
+
+-- ---- the place
+
+-- the normalized coordinates for settings of user coordinates; a font without fvar has no axes
+abbrev pub place_by : Option (List ℕ) → Option (List ℕ) → List (Tag × ℤ) → Result (List ℤ) Error
+place_by None avar settings = Ok []
+place_by (Some fvar) avar settings = normalized_or_fault fvar avar settings
+
+-- the same, of the tables that a look-up finds
+abbrev pub place : (List ℕ → Option (List ℕ)) → List (Tag × ℤ) → Result (List ℤ) Error
+place find settings = place_by (find (codes "fvar")) (find (codes "avar")) settings
+
+-- ---- the tables
+
+-- The tables of outlines and metrics: where offsets of loca are long, how many glyphs there are (numGlyphs), how many of them have an
+-- advance of their own (numberOfHMetrics), and what varies, if anything does.
+pub record Source : Type 0 where
+  pub glyf : List ℕ
+  pub loca : List ℕ
+  pub long : Bool
+  pub count : ℕ
+  pub pairs : ℕ
+  pub hmtx : List ℕ
+  pub gvar : Option Gvar
+  pub hvar : Option (List ℕ)
+
+-- gvar has as many axes as fvar; without it no outline varies
+abbrev pub variations_in : Option (List ℕ) → ℕ → Option (Option Gvar)
+variations_in None axes = Some None
+variations_in (Some bytes) axes = do
+  t ← gvar_table bytes
+  if t.axis_count == axes then Some (Some t) else None
+
+-- the tables that a look-up finds, for so many axes: loca is long where indexToLocFormat isn't 0
+unfoldable pub source_in : (List ℕ → Option (List ℕ)) → ℕ → Option Source
+source_in find axes = do
+  glyf ← find (codes "glyf")
+  loca ← find (codes "loca")
+  head ← find (codes "head")
+  format ← number head 50 2
+  maxp ← find (codes "maxp")
+  count ← number maxp 4 2
+  hhea ← find (codes "hhea")
+  pairs ← number hhea 34 2
+  hmtx ← find (codes "hmtx")
+  gvar ← variations_in (find (codes "gvar")) axes
+  Some (record { glyf = glyf; loca = loca; long = not (format == 0); count = count; pairs = pairs; hmtx = hmtx; gvar = gvar; hvar = find (codes "HVAR") })
+
+-- gvar, if there is one, has so many axes
+abbrev pub HasAxes : Option Gvar → ℕ → Type 0
+HasAxes gvar axes = IfSome gvar (λ t. axes ≡ t.axis_count)
+
+-- ---- a glyph
+
+-- an offset of loca: of four bytes, or half of it of two
+abbrev pub offset : Source → ℕ → Option ℕ
+offset s g = if s.long then number s.loca (4 * g) 4 else option_map (λ half. 2 * half) (number s.loca (2 * g) 2)
+
+-- the bytes between two offsets
+abbrev pub between_offsets : List ℕ → ℕ → ℕ → Option (List ℕ)
+between_offsets glyf from to = if nat_le from to then range glyf from (to - from) else None
+
+-- the description of a glyph: the bytes between its offset and the next
+unfoldable pub description : Source → ℕ → Option (List ℕ)
+description s g = do
+  from ← offset s g
+  to ← offset s (g + 1)
+  between_offsets s.glyf from to
+
+-- an advance and a left side bearing at two places of hmtx
+abbrev pub metric_at : List ℕ → ℕ → ℕ → Option Metric
+metric_at hmtx advance_at bearing_at = do
+  advance ← number hmtx advance_at 2
+  bearing ← number hmtx bearing_at 2
+  Some (record { advance = advance; bearing = bearing })
+
+-- pairs come first, for as many glyphs as their number says, then bearings alone, which share the last pair's advance
+unfoldable pub metric : Source → ℕ → Option Metric
+metric s g =
+    if nat_lt g s.pairs then metric_at s.hmtx (4 * g) (4 * g + 2)
+    else if s.pairs == 0 then None
+    else metric_at s.hmtx (4 * (s.pairs - 1)) (4 * s.pairs + 2 * (g - s.pairs))

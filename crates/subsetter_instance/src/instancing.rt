@@ -1,0 +1,107 @@
+//! Making an instance.
+//!
+//! The font is opened before any memory is taken.
+
+ghost use Rattle.std.specs.Prelude.{◌≡◌, ◌≢◌, ◌⊎◌, IfOk, IfErr, Ok, Err};
+ghost use Rattle.subsetter_base.specs.Bytes.{IsBytes};
+ghost use Rattle.subsetter_base.specs.Gives.{Gives};
+ghost use Rattle.subsetter_base.specs.declared.error.Error.{Error as SpecError};
+ghost use Rattle.subsetter_base.specs.declared.error.Error.TheVariants.{OutOfMemory};
+ghost use Rattle.subsetter_sfnt.specs.declared.flavor.FontFlavor.TheVariants.{TrueType};
+ghost use Rattle.subsetter_sfnt.specs.Extras.{all_extras};
+ghost use Rattle.subsetter_sfnt.specs.Fault.{HasOpeningFault};
+ghost use Rattle.subsetter_sfnt.specs.FontAt.{font_at};
+ghost use Rattle.subsetter_sfnt.specs.Plain.{opened, flavored};
+ghost use Rattle.subsetter_sfnt.specs.Read.{table_in};
+ghost use Rattle.subsetter_instance.specs.Answer.{IsAnswer, HasNoAnswer, IsTheAnswer, IsClosed};
+ghost use Rattle.subsetter_instance.specs.Fault.{HasInstanceFault};
+ghost use Rattle.subsetter_instance.specs.Instance.{IsInstance};
+ghost use Rattle.subsetter_instance.specs.Plain.{instance_in};
+
+use crate::drawn::draw_all;
+use crate::file::laid;
+use crate::source::{place, source_in};
+use std::alloc::Global;
+use subsetter_base::{Error, GlyphRemapper, Tag};
+use subsetter_sfnt::extras::Extras;
+use subsetter_sfnt::face::Face;
+use subsetter_sfnt::flavor::{FontFlavor, flavor};
+use subsetter_sfnt::parse::parse;
+
+/// The directory of a font whose outlines are in `glyf`. No memory is taken.
+fn open(data: &[u8], index: u32) -> Result<Face<'_>, Error>
+    ensures bytes { IsBytes «data».now }
+    ensures same { IfOk result (λ face. face.«data».now ≡ «data».now) }
+    ensures opened { IfOk result (λ face. opened (font_at «data».now index all_extras) ≡ Ok face.records.now) }
+    ensures flavor { IfOk result (λ face. flavored (table_in «data».now face.records.now) ≡ Ok TrueType) }
+    ensures err { IfErr result (λ e. IsClosed (font_at «data».now index all_extras) e) }
+{
+    let face = parse(data, index, Extras::ALL)?;
+    match flavor(&face)? {
+        FontFlavor::TrueType => Ok(face),
+        FontFlavor::Cff => Err(Error::Unimplemented),
+    }
+}
+
+/// The instance of a font whose directory was read.
+#[tactic(auto, unfolding(crate::specs::Plain::instance_in))]
+fn make(
+    alloc: Global,
+    face: &Face<'_>,
+    coordinates: &[(Tag, i32)],
+    mapper: &GlyphRemapper,
+    steps: u32,
+) -> Result<Vec<u8>, Error>
+    ensures { Gives (λ v. v.items) result (instance_in (table_in face.now.«data».now face.now.records.now) coordinates.now mapper.now steps) }
+{
+    let at = place(alloc, face, coordinates)?;
+    let source = source_in(face, at.len()).ok_or(Error::MalformedFont)?;
+    let drawn = draw_all(alloc, &source, &at, steps, mapper)?;
+    laid(alloc, face, &source, mapper, &drawn)
+}
+
+/// A static TrueType font: the mapper's glyphs, glyph 0 among them, as a variable font has them at these coordinates, each
+/// under its old number as a simple glyph without instructions. Every other glyph is empty.
+///
+/// `data` is a font file or a collection, of which `index` names a face (it is ignored for a single font). A coordinate is the
+/// tag of an axis and a value in 65536ths; where a tag comes twice the last value counts, and an axis without a value stays at
+/// its default. A font without `fvar` has no axes. Each glyph may take so many `steps`: one for each glyph that it leads
+/// to, each point, each tuple, and each point again of a tuple that counts.
+///
+/// # Errors
+///
+/// Each names what stands in the source (`HasInstanceFault`); a font in which nothing stands is refused only when out of
+/// memory.
+///
+/// - `UnknownKind`: the file doesn't begin with a known kind of font, or has none of `glyf`, `CFF ` and `CFF2`.
+/// - `Unimplemented`: the outlines aren't those of `glyf`; `avar` has a major version other than 1; or a glyph is made in a
+///   way that isn't taken.
+/// - `MalformedFont`: the directory, `fvar`, `avar`, `gvar` or `HVAR` is cut, or a table of outlines or metrics is missing or
+///   cut; a glyph isn't one of the font's, or its description, its metric or its variations can't be read.
+/// - `OverflowError`: a glyph takes more than `steps`; a coordinate, the delta between two points or the advance doesn't fit
+///   its 16 bits; or the file passes 2^32 bytes.
+pub fn instance(
+    alloc: Global,
+    data: &[u8],
+    index: u32,
+    coordinates: &[(Tag, i32)],
+    mapper: &GlyphRemapper,
+    steps: u32,
+) -> Result<Vec<u8>, Error>
+    // What is answered is an instance of the font, read afresh from its bytes.
+    ensures ok { IfOk result (λ out. IsInstance (font_at «data».now index all_extras) coordinates.now mapper.now out.items) }
+    // And then no fault stands.
+    ensures clean { IfOk result (λ _. (e : SpecError) → ¬ (HasInstanceFault (font_at «data».now index all_extras) coordinates.now mapper.now steps e)) }
+    // There is one answer, in whatever number of steps.
+    ensures exact { IfOk result (λ out. IsAnswer (font_at «data».now index all_extras) coordinates.now mapper.now steps out.items) }
+    ensures same { IfOk result (λ out. IsTheAnswer (font_at «data».now index all_extras) coordinates.now mapper.now out.items) }
+    // What is refused has a fault of that name.
+    ensures err { IfErr result (λ e. (e ≡ OutOfMemory) ⊎ HasInstanceFault (font_at «data».now index all_extras) coordinates.now mapper.now steps e) }
+    // And, unless out of memory, it has no answer in these steps.
+    ensures no_answer { IfErr result (λ e. (e ≡ OutOfMemory) ⊎ HasNoAnswer (font_at «data».now index all_extras) coordinates.now mapper.now steps) }
+    // Where a fault stands that is found before memory is taken, the answer isn't out of memory.
+    ensures before_memory { (e : SpecError) → HasOpeningFault (font_at «data».now index all_extras) e → result ≢ Err OutOfMemory }
+{
+    let face = open(data, index)?;
+    make(alloc, &face, coordinates, mapper, steps)
+}

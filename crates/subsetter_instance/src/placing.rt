@@ -1,0 +1,353 @@
+//! A component of a composite glyph: through its matrix, moved, and behind the components before it.
+
+ghost use Rattle.std.specs.Prelude.{◌≡◌, ◌≤◌, ◌<◌, ◌^◌, ◌+◌, ◌++◌, ◌*ℤ◌, ◌+ℤ◌, ℕ, length, map, zip, slice_get, unsigned_abs, All, IfOk, IfSome};
+ghost use Rattle.subsetter_base.specs.Gives.{Gives};
+ghost use Rattle.subsetter_variation.specs.Nearest.{nearest};
+ghost use Rattle.subsetter_instance.specs.Unfolded.{IsInReach, IsShaped, is_scaled, joined_or_fault, joined_parts, matched, placed, point_at, shift_by, shifted, transformed_x, transformed_xs, transformed_y, transformed_ys, with_part};
+
+use crate::components::{Arguments, Component, Matrix, has};
+use crate::simple::near_or_fault;
+use crate::unfolding::Unfolded;
+use std::alloc::{AllocError, Global};
+use subsetter_base::Error;
+use subsetter_variation::rounding::{minus, nearest, plus};
+
+/// An offset is to be scaled by the matrix.
+const SCALED_COMPONENT_OFFSET: u16 = 0x0800;
+
+/// A coordinate times a scale.
+fn product(scale: i16, v: i64) -> i64
+    requires { unsigned_abs v ≤ 2 ^ 45 }
+    ensures value { result ≡ scale *ℤ v }
+    ensures bound { unsigned_abs result ≤ 2 ^ 60 }
+{
+    i64::from(scale) * v
+}
+
+/// A sum of two products.
+fn sum(a: i16, x: i64, b: i16, y: i64) -> i64
+    requires x { unsigned_abs x ≤ 2 ^ 45 }
+    requires y { unsigned_abs y ≤ 2 ^ 45 }
+    ensures value { result ≡ a *ℤ x +ℤ b *ℤ y }
+    ensures bound { unsigned_abs result ≤ 2 ^ 61 }
+{
+    plus(product(a, x), product(b, y))
+}
+
+/// A number of 16384ths, to the nearest whole number.
+fn quotient(v: i64) -> i64
+    requires { unsigned_abs v ≤ 2 ^ 61 }
+    ensures value { result ≡ nearest v 16384 }
+    ensures bound { unsigned_abs result ≤ 2 ^ 47 }
+{
+    nearest(v, 16384)
+}
+
+/// x of a point through a matrix.
+fn transformed_x(m: Matrix, x: i64, y: i64) -> i64
+    requires x { unsigned_abs x ≤ 2 ^ 45 }
+    requires y { unsigned_abs y ≤ 2 ^ 45 }
+    ensures value { result ≡ transformed_x m (x, y) }
+    ensures bound { unsigned_abs result ≤ 2 ^ 47 }
+{
+    quotient(sum(m.xx, x, m.xy, y))
+}
+
+/// x of points through a matrix.
+#[tactic(auto, using(crate::proofs::Reach::zip_step, crate::proofs::Reach::zip_end))]
+fn all_xs(alloc: Global, m: Matrix, xs: &[i64], ys: &[i64]) -> Result<Vec<i64>, AllocError>
+    requires same { length ys.now ≡ length xs.now }
+    requires xs { All (λ v. unsigned_abs v ≤ 2 ^ 45) xs.now }
+    requires ys { All (λ v. unsigned_abs v ≤ 2 ^ 45) ys.now }
+    ensures len { IfOk result (λ v. length v.items ≡ length xs.now) }
+    ensures value { IfOk result (λ v. v.items ≡ map (transformed_x m) (zip xs.now ys.now)) }
+    ensures bound { IfOk result (λ v. All (λ z. unsigned_abs z ≤ 2 ^ 47) v.items) }
+{
+    let mut all = Vec::with_capacity(alloc, xs.len())?;
+    for i in 0..xs.len() {
+        all.push(transformed_x(m, xs[i], ys[i]))?;
+    }
+    Ok(all)
+}
+
+/// y of a point through a matrix.
+fn transformed_y(m: Matrix, x: i64, y: i64) -> i64
+    requires x { unsigned_abs x ≤ 2 ^ 45 }
+    requires y { unsigned_abs y ≤ 2 ^ 45 }
+    ensures value { result ≡ transformed_y m (x, y) }
+    ensures bound { unsigned_abs result ≤ 2 ^ 47 }
+{
+    quotient(sum(m.yx, x, m.yy, y))
+}
+
+/// y of points through a matrix.
+#[tactic(auto, using(crate::proofs::Reach::zip_step, crate::proofs::Reach::zip_end))]
+fn all_ys(alloc: Global, m: Matrix, xs: &[i64], ys: &[i64]) -> Result<Vec<i64>, AllocError>
+    requires same { length ys.now ≡ length xs.now }
+    requires xs { All (λ v. unsigned_abs v ≤ 2 ^ 45) xs.now }
+    requires ys { All (λ v. unsigned_abs v ≤ 2 ^ 45) ys.now }
+    ensures len { IfOk result (λ v. length v.items ≡ length xs.now) }
+    ensures value { IfOk result (λ v. v.items ≡ map (transformed_y m) (zip xs.now ys.now)) }
+    ensures bound { IfOk result (λ v. All (λ z. unsigned_abs z ≤ 2 ^ 47) v.items) }
+{
+    let mut all = Vec::with_capacity(alloc, xs.len())?;
+    for i in 0..xs.len() {
+        all.push(transformed_y(m, xs[i], ys[i]))?;
+    }
+    Ok(all)
+}
+
+/// The points of a component through its matrix, from left to right.
+fn transformed_xs(
+    alloc: Global,
+    matrix: Option<Matrix>,
+    xs: &[i64],
+    ys: &[i64],
+) -> Result<Vec<i64>, AllocError>
+    requires same { length ys.now ≡ length xs.now }
+    requires xs { All (λ v. unsigned_abs v ≤ 2 ^ 45) xs.now }
+    requires ys { All (λ v. unsigned_abs v ≤ 2 ^ 45) ys.now }
+    ensures len { IfOk result (λ v. length v.items ≡ length xs.now) }
+    ensures value { IfOk result (λ v. v.items ≡ transformed_xs matrix xs.now ys.now) }
+    ensures bound { IfOk result (λ v. All (λ z. unsigned_abs z ≤ 2 ^ 47) v.items) }
+{
+    match matrix {
+        None => Vec::from_slice(alloc, xs),
+        Some(m) => all_xs(alloc, m, xs, ys),
+    }
+}
+
+/// The points of a component through its matrix, from below to above.
+fn transformed_ys(
+    alloc: Global,
+    matrix: Option<Matrix>,
+    xs: &[i64],
+    ys: &[i64],
+) -> Result<Vec<i64>, AllocError>
+    requires same { length ys.now ≡ length xs.now }
+    requires xs { All (λ v. unsigned_abs v ≤ 2 ^ 45) xs.now }
+    requires ys { All (λ v. unsigned_abs v ≤ 2 ^ 45) ys.now }
+    ensures len { IfOk result (λ v. length v.items ≡ length xs.now) }
+    ensures value { IfOk result (λ v. v.items ≡ transformed_ys matrix xs.now ys.now) }
+    ensures bound { IfOk result (λ v. All (λ z. unsigned_abs z ≤ 2 ^ 47) v.items) }
+{
+    match matrix {
+        None => Vec::from_slice(alloc, ys),
+        Some(m) => all_ys(alloc, m, xs, ys),
+    }
+}
+
+/// Coordinates, moved.
+fn shifted(alloc: Global, by: i64, vs: &[i64]) -> Result<Vec<i64>, AllocError>
+    requires by { unsigned_abs by ≤ 2 ^ 57 }
+    requires vs { All (λ v. unsigned_abs v ≤ 2 ^ 47) vs.now }
+    ensures len { IfOk result (λ v. length v.items ≡ length vs.now) }
+    ensures value { IfOk result (λ v. v.items ≡ shifted by vs.now) }
+{
+    let mut moved = Vec::with_capacity(alloc, vs.len())?;
+    for v in vs {
+        moved.push(plus(*v, by))?;
+    }
+    Ok(moved)
+}
+
+/// Whether an offset is to be scaled.
+fn is_scaled(flags: u16, matrix: Option<Matrix>) -> bool
+    ensures { result ≡ is_scaled flags matrix }
+{
+    match matrix {
+        None => false,
+        Some(_) => has(flags, SCALED_COMPONENT_OFFSET),
+    }
+}
+
+/// A point by its number.
+fn point_at(xs: &[i64], ys: &[i64], number: u16) -> Option<(i64, i64)>
+    requires xs { All (λ v. unsigned_abs v ≤ 2 ^ 47) xs.now }
+    requires ys { All (λ v. unsigned_abs v ≤ 2 ^ 47) ys.now }
+    ensures value { result ≡ point_at xs.now ys.now number }
+    ensures bound { IfSome result (λ p. (unsigned_abs p.0 ≤ 2 ^ 47) × (unsigned_abs p.1 ≤ 2 ^ 47)) }
+{
+    let x = *xs.get(number as usize)?;
+    let y = *ys.get(number as usize)?;
+    Some((x, y))
+}
+
+/// How far a point of a component is from the one that it is to lie on. `MalformedFont` where one isn't there.
+#[tactic(auto, unfolding(crate::specs::Unfolded::matched))]
+fn matched(parent: Option<(i64, i64)>, child: Option<(i64, i64)>) -> Result<(i64, i64), Error>
+    requires parent { IfSome parent (λ p. (unsigned_abs p.0 ≤ 2 ^ 47) × (unsigned_abs p.1 ≤ 2 ^ 47)) }
+    requires child { IfSome child (λ p. (unsigned_abs p.0 ≤ 2 ^ 47) × (unsigned_abs p.1 ≤ 2 ^ 47)) }
+    ensures value { result ≡ matched parent child }
+    ensures bound { IfOk result (λ p. (unsigned_abs p.0 ≤ 2 ^ 57) × (unsigned_abs p.1 ≤ 2 ^ 57)) }
+{
+    let (x, y) = parent.ok_or(Error::MalformedFont)?;
+    let (from_x, from_y) = child.ok_or(Error::MalformedFont)?;
+    Ok((minus(x, from_x), minus(y, from_y)))
+}
+
+/// How far a component moves. `Unimplemented` for an offset that is to be scaled.
+fn shift_by(
+    arguments: Arguments,
+    scaled: bool,
+    x: i64,
+    y: i64,
+    before: &Unfolded,
+    xs: &[i64],
+    ys: &[i64],
+) -> Result<(i64, i64), Error>
+    requires x { unsigned_abs x ≤ 2 ^ 57 }
+    requires y { unsigned_abs y ≤ 2 ^ 57 }
+    requires before_xs { All (λ v. unsigned_abs v ≤ 2 ^ 47) before.now.xs }
+    requires before_ys { All (λ v. unsigned_abs v ≤ 2 ^ 47) before.now.ys }
+    requires xs { All (λ v. unsigned_abs v ≤ 2 ^ 47) xs.now }
+    requires ys { All (λ v. unsigned_abs v ≤ 2 ^ 47) ys.now }
+    ensures value { result ≡ shift_by arguments scaled x y before.now xs.now ys.now }
+    ensures bound { IfOk result (λ p. (unsigned_abs p.0 ≤ 2 ^ 57) × (unsigned_abs p.1 ≤ 2 ^ 57)) }
+{
+    match arguments {
+        Arguments::Offset(..) => {
+            if scaled {
+                Err(Error::Unimplemented)
+            } else {
+                Ok((x, y))
+            }
+        }
+        Arguments::Points(parent, child) => matched(
+            point_at(&before.xs, &before.ys, parent),
+            point_at(xs, ys, child),
+        ),
+    }
+}
+
+/// A component's points, through its matrix and moved.
+#[tactic(auto, unfolding(crate::specs::Unfolded::placed), using(crate::proofs::Reach::wider_47))]
+fn placed(
+    alloc: Global,
+    component: Component,
+    x: i64,
+    y: i64,
+    before: &Unfolded,
+    part: Unfolded,
+) -> Result<Unfolded, Error>
+    requires x { unsigned_abs x ≤ 2 ^ 57 }
+    requires y { unsigned_abs y ≤ 2 ^ 57 }
+    requires before { IsInReach before.now }
+    requires part { IsInReach part }
+    ensures value { Gives (λ u. u) result (placed component x y before.now part) }
+    ensures shape { IfOk result (λ u. IsShaped u) }
+{
+    let Unfolded {
+        ends,
+        on,
+        xs,
+        ys,
+        left,
+        right,
+    } = part;
+    let through_xs = transformed_xs(alloc, component.matrix, &xs, &ys)?;
+    let through_ys = transformed_ys(alloc, component.matrix, &xs, &ys)?;
+    let scaled = is_scaled(component.flags, component.matrix);
+    let (across, up) = shift_by(
+        component.arguments,
+        scaled,
+        x,
+        y,
+        before,
+        &through_xs,
+        &through_ys,
+    )?;
+    let xs = shifted(alloc, across, &through_xs)?;
+    let ys = shifted(alloc, up, &through_ys)?;
+    Ok(Unfolded {
+        ends,
+        on,
+        xs,
+        ys,
+        left,
+        right,
+    })
+}
+
+/// The ends of contours, and those of a component of m points behind n points.
+fn joined_ends(ends: Vec<u16>, n: usize, m: usize, part: &[u16]) -> Result<Vec<u16>, AllocError>
+    requires few { n + m < 65536 }
+    requires below { All (λ e. e < m) part.now }
+    ensures { IfOk result (λ v. v.items ≡ ends.items ++ map (λ e. e + n) part.now) }
+{
+    let mut ends = ends;
+    for end in part {
+        ends.push(*end + n as u16)?;
+    }
+    Ok(ends)
+}
+
+/// A component behind those before it.
+fn joined_parts(before: Unfolded, part: &Unfolded) -> Result<Unfolded, AllocError>
+    requires before { IsInReach before }
+    requires part { IsInReach part.now }
+    requires few { length before.on + length part.now.on < 65536 }
+    ensures value { IfOk result (λ u. u ≡ joined_parts before part.now) }
+{
+    let Unfolded {
+        ends,
+        on,
+        xs,
+        ys,
+        left,
+        right,
+    } = before;
+    let ends = joined_ends(ends, on.len(), part.on.len(), &part.ends)?;
+    let mut on = on;
+    let mut xs = xs;
+    let mut ys = ys;
+    on.extend_from_slice(&part.on)?;
+    xs.extend_from_slice(&part.xs)?;
+    ys.extend_from_slice(&part.ys)?;
+    Ok(Unfolded {
+        ends,
+        on,
+        xs,
+        ys,
+        left,
+        right,
+    })
+}
+
+/// A component behind those before it, and the steps that are left. `OverflowError` where there are more than 65535 points.
+#[tactic(auto, using(crate::proofs::Reach::joined_reach))]
+fn joined_or_fault(before: Unfolded, part: &Unfolded, steps: u32) -> Result<(Unfolded, u32), Error>
+    requires before { IsInReach before }
+    requires part { IsInReach part.now }
+    ensures value { Gives (λ r. (r.0, r.1)) result (joined_or_fault before part.now steps) }
+    ensures bound { IfOk result (λ r. IsInReach r.0) }
+{
+    if before.on.len() + part.on.len() < 65536 {
+        Ok((joined_parts(before, part)?, steps))
+    } else {
+        Err(Error::OverflowError)
+    }
+}
+
+/// The components before a component, and itself, and the steps that are left.
+#[tactic(auto, unfolding(crate::specs::Unfolded::with_part))]
+pub fn with_part(
+    alloc: Global,
+    component: Component,
+    x: i64,
+    y: i64,
+    before: Unfolded,
+    part: Unfolded,
+    steps: u32,
+) -> Result<(Unfolded, u32), Error>
+    requires x { unsigned_abs x ≤ 2 ^ 57 }
+    requires y { unsigned_abs y ≤ 2 ^ 57 }
+    requires before { IsInReach before }
+    requires part { IsInReach part }
+    ensures value { Gives (λ r. (r.0, r.1)) result (with_part component x y before part steps) }
+    ensures bound { IfOk result (λ r. IsInReach r.0) }
+{
+    let placed = placed(alloc, component, x, y, &before, part)?;
+    let (near, steps) = near_or_fault(placed, steps)?;
+    joined_or_fault(before, &near, steps)
+}

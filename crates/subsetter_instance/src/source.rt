@@ -1,0 +1,183 @@
+//! The tables that an instance is made from.
+
+ghost use Rattle.std.specs.Prelude.{◌≡◌, ◌≤◌, ◌<◌, ◌^◌, ◌+◌, Ok, Some, IfOk, IfSome, length};
+ghost use Rattle.std.specs.Option.{ok_or, option_copied};
+ghost use Rattle.subsetter_base.specs.Gives.{Gives};
+ghost use Rattle.subsetter_base.specs.declared.error.Error.TheVariants.{MalformedFont};
+ghost use Rattle.subsetter_sfnt.specs.Read.{table_in};
+ghost use Rattle.subsetter_instance.specs.Source.{HasAxes, place, variations_in, source_in, offset, between_offsets, description, metric_at, metric};
+
+use std::alloc::Global;
+use std::marker::Model;
+use subsetter_base::read::Reader;
+use subsetter_base::{Error, Tag};
+use subsetter_sfnt::face::Face;
+use subsetter_variation::coordinates::coordinates;
+use subsetter_variation::tuples::{Gvar, gvar_table};
+
+/// The horizontal metric of a glyph, in font design units.
+#[derive(Clone, Copy, PartialEq, Eq)]
+pub struct Metric {
+    /// The advance width.
+    pub advance: u16,
+    /// The two bytes of the left side bearing, which is an int16.
+    pub bearing: u16,
+}
+
+/// The tables of outlines and metrics, and what varies.
+#[derive(Drop)]
+pub struct Source<'a> {
+    glyf: &'a [u8],
+    loca: &'a [u8],
+    long: bool,
+    count: u16,
+    pairs: u16,
+    hmtx: &'a [u8],
+    gvar: Option<Gvar<'a>>,
+    hvar: Option<&'a [u8]>,
+}
+
+impl<'a> Model for Source<'a> {
+    ghost use Rattle.std.specs.Option.{option_copied};
+    ghost use Rattle.subsetter_instance.specs.Source.{Source};
+
+    ghost Value = { Source };
+
+    ghost view = { λ s. record { glyf = s.glyf.now; loca = s.loca.now; long = s.long; count = s.count; pairs = s.pairs; hmtx = s.hmtx.now; gvar = s.gvar; hvar = option_copied s.hvar } };
+}
+
+/// The normalized coordinates for settings of user coordinates, each a tag and a value in 65536ths. A cut table is
+/// `MalformedFont`, a major version of `avar` other than 1 `Unimplemented`.
+pub fn place(alloc: Global, face: &Face<'_>, settings: &[(Tag, i32)]) -> Result<Vec<i32>, Error>
+    ensures { Gives (λ v. v.items) result (place (table_in face.now.«data».now face.now.records.now) settings.now) }
+{
+    match face.stored(Tag::new(b"fvar")) {
+        None => Ok(Vec::new(alloc)),
+        Some(fvar) => coordinates(alloc, fvar, face.stored(Tag::new(b"avar")), settings),
+    }
+}
+
+/// The variations of outlines for so many axes, if there are some.
+fn variations_in(gvar: Option<&[u8]>, axes: usize) -> Option<Option<Gvar<'_>>>
+    ensures value { result ≡ variations_in (option_copied gvar.entry) axes }
+    ensures axes { IfSome result (λ t. HasAxes t axes) }
+{
+    let Some(bytes) = gvar else {
+        return Some(None);
+    };
+    let table = gvar_table(bytes)?;
+    if usize::from(table.axis_count()) == axes {
+        Some(Some(table))
+    } else {
+        None
+    }
+}
+
+/// The tables of a font of so many axes, unless one is missing or cut.
+#[tactic(auto, unfolding(crate::specs::Source::source_in))]
+pub fn source_in<'a>(face: &Face<'a>, axes: usize) -> Option<Source<'a>>
+    ensures value { result ≡ source_in (table_in face.now.«data».now face.now.records.now) axes }
+    ensures axes { IfSome result (λ s. HasAxes s.gvar axes) }
+{
+    let glyf = face.stored(Tag::GLYF)?;
+    let loca = face.stored(Tag::LOCA)?;
+    let head = face.stored(Tag::HEAD)?;
+    let format = Reader::new_at(head, 50).read::<u16>()?;
+    let maxp = face.stored(Tag::MAXP)?;
+    let count = Reader::new_at(maxp, 4).read::<u16>()?;
+    let hhea = face.stored(Tag::HHEA)?;
+    let pairs = Reader::new_at(hhea, 34).read::<u16>()?;
+    let hmtx = face.stored(Tag::HMTX)?;
+    let gvar = variations_in(face.stored(Tag::new(b"gvar")), axes)?;
+    Some(Source {
+        glyf,
+        loca,
+        long: format != 0,
+        count,
+        pairs,
+        hmtx,
+        gvar,
+        hvar: face.stored(Tag::new(b"HVAR")),
+    })
+}
+
+/// The bytes between two offsets.
+fn between_offsets(bytes: &[u8], from: usize, to: usize) -> Option<&[u8]>
+    ensures { option_copied result ≡ between_offsets bytes.now from to }
+{
+    if from <= to {
+        Reader::new_at(bytes, from).read_bytes(to - from)
+    } else {
+        None
+    }
+}
+
+/// An advance and a left side bearing at two places of `hmtx`.
+fn metric_at(hmtx: &[u8], advance_at: usize, bearing_at: usize) -> Option<Metric>
+    ensures { result ≡ metric_at hmtx.now advance_at bearing_at }
+{
+    let advance = Reader::new_at(hmtx, advance_at).read::<u16>()?;
+    let bearing = Reader::new_at(hmtx, bearing_at).read::<u16>()?;
+    Some(Metric { advance, bearing })
+}
+
+impl<'a> Source<'a> {
+    /// How many glyphs there are.
+    pub fn count(&self) -> u16
+        ensures { result ≡ self.now.count }
+    {
+        self.count
+    }
+
+    /// The variations of outlines, if there are some.
+    pub fn gvar(&self) -> Option<&Gvar<'a>>
+        ensures { option_copied result ≡ self.now.gvar }
+    {
+        self.gvar.as_ref()
+    }
+
+    /// The variations of advances, if there are some.
+    pub fn hvar(&self) -> Option<&'a [u8]>
+        ensures { option_copied result ≡ self.now.hvar }
+    {
+        self.hvar
+    }
+
+    /// An offset of `loca`.
+    fn offset(&self, number: usize) -> Option<usize>
+        requires { number ≤ 65536 }
+        ensures { result ≡ offset self.now number }
+    {
+        if self.long {
+            Some(Reader::new_at(self.loca, 4 * number).read::<u32>()? as usize)
+        } else {
+            Some(2 * Reader::new_at(self.loca, 2 * number).read::<u16>()? as usize)
+        }
+    }
+
+    /// The description of a glyph, if it is there.
+    #[tactic(auto, unfolding(crate::specs::Source::description))]
+    pub fn description(&self, glyph: u16) -> Option<&'a [u8]>
+        ensures { option_copied result ≡ description self.now glyph }
+    {
+        let from = self.offset(glyph as usize)?;
+        let to = self.offset(glyph as usize + 1)?;
+        between_offsets(self.glyf, from, to)
+    }
+
+    /// The metric of a glyph: a pair of its own, or the last advance with a bearing of its own.
+    #[tactic(auto, unfolding(crate::specs::Source::metric))]
+    pub fn metric(&self, glyph: u16) -> Option<Metric>
+        ensures { result ≡ metric self.now glyph }
+    {
+        let pairs = self.pairs as usize;
+        let glyph = glyph as usize;
+        if glyph < pairs {
+            metric_at(self.hmtx, 4 * glyph, 4 * glyph + 2)
+        } else if pairs == 0 {
+            None
+        } else {
+            metric_at(self.hmtx, 4 * (pairs - 1), 4 * pairs + 2 * (glyph - pairs))
+        }
+    }
+}
