@@ -146,8 +146,8 @@ fn privates_pass(alloc: Global, dicts: &[FontDictParts<'_>], most: u32) -> Resul
     for dict in dicts {
         match write_private(dict, &mut w) {
             Ok(()) => {}
-            Err(Error::OutOfMemory) => return Err(Error::OutOfMemory),
-            Err(_) => return Ok(false),
+            Err(Error::OverflowError) => return Ok(false),
+            Err(error) => return Err(error),
         }
         if w.len() > most as usize {
             return Ok(true);
