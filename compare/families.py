@@ -76,6 +76,13 @@ def glyph_names_font():
     return made.truetype([b""] * GLYPHS, [("post", post + (b"\xff" + b"A" * 255) * own)])
 
 
+def shared_name_font():
+    """As many glyphs with an own name as there may be, all of the one that there is, of 255 bytes."""
+    own = 65536 - 258
+    post = made.u32s(0x00020000) + bytes(28) + made.u16s(GLYPHS, *[258] * own, *[0] * (GLYPHS - own))
+    return made.truetype([b""] * GLYPHS, [("post", post + b"\xff" + b"A" * 255)])
+
+
 def font_names_font():
     """As many records as there may be, of strings that overlap and all differ."""
     count, length = 5460, 12
@@ -112,6 +119,7 @@ ALL = [
     ("numbers of one byte", lambda: numbers_font(60, b"\x8b"), 60, None, 60),
     ("the longest charstring, of numbers of five bytes", lambda: numbers_font(GLYPHS), GLYPHS, lambda: numbers_font(40), 40),
     ("65,278 names of glyphs", glyph_names_font, GLYPHS, None, GLYPHS),
+    ("one name of 65,278 glyphs", shared_name_font, GLYPHS, None, GLYPHS),
     ("5,460 names of the font, which overlap", font_names_font, 1, None, 1),
     ("a range of FDSelect for each glyph", select_font, GLYPHS, None, GLYPHS),
     ("255 font dicts, which share a large private dict", lambda: keyed_font(b"\x8b\x06" * ENTRIES, []), 255, None, 255),

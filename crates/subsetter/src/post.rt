@@ -31,8 +31,8 @@ const STANDARD_NAMES: u16 = 258;
 const FIRST_CUSTOM: usize = STANDARD_NAMES as usize;
 /// How many own names have an index of 16 bits.
 const CUSTOM_MAX: usize = 65_278;
-/// From how many bytes of names on their room is counted before they are written, and not grown.
-const LARGE_NAMES: usize = 1_048_576;
+/// From how many glyphs on the room of their names is counted before they are written, and not grown.
+const MANY_GLYPHS: usize = 4096;
 
 /// Names, each behind its length byte. An empty name is a name; a cut one ends them.
 #[derive(Drop)]
@@ -337,9 +337,9 @@ fn write_names(w: &mut Writer, indexes: &[u16], names: &NameList<'_>) -> Result<
     Ok(())
 }
 
-/// How many bytes the names take that the indexes name, where the font's are large; else 0, and room grows as they are written.
+/// How many bytes the names take that the indexes name, where these are many; else 0, and room grows as they are written.
 fn room_for_names(indexes: &[u16], names: &NameList<'_>) -> usize {
-    if names.all.len() < LARGE_NAMES {
+    if indexes.len() < MANY_GLYPHS {
         return 0;
     }
     let mut room: usize = 0;
