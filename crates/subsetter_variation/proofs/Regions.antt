@@ -1,5 +1,5 @@
 -- Regions that are read one axis after another.
-use Rattle.std.proofs.Common.{◌≡◌, ℕ, zero, suc, ◌+◌, ◌-◌, ◌<◌, Bool, List, [], ◌∷◌, drop, length, get_or, ℤ, pos, refl, ap, sym, ◌∙◌, arith}
+use Rattle.std.proofs.Common.{◌≡◌, ℕ, zero, suc, ◌+◌, ◌-◌, ◌<◌, Bool, false, List, [], ◌∷◌, drop, length, get_or, ℤ, pos, refl, ap, sym, ◌∙◌, arith}
 use Rattle.std.proofs.lemmas.List.{drop_more}
 use Rattle.subsetter_variation.specs.Region.{counted, scalar_of}
 use Rattle.subsetter_variation.specs.Tuples.{region_axes, region_axis_of}
@@ -23,3 +23,8 @@ scalar_end whole inner i p s e at same =
 -- where the scalar is 0 it stays so
 pub scalar_none : (whole : ℤ) (inner : Bool) (i : ℕ) (p s e : List ℕ) (at : List ℤ) → whole ≡ pos 0 → scalar_of whole (region_axes inner (length at - i) p s e) (drop i at) ≡ pos 0
 scalar_none whole inner i p s e at none = ap (λ w. scalar_of w (region_axes inner (length at - i) p s e) (drop i at)) none ∙ scalar_of_none (region_axes inner (length at - i) p s e) (drop i at)
+
+-- without ends of its own a region is that of its peaks
+pub same_plain : (n : ℕ) (p s e : List ℕ) → region_axes false n p s e ≡ region_axes false n p p p
+same_plain zero p s e = refl
+same_plain (suc n) p s e = ap (λ r. region_axis_of false p p p ∷ r) (same_plain n (drop 2 p) (drop 2 s) (drop 2 e))

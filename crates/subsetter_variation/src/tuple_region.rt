@@ -1,6 +1,6 @@
 //! Where a tuple counts, read from the bytes of its header (OpenType, "gvar": "Tuple Variation Header").
 
-ghost use Rattle.std.specs.Prelude.{◌≡◌, ◌≤◌, ◌+◌, ◌^◌, pos, ◌≤ℤ◌, length, drop};
+ghost use Rattle.std.specs.Prelude.{◌≡◌, ◌≤◌, ◌+◌, ◌^◌, pos, ◌≤ℤ◌, true, false, length, drop};
 ghost use Rattle.subsetter_variation.specs.Region.{scalar};
 ghost use Rattle.subsetter_variation.specs.Tuples.{short, plain_region_axis, region_axis_of, region_axes, tuple_size};
 
@@ -56,21 +56,17 @@ fn plain_region_axis(peak: i16) -> RegionAxis
     }
 }
 
-/// The region on the first axis, with ends of its own or without.
-fn region_axis_of(inner: bool, peaks: &[u8], starts: &[u8], ends: &[u8]) -> RegionAxis
+/// The region on the first axis, with ends of its own.
+fn inner_region_axis(peaks: &[u8], starts: &[u8], ends: &[u8]) -> RegionAxis
     requires peak { 2 ≤ length peaks.now }
     requires start { 2 ≤ length starts.now }
     requires end { 2 ≤ length ends.now }
-    ensures { result ≡ region_axis_of inner peaks.now starts.now ends.now }
+    ensures { result ≡ region_axis_of true peaks.now starts.now ends.now }
 {
-    if inner {
-        RegionAxis {
-            start: short(starts),
-            peak: short(peaks),
-            end: short(ends),
-        }
-    } else {
-        plain_region_axis(short(peaks))
+    RegionAxis {
+        start: short(starts),
+        peak: short(peaks),
+        end: short(ends),
     }
 }
 
@@ -107,28 +103,65 @@ pub(crate) fn tuple_region<'a>(
     }
 }
 
+/// The scalar at a place of a region without ends of its own. The axes behind one that makes it 0 aren't read.
+#[tactic(auto, using(crate::proofs::Regions::scalar_step, crate::proofs::Regions::scalar_end))]
+fn plain_scalar(peaks: &[u8], at: &[i32]) -> i64
+    requires { length peaks.now ≡ tuple_size (length at.now) }
+    ensures value { result ≡ scalar (region_axes false (length at.now) peaks.now peaks.now peaks.now) at.now }
+    ensures low { pos 0 ≤ℤ result }
+    ensures high { result ≤ℤ pos (2 ^ 30) }
+{
+    let mut whole = 1073741824;
+    let mut rest = peaks;
+    for i in 0..at.len() {
+        whole = counted(plain_region_axis(short(rest)), at[i], whole);
+        if whole == 0 {
+            return 0;
+        }
+        rest = behind_two(rest);
+    }
+    whole
+}
+
+/// The same of a region with ends of its own.
+#[tactic(auto, using(crate::proofs::Regions::scalar_step, crate::proofs::Regions::scalar_end))]
+fn inner_scalar(peaks: &[u8], starts: &[u8], ends: &[u8], at: &[i32]) -> i64
+    requires peak { length peaks.now ≡ tuple_size (length at.now) }
+    requires start { length starts.now ≡ tuple_size (length at.now) }
+    requires end { length ends.now ≡ tuple_size (length at.now) }
+    ensures value { result ≡ scalar (region_axes true (length at.now) peaks.now starts.now ends.now) at.now }
+    ensures low { pos 0 ≤ℤ result }
+    ensures high { result ≤ℤ pos (2 ^ 30) }
+{
+    let mut whole = 1073741824;
+    let mut p = peaks;
+    let mut s = starts;
+    let mut e = ends;
+    for i in 0..at.len() {
+        whole = counted(inner_region_axis(p, s, e), at[i], whole);
+        if whole == 0 {
+            return 0;
+        }
+        p = behind_two(p);
+        s = behind_two(s);
+        e = behind_two(e);
+    }
+    whole
+}
+
 impl<'a> TupleRegion<'a> {
-    /// The scalar at a place, in parts of 2^30. The axes behind one that makes it 0 aren't read.
-    #[tactic(auto, using(crate::proofs::Regions::scalar_step, crate::proofs::Regions::scalar_end, crate::proofs::Regions::scalar_none, crate::proofs::Regions::axes_count))]
+    /// The scalar at a place, in parts of 2^30.
+    #[tactic(auto, using(crate::proofs::Regions::axes_count, crate::proofs::Regions::same_plain))]
     pub fn scalar(&self, at: &[i32]) -> i64
         requires { length self.now ≡ length at.now }
         ensures value { result ≡ scalar self.now at.now }
         ensures low { pos 0 ≤ℤ result }
         ensures high { result ≤ℤ pos (2 ^ 30) }
     {
-        let mut whole = 1073741824;
-        let mut peaks = self.peaks;
-        let mut starts = self.starts;
-        let mut ends = self.ends;
-        for i in 0..at.len() {
-            whole = counted(region_axis_of(self.inner, peaks, starts, ends), at[i], whole);
-            if whole == 0 {
-                return 0;
-            }
-            peaks = behind_two(peaks);
-            starts = behind_two(starts);
-            ends = behind_two(ends);
+        if self.inner {
+            inner_scalar(self.peaks, self.starts, self.ends, at)
+        } else {
+            plain_scalar(self.peaks, at)
         }
-        whole
     }
 }
