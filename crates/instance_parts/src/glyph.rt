@@ -9,7 +9,6 @@ use subsetter_base::Error;
 use subsetter_instance::source::Source;
 use subsetter_points::read_simple;
 use subsetter_variation::movement::{Outline, moved_points};
-use subsetter_variation::region::scalar;
 use subsetter_variation::tuples::{Gvar, next_header, shared_numbers, tuple_headers};
 
 /// The points behind an outline that carry its metrics.
@@ -82,8 +81,8 @@ fn scalars_in<'a>(
     let (_, headers) = shared_numbers(alloc, count, is_shared, headers)?;
     let mut headers = headers;
     for _ in 0..headers.left() {
-        let (header, rest) = next_header(alloc, gvar, headers)?;
-        scalars.push(scalar(header.region(), at))?;
+        let (header, rest) = next_header(gvar, headers).ok_or(Error::MalformedFont)?;
+        scalars.push(header.scalar(at))?;
         headers = rest;
     }
     Ok(scalars)

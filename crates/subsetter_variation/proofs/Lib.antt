@@ -3,6 +3,7 @@ pub mod Between
 pub mod Bounds
 pub mod Contours
 pub mod Defaults
+pub mod Given
 pub mod Listed
 pub mod ListedDeltas
 pub mod Lying

@@ -106,7 +106,7 @@ counted_of_none t c =
     (same_if (int_lt c t.peak) _ _ _ (same_if (int_le c t.start) _ _ _ refl (proportion_of_none t.start t.peak c))
     (same_if (int_lt t.peak c) _ _ _ (same_if (int_le t.end c) _ _ _ refl (proportion_of_none t.end t.peak c)) refl))
 
-scalar_of_none : (region : List RegionAxis) (at : List ℤ) → scalar_of (pos 0) region at ≡ pos 0
+pub scalar_of_none : (region : List RegionAxis) (at : List ℤ) → scalar_of (pos 0) region at ≡ pos 0
 scalar_of_none [] at = refl
 scalar_of_none (t ∷ region) [] = refl
 scalar_of_none (t ∷ region) (c ∷ at) = ap (λ z. scalar_of z region at) (counted_of_none t c) ∙ scalar_of_none region at

@@ -6,7 +6,7 @@ use Rattle.std.proofs.lemmas.List.{length-map, take_at}
 use Rattle.subsetter_variation.specs.declared.inference.Point.{Point}
 use Rattle.subsetter_variation.specs.Varied.{points, moved_in}
 
-length_zip : {A B : Type 0} (xs : List A) (ys : List B) → length ys ≡ length xs → length (zip xs ys) ≡ length xs
+pub length_zip : {A B : Type 0} (xs : List A) (ys : List B) → length ys ≡ length xs → length (zip xs ys) ≡ length xs
 length_zip [] ys e = refl
 length_zip (x ∷ xs) [] e = cc
 length_zip (x ∷ xs) (y ∷ ys) e = ap suc (length_zip xs ys (omega arith))

@@ -140,7 +140,8 @@ fn coordinate_in(at: &[i32]) -> Option<(i32, &[i32])>
     }
 }
 
-/// The scalar of a region at a place, in parts of 2^30.
+/// The scalar of a region at a place, in parts of 2^30. The axes behind one that makes it 0 aren't read.
+#[tactic(auto, using(crate::proofs::Masters::scalar_of_none))]
 fn region_scalar(region: LazyArray16<'_, RegionAxis>, at: &[i32]) -> i64
     ensures value { result ≡ scalar (region_of region.entry) at.now }
     ensures low { pos 0 ≤ℤ result }
@@ -153,6 +154,9 @@ fn region_scalar(region: LazyArray16<'_, RegionAxis>, at: &[i32]) -> i64
             return whole;
         };
         whole = counted(axis, first, whole);
+        if whole == 0 {
+            return 0;
+        }
         rest = others;
     }
     whole

@@ -30,5 +30,6 @@ pub mod rounding;
 pub mod segments;
 #[cfg(test)]
 mod tests;
+pub mod tuple_region;
 pub mod tuples;
 pub mod varied;

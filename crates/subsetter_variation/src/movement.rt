@@ -12,7 +12,6 @@ ghost use Rattle.subsetter_base.specs.Gives.{Gives};
 ghost use Rattle.subsetter_base.specs.declared.error.Error.TheVariants.{MalformedFont};
 ghost use Rattle.subsetter_variation.specs.Movement.{AreWithin, IsOutline, IsWithin, spent, moved_by, counted_walk, next_walk, walk_all, start, moved_in_bytes, moved_points};
 
-use crate::region::scalar;
 use crate::tuples::{
     Gvar, TupleHeader, TupleHeaders, both_deltas, count_of, next_header, numbers_and_deltas,
     shared_numbers, tuple_headers,
@@ -175,14 +174,14 @@ fn next_walk<'a>(
         headers,
     } = w;
     let steps = spent(1, steps)?;
-    let (header, headers) = next_header(alloc, t, headers)?;
+    let (header, headers) = next_header(t, headers).ok_or(Error::MalformedFont)?;
     let w = Walk {
         xs,
         ys,
         steps,
         headers,
     };
-    let s = scalar(header.region(), at);
+    let s = header.scalar(at);
     if s == 0 {
         Ok(w)
     } else {

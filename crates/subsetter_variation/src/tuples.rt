@@ -4,14 +4,15 @@
 //! is that of one glyph's points. Bytes left over after a tuple's deltas are passed over, and so are the deltas of a
 //! tuple whose scalar is 0: no library reads them, so a fault in them is none. The version of `gvar` isn't looked at.
 
-ghost use Rattle.std.specs.Prelude.{◌<◌, ◌≡◌, ◌+◌, ◌++◌, ◌*◌, ◌<◌, ◌≤◌, Some, None, Ok, MatchOption, IfSome, IfOk, length, drop};
+ghost use Rattle.std.specs.Prelude.{◌<◌, ◌≡◌, ◌≤◌, ◌^◌, ◌≤ℤ◌, pos, Some, None, MatchOption, IfSome, IfOk, length};
 ghost use Rattle.std.specs.Option.{ok_or, option_copied, option_map};
 ghost use Rattle.subsetter_base.specs.Gives.{Gives};
 ghost use Rattle.subsetter_base.specs.declared.error.Error.TheVariants.{MalformedFont};
-ghost use Rattle.subsetter_variation.specs.Tuples.{split, tail, parts, gvar_table, offset, between_offsets, variations_of, tuple_headers, short, plain_region_axis, region_axis_of, region_axes, peaks_in, ends_in, region_in, next_header, both_deltas, numbers_and_deltas, tuple_size, count_of, shared_numbers};
+ghost use Rattle.subsetter_variation.specs.Region.{scalar};
+ghost use Rattle.subsetter_variation.specs.Tuples.{split, tail, parts, gvar_table, offset, between_offsets, variations_of, tuple_headers, peaks_in, ends_in, region_in, next_header, both_deltas, numbers_and_deltas, tuple_size, count_of, shared_numbers};
 
 use crate::packed::{deltas, point_numbers, word_in};
-use crate::region::RegionAxis;
+use crate::tuple_region::{TupleRegion, tuple_region};
 use std::alloc::Global;
 use std::marker::Model;
 use subsetter_base::Error;
@@ -168,89 +169,6 @@ pub fn tuple_headers(bytes: &[u8]) -> Option<(bool, TupleHeaders<'_>)>
     ))
 }
 
-/// The signed number of the first two bytes.
-fn short(bytes: &[u8]) -> i16
-    requires { 2 ≤ length bytes.now }
-    ensures { result ≡ short bytes.now }
-{
-    i16::from_be_bytes([bytes[0], bytes[1]])
-}
-
-/// A peak without ends of its own.
-fn plain_region_axis(peak: i16) -> RegionAxis
-    ensures { result ≡ plain_region_axis peak }
-{
-    if peak < 0 {
-        RegionAxis {
-            start: peak,
-            peak,
-            end: 0,
-        }
-    } else {
-        RegionAxis {
-            start: 0,
-            peak,
-            end: peak,
-        }
-    }
-}
-
-/// The region on the first axis, with ends of its own or without.
-fn region_axis_of(inner: bool, peaks: &[u8], starts: &[u8], ends: &[u8]) -> RegionAxis
-    requires peak { 2 ≤ length peaks.now }
-    requires start { 2 ≤ length starts.now }
-    requires end { 2 ≤ length ends.now }
-    ensures { result ≡ region_axis_of inner peaks.now starts.now ends.now }
-{
-    if inner {
-        RegionAxis {
-            start: short(starts),
-            peak: short(peaks),
-            end: short(ends),
-        }
-    } else {
-        plain_region_axis(short(peaks))
-    }
-}
-
-/// The bytes behind the first two.
-fn behind_two(bytes: &[u8]) -> &[u8]
-    requires { 2 ≤ length bytes.now }
-    ensures value { result.now ≡ drop 2 bytes.now }
-    ensures len { length result.now + 2 ≡ length bytes.now }
-{
-    &bytes[2..]
-}
-
-/// The region on so many axes.
-#[tactic(auto, using(crate::proofs::Regions::region_axes_step, crate::proofs::Regions::region_axes_end))]
-fn region_axes(
-    alloc: Global,
-    inner: bool,
-    count: u16,
-    peaks: &[u8],
-    starts: &[u8],
-    ends: &[u8],
-) -> Result<Vec<RegionAxis>, Error>
-    requires peak { length peaks.now ≡ tuple_size count }
-    requires start { length starts.now ≡ tuple_size count }
-    requires end { length ends.now ≡ tuple_size count }
-    ensures value { Gives (λ v. v.items) result (Ok (region_axes inner count peaks.now starts.now ends.now)) }
-    ensures count { IfOk result (λ v. length v.items ≡ count) }
-{
-    let mut list = Vec::with_capacity(alloc, usize::from(count))?;
-    let mut p = peaks;
-    let mut s = starts;
-    let mut e = ends;
-    for i in 0..count {
-        list.push(region_axis_of(inner, p, s, e))?;
-        p = behind_two(p);
-        s = behind_two(s);
-        e = behind_two(e);
-    }
-    Ok(list)
-}
-
 /// The peaks of a region, and the bytes of the header behind them.
 fn peaks_in<'a>(t: &Gvar<'a>, flags: u16, bytes: &'a [u8]) -> Option<(&'a [u8], &'a [u8])>
     ensures value { MatchOption result (peaks_in t.now flags bytes.now ≡ None) (λ r. peaks_in t.now flags bytes.now ≡ Some (r.0.now, r.1.now)) }
@@ -267,48 +185,35 @@ fn peaks_in<'a>(t: &Gvar<'a>, flags: u16, bytes: &'a [u8]) -> Option<(&'a [u8], 
 }
 
 /// The region with these peaks, and the bytes of the header behind it.
-fn ends_in<'a>(
-    alloc: Global,
-    axis_count: u16,
-    flags: u16,
-    peaks: &[u8],
-    bytes: &'a [u8],
-) -> Result<(Vec<RegionAxis>, &'a [u8]), Error>
+fn ends_in<'a>(axis_count: u16, flags: u16, peaks: &'a [u8], bytes: &'a [u8]) -> Option<(TupleRegion<'a>, &'a [u8])>
     requires { length peaks.now ≡ tuple_size axis_count }
-    ensures value { Gives (λ r. (r.0.items, r.1.now)) result (ok_or (ends_in axis_count flags peaks.now bytes.now) MalformedFont) }
-    ensures axes { IfOk result (λ r. length r.0.items ≡ axis_count) }
+    ensures axes { IfSome result (λ r. length r.0 ≡ axis_count) }
+    ensures value { MatchOption result (ends_in axis_count flags peaks.now bytes.now ≡ None) (λ r. ends_in axis_count flags peaks.now bytes.now ≡ Some (r.0, r.1.now)) }
 {
     let size = axis_count as usize * 2;
     if flags % 32768 >= 16384 {
-        let (starts, rest) = split(size, bytes).ok_or(Error::MalformedFont)?;
-        let (ends, rest) = split(size, rest).ok_or(Error::MalformedFont)?;
-        let region = region_axes(alloc, true, axis_count, peaks, starts, ends)?;
-        Ok((region, rest))
+        let (starts, rest) = split(size, bytes)?;
+        let (ends, rest) = split(size, rest)?;
+        Some((tuple_region(true, axis_count, peaks, starts, ends), rest))
     } else {
-        let region = region_axes(alloc, false, axis_count, peaks, peaks, peaks)?;
-        Ok((region, bytes))
+        Some((tuple_region(false, axis_count, peaks, peaks, peaks), bytes))
     }
 }
 
 /// The region of a tuple, and the bytes of the header behind it.
 #[tactic(auto, unfolding(crate::specs::Tuples::region_in))]
-fn region_in<'a>(
-    alloc: Global,
-    t: &Gvar<'a>,
-    flags: u16,
-    bytes: &'a [u8],
-) -> Result<(Vec<RegionAxis>, &'a [u8]), Error>
-    ensures value { Gives (λ r. (r.0.items, r.1.now)) result (ok_or (region_in t.now flags bytes.now) MalformedFont) }
-    ensures axes { IfOk result (λ r. length r.0.items ≡ t.now.axis_count) }
+fn region_in<'a>(t: &Gvar<'a>, flags: u16, bytes: &'a [u8]) -> Option<(TupleRegion<'a>, &'a [u8])>
+    ensures axes { IfSome result (λ r. length r.0 ≡ t.now.axis_count) }
+    ensures value { MatchOption result (region_in t.now flags bytes.now ≡ None) (λ r. region_in t.now flags bytes.now ≡ Some (r.0, r.1.now)) }
 {
-    let (peaks, rest) = peaks_in(t, flags, bytes).ok_or(Error::MalformedFont)?;
-    ends_in(alloc, t.axis_count, flags, peaks, rest)
+    let (peaks, rest) = peaks_in(t, flags, bytes)?;
+    ends_in(t.axis_count, flags, peaks, rest)
 }
 
 /// A tuple before its deltas are read.
 #[derive(Drop)]
 pub struct TupleHeader<'a> {
-    region: Vec<RegionAxis>,
+    region: TupleRegion<'a>,
     private_numbers: bool,
     packed: &'a [u8],
 }
@@ -318,15 +223,18 @@ impl<'a> Model for TupleHeader<'a> {
 
     ghost Value = { TupleHeader };
 
-    ghost view = { λ h. record { region = h.region.items; private_numbers = h.private_numbers; packed = h.packed.now } };
+    ghost view = { λ h. record { region = h.region; private_numbers = h.private_numbers; packed = h.packed.now } };
 }
 
 impl<'a> TupleHeader<'a> {
-    /// Where it counts.
-    pub fn region(&self) -> &[RegionAxis]
-        ensures { result.now ≡ self.now.region }
+    /// How far it counts at a place, in parts of 2^30.
+    pub fn scalar(&self, at: &[i32]) -> i64
+        requires { length self.now.region ≡ length at.now }
+        ensures value { result ≡ scalar self.now.region at.now }
+        ensures low { pos 0 ≤ℤ result }
+        ensures high { result ≤ℤ pos (2 ^ 30) }
     {
-        self.region.as_slice()
+        self.region.scalar(at)
     }
 
     /// It has point numbers of its own.
@@ -367,23 +275,19 @@ impl<'a> TupleHeaders<'a> {
     }
 }
 
-/// The next tuple, without its deltas, and those behind it. What is cut is `MalformedFont`.
+/// The next tuple, without its deltas, and those behind it, unless it is cut.
 #[tactic(auto, unfolding(crate::specs::Tuples::next_header))]
-pub fn next_header<'a>(
-    alloc: Global,
-    t: &Gvar<'a>,
-    r: TupleHeaders<'a>,
-) -> Result<(TupleHeader<'a>, TupleHeaders<'a>), Error>
-    ensures value { Gives (λ x. x) result (ok_or (next_header t.now r.entry) MalformedFont) }
-    ensures axes { IfOk result (λ x. length x.0.region ≡ t.now.axis_count) }
+pub fn next_header<'a>(t: &Gvar<'a>, r: TupleHeaders<'a>) -> Option<(TupleHeader<'a>, TupleHeaders<'a>)>
+    ensures value { result ≡ next_header t.now r.entry }
+    ensures axes { IfSome result (λ x. length x.0.region ≡ t.now.axis_count) }
 {
-    let (size, rest) = word_in(r.headers).ok_or(Error::MalformedFont)?;
-    let (flags, rest) = word_in(rest).ok_or(Error::MalformedFont)?;
-    let (region, headers) = region_in(alloc, t, flags, rest)?;
-    let (packed, serialized) = split(size as usize, r.serialized).ok_or(Error::MalformedFont)?;
+    let (size, rest) = word_in(r.headers)?;
+    let (flags, rest) = word_in(rest)?;
+    let (region, headers) = region_in(t, flags, rest)?;
+    let (packed, serialized) = split(size as usize, r.serialized)?;
     let private_numbers = flags % 16384 >= 8192;
     let left = r.left.saturating_sub(1);
-    Ok((
+    Some((
         TupleHeader {
             region,
             private_numbers,

@@ -1,0 +1,54 @@
+-- Points that a tuple gives a delta: that alone moves them.
+use Rattle.std.proofs.Common.{◌≡◌, ℕ, ◌+◌, ◌-◌, ◌<◌, ◌≤◌, cond, List, [], ◌∷◌, length, get_or, take, drop, Some, None, ℤ, pos, ◌+ℤ◌, ◌*ℤ◌, map, slice_get, slice_range, ap, subst, sym, ◌∙◌, inl, inr, arith}
+use Rattle.std.specs.List.{range_with_len, zip}
+use Rattle.std.specs.Option.{option_or}
+use Rattle.std.proofs.lemmas.List.{get_or-take, get_or-drop, get_or-map}
+use Rattle.std.proofs.lemmas.List.FromFn.{get_or-map-range_with_len, length-map-range_with_len}
+use Rattle.std.proofs.lemmas.Slice.Zip.{get_or-zip}
+use Rattle.std.proofs.lemmas.Option.{slice_get-get_or}
+use Rattle.std.proofs.lemmas.Bool.{cases_lt, le-leb, lt-leb}
+use Rattle.subsetter_variation.specs.declared.inference.Point.{Point}
+use Rattle.subsetter_variation.specs.Inferred.{delta_or, first_touched, last_touched, moved}
+use Rattle.subsetter_variation.specs.Varied.{AreEnds, deltas_by_point, delta_of, moved_in, points}
+use Rattle.subsetter_variation.proofs.Contours.{length_part}
+use Rattle.subsetter_variation.proofs.Sums.{length_points, length_zip}
+use Rattle.subsetter_variation.proofs.Walk.{moved_here}
+
+-- a point of a part, as one of the whole list
+point_at : (xs : List Point) (q : Point) (a w k : ℕ) → a ≤ k → k < a + w → get_or (take w (drop a xs)) (k - a) q ≡ get_or xs k q
+point_at xs q a w k h l =
+    let lt : k - a < w = omega arith in
+    let e : a + (k - a) ≡ k = omega arith in
+    get_or-take w (drop a xs) (k - a) q lt ∙ get_or-drop a xs (k - a) q ∙ ap (λ j. get_or xs j q) e
+
+moved_touched : (c : List Point) (k : ℕ) (q : Point) (s d : ℤ) → k < length c → (get_or c k q).delta ≡ Some d → moved c k s ≡ s *ℤ d
+moved_touched c k q s d l e = sym (moved_here c k q s l) ∙ ap (λ x. delta_or x (get_or c k q).at (option_or (last_touched (take k c)) (last_touched c)) (option_or (first_touched (drop k c)) (first_touched c)) s) e
+
+touched_moves : (ps : List Point) (q : Point) (start : ℕ) (ends : List ℕ) (k : ℕ) (s d : ℤ) → AreEnds start ends (length ps) → start ≤ k → k < length ps → (get_or ps k q).delta ≡ Some d → moved_in ps start ends k s ≡ s *ℤ d
+touched_moves ps q start [] k s d h from below e = absurd (omega arith)
+touched_moves ps q start (end ∷ ends) k s d h from below e = elim (cases_lt end k) [
+  | inl past ↦ ap (λ b. cond b (moved (slice_range ps start (end + 1)) (k - start) s) (moved_in ps (end + 1) ends k s)) (lt-leb k end past) ∙ touched_moves ps q (end + 1) ends k s d h.2 (omega arith) below e
+  | inr within ↦
+    let last = h.1 in
+    let first = h.0 in
+    ap (λ b. cond b (moved (slice_range ps start (end + 1)) (k - start) s) (moved_in ps (end + 1) ends k s)) (le-leb k end within)
+    ∙ moved_touched (slice_range ps start (end + 1)) (k - start) q s d (omega (arith, length_part ps start (end + 1) (omega arith) (omega arith))) (ap (λ p. p.delta) (point_at ps q start (end + 1 - start) k from (omega arith)) ∙ e)
+]
+
+-- of a tuple that gives each point a delta
+pub all_moves : (coordinates : List ℤ) (ends : List ℕ) (deltas : List ℤ) (k : ℕ) (s : ℤ) → AreEnds 0 ends (length coordinates) → length deltas ≡ length coordinates → k < length coordinates → moved_in (points coordinates (deltas_by_point (length coordinates) None deltas)) 0 ends k s ≡ s *ℤ get_or deltas k (pos 0)
+all_moves coordinates ends deltas k s h same below =
+    let n = length coordinates in
+    let ds = deltas_by_point n None deltas in
+    let many = length-map-range_with_len (delta_of None deltas) 0 n in
+    let long = length_points coordinates ds many in
+    let pairs = length_zip coordinates ds many in
+    let q : Point = record { at = pos 0; delta = None } in
+    let own : get_or ds k None ≡ Some (get_or deltas k (pos 0)) = get_or-map-range_with_len (delta_of None deltas) 0 n k k None below (omega arith) ∙ slice_get-get_or deltas k (pos 0) (omega arith) in
+    let pair = get_or-zip coordinates ds k (pos 0, None) below (omega (arith, many)) in
+    let point = get_or-map (λ p. record { at = p.0; delta = p.1 }) (zip coordinates ds) k (pos 0, None) q (omega (arith, pairs)) in
+    touched_moves (points coordinates ds) q 0 ends k s (get_or deltas k (pos 0)) (subst (AreEnds 0 ends) (sym long) h) (omega arith) (omega (arith, long)) (ap (λ p. p.delta) (point ∙ ap (λ p. record { at = p.0; delta = p.1 }) pair) ∙ own)
+
+-- the sum of a call that was handed the same sums and the same scalar under other names
+pub same_sum : (sums now deltas : List ℤ) (k : ℕ) (s t r move : ℤ) → now ≡ sums → s ≡ t → r ≡ get_or now k (pos 0) +ℤ s *ℤ get_or deltas k (pos 0) → move ≡ t *ℤ get_or deltas k (pos 0) → r ≡ get_or sums k (pos 0) +ℤ move
+same_sum sums now deltas k s t r move a e h m = h ∙ ap (λ xs. get_or xs k (pos 0) +ℤ s *ℤ get_or deltas k (pos 0)) a ∙ ap (λ z. get_or sums k (pos 0) +ℤ z *ℤ get_or deltas k (pos 0)) e ∙ ap (λ z. get_or sums k (pos 0) +ℤ z) (sym m)
