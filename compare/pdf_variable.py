@@ -43,9 +43,9 @@ LEAN = 0.0001
 OVERLAP = 0x40
 # How far a pixel may lie from those that count. A point of the instance is rounded to a whole unit, so it lies within half of one: that
 # is an eighth of a pixel where the em has 1,000. How much of a pixel at an edge is ink each reader finds in its own way (Ghostscript by
-# a raster of 4 by 4), so an edge may seem to lie up to a pixel elsewhere. What is thinner than a pixel, as the tip of a stroke, has no
-# pixel beside it that is darker: there the greys themselves are compared, to a quarter, four of Ghostscript's sixteen.
-SLACK = 64
+# a raster of 4 by 4), so an edge may seem to lie up to a pixel elsewhere. A stroke or a slit that is thinner than a pixel has no pixel of
+# full ink, or none, beside it: there the greys themselves are compared, to a fourth of 255 for that raster and an eighth for rounding.
+SLACK = 96
 # Pixels by which the line's ink may begin or end elsewhere.
 LINE_SLACK = 2
 PLANTS = ["place", "axes", "widths"]
