@@ -20,6 +20,7 @@ before the program is called: `place` moves the first axis by a fifth of its ran
 `widths` takes those of the default. The status is 1 where a place differs, or nothing was compared.
 """
 import ctypes
+import functools
 import os
 import random
 import subprocess
@@ -48,11 +49,11 @@ OVERLAP = 0x40
 SLACK = 96
 # Pixels by which the line's ink may begin or end elsewhere.
 LINE_SLACK = 2
-PLANTS = ["place", "axes", "widths"]
 
 
 # ---- the program
 
+@functools.cache
 def takes_places():
     """Whether the program has `--at`."""
     said = subprocess.run([pdf.PROGRAM, "--help"], capture_output=True, text=True)
