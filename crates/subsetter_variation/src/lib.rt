@@ -28,7 +28,5 @@ pub mod packed;
 pub mod region;
 pub mod rounding;
 pub mod segments;
-#[cfg(test)]
-mod tests;
 pub mod tuples;
 pub mod varied;
