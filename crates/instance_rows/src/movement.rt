@@ -14,12 +14,14 @@ use subsetter_variation::tuples::{
     Gvar, TupleHeader, gvar_table, next_header, numbers_and_deltas, tuple_headers,
 };
 
-/// A tuple that is read: whether tuples share their point numbers, how many tuples there are, and the first of them.
+/// A tuple that is read: whether tuples share their point numbers, how many tuples there are, the first of them, and how
+/// many are behind it.
 #[derive(Drop)]
 struct FirstTuple<'a> {
     is_shared: bool,
     left: u16,
     header: TupleHeader<'a>,
+    behind: u16,
 }
 
 /// The first tuple of a glyph.
@@ -33,11 +35,12 @@ fn first_tuple<'a>(
     };
     let (is_shared, headers) = tuple_headers(bytes).ok_or(Error::MalformedFont)?;
     let left = headers.left();
-    let (header, _) = next_header(alloc, gvar, headers)?;
+    let (header, headers) = next_header(alloc, gvar, headers)?;
     Ok(Some(FirstTuple {
         is_shared,
         left,
         header,
+        behind: headers.left(),
     }))
 }
 
@@ -58,6 +61,7 @@ fn tuple_of(alloc: Global, points: u32, tuple: &FirstTuple<'_>) -> Result<Answer
         u32::from(tuple.is_shared),
         u32::from(tuple.left),
         u32::from(header.has_private_numbers()),
+        u32::from(tuple.behind),
     ];
     match numbers_and_deltas(alloc, points, header.packed()) {
         Ok((numbers, xs, ys)) => lists(
@@ -74,8 +78,9 @@ fn tuple_of(alloc: Global, points: u32, tuple: &FirstTuple<'_>) -> Result<Answer
     }
 }
 
-/// The first tuple of a glyph of so many points: whether point numbers are shared (1, else 0), how many tuples there are
-/// and whether it has point numbers of its own; its region; its point numbers, none for all; its deltas.
+/// The first tuple of a glyph of so many points: whether point numbers are shared (1, else 0), how many tuples there are,
+/// whether it has point numbers of its own, and how many tuples are behind it; its region; its point numbers, none for
+/// all; its deltas.
 pub fn tuple(alloc: Global, gvar: &[u8], word: &str, points: &str) -> Result<Answer, Failure> {
     let Some(table) = gvar_table(gvar) else {
         return Ok(Answer::Nothing);
