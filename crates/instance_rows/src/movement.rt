@@ -1,6 +1,6 @@
 //! The tuples of a glyph, and its points moved by them.
 
-ghost use Rattle.std.specs.Prelude.{◌≡◌, true};
+ghost use Rattle.std.specs.Prelude.{◌≡◌, true, IfOk, IfSome, length};
 ghost use Rattle.subsetter_variation.specs.Movement.{IsOutline};
 ghost use Rattle.subsetter_variation.specs.Varied.{AreEnds};
 
@@ -25,17 +25,15 @@ struct FirstTuple<'a> {
 }
 
 /// The first tuple of a glyph.
-fn first_tuple<'a>(
-    alloc: Global,
-    gvar: &Gvar<'a>,
-    glyph: u16,
-) -> Result<Option<FirstTuple<'a>>, Error> {
+fn first_tuple<'a>(gvar: &Gvar<'a>, glyph: u16) -> Result<Option<FirstTuple<'a>>, Error>
+    ensures { IfOk result (λ o. IfSome o (λ t. length t.header.region ≡ gvar.now.axis_count)) }
+{
     let Some(bytes) = gvar.variations_of(glyph) else {
         return Ok(None);
     };
     let (is_shared, headers) = tuple_headers(bytes).ok_or(Error::MalformedFont)?;
     let left = headers.left();
-    let (header, headers) = next_header(alloc, gvar, headers)?;
+    let (header, headers) = next_header(gvar, headers).ok_or(Error::MalformedFont)?;
     Ok(Some(FirstTuple {
         is_shared,
         left,
@@ -44,18 +42,24 @@ fn first_tuple<'a>(
     }))
 }
 
-/// The region of a tuple: three numbers for each axis.
-fn region_of(alloc: Global, header: &TupleHeader<'_>) -> Result<Vec<i64>, Failure> {
-    let mut region = Vec::new(alloc);
-    for axis in header.region() {
-        let ends = [axis.start, axis.peak, axis.end];
-        region.extend_from_slice(&list(alloc, &ends)?)?;
+/// Where on the one axis it is said how far a tuple counts, in 16384ths.
+const PLACES: [i32; 4] = [-1, 4096, 16384, 16385];
+
+/// How far a tuple of a table of one axis counts there, in parts of 2^30.
+fn scalars_of(alloc: Global, header: &TupleHeader<'_>) -> Result<Vec<i64>, Failure>
+    requires { length header.now.region ≡ 1 }
+{
+    let mut scalars = Vec::new(alloc);
+    for place in PLACES {
+        scalars.push(header.scalar(&[place]))?;
     }
-    Ok(region)
+    Ok(scalars)
 }
 
 /// What a tuple of a glyph of so many points holds.
-fn tuple_of(alloc: Global, points: u32, tuple: &FirstTuple<'_>) -> Result<Answer, Failure> {
+fn tuple_of(alloc: Global, points: u32, tuple: &FirstTuple<'_>) -> Result<Answer, Failure>
+    requires { length tuple.now.header.region ≡ 1 }
+{
     let header = &tuple.header;
     let front = [
         u32::from(tuple.is_shared),
@@ -68,7 +72,7 @@ fn tuple_of(alloc: Global, points: u32, tuple: &FirstTuple<'_>) -> Result<Answer
             alloc,
             [
                 list(alloc, &front)?,
-                region_of(alloc, header)?,
+                scalars_of(alloc, header)?,
                 list(alloc, numbers.as_deref().unwrap_or(&[]))?,
                 list(alloc, &xs)?,
                 list(alloc, &ys)?,
@@ -78,14 +82,17 @@ fn tuple_of(alloc: Global, points: u32, tuple: &FirstTuple<'_>) -> Result<Answer
     }
 }
 
-/// The first tuple of a glyph of so many points: whether point numbers are shared (1, else 0), how many tuples there are,
-/// whether it has point numbers of its own, and how many tuples are behind it; its region; its point numbers, none for
-/// all; its deltas.
+/// The first tuple of a glyph of so many points, of a table of one axis: whether point numbers are shared (1, else 0), how many
+/// tuples there are, whether it has point numbers of its own, and how many tuples are behind it; how far it counts at each of
+/// `PLACES`; its point numbers, none for all; its deltas.
 pub fn tuple(alloc: Global, gvar: &[u8], word: &str, points: &str) -> Result<Answer, Failure> {
     let Some(table) = gvar_table(gvar) else {
         return Ok(Answer::Nothing);
     };
-    match first_tuple(alloc, &table, glyph(word)?) {
+    if table.axis_count() != 1 {
+        return Ok(Answer::Nothing);
+    }
+    match first_tuple(&table, glyph(word)?) {
         Ok(Some(tuple)) => tuple_of(alloc, count(points)?, &tuple),
         Ok(None) => Ok(Answer::Nothing),
         Err(error) => Ok(Answer::Refused(error)),
