@@ -1,0 +1,3 @@
+pub mod Unopened
+pub mod Stands
+pub mod Static
