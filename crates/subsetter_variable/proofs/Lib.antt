@@ -1,3 +1,6 @@
 pub mod Unopened
 pub mod Stands
 pub mod Static
+pub mod Simple
+pub mod SourceRead
+pub mod Afresh

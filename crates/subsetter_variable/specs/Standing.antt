@@ -1,5 +1,5 @@
 -- Where a font stands on its axes, for settings of its user coordinates (OpenType, "Coordinate Scales and Normalization").
-use Rattle.std.specs.Prelude.{◌≡◌, ℕ, List, codes, All, None, IsSome, Ok, Err, ℤ, pos}
+use Rattle.std.specs.Prelude.{◌≡◌, List, codes, All, None, IsSome, Ok, Err, ℤ, pos}
 use Rattle.subsetter_base.specs.declared.tag.Tag.{Tag}
 use Rattle.subsetter_base.specs.declared.error.Error.{Error}
 use Rattle.subsetter_sfnt.specs.Read.{Font, stored}

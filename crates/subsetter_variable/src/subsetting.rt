@@ -11,6 +11,8 @@ ghost use Rattle.subsetter_sfnt.specs.Extras.{all_extras};
 ghost use Rattle.subsetter_sfnt.specs.Fault.{HasOpeningFault};
 ghost use Rattle.subsetter_sfnt.specs.FontAt.{font_at};
 ghost use Rattle.subsetter_sfnt.specs.Read.{as_font};
+ghost use Rattle.subsetter_variable.specs.Afresh.{HasGlyphsDrawn};
+ghost use Rattle.subsetter_variable.specs.Standing.{IsAtDefault};
 ghost use Rattle.subsetter_variable.specs.Subset.{IsSubsetAt, HasFaultAt, IsAnswerAt, HasNoAnswerAt, IsTheAnswerAt};
 
 use crate::standing::is_at_default;
@@ -48,6 +50,9 @@ pub fn subset_with_variations(
 ) -> Result<Vec<u8>, Error>
     // What is answered is a subset of the font as it is, at its default, or else of an instance of it.
     ensures ok { IfOk result (λ out. IsSubsetAt token_limit depth_limit (font_at «data».now index all_extras) coordinates.now mapper.now out.items) }
+    // Elsewhere than at its default the new font has the mapper's glyphs and no other, in order, each exactly as it is drawn at
+    // these coordinates, read afresh.
+    ensures drawn { IfOk result (λ out. ¬ (IsAtDefault (font_at «data».now index all_extras) coordinates.now) → HasGlyphsDrawn (font_at «data».now index all_extras) coordinates.now mapper.now out.items) }
     // And then no fault stands, the size limits being judged for the answer's order of glyphs.
     ensures clean { IfOk result (λ out. (s : IsSubsetAt token_limit depth_limit (font_at «data».now index all_extras) coordinates.now mapper.now out.items) × ((e : SpecError) → ¬ (HasFaultAt None token_limit depth_limit (font_at «data».now index all_extras) coordinates.now mapper.now s.subset.keeps.order e))) }
     // There is one answer.
@@ -81,6 +86,9 @@ pub fn subset_with_variations_and_limits(
 ) -> Result<Vec<u8>, Error>
     // What is answered is a subset of the font as it is, at its default, or else of an instance of it.
     ensures ok { IfOk result (λ out. IsSubsetAt limits.now.tokens limits.now.depth (font_at «data».now index all_extras) coordinates.now mapper.now out.items) }
+    // Elsewhere than at its default the new font has the mapper's glyphs and no other, in order, each exactly as it is drawn at
+    // these coordinates, read afresh.
+    ensures drawn { IfOk result (λ out. ¬ (IsAtDefault (font_at «data».now index all_extras) coordinates.now) → HasGlyphsDrawn (font_at «data».now index all_extras) coordinates.now mapper.now out.items) }
     // And then no fault stands, the size limits being judged for the answer's order of glyphs.
     ensures clean { IfOk result (λ out. (s : IsSubsetAt limits.now.tokens limits.now.depth (font_at «data».now index all_extras) coordinates.now mapper.now out.items) × ((e : SpecError) → ¬ (HasFaultAt limits.now.bytes limits.now.tokens limits.now.depth (font_at «data».now index all_extras) coordinates.now mapper.now s.subset.keeps.order e))) }
     // There is one answer, whatever the limits.
@@ -115,6 +123,9 @@ pub fn subset_with_variations_and_options(
 ) -> Result<Vec<u8>, Error>
     // What is answered is a subset of the font as it is, at its default, or else of an instance of it.
     ensures ok { IfOk result (λ out. IsSubsetAt options.now.limits.tokens options.now.limits.depth (font_at «data».now index options.now.extras) coordinates.now mapper.now out.items) }
+    // Elsewhere than at its default the new font has the mapper's glyphs and no other, in order, each exactly as it is drawn at
+    // these coordinates, read afresh.
+    ensures drawn { IfOk result (λ out. ¬ (IsAtDefault (font_at «data».now index all_extras) coordinates.now) → HasGlyphsDrawn (font_at «data».now index all_extras) coordinates.now mapper.now out.items) }
     // And then no fault stands, the size limits being judged for the answer's order of glyphs.
     ensures clean { IfOk result (λ out. (s : IsSubsetAt options.now.limits.tokens options.now.limits.depth (font_at «data».now index options.now.extras) coordinates.now mapper.now out.items) × ((e : SpecError) → ¬ (HasFaultAt options.now.limits.bytes options.now.limits.tokens options.now.limits.depth (font_at «data».now index options.now.extras) coordinates.now mapper.now s.subset.keeps.order e))) }
     // There is one answer, whatever the limits.

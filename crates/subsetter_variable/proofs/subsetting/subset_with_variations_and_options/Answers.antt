@@ -1,17 +1,16 @@
-use Rattle.std.proofs.Common.{◌≡◌, ℕ, List, Vec, Global, Result, Ok, Err, true, sym, ap, subst, ◌∙◌, ◌⊎◌}
+use Rattle.std.proofs.Common.{◌≡◌, ℕ, Vec, Global, true, sym, subst, ◌∙◌, ◌⊎◌}
 use Rattle.std.proofs.lemmas.Result.{err_from_is_err_and}
 use Rattle.subsetter_base.specs.declared.error.Error.{Error}
 use Rattle.subsetter_base.specs.declared.error.Error.TheVariants.{OutOfMemory}
 use Rattle.subsetter_base.proofs.Results.{done_is, ok_not_err}
-use Rattle.subsetter_sfnt.specs.Extras.{all_extras}
 use Rattle.subsetter_sfnt.specs.FontAt.{font_at}
-use Rattle.subsetter_sfnt.specs.Fault.{HasOpeningFault}
 use Rattle.subsetter_sfnt.specs.Read.{Font}
 use Rattle.subsetter_instance.specs.Fault.{HasInstanceFault}
 use Rattle.subsetter_instance.specs.Instance.{IsInstance}
 use Rattle.subsetter_variable.specs.Standing.{IsAtDefault}
 use Rattle.subsetter_variable.specs.Subset.{IsStatic, as_it_is, instanced, whole}
 use Rattle.subsetter_variable.proofs.Static.{unplaced, unplaced_final, unmade, unmade_final, opened_at, not_so, ok_at, same_at, err_at, no_answer_at, exact_at, clean_at}
+use Rattle.subsetter_variable.proofs.Afresh.{not_drawn, drawn_at}
 use Rattle.subsetter_variable.proofs.subsetting.subset_with_variations_and_options.Goals as goal
 
 pub returns-in_err-at_default-clause-err : goal.returns-in_err-at_default-clause-err
@@ -157,3 +156,15 @@ returns-clause-before_memory c =
     let is_true = done_is c.in_ok-at_default.at_default true both in
     let is_false = c.if-at_default.false in
     cc
+
+pub returns-then-at_default-clause-drawn : goal.returns-then-at_default-clause-drawn
+returns-then-at_default-clause-drawn c =
+    let font : Font = font_at c.args.«data».now c.args.index c.args.options.now.extras in
+    let d : IsAtDefault (whole font) c.args.coordinates.now = c.in_ok-at_default.ensures.ok.0 c.if-at_default.true in
+    not_drawn font c.args.coordinates.now c.args.mapper.now d {X = Vec ℕ Global} (λ v. v.items) c.subset_with_options.result
+
+pub returns-clause-drawn : goal.returns-clause-drawn
+returns-clause-drawn c =
+    let font : Font = font_at c.args.«data».now c.args.index c.args.options.now.extras in
+    let i : IsInstance (whole font) c.args.coordinates.now c.args.mapper.now c.deref.result.now = rw c.deref.ensures.value c.in_ok-file.ensures.ok in
+    drawn_at c.args.options.now.limits.tokens c.args.options.now.limits.depth font c.args.coordinates.now c.args.mapper.now c.deref.result.now i {X = Vec ℕ Global} (λ v. v.items) c.subset_with_options-2.result c.subset_with_options-2.ensures.ok
