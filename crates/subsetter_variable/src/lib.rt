@@ -11,6 +11,7 @@
 //! ```
 #![tactic(auto)]
 
+pub mod laws;
 mod standing;
 mod subsetting;
 
