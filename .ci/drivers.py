@@ -1,5 +1,5 @@
 #!/usr/bin/env python3
-"""Runs the built programs subset_bench and instance_parts on rows that no stored run can hold: several runs each, and times.
+"""Runs the built programs subset_bench and instance_parts on what no stored run can hold: several runs of each, and times.
 
 drivers.py [--crates FOLDER]
 
@@ -112,6 +112,9 @@ def main():
     words = argparse.ArgumentParser(usage=__doc__)
     words.add_argument("--crates", default=os.path.join(program.ROOT, "crates"))
     crates = os.path.realpath(words.parse_args().crates)
+    for name in ("subset_font", "subset_bench", "instance_parts"):
+        if not os.path.exists(os.path.join(crates, name, "out", name)):
+            sys.exit(f"drivers.py: no {name} in {crates}")
     parts = os.path.join(program.ROOT, "crates", "instance_parts")
     with open(os.path.join(parts, "stdout"), encoding="utf-8") as file:
         stored = bytes(int(it) for line in file if line.startswith("instance ") for it in line.split()[1:])

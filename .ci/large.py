@@ -202,6 +202,8 @@ def main():
     words = argparse.ArgumentParser(usage=__doc__)
     words.add_argument("--program", default=os.path.join(program.ROOT, "crates", "subset_font", "out", "subset_font"))
     given = words.parse_args()
+    if not os.path.exists(given.program):
+        sys.exit(f"large.py: no {given.program}")
     with tempfile.TemporaryDirectory(prefix="large-") as room:
         runs = Runs(os.path.realpath(given.program), room)
         for check in (check_short_loca, check_names, check_glyph_names, check_composites, check_sizes, check_charstrings, check_cut,

@@ -302,6 +302,7 @@ ROWS = [
     Row("- out 0 1", out=lines((1, 1)), stdin=six(), same="six 1"),
     Row("simple - 0 2", out="simple 2", err=lines((2, 1)), after=USED),
     Row("--quiet - - 0 2", out="simple 2", stdin=SIMPLE, after=USED),
+    Row("- - 0 2", out="simple 2", err=lines((2, 1)), stdin=SIMPLE, after=USED),
     Row("--json simple - 0 2", out="simple 2", err=b'{"glyphs":[{"old":2,"new":1}]}\n', after=USED),
     Row("simple /dev/stdout 0 2", out="simple 2", err=lines((2, 1)), after=USED),
     Row("simple /dev/null 0 2", out=lines((2, 1)), after=USED),

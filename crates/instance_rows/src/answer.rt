@@ -6,7 +6,7 @@ use std::fmt;
 use subsetter_base::Error;
 
 /// What a call answers.
-#[derive(Debug, Drop)]
+#[derive(Drop)]
 pub enum Answer {
     /// Lists of numbers.
     Lists(Vec<Vec<i64>>),

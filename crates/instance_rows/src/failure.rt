@@ -4,7 +4,7 @@ use std::alloc::{AllocError, AllocFailed};
 use std::fmt;
 
 /// Why a run ends.
-#[derive(Clone, Copy, Debug)]
+#[derive(Clone, Copy)]
 pub enum Failure {
     /// The line is no row: its kind isn't known, its words aren't as its kind has them, or name no bytes in front of it.
     Row,

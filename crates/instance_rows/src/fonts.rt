@@ -24,7 +24,9 @@ pub fn instance_by_words(
 ) -> Result<Answer, Failure> {
     let settings = settings(alloc, words.settings)?;
     let glyphs = short_numbers(alloc, words.glyphs)?;
-    let mapper = GlyphRemapper::new_from_glyphs(alloc, &glyphs).map_err(|_| Failure::Memory)?;
+    let mapper = GlyphRemapper::new_from_glyphs(alloc, &glyphs)
+        .ok()
+        .ok_or(Failure::Memory)?;
     let index = count(words.index)?;
     let steps = count(words.steps)?;
     Ok(

@@ -1,7 +1,5 @@
 //! Simple outlines, read and written.
 
-ghost use Rattle.std.specs.Prelude.{IfOk};
-
 use crate::answer::{Answer, list, lists, one};
 use crate::failure::Failure;
 use crate::words::{coordinates, short_numbers};
@@ -52,7 +50,10 @@ fn bytes_again(alloc: Global, description: &[u8]) -> Result<Answer, Error> {
 
 /// The same as an answer.
 pub fn read_and_written(alloc: Global, description: &[u8]) -> Answer {
-    bytes_again(alloc, description).unwrap_or_else(|error| Answer::Refused(error))
+    match bytes_again(alloc, description) {
+        Ok(answer) => answer,
+        Err(error) => Answer::Refused(error),
+    }
 }
 
 /// The outline of these points, all on the curve, and last points.

@@ -24,7 +24,7 @@ fn bytes_of(alloc: Global, digits: &str) -> Result<Vec<u8>, Failure> {
     if digits == "-" {
         return Ok(Vec::new(alloc));
     }
-    hex::decode(alloc, digits).map_err(|_| Failure::Row)
+    hex::decode(alloc, digits).ok().ok_or(Failure::Row)
 }
 
 /// The bytes of a name.
@@ -45,33 +45,56 @@ fn named_if_any<'a>(all: &'a [Named<'_>], name: &str) -> Result<Option<&'a [u8]>
     Ok(Some(bytes_named(all, name)?))
 }
 
-/// What the calls answer for a row, by its kind and the words behind its name.
-fn answer(alloc: Global, all: &[Named<'_>], kind: &str, words: &[&str]) -> Result<Answer, Failure> {
-    match (kind, words) {
-        ("nearest", [dividend, divisor]) => quotient(alloc, dividend, divisor),
-        ("axes", [fvar]) => axis_count(alloc, bytes_named(all, fvar)?),
-        ("coordinates", [fvar, avar, settings]) => {
-            place(
-                alloc,
-                bytes_named(all, fvar)?,
-                named_if_any(all, avar)?,
-                settings,
-            )
-        }
-        ("scalar", [region, at]) => region_scalar(alloc, region, at),
-        ("numbers", [limit, bytes]) => point_numbers(alloc, limit, &bytes_of(alloc, bytes)?),
-        ("deltas", [count, bytes]) => deltas(alloc, count, &bytes_of(alloc, bytes)?),
-        ("tuple", [gvar, glyph, points]) => tuple(alloc, bytes_named(all, gvar)?, glyph, points),
-        ("advance", [hvar, at, glyph]) => advance(alloc, bytes_named(all, hvar)?, at, glyph),
-        ("read", [bytes]) => read(alloc, bytes_named(all, bytes)?),
-        ("written", [bytes]) => Ok(read_and_written(alloc, bytes_named(all, bytes)?)),
-        ("fits", [xs, ys, ends]) => is_fit(alloc, xs, ys, ends),
-        _ => longer_answer(alloc, all, kind, words),
+/// What the calls answer for a row of one word behind its name.
+fn answer_of_one(
+    alloc: Global,
+    all: &[Named<'_>],
+    kind: &str,
+    name: &str,
+) -> Result<Answer, Failure> {
+    let bytes = bytes_named(all, name)?;
+    match kind {
+        "axes" => axis_count(alloc, bytes),
+        "read" => read(alloc, bytes),
+        "written" => Ok(read_and_written(alloc, bytes)),
+        _ => Err(Failure::Row),
     }
 }
 
-/// The same of the longer rows.
-fn longer_answer(
+/// The same of two words.
+fn answer_of_two(alloc: Global, kind: &str, first: &str, second: &str) -> Result<Answer, Failure> {
+    match kind {
+        "nearest" => quotient(alloc, first, second),
+        "scalar" => region_scalar(alloc, first, second),
+        "numbers" => point_numbers(alloc, first, &bytes_of(alloc, second)?),
+        "deltas" => deltas(alloc, first, &bytes_of(alloc, second)?),
+        _ => Err(Failure::Row),
+    }
+}
+
+/// The same of three words.
+fn answer_of_three(
+    alloc: Global,
+    all: &[Named<'_>],
+    kind: &str,
+    first: &str,
+    second: &str,
+    third: &str,
+) -> Result<Answer, Failure> {
+    if kind == "fits" {
+        return is_fit(alloc, first, second, third);
+    }
+    let table = bytes_named(all, first)?;
+    match kind {
+        "coordinates" => place(alloc, table, named_if_any(all, second)?, third),
+        "tuple" => tuple(alloc, table, second, third),
+        "advance" => advance(alloc, table, second, third),
+        _ => Err(Failure::Row),
+    }
+}
+
+/// The same of more words.
+fn answer_of_more(
     alloc: Global,
     all: &[Named<'_>],
     kind: &str,
@@ -102,6 +125,16 @@ fn longer_answer(
     }
 }
 
+/// What the calls answer for a row, by its kind and the words behind its name.
+fn answer(alloc: Global, all: &[Named<'_>], kind: &str, words: &[&str]) -> Result<Answer, Failure> {
+    match words {
+        [name] => answer_of_one(alloc, all, kind, name),
+        [first, second] => answer_of_two(alloc, kind, first, second),
+        [first, second, third] => answer_of_three(alloc, all, kind, first, second, third),
+        words => answer_of_more(alloc, all, kind, words),
+    }
+}
+
 /// Does what a line says: keeps its bytes, or prints its name and what the calls answer.
 fn run_line<'a, R: Print>(
     rt: &R,
@@ -122,7 +155,7 @@ fn run_line<'a, R: Print>(
         return Ok(());
     }
     let answer = answer(alloc, all, kind, behind)?;
-    println!(rt; "{name}:{answer}").map_err(|_| Failure::Write)
+    println!(rt; "{name}:{answer}").ok().ok_or(Failure::Write)
 }
 
 /// Does what each line of a table says; a line that is no row is told with its number.
@@ -132,7 +165,7 @@ fn run_table<R: Print + AllocGlobal>(rt: &R, table: &str) -> Result<(), Failure>
         let ended = run_line(rt, rt.alloc(), &mut all, line);
         if let Err(Failure::Row) = &ended {
             let number = place.saturating_add(1);
-            println!(rt; "line {number}").map_err(|_| Failure::Write)?;
+            println!(rt; "line {number}").ok().ok_or(Failure::Write)?;
         }
         ended?;
     }
@@ -141,12 +174,14 @@ fn run_table<R: Print + AllocGlobal>(rt: &R, table: &str) -> Result<(), Failure>
 
 /// Runs the table that the argument names.
 fn run_file<R: Env + Files + Print + AllocGlobal>(rt: &R) -> Result<(), Failure> {
-    let words = env::args(rt).map_err(|_| Failure::Usage)?;
+    let words = env::args(rt).ok().ok_or(Failure::Usage)?;
     let words: Vec<String> = words.skip(1).collect(rt.alloc())?;
     let [name] = words.as_slice() else {
         return Err(Failure::Usage);
     };
-    let table = fs::read_to_string(rt, name.as_str()).map_err(|_| Failure::Read)?;
+    let table = fs::read_to_string(rt, name.as_str())
+        .ok()
+        .ok_or(Failure::Read)?;
     run_table(rt, table.as_str())
 }
 

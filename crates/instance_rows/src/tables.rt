@@ -24,7 +24,7 @@ pub fn quotient(alloc: Global, dividend: &str, divisor: &str) -> Result<Answer, 
 /// How many axes `fvar` has.
 pub fn axis_count(alloc: Global, fvar: &[u8]) -> Result<Answer, Failure> {
     match axes::axes(alloc, fvar) {
-        Ok(axes) => one(alloc, i64::try_from(axes.len()).map_err(|_| Failure::Row)?),
+        Ok(axes) => one(alloc, i64::try_from(axes.len()).ok().ok_or(Failure::Row)?),
         Err(error) => Ok(Answer::Refused(error)),
     }
 }
@@ -73,7 +73,7 @@ pub fn region_scalar(alloc: Global, region: &str, at: &str) -> Result<Answer, Fa
 pub fn length(alloc: Global, bytes: &[u8]) -> Result<Vec<i64>, Failure> {
     list(
         alloc,
-        &[u32::try_from(bytes.len()).map_err(|_| Failure::Row)?],
+        &[u32::try_from(bytes.len()).ok().ok_or(Failure::Row)?],
     )
 }
 

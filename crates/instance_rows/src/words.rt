@@ -7,7 +7,7 @@ use subsetter_words::parts_of;
 
 /// A number with a sign.
 pub fn number(word: &str) -> Result<i32, Failure> {
-    word.parse().map_err(|_| Failure::Row)
+    word.parse().ok().ok_or(Failure::Row)
 }
 
 /// A number of 32 bits without a sign.
@@ -36,7 +36,7 @@ pub fn numbers(alloc: Global, word: &str) -> Result<Vec<i32>, Failure> {
 pub fn coordinates(alloc: Global, word: &str) -> Result<Vec<i16>, Failure> {
     let mut coordinates = Vec::new(alloc);
     for number in &numbers(alloc, word)? {
-        coordinates.push(i16::try_from(*number).map_err(|_| Failure::Row)?)?;
+        coordinates.push(i16::try_from(*number).ok().ok_or(Failure::Row)?)?;
     }
     Ok(coordinates)
 }
@@ -45,7 +45,7 @@ pub fn coordinates(alloc: Global, word: &str) -> Result<Vec<i16>, Failure> {
 pub fn short_numbers(alloc: Global, word: &str) -> Result<Vec<u16>, Failure> {
     let mut short = Vec::new(alloc);
     for number in &numbers(alloc, word)? {
-        short.push(u16::try_from(*number).map_err(|_| Failure::Row)?)?;
+        short.push(u16::try_from(*number).ok().ok_or(Failure::Row)?)?;
     }
     Ok(short)
 }
