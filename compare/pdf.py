@@ -3,7 +3,9 @@
 
     compare/pdf.py FONT INDEX GID[,GID..] [--bare] [--keep FOLDER]
     compare/pdf.py --faces N [--bare] [--keep FOLDER]
+    compare/pdf.py --variable [FOLDER ..] [--places N] [--only WORD] [--plant BUG] [--keep FOLDER]
     compare/pdf.py --specimen PNG
+    compare/pdf.py --weights PNG
 
 For a font and glyphs it writes two PDF files by hand. `source.pdf` embeds the whole font and shows the glyphs by their old
 numbers; `subset.pdf` embeds what `subset_font --widths` made of it and shows them by the numbers that this printed.
@@ -26,11 +28,13 @@ MuPDF, Poppler and Ghostscript draw both. Of each reader
 of each, and prints a line a face and the sum. A font that is refused is named, and the next is taken.
 --bare takes subsets without hinting, names and glyph names. MuPDF and Poppler hint nothing, Ghostscript 10 always does: the
 TrueType source without `cmap` and `post`, which it draws where pictures differ, is then without instructions too.
---specimen draws four scripts from subsets of three fonts into a picture.
+--variable takes places of variable fonts, and compares with FreeType's pictures of these: pdf_variable.py says how.
+--specimen draws four scripts from subsets of three fonts into a picture, --weights one line at five weights of a variable font
+by each of the three readers.
 --keep FOLDER leaves the files there. Status 0 where nothing differs, else 1.
 
-Needs Debian's mupdf-tools, poppler-utils and ghostscript, for --specimen also libharfbuzz-bin, and the program
-(`rt run` in crates/subset_font builds it).
+Needs Debian's mupdf-tools, poppler-utils and ghostscript, for --specimen and --weights also libharfbuzz-bin, for --variable and
+--weights python3-pil, and the program (`rt run` in crates/subset_font builds it).
 """
 import argparse
 import io
@@ -67,9 +71,9 @@ class Refused(Exception):
 UNREADABLE = (OSError, KeyError, IndexError, struct.error)
 
 
-def subset(font, index, glyphs, out, bare):
+def subset(font, index, glyphs, out, bare=False, more=()):
     """The new number of each glyph, and the widths of the new glyphs as the text of `/W`."""
-    words = [PROGRAM, *(BARE if bare else []), "--widths", font, out, str(index), ",".join(map(str, glyphs))]
+    words = [PROGRAM, *more, *(BARE if bare else []), "--widths", font, out, str(index), ",".join(map(str, glyphs))]
     answer = subprocess.run(words, capture_output=True, text=True)
     if answer.returncode:
         raise Refused(answer.stderr.strip())
@@ -77,13 +81,17 @@ def subset(font, index, glyphs, out, bare):
     return {int(old): int(new) for old, new in (line.split(" -> ") for line in lines)}, widths
 
 
-def grid(codes):
+def cells(count, page=PAGE):
+    """Where so many glyphs of the grid stand, in points from the page's left lower corner."""
+    across = page[0] // CELL
+    return [(12 + CELL * (place % across), page[1] - CELL * (place // across + 1)) for place in range(count)]
+
+
+def grid(codes, page=PAGE, lean=0):
     """The first page: each code in a cell of its own."""
-    across = PAGE[0] // CELL
     text = ["BT"]
-    for place, code in enumerate(codes):
-        x, y = 12 + CELL * (place % across), PAGE[1] - CELL * (place // across + 1)
-        text.append(f"/F0 {GRID} Tf 1 0 0 1 {x} {y} Tm <{code:04X}> Tj")
+    for code, (x, y) in zip(codes, cells(len(codes), page)):
+        text.append(f"/F0 {GRID} Tf 1 {lean} 0 1 {x} {y} Tm <{code:04X}> Tj")
     return "\n".join(text + ["ET"])
 
 
@@ -94,13 +102,13 @@ def line_by_places(codes, places):
     return "\n".join(text + ["ET"])
 
 
-def line_by_widths(codes):
+def line_by_widths(codes, y=500, lean=0):
     """The second page of the subset: one string, moved on by `/W`."""
-    return f"BT /F0 {LINE} Tf 1 0 0 1 20 500 Tm <{''.join(f'{code:04X}' for code in codes)}> Tj ET"
+    return f"BT /F0 {LINE} Tf 1 {lean} 0 1 20 {y} Tm <{''.join(f'{code:04X}' for code in codes)}> Tj ET"
 
 
 def line_of(face, glyphs):
-    """As many of the glyphs as a line holds, and where each begins, in points."""
+    """As many of the glyphs as a line holds, and where each begins behind its start, in points."""
     held, places, x = [], [], 0.0
     for glyph in glyphs:
         advance = face.advance(glyph) * LINE / face.units
@@ -148,18 +156,19 @@ def write(source, copy, glyphs, numbers, widths, program, folder, bare):
     return len(line)
 
 
+# What each reader is called with, where it draws DPI pixels an inch.
 READERS = {
-    "MuPDF": ["mutool", "draw", "-r", "96", "-c", "gray", "-F", "pgm", "-o", "mupdf-%d.pgm", "page.pdf"],
-    "Poppler": ["pdftoppm", "-r", "96", "-gray", "page.pdf", "poppler"],
-    "Ghostscript": ["gs", "-q", "-dSAFER", "-dBATCH", "-dNOPAUSE", "-sDEVICE=pgmraw", "-r96", "-dTextAlphaBits=4",
+    "MuPDF": ["mutool", "draw", "-r", "DPI", "-c", "gray", "-F", "pgm", "-o", "mupdf-%d.pgm", "page.pdf"],
+    "Poppler": ["pdftoppm", "-r", "DPI", "-gray", "page.pdf", "poppler"],
+    "Ghostscript": ["gs", "-q", "-dSAFER", "-dBATCH", "-dNOPAUSE", "-sDEVICE=pgmraw", "-rDPI", "-dTextAlphaBits=4",
                     "-dGraphicsAlphaBits=4", "-sOutputFile=ghostscript-%d.pgm", "page.pdf"],
 }
 
 
-def drawn(reader, folder):
+def drawn(reader, folder, dpi=96):
     """A reader's pictures of the two pages, each as (width, height, bytes), and the lines that it says."""
-    program, *words = READERS[reader]
-    said = subprocess.run([program, *words], cwd=folder, capture_output=True, text=True, errors="replace")
+    words = [word.replace("DPI", str(dpi)) for word in READERS[reader]]
+    said = subprocess.run(words, cwd=folder, capture_output=True, text=True, errors="replace")
     lines = {line for line in (said.stdout + said.stderr).splitlines() if line and not line.startswith("page page.pdf")}
     if said.returncode:
         lines.add(f"status {said.returncode}")
@@ -315,18 +324,26 @@ def main():
     words.add_argument("index", nargs="?", type=int)
     words.add_argument("glyphs", nargs="?")
     words.add_argument("--faces", type=int)
+    words.add_argument("--variable", nargs="*", metavar="FOLDER")
+    words.add_argument("--places", type=int, default=20)
+    words.add_argument("--only", default="")
+    words.add_argument("--plant", choices=["place", "axes", "widths"])
     words.add_argument("--specimen")
+    words.add_argument("--weights")
     words.add_argument("--keep")
     words.add_argument("--bare", action="store_true")
     given = words.parse_args()
     build.program(PROGRAM)
-    if given.specimen:
+    if given.specimen or given.weights:
         import specimen
-        return specimen.draw(given.specimen)
+        return specimen.draw(given.specimen) if given.specimen else specimen.draw_weights(given.weights)
+    if given.variable is not None:
+        import pdf_variable
+        return 0 if pdf_variable.all_fonts(given.variable, given.places, given.only, given.keep, given.plant) else 1
     if given.faces:
         return 0 if all_faces(given.faces, given.keep, given.bare) else 1
     if given.glyphs is None:
-        words.error("FONT INDEX GID[,GID..], --faces N or --specimen PNG is wanted")
+        words.error("FONT INDEX GID[,GID..], --faces N, --variable, --specimen PNG or --weights PNG is wanted")
     with tempfile.TemporaryDirectory() as room:
         folder = given.keep or room
         os.makedirs(folder, exist_ok=True)
