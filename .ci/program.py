@@ -164,6 +164,13 @@ def lines(*pairs):
 
 OLD = b"what stood there before"
 USED = {"out": None}
+
+
+def usage(*all_words):
+    """Rows of words that are told as wrong."""
+    return [Row(words, 2, err=USAGE, after=USED) for words in all_words]
+
+
 ROWS = [
     # the four words, as ever
     Row("simple out 0 2", out=lines((2, 1)), same="simple 2"),
@@ -176,6 +183,10 @@ ROWS = [
     Row("simple out 0", 2, err=USAGE, after=USED),
     Row("simple out 0 1 2", 2, err=USAGE, after=USED),
     Row("", 2, err=USAGE),
+    Row([""], 2, err=USAGE),
+    *usage("simple out 0 2,,1", "simple out 0 65536", "simple out 0 0-2", "simple out 4294967296 2", "simple out +0 2",
+           ["simple", "out", "", "2"]),
+    Row("six out 0 65535", 1, err=b"malformed font\nGID 65535: the face has 6 glyphs, from 0 on\n", after=USED),
     Row("none out 0 2", 3, err=b"cannot read none\n", after=USED),
     Row(". out 0 2", 3, err=b"cannot read .\n", after=USED),
     Row("simple none/out 0 2", 3, err=b"cannot write none/out\n"),
@@ -201,12 +212,23 @@ ROWS = [
     Row("--limits 5,0 cff out 0 0", 2, err=USAGE, after=USED),
     Row("--limits cff out 0 0", 2, err=USAGE, after=USED),
     Row("cff --limits 5,5 out 0 0", 2, err=USAGE, after=USED),
+    Row("--limits 4294967295,255 cff out 0 0", out=lines((0, 0)), same="cff 0"),
+    Row("simple --limits 0 2", out=lines((2, 1)), after={"--limits": "simple 2"}),
+    Row("--limits 5,5,164 cff out 0 0", out=lines((0, 0)), same="cff 0"),
+    Row("--limits 5,5,163 cff out 0 0", 1, err=b"overflow occurred\n", after=USED),
+    Row("--limits 5,5,5 cff out 0 0", 1, err=b"overflow occurred\n", after=USED),
+    *usage("--limits", "--limits 5 cff out 0 0", "--limits 5,256 cff out 0 0", "--limits 4294967296,5 cff out 0 0",
+           "--limits 5, cff out 0 0", "--limits +5,5 cff out 0 0", "--limits 5,5, cff out 0 0", "--limits 5,,5 cff out 0 0",
+           "--limits 5,5,4294967296 cff out 0 0", "--limits 5,5,5,5 cff out 0 0", "--limits 5,5 --limits 5,5 cff out 0 0",
+           "--limits 5,5 --limits out 0 0", "cff out 0 0 --limits 5,5"),
     # the widths
     Row("--widths six out 0 2,1", out=lines((2, 1), (1, 2)) + b"[0 [0 200 100]]\n", same="six 2,1"),
     Row("--widths --limits 1,1 six out 0 2,1", out=lines((2, 1), (1, 2)) + b"[0 [0 200 100]]\n", same="six 2,1"),
     Row("--limits 1,1 --widths six out 0 2,1", out=lines((2, 1), (1, 2)) + b"[0 [0 200 100]]\n", same="six 2,1"),
     Row("--widths simple out 0 2", 1, err=b"malformed font\n", after=USED),
     Row("--widths --widths six out 0 1", 2, err=USAGE, after=USED),
+    *usage("--widths", "six --widths out 0 1"),
+    Row("simple --widths 0 2", out=lines((2, 1)), after={"--widths": "simple 2"}),
     # JSON and silence
     Row("--json six out 0 2,1", out=b'{"glyphs":[{"old":2,"new":1},{"old":1,"new":2}]}\n', same="six 2,1"),
     Row("--json --widths six out 0 2,1", out=b'{"glyphs":[{"old":2,"new":1},{"old":1,"new":2}],"widths":[0,200,100]}\n',
@@ -222,16 +244,30 @@ ROWS = [
     Row("--gids-file - six out 0", out=lines((2, 1), (1, 2)), stdin=b"2,1", same="six 2,1"),
     Row("--gids-file list six out 0", out=lines(*((k, k) for k in range(6))), files={"list": b"*\n"}, same="six 1-5"),
     Row("six out 0 1,2,3,4,5", out=lines(*((k, k) for k in range(1, 6))), same="six 1-5"),
-    Row("--gids-file list six out 0", files={"list": b" \n"}, same="six none"),
+    Row("--gids-file list six out 0", out=lines(*((k, k) for k in range(6))), files={"list": b" *\n"}, same="six 1-5"),
+    *(Row("--gids-file list six out 0", files={"list": text}, same="six none") for text in (b"", b" \n", b" \t\r\n,,")),
+    Row("six out 0 3", out=lines((3, 1)), same="six 3"),
+    *(Row("--gids-file list six out 0", out=lines((3, 1)), files={"list": text}, same="six 3") for text in (b"3", b"3-3")),
+    Row("--gids-file list six out 0", out=lines((1, 1), (2, 2)), files={"list": b" 1 , 2 "}, same="six 1,2"),
+    Row("--gids-file list six out 0", out=lines((3, 1), (1, 2), (2, 3), (1, 2), (0, 0), (1, 2), (2, 3), (5, 4)),
+        files={"list": b"3,1 2\n1\r\n0-2\t5"}, same="six 3,1,2,5"),
+    Row("six out 0 3,1,2,5", out=lines((3, 1), (1, 2), (2, 3), (5, 4)), same="six 3,1,2,5"),
+    Row("--gids-file list six out 0", 1, err=b"malformed font\nGID 65534: the face has 6 glyphs, from 0 on\n",
+        files={"list": b"65534-65535"}, after=USED),
+    Row("--gids-file list six out 0", 1, err=b"malformed font\nGID 65535: the face has 6 glyphs, from 0 on\n",
+        files={"list": b"3,1 2\n1\r\n0-2\t65535"}, after=USED),
     Row("--gids-file list simple out 0", 1, err=b"malformed font\n", files={"list": b"*"}, after=USED),
     Row("--gids-file list six out 0", 1, err=b"malformed font\nGID 65535: the face has 6 glyphs, from 0 on\n",
         files={"list": b"1-2 65535"}, after=USED),
-    Row("--gids-file list six out 0", 2, err=USAGE, files={"list": b"3-1"}, after=USED),
-    Row("--gids-file list six out 0", 2, err=USAGE, files={"list": b"1\xff"}, after=USED),
-    Row("--gids-file list six out 0", 2, err=USAGE, files={"list": b"65536"}, after=USED),
+    *(Row("--gids-file list six out 0", 2, err=USAGE, files={"list": text}, after=USED) for text in (
+        b"3-1", b"1\xff", b"1 \xff", b"65536", b"3-", b"-3", b"-", b"1-2-3", b"1 - 3", b"0-65536", b"+1", b"1;2", b"x", b"1 *",
+        b"**", b"1\xc2\xa02")),
     Row("--gids-file none six out 0", 3, err=b"cannot read none\n", after=USED),
     Row("--gids-file . six out 0", 3, err=b"cannot read .\n", after=USED),
     Row("--gids-file - - out 0", 2, err=USAGE, after=USED),
+    *usage("--gids-file list --gids-file list six out 0", "--gids-file six out 0", "--gids-file"),
+    Row("--gids-file - six - 0", out="six 2,1", err=lines((2, 1), (1, 2)), stdin=b"2,1", after=USED),
+    Row("--gids-file ./- - out 0", out=lines((2, 1)), stdin=SIMPLE, files={"-": b"2"}, same="simple 2"),
     Row("--gids-file list six out 0 1", 2, err=USAGE, files={"list": b"1"}, after=USED),
     # the glyphs of a text
     Row("--text AB small out 0", out=b"U+0041 1 -> 1\nU+0042 2 -> 2\n", same="six 1,2"),
@@ -246,10 +282,13 @@ ROWS = [
     Row("--text A six out 0", 1, err=b"no Unicode cmap in font\n", after=USED),
     Row("--text A --gids-file list small out 0", 2, err=USAGE, files={"list": b"1"}, after=USED),
     Row("--text A small out 0 1", 2, err=USAGE, after=USED),
+    Row("--text - - out 0", out=b"U+002D 0 -> 0\n", stdin=FONTS["small"], same="six none"),
+    *usage("--text A --text A small out 0", "--text"),
     # what is kept
     Row("--no-names --no-hinting --no-glyph-names named out 0 1", out=lines((1, 1)), same="none of the three"),
     Row("--no-glyph-names --no-hinting --widths --no-names named out 0 1",
         out=lines((1, 1)) + b"[0 [0 100]]\n", same="none of the three"),
+    Row("--quiet --json --no-glyph-names --no-names --no-hinting --widths named out 0 1", same="none of the three"),
     Row("--no-names named out 0 1", out=lines((1, 1)), same="no names"),
     Row("--no-hinting named out 0 1", out=lines((1, 1)), same="no hinting"),
     Row("--no-glyph-names named out 0 1", out=lines((1, 1)), same="no glyph names"),
@@ -263,6 +302,7 @@ ROWS = [
     Row("- out 0 1", out=lines((1, 1)), stdin=six(), same="six 1"),
     Row("simple - 0 2", out="simple 2", err=lines((2, 1)), after=USED),
     Row("--quiet - - 0 2", out="simple 2", stdin=SIMPLE, after=USED),
+    Row("- - 0 2", out="simple 2", err=lines((2, 1)), stdin=SIMPLE, after=USED),
     Row("--json simple - 0 2", out="simple 2", err=b'{"glyphs":[{"old":2,"new":1}]}\n', after=USED),
     Row("simple /dev/stdout 0 2", out="simple 2", err=lines((2, 1)), after=USED),
     Row("simple /dev/null 0 2", out=lines((2, 1)), after=USED),
@@ -272,6 +312,10 @@ ROWS = [
     Row("-- simple out 0 2", out=lines((2, 1)), same="simple 2"),
     Row("--widths -- six out 0 2,1", out=lines((2, 1), (1, 2)) + b"[0 [0 200 100]]\n", same="six 2,1"),
     Row("-- --json out 0 2", out=lines((2, 1)), files={"--json": SIMPLE}, same="simple 2"),
+    Row("--widths -- --widths out 0 2,1", out=lines((2, 1), (1, 2)) + b"[0 [0 200 100]]\n", files={"--widths": six()}, same="six 2,1"),
+    Row("-- --help out 0 2", out=lines((2, 1)), files={"--help": SIMPLE}, same="simple 2"),
+    Row("simple --version 0 2", out=lines((2, 1)), after={"--version": "simple 2"}),
+    *usage("--", "--widths --widths -h", "--no-hints simple out 0 2"),
     Row("-- -- simple out 0 2", 2, err=USAGE, after=USED),
     Row([b"simple", b"\xff", b"0", b"2"], 2, err=USAGE),
     Row("simple out 0 --help", 2, err=USAGE, after=USED),
@@ -326,7 +370,7 @@ class Table:
                 problems.append(f"the file {name} has {after.get(name, b'')[:60]!r} (or isn't there)")
         self.ran += 1
         if problems:
-            self.fail(row.words, "; ".join(problems))
+            self.fail(row.words, "; ".join(problems) + f" (with the files {row.files!r:.200})" * bool(row.files))
 
 
 # ---- what a table of rows can't say
@@ -359,7 +403,7 @@ def check_words(table, room):
     table.demand((first.returncode, first.stdout, first.stderr) == (0, wanted.encode(), b""), "--help", first)
     for part in (USAGE[:-1].replace(b" IN", b" [OPTIONS] IN", 1), b"(default 1000000,64)", b"\nStatus: 0 ", b"\nExamples:\n  subset_font "):
         table.demand(part in first.stdout, "--help", f"{part!r} doesn't stand there")
-    for words in (["-h"], ["--widths", "--help"], ["--help", "x"]):
+    for words in (["-h"], ["--widths", "--help"], ["--widths", "-h", "in"], ["--help", "x"]):
         got = table.start(words, room)
         table.demand((got.returncode, got.stdout, got.stderr) == (0, first.stdout, b""), words, got)
     for option in OPTIONS:
@@ -369,10 +413,11 @@ def check_words(table, room):
     for option in set(re.findall(r"(?:^|[\s`,|])(--[a-z][a-z-]*)", first.stdout.decode() + manual + page)):
         # (fc-scan has one of its own)
         table.demand(option in OPTIONS or option == "--format", option, "no such option")
-    version = table.start(["--version"], room)
     with open(os.path.join(ROOT, "VERSION")) as file:
         wanted = f"subset_font {file.read().strip()}, a port of the Rust crate subsetter 0.2.6\n".encode()
-    table.demand((version.returncode, version.stdout, version.stderr) == (0, wanted, b""), "--version", version)
+    for words in (["--version"], ["--version", "--help"]):
+        got = table.start(words, room)
+        table.demand((got.returncode, got.stdout, got.stderr) == (0, wanted, b""), words, got)
 
 
 def put(room, name, data, mode=None):

@@ -1,5 +1,5 @@
 /* Tests of the C library: each row of the files that are named, in buffers that are exact, larger, too small and null, and in
- * memory of the library; options of all sizes; memory that is refused; and two threads. */
+ * memory of the library; options of all sizes, and as words; memory that is refused; and two threads. */
 #include "subsetter.h"
 
 #include <pthread.h>
@@ -585,6 +585,64 @@ static void check_made_memory(const struct row *row)
     refused = 0;
 }
 
+/* ---- lists of words, as another binding may hand them over */
+
+/* These words ask for the subset that is the row's, or have a status of their own, in a buffer and in memory of the library. */
+static void check_word_list(const struct row *row, const uint32_t *words, size_t count, uint32_t status)
+{
+    size_t size = status == 0 ? row->size : 0;
+    struct answer a;
+    subsetter_made made;
+    prepare(&a, row->size, 0, 0);
+    a.status = subsetter_subset_by_words(row->font, row->font_size, row->index, row->glyphs, row->glyph_count, words, count,
+        a.font, a.room, &a.told.font);
+    check(a.status == status && a.told.font == size && is_same(a.font, row->bytes, size), "words", row->words[1]);
+    check(untouched(&a, size, 0, 0), "what is behind by words", row->words[1]);
+    memset(&made, 0xA5, sizeof made);
+    check(subsetter_make_subset_by_words(row->font, row->font_size, row->index, row->glyphs, row->glyph_count, words, count, &made)
+        == status && made.font_size == size && is_same(made.font, row->bytes, size), "made by words", row->words[1]);
+    check(made.cid_count == 0 && made.width_count == 0, "made by words without CIDs", row->words[1]);
+    subsetter_free(&made);
+    give_up(&a);
+}
+
+/* The row has no metrics, so that it can't be embedded; words that aren't known come first. */
+static void check_embedding_words(const struct row *row)
+{
+    static const uint32_t five[] = {20};
+    struct answer a;
+    subsetter_made made;
+    for (size_t count = 0; count < 2; count++) {
+        uint32_t status = count == 0 ? 2 : 10;
+        prepare(&a, row->size, 0, 0);
+        a.status = subsetter_embed_by_words(row->font, row->font_size, row->index, row->glyphs, row->glyph_count, five, count,
+            a.font, a.room, a.cids, a.cid_room, a.widths, a.width_room, &a.told);
+        check(a.status == status && told(&a, 0, 0, 0) && untouched(&a, 0, 0, 0), "embedding by words", row->words[1]);
+        memset(&made, 0xA5, sizeof made);
+        check(subsetter_make_embedded_by_words(row->font, row->font_size, row->index, row->glyphs, row->glyph_count, five, count,
+            &made) == status && is_nothing(&made), "embedding made by words", row->words[1]);
+        subsetter_free(&made);
+        give_up(&a);
+    }
+}
+
+/* The words of a charstring of one token, in a font of 164 bytes: their size in bytes comes first. */
+static void check_words(const struct row *row)
+{
+    static const struct {
+        uint32_t words[6];
+        size_t count;
+        uint32_t status;
+    } lists[] = {
+        {{0}, 0, 0}, {{4}, 1, 0}, {{8, 0}, 2, 0}, {{16, 1, 1, 7}, 4, 0}, {{20, 0, 0, 0, 164}, 5, 0},
+        {{20, 0, 0, 0, 163}, 5, 5}, {{16, 0, 256, 0}, 4, 10}, {{16, 0, 0, 8}, 4, 10}, {{24, 0, 0, 0, 0, 0}, 6, 10},
+        {{4, 0}, 2, 10}, {{20}, 1, 10},
+    };
+    for (size_t i = 0; i < sizeof lists / sizeof *lists; i++)
+        check_word_list(row, lists[i].words, lists[i].count, lists[i].status);
+    check_embedding_words(row);
+}
+
 /* Whether the options can say what the row says: there 0 is the default. */
 static int has_options(const struct row *row)
 {
@@ -632,6 +690,7 @@ static void check_threads(void)
 
 int main(int argc, char **argv)
 {
+    int words_checked = 0;
     for (int i = 1; i < argc; i++)
         read_rows(argv[i]);
     for (size_t i = 0; i < row_count; i++) {
@@ -649,6 +708,13 @@ int main(int argc, char **argv)
             check_bound(row);
         }
     }
+    for (size_t i = 0; i < row_count; i++)
+        if (strcmp(rows[i].words[1], "sid_keyed") == 0) {
+            check_words(&rows[i]);
+            words_checked = 1;
+        }
+    check(words_checked, "the row whose font is asked for by words", "sid_keyed");
+    check(subsetter_version() == SUBSETTER_VERSION, "the version of the header", "version");
     check_threads();
     printf("C: %zu rows, %zu checks, %zu failed\n", row_count, checks, failures);
     return failures != 0 || row_count == 0;

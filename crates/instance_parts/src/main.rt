@@ -13,8 +13,6 @@ mod glyph;
 mod line;
 mod request;
 mod running;
-#[cfg(test)]
-mod tests;
 
 use std::process::ExitCode;
 

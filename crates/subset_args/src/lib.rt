@@ -19,6 +19,3 @@ pub use jobs::{ArgsError, Command, Glyphs, Job, is_stream, read_words};
 pub use limits::RunLimits;
 pub use lists::{GlyphList, read_list};
 pub use options::Switches;
-
-#[cfg(test)]
-mod tests;

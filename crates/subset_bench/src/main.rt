@@ -15,15 +15,6 @@ mod running;
 mod task;
 mod times;
 
-pub use digest::digest;
-pub use failure::{Failure, status_of_run};
-pub use line::Done;
-pub use task::{Task, read_task};
-pub use times::{Times, times_of};
-
-#[cfg(test)]
-mod tests;
-
 use std::process::ExitCode;
 
 fn main(rt: HostRuntime) -> ExitCode {

@@ -5,8 +5,6 @@ use std::io::{ErrorKind, Read, Write};
 use std::test::*;
 use subsetter::{Error, Extras, GlyphRemapper, Limits, Options};
 
-mod hostile;
-
 // ---- fonts
 
 /// Table directory with `glyf` at 60 (23 bytes), `head` at 84 (54 bytes) and `loca` at 140 (16 bytes).
@@ -22,23 +20,6 @@ fn three_glyphs(alloc: Global) -> Result<Vec<u8>, Fail> {
     font.extend_from_slice(&[0; 75])?;
     font.extend_from_slice(&[1, 0, 0, 0, 0])?;
     font.extend_from_slice(&[0, 0, 0, 0, 0, 0, 0, 0, 0, 0, 0, 12, 0, 0, 0, 23])?;
-    Ok(font)
-}
-
-/// The table directory of its subset: `glyf` at 60 (12 bytes), `head` at 72 (54 bytes), `loca` at 128 (6 bytes).
-const TWO_DIRECTORY: [u8; 60] = [
-    0, 1, 0, 0, 0, 3, 0, 0x20, 0, 1, 0, 0x10, b'g', b'l', b'y', b'f', 0, 0, 0, 0, 0, 0, 0, 60, 0,
-    0, 0, 12, b'h', b'e', b'a', b'd', 0, 0, 0, 0, 0, 0, 0, 72, 0, 0, 0, 54, b'l', b'o', b'c', b'a',
-    0, 6, 0, 0, 0, 0, 0, 128, 0, 0, 0, 6,
-];
-
-/// The subset of its glyphs 0 and 2: 136 bytes, with a short `loca` and one zero byte after the odd outline.
-fn two_glyphs(alloc: Global) -> Result<Vec<u8>, Fail> {
-    let mut font = Vec::from_slice(alloc, &TWO_DIRECTORY)?;
-    font.extend_from_slice(&[0; 20])?;
-    font.extend_from_slice(&[0x75, 0x5e, 0x70, 0x13])?;
-    font.extend_from_slice(&[0; 44])?;
-    font.extend_from_slice(&[0, 0, 0, 0, 0, 6, 0, 0])?;
     Ok(font)
 }
 

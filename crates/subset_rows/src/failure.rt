@@ -1,5 +1,8 @@
 //! Why a line is told as wrong, and why a run ends before its last line.
 
+ghost use Rattle.std.specs.Prelude.{◌≡◌};
+ghost use Rattle.subset_rows.specs.declared.failure.Failure.TheVariants.{Memory};
+
 use std::alloc::{AllocError, AllocFailed};
 use std::fmt;
 
@@ -34,12 +37,16 @@ impl fmt::Display for Failure {
 }
 
 impl From<AllocError> for Failure {
+    ghost from_gives = { λ _ failure. failure ≡ Memory };
+
     fn from(_error: AllocError) -> Failure {
         Failure::Memory
     }
 }
 
 impl<T: Drop> From<AllocFailed<T>> for Failure {
+    ghost from_gives = { λ _ failure. failure ≡ Memory };
+
     fn from(_error: AllocFailed<T>) -> Failure {
         Failure::Memory
     }

@@ -1,5 +1,8 @@
 //! A row of the table.
 
+ghost use Rattle.std.specs.Prelude.{◌≡◌};
+ghost use Rattle.subset_rows.specs.Rows.{kind_of, embeds};
+
 use crate::answer::Answer;
 use crate::digits::{word_bytes, word_numbers, word_short_numbers};
 use crate::failure::Failure;
@@ -20,7 +23,9 @@ pub enum Kind {
 }
 
 /// The kind that a word says.
-pub fn kind_of(word: &str) -> Option<Kind> {
+pub fn kind_of(word: &str) -> Option<Kind>
+    ensures { result ≡ kind_of word.now }
+{
     match word {
         "subset" => Some(Kind::Subset),
         "limits" => Some(Kind::Limits),
@@ -35,7 +40,9 @@ pub fn kind_of(word: &str) -> Option<Kind> {
 
 impl Kind {
     /// Whether the row has CIDs and widths.
-    pub fn embeds(&self) -> bool {
+    pub fn embeds(&self) -> bool
+        ensures { result ≡ embeds self.now }
+    {
         matches!(
             self,
             Kind::Embed | Kind::EmbedOptions | Kind::EmbedBoundedOptions

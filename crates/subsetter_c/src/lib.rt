@@ -14,6 +14,4 @@ mod handing;
 mod making;
 mod options;
 mod status;
-#[cfg(test)]
-mod tests;
 mod version;

@@ -13,8 +13,6 @@ pub mod laws;
 pub mod placing;
 pub mod simple;
 pub mod source;
-#[cfg(test)]
-mod tests;
 pub mod unfolding;
 pub mod writing;
 

@@ -33,6 +33,3 @@ pub use fitting::fits;
 pub use outline::{Outline, Point};
 pub use reading::read_simple;
 pub use writing::write_simple;
-
-#[cfg(test)]
-mod tests;

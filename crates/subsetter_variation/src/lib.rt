@@ -28,8 +28,6 @@ pub mod packed;
 pub mod region;
 pub mod rounding;
 pub mod segments;
-#[cfg(test)]
-mod tests;
 pub mod tuple_region;
 pub mod tuples;
 pub mod varied;

@@ -1,0 +1,134 @@
+#!/usr/bin/env python3
+"""Runs the built programs subset_bench and instance_parts on what no stored run can hold: several runs of each, and times.
+
+drivers.py [--crates FOLDER]
+
+The hash that subset_bench prints is compared with one of the published algorithm (FNV-1a of 64 bits), the bytes that it writes
+with those of the program subset_font, and an instance with what instance_parts has stored. The last line is `drivers: N rows,
+M differ`, and the status 1 where one differs.
+"""
+import argparse
+import os
+import re
+import subprocess
+import sys
+import tempfile
+
+sys.dont_write_bytecode = True
+import program  # noqa: E402
+
+BENCH_USAGE = "usage: subset_bench FONT INDEX GLYPHS COUNT [OUT [TAG=VALUE ..]] | --list FILE\n"
+PARTS_USAGE = "usage: instance_parts FONT INDEX GLYPHS [TAG=VALUE ..]\n"
+
+
+def digest(data):
+    """FNV-1a of 64 bits."""
+    found = 0xCBF29CE484222325
+    for byte in data:
+        found = (found ^ byte) * 0x100000001B3 % (1 << 64)
+    return found
+
+
+# the published vectors
+assert [digest(it) for it in (b"", b"a", b"foobar")] == [0xCBF29CE484222325, 0xAF63DC4C8601EC8C, 0x85944171F73967E8]
+
+
+class Rows:
+    def __init__(self, crates, room):
+        self.crates, self.room, self.ran, self.wrong = crates, room, 0, 0
+
+    def run(self, name, words):
+        there = os.path.join(self.crates, name, "out", name)
+        got = subprocess.run([there, *words.split()], cwd=self.room, capture_output=True, timeout=60)
+        return got.returncode, got.stdout.decode(), got.stderr.decode()
+
+    def demand(self, holds, what, got):
+        self.ran += 1
+        if not holds:
+            self.wrong += 1
+            print(f"drivers.py: {what}: {got}")
+
+    def take(self, name):
+        with open(os.path.join(self.room, name), "rb") as file:
+            return file.read()
+
+    def is_measured(self, line, data):
+        """Whether a line tells the times of some calls, the least of them last, and what they made."""
+        told = re.fullmatch(r"ok (\d+) (\d+) (\d+) ([0-9a-f]{16})", line)
+        return told and 0 < int(told[2]) <= int(told[1]) and (int(told[3]), int(told[4], 16)) == (len(data), digest(data))
+
+    def measures(self, words, glyphs):
+        """A task that writes what subset_font writes for the same glyphs, each with its number."""
+        font, index, *_ = words.split()
+        made = self.run("subset_font", f"--quiet {font} wanted.ttf {index} {glyphs}")
+        status, out, err = self.run("subset_bench", words)
+        wanted = self.take("wanted.ttf")
+        holds = made[0] == status == 0 and err == "" and self.is_measured(out.rstrip("\n"), wanted) and self.take("out.ttf") == wanted
+        self.demand(holds, words, (status, out, err))
+
+    def ends(self, name, words, wanted):
+        got = self.run(name, words)
+        self.demand(got == wanted, f"{name} {words}", got)
+
+
+def check_bench(rows, stored):
+    """Numbers and ranges, faces, counts, wrong words, lists of tasks, and instances."""
+    rows.measures("six.ttf 0 3,1-2,0 5 out.ttf", "3,1,2,0")
+    rows.measures("six.ttf 0 5 1 out.ttf", "5")
+    rows.measures("faces.ttf 1 2 3 out.ttf", "2")
+    for words in ("six.ttf 0 1 0", "six.ttf 0 1,,2 1", "six.ttf 0 65536 1", "six.ttf 0 1-2-3 1", "six.ttf 0 1", "six.ttf 4294967296 1 1",
+                  "six.ttf 0 1 1 out.ttf wght", ""):
+        rows.ends("subset_bench", words, (2, BENCH_USAGE, ""))
+    rows.ends("subset_bench", "none.ttf 1 3,10-12,0 5 out.ttf", (1, "", "cannot read\n"))
+    rows.ends("subset_bench", "six.ttf 0 3,10-12,0 5", (0, "error malformed font\n", ""))
+    with open(os.path.join(rows.room, "list"), "w", encoding="utf-8") as file:
+        file.write("six.ttf 0 9 1\nsix.ttf 0 5 2 out.ttf\n")
+    rows.run("subset_font", "--quiet six.ttf wanted.ttf 0 5")
+    status, out, err = rows.run("subset_bench", "--list list")
+    lines = out.splitlines()
+    rows.demand((status, err, lines[:1]) == (0, "", ["error malformed font"]) and len(lines) == 2
+                and rows.is_measured(lines[1], rows.take("wanted.ttf")), "a list of tasks", (status, out, err))
+    status, out, err = rows.run("subset_bench", "variable.ttf 0 1-3 1 out.ttf wght=42598400")
+    rows.demand(status == 0 and rows.is_measured(out.rstrip("\n"), stored) and rows.take("out.ttf") == stored, "an instance", (status, out, err))
+
+
+def check_parts(rows):
+    """Glyphs in their order, settings with and without a sign, and wrong words."""
+    for words, front in (
+        ("variable.ttf 0 3,1 wght=42598400 slnt=4294311936", ["at 8192", "glyph 3", "glyph 1"]),
+        ("variable.ttf 0 3,10 slnt=0 wght=4294311936", ["at -16384", "glyph 3", "glyph 10"]),
+        ("variable.ttf 0 3 wght=0 wght=42598400", ["at 8192", "glyph 3"]),
+        ("variable.ttf 0 0", ["at 0", "glyph 0"]),
+    ):
+        status, out, err = rows.run("instance_parts", words)
+        told = [line for line in out.splitlines() if line.startswith(("at", "glyph"))]
+        rows.demand((status, told, err) == (0, front, ""), f"instance_parts {words}", (status, out, err))
+    for words in ("", "variable.ttf 0", "variable.ttf 0 3 wght", "variable.ttf 0 3 wght=x", "variable.ttf 0 1-3", "variable.ttf x 3"):
+        rows.ends("instance_parts", words, (2, PARTS_USAGE, ""))
+    rows.ends("instance_parts", "none.ttf 0 3", (1, "", "cannot read\n"))
+
+
+def main():
+    words = argparse.ArgumentParser(usage=__doc__)
+    words.add_argument("--crates", default=os.path.join(program.ROOT, "crates"))
+    crates = os.path.realpath(words.parse_args().crates)
+    for name in ("subset_font", "subset_bench", "instance_parts"):
+        if not os.path.exists(os.path.join(crates, name, "out", name)):
+            sys.exit(f"drivers.py: no {name} in {crates}")
+    parts = os.path.join(program.ROOT, "crates", "instance_parts")
+    with open(os.path.join(parts, "stdout"), encoding="utf-8") as file:
+        stored = bytes(int(it) for line in file if line.startswith("instance ") for it in line.split()[1:])
+    with open(os.path.join(parts, "data", "variable.ttf"), "rb") as file:
+        variable = file.read()
+    with tempfile.TemporaryDirectory(prefix="drivers-") as room:
+        rows = Rows(crates, room)
+        for name, font in (("six", program.FONTS["six"]), ("faces", program.TWO_FACES), ("variable", variable)):
+            program.put(room, f"{name}.ttf", font)
+        check_bench(rows, stored)
+        check_parts(rows)
+    print(f"drivers: {rows.ran} rows, {rows.wrong} differ")
+    sys.exit(1 if rows.wrong else 0)
+
+
+if __name__ == "__main__":
+    main()

@@ -1,0 +1,26 @@
+-- The kind of a row by the word that it begins with.
+use Rattle.std.specs.Prelude.{ℕ, if◌then◌else◌, Bool, true, false, List, codes, Option, Some, None}
+use Rattle.std.specs.Str.{bytes_eq}
+use Rattle.subset_rows.specs.declared.row.Kind.{Kind}
+use Rattle.subset_rows.specs.declared.row.Kind.TheVariants.{Subset, Limits, Options, BoundedOptions, Embed, EmbedOptions, EmbedBoundedOptions}
+
+abbrev pub kind_of : List ℕ → Option Kind
+kind_of word =
+    if bytes_eq word (codes "subset") then Some Subset
+    else if bytes_eq word (codes "limits") then Some Limits
+    else if bytes_eq word (codes "options") then Some Options
+    else if bytes_eq word (codes "bounded_options") then Some BoundedOptions
+    else if bytes_eq word (codes "embed") then Some Embed
+    else if bytes_eq word (codes "embed_options") then Some EmbedOptions
+    else if bytes_eq word (codes "embed_bounded_options") then Some EmbedBoundedOptions
+    else None
+
+-- the row has CIDs and widths
+abbrev pub embeds : Kind → Bool
+embeds Subset = false
+embeds Limits = false
+embeds Options = false
+embeds BoundedOptions = false
+embeds Embed = true
+embeds EmbedOptions = true
+embeds EmbedBoundedOptions = true

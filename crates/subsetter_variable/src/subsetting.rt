@@ -1,0 +1,150 @@
+//! Subsetting a font at user coordinates.
+
+ghost use Rattle.std.specs.Prelude.{◌≡◌, ◌≢◌, ◌⊎◌, ℕ, List, IfOk, IfErr, None, Err};
+ghost use Rattle.std.specs.Bool.{OnFalse};
+ghost use Rattle.subsetter_base.specs.declared.error.Error.TheVariants.{OutOfMemory};
+ghost use Rattle.subsetter_base.specs.declared.error.Error.{Error as SpecError};
+ghost use Rattle.subsetter.specs.Bound.{IsWithin};
+ghost use Rattle.subsetter.specs.Glyf.Instructions.{HasNoInstructions};
+ghost use Rattle.subsetter.specs.Limits.{token_limit, depth_limit};
+ghost use Rattle.subsetter_sfnt.specs.Extras.{all_extras};
+ghost use Rattle.subsetter_sfnt.specs.Fault.{HasOpeningFault};
+ghost use Rattle.subsetter_sfnt.specs.FontAt.{font_at};
+ghost use Rattle.subsetter_sfnt.specs.Read.{as_font};
+ghost use Rattle.subsetter_variable.specs.Afresh.{HasGlyphsDrawn};
+ghost use Rattle.subsetter_variable.specs.Standing.{IsAtDefault};
+ghost use Rattle.subsetter_variable.specs.Subset.{IsSubsetAt, HasFaultAt, IsAnswerAt, HasNoAnswerAt, IsTheAnswerAt};
+
+use crate::standing::static_font;
+use std::alloc::Global;
+use subsetter::{Error, GlyphRemapper, Limits, Options, Tag, subset_with_options};
+
+/// A font with exactly the mapper's glyphs, in order, as a font has them at user coordinates, and each further glyph that these
+/// reach through components.
+///
+/// A font without outlines in `glyf`, without `fvar`, or all of whose normalized coordinates are 0 is subset as it is, with
+/// its hints. Else the static font is subset that `instance` makes of it: each glyph is a simple outline without
+/// instructions, which leads to no other, with the advance and the bearing that it has there.
+///
+/// `data`, `index` and the mapper are as for `subset`. A coordinate is the tag of an axis and a value in 65536ths; where a tag
+/// comes twice the last value counts, a value past the end of its axis is that end, and an axis without a value stays at its
+/// default. A tag that the font doesn't have is passed over.
+///
+/// # Errors
+///
+/// Each names what stands in the source (`HasFaultAt`); a font in which nothing stands is refused only when out of memory.
+///
+/// - Those of `subset`, for a font that is subset as it is.
+/// - `MalformedFont`: there is `glyf`, and `fvar` or `avar` is cut.
+/// - `Unimplemented`: there is `glyf`, and `avar` has a major version other than 1.
+/// - For a font that isn't at its default, those of `instance`, where each glyph may take 1,000,000 steps, and those of
+///   `subset` for the static font.
+/// - `OutOfMemory`: a request for memory was refused. None is made for a font that `check_opening` refuses.
+pub fn subset_with_variations(
+    alloc: Global,
+    data: &[u8],
+    index: u32,
+    coordinates: &[(Tag, i32)],
+    mapper: &GlyphRemapper,
+) -> Result<Vec<u8>, Error>
+    // What is answered is a subset of the font as it is, at its default, or else of an instance of it.
+    ensures ok { IfOk result (λ out. IsSubsetAt token_limit depth_limit (font_at «data».now index all_extras) coordinates.now mapper.now out.items) }
+    // Elsewhere than at its default the new font has the mapper's glyphs and no other, in order, each exactly as it is drawn at
+    // these coordinates, read afresh.
+    ensures drawn { IfOk result (λ out. ¬ (IsAtDefault (font_at «data».now index all_extras) coordinates.now) → HasGlyphsDrawn (font_at «data».now index all_extras) coordinates.now mapper.now out.items) }
+    // And then no fault stands, the size limits being judged for the answer's order of glyphs.
+    ensures clean { IfOk result (λ out. (s : IsSubsetAt token_limit depth_limit (font_at «data».now index all_extras) coordinates.now mapper.now out.items) × ((e : SpecError) → ¬ (HasFaultAt None token_limit depth_limit (font_at «data».now index all_extras) coordinates.now mapper.now s.subset.keeps.order e))) }
+    // There is one answer.
+    ensures exact { IfOk result (λ out. IsAnswerAt token_limit depth_limit (font_at «data».now index all_extras) coordinates.now mapper.now out.items) }
+    ensures same { IfOk result (λ out. IsTheAnswerAt (font_at «data».now index all_extras) coordinates.now mapper.now out.items) }
+    // What is refused has a fault of that name.
+    ensures err { IfErr result (λ e. (e ≡ OutOfMemory) ⊎ ((order : List ℕ) × HasFaultAt None token_limit depth_limit (font_at «data».now index all_extras) coordinates.now mapper.now order e)) }
+    // And, unless out of memory, it has no answer: no call answers it within these limits.
+    ensures no_answer { IfErr result (λ e. (e ≡ OutOfMemory) ⊎ HasNoAnswerAt None token_limit depth_limit (font_at «data».now index all_extras) coordinates.now mapper.now) }
+    // Where a fault stands that is found before memory is taken, the answer isn't out of memory.
+    ensures before_memory { (e : SpecError) → HasOpeningFault (font_at «data».now index all_extras) e → result ≢ Err OutOfMemory }
+{
+    let limits = Limits::default();
+    subset_with_variations_and_limits(alloc, data, index, coordinates, mapper, &limits)
+}
+
+/// As `subset_with_variations`, within other limits than 1,000,000 tokens and depth 64, and where the new font may have a
+/// bound on its bytes.
+///
+/// # Errors
+///
+/// Those of `subset_with_variations`, with the chosen limits in place of the default ones, as in `subset_with_limits`. In an
+/// instance each glyph may take `limits.tokens()` steps.
+pub fn subset_with_variations_and_limits(
+    alloc: Global,
+    data: &[u8],
+    index: u32,
+    coordinates: &[(Tag, i32)],
+    mapper: &GlyphRemapper,
+    limits: &Limits,
+) -> Result<Vec<u8>, Error>
+    // What is answered is a subset of the font as it is, at its default, or else of an instance of it.
+    ensures ok { IfOk result (λ out. IsSubsetAt limits.now.tokens limits.now.depth (font_at «data».now index all_extras) coordinates.now mapper.now out.items) }
+    // Elsewhere than at its default the new font has the mapper's glyphs and no other, in order, each exactly as it is drawn at
+    // these coordinates, read afresh.
+    ensures drawn { IfOk result (λ out. ¬ (IsAtDefault (font_at «data».now index all_extras) coordinates.now) → HasGlyphsDrawn (font_at «data».now index all_extras) coordinates.now mapper.now out.items) }
+    // And then no fault stands, the size limits being judged for the answer's order of glyphs.
+    ensures clean { IfOk result (λ out. (s : IsSubsetAt limits.now.tokens limits.now.depth (font_at «data».now index all_extras) coordinates.now mapper.now out.items) × ((e : SpecError) → ¬ (HasFaultAt limits.now.bytes limits.now.tokens limits.now.depth (font_at «data».now index all_extras) coordinates.now mapper.now s.subset.keeps.order e))) }
+    // There is one answer, whatever the limits.
+    ensures exact { IfOk result (λ out. IsAnswerAt limits.now.tokens limits.now.depth (font_at «data».now index all_extras) coordinates.now mapper.now out.items) }
+    ensures same { IfOk result (λ out. IsTheAnswerAt (font_at «data».now index all_extras) coordinates.now mapper.now out.items) }
+    // It has no more bytes than it may have.
+    ensures within { IfOk result (λ out. IsWithin limits.now.bytes out.items) }
+    // What is refused has a fault of that name, or the bound on bytes is set and every answer passes it.
+    ensures err { IfErr result (λ e. (e ≡ OutOfMemory) ⊎ ((order : List ℕ) × HasFaultAt limits.now.bytes limits.now.tokens limits.now.depth (font_at «data».now index all_extras) coordinates.now mapper.now order e)) }
+    // And, unless out of memory, it has no answer: no call answers it within these limits.
+    ensures no_answer { IfErr result (λ e. (e ≡ OutOfMemory) ⊎ HasNoAnswerAt limits.now.bytes limits.now.tokens limits.now.depth (font_at «data».now index all_extras) coordinates.now mapper.now) }
+    // Where a fault stands that is found before memory is taken, the answer isn't out of memory.
+    ensures before_memory { (e : SpecError) → HasOpeningFault (font_at «data».now index all_extras) e → result ≢ Err OutOfMemory }
+{
+    let options = Options::keeping_all(*limits);
+    subset_with_variations_and_options(alloc, data, index, coordinates, mapper, &options)
+}
+
+/// As `subset_with_variations_and_limits`, where the new font has only those of its extras that are asked for, as in
+/// `subset_with_options`. An instance has no hinting, whatever is asked for.
+///
+/// # Errors
+///
+/// Those of `subset_with_variations_and_limits`, but for what is said of a table that isn't asked for.
+pub fn subset_with_variations_and_options(
+    alloc: Global,
+    data: &[u8],
+    index: u32,
+    coordinates: &[(Tag, i32)],
+    mapper: &GlyphRemapper,
+    options: &Options,
+) -> Result<Vec<u8>, Error>
+    // What is answered is a subset of the font as it is, at its default, or else of an instance of it.
+    ensures ok { IfOk result (λ out. IsSubsetAt options.now.limits.tokens options.now.limits.depth (font_at «data».now index options.now.extras) coordinates.now mapper.now out.items) }
+    // Elsewhere than at its default the new font has the mapper's glyphs and no other, in order, each exactly as it is drawn at
+    // these coordinates, read afresh.
+    ensures drawn { IfOk result (λ out. ¬ (IsAtDefault (font_at «data».now index all_extras) coordinates.now) → HasGlyphsDrawn (font_at «data».now index all_extras) coordinates.now mapper.now out.items) }
+    // And then no fault stands, the size limits being judged for the answer's order of glyphs.
+    ensures clean { IfOk result (λ out. (s : IsSubsetAt options.now.limits.tokens options.now.limits.depth (font_at «data».now index options.now.extras) coordinates.now mapper.now out.items) × ((e : SpecError) → ¬ (HasFaultAt options.now.limits.bytes options.now.limits.tokens options.now.limits.depth (font_at «data».now index options.now.extras) coordinates.now mapper.now s.subset.keeps.order e))) }
+    // There is one answer, whatever the limits.
+    ensures exact { IfOk result (λ out. IsAnswerAt options.now.limits.tokens options.now.limits.depth (font_at «data».now index options.now.extras) coordinates.now mapper.now out.items) }
+    ensures same { IfOk result (λ out. IsTheAnswerAt (font_at «data».now index options.now.extras) coordinates.now mapper.now out.items) }
+    // It has no more bytes than it may have.
+    ensures within { IfOk result (λ out. IsWithin options.now.limits.bytes out.items) }
+    // What is refused has a fault of that name, or the bound on bytes is set and every answer passes it.
+    ensures err { IfErr result (λ e. (e ≡ OutOfMemory) ⊎ ((order : List ℕ) × HasFaultAt options.now.limits.bytes options.now.limits.tokens options.now.limits.depth (font_at «data».now index options.now.extras) coordinates.now mapper.now order e)) }
+    // And, unless out of memory, it has no answer: no call answers it within these limits.
+    ensures no_answer { IfErr result (λ e. (e ≡ OutOfMemory) ⊎ HasNoAnswerAt options.now.limits.bytes options.now.limits.tokens options.now.limits.depth (font_at «data».now index options.now.extras) coordinates.now mapper.now) }
+    // Where a fault stands that is found before memory is taken, the answer isn't out of memory.
+    ensures before_memory { (e : SpecError) → HasOpeningFault (font_at «data».now index options.now.extras) e → result ≢ Err OutOfMemory }
+    // Without hinting the new font has no instructions, read afresh.
+    ensures bare { IfOk result (λ out. OnFalse options.now.extras.hinting (HasNoInstructions (as_font out.items))) }
+{
+    let steps = options.limits.tokens();
+    let made = static_font(alloc, data, index, coordinates, mapper, steps)?;
+    match made {
+        None => subset_with_options(alloc, data, index, mapper, options),
+        Some(file) => subset_with_options(alloc, &file, 0, mapper, options),
+    }
+}
