@@ -13,7 +13,9 @@ mod calls;
 mod handing;
 mod making;
 mod options;
+mod settings;
 mod status;
 #[cfg(test)]
 mod tests;
+mod variations;
 mod version;
