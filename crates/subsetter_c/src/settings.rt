@@ -24,10 +24,7 @@ pub struct Coordinate {
 fn setting(coordinate: Coordinate) -> (Tag, i32)
     ensures { result ≡ setting coordinate }
 {
-    (
-        Tag::new(&coordinate.tag.to_be_bytes()),
-        coordinate.value,
-    )
+    (Tag::new(&coordinate.tag.to_be_bytes()), coordinate.value)
 }
 
 /// Tags with values.
