@@ -46,7 +46,7 @@ mod tests {
             (-1.5 / 65536.0, -1),
             (f32::MIN_POSITIVE, 0),
             (-f32::MIN_POSITIVE, 0),
-            (32767.998, 32768 * 65536 - 128),
+            (32767.998, 2_147_483_520),
             (32768.0, i32::MAX),
             (-32768.0, i32::MIN),
             (-32769.0, i32::MIN),
@@ -56,13 +56,16 @@ mod tests {
             (f32::NEG_INFINITY, i32::MIN),
         ];
         for (value, wanted) in rows {
-            assert_eq!(i64::from(fixed(value)), wanted as i64, "{value}");
+            assert_eq!(fixed(value), wanted, "{value}");
         }
     }
 
     #[test]
     fn coordinates_keep_their_order_and_tags() {
-        let given = [(Tag::new(b"wght"), 2.0), (Tag::new(b"\xff\0\x80\x01"), -1.0)];
+        let given = [
+            (Tag::new(b"wght"), 2.0),
+            (Tag::new(b"\xff\0\x80\x01"), -1.0),
+        ];
         let wanted = [(0x7767_6874, 131_072), (0xff00_8001, -65536)];
         let wanted = wanted.map(|(tag, value)| Coordinate { tag, value });
         assert_eq!(coordinates(&given), wanted);
