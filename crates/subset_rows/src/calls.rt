@@ -129,23 +129,11 @@ pub fn miss_of(alloc: Global, font: &[u8], row: &Row<'_>, options: &Options) -> 
 }
 
 /// The subset of a row's font at its coordinates, for glyph 0 and its glyphs.
-fn subset_at(
-    alloc: Global,
-    font: &[u8],
-    row: &Row<'_>,
-    options: &Options,
-) -> Result<Vec<u8>, Error>
+fn subset_at(alloc: Global, font: &[u8], row: &Row<'_>, options: &Options) -> Result<Vec<u8>, Error>
     ensures { IfOk result (λ out. IsSubsetAt options.now.limits.tokens options.now.limits.depth (font_at font.now row.now.index options.now.extras) row.now.coordinates.items (with_glyphs (0 ∷ []) row.now.glyphs.items) out.items) }
 {
     let mapper = GlyphRemapper::new_from_glyphs(alloc, &row.glyphs)?;
-    subset_with_variations_and_options(
-        alloc,
-        font,
-        row.index,
-        &row.coordinates,
-        &mapper,
-        options,
-    )
+    subset_with_variations_and_options(alloc, font, row.index, &row.coordinates, &mapper, options)
 }
 
 /// What the call with coordinates and options answers.
@@ -164,12 +152,11 @@ pub fn miss_at(alloc: Global, font: &[u8], row: &Row<'_>, options: &Options) -> 
     // A row of status 0 is as expected only where its very bytes are a subset of the font at these coordinates.
     ensures { IfNone result (row.now.wanted.status ≡ 0 → IsSubsetAt options.now.limits.tokens options.now.limits.depth (font_at font.now row.now.index options.now.extras) row.now.coordinates.items (with_glyphs (0 ∷ []) row.now.glyphs.items) row.now.wanted.font.items) }
 {
+    let call = "subset_with_variations_and_options";
     let answered = by_coordinates(alloc, font, row, options);
     match compare(&answered, &row.wanted) {
-        Some(difference) => Some(Miss {
-            call: "subset_with_variations_and_options",
-            difference,
-        }),
-        None => None,
+        Some(difference) => return Some(Miss { call, difference }),
+        None => {}
     }
+    None
 }
