@@ -85,6 +85,13 @@ static void check_calls()
     bounded.bytes = 164;
     check(subsetter_subset_with_options(font, 55, 0, NULL, 0, &bounded, out, 164, &length) == SUBSETTER_DONE, "within it");
     check(subsetter_subset_with_options(font, 55, 0, NULL, 0, NULL, out, 164, &length) == SUBSETTER_DONE, "no options");
+    const subsetter_coordinate coordinates[] = {{SUBSETTER_TAG('w', 'g', 'h', 't'), 650 * 65536}, {0xffffffffu, -65536}};
+    check(coordinates[0].tag == 0x77676874u && sizeof coordinates == 16, "coordinates");
+    check(SUBSETTER_TAG('\377', 0, '\200', 1) == 0xff008001u, "a tag of high bytes");
+    check(subsetter_subset_at(font, 55, 0, coordinates, 2, NULL, 0, &options, out, 164, &length) == SUBSETTER_DONE && length == 164,
+        "at coordinates");
+    check(subsetter_subset_at(font, 55, 0, NULL, 0, NULL, 0, NULL, out, 163, &length) == SUBSETTER_BUFFER_TOO_SMALL && length == 164,
+        "at no coordinates");
     check(subsetter_embed(font, 55, 0, NULL, 0, out, 164, cids, 1, widths, 1, &sizes) == SUBSETTER_MALFORMED_FONT
         && sizes.font == 0, "embed");
     check(subsetter_embed_with_options(font, 55, 0, NULL, 0, &options, out, 164, cids, 1, widths, 1, &sizes)
@@ -94,6 +101,10 @@ static void check_calls()
     subsetter_free(&made);
     check(subsetter_make_subset(font, 55, 0, NULL, 0, NULL, &made) == SUBSETTER_DONE && made.font_size == 164, "make subset");
     check(std::memcmp(made.font, out, 164) == 0, "its bytes");
+    subsetter_free(&made);
+    check(subsetter_make_subset_at(font, 55, 0, coordinates, 2, NULL, 0, NULL, &made) == SUBSETTER_DONE && made.font_size == 164,
+        "make subset at coordinates");
+    check(std::memcmp(made.font, out, 164) == 0, "its bytes there");
     subsetter_free(&made);
     check(made.font == NULL && made.font_size == 0, "freed");
     subsetter_free(&made);

@@ -175,6 +175,50 @@ static inline uint32_t subsetter_subset_with_options(const uint8_t *font, size_t
                                      subsetter_option_count(options), out, out_size, length);
 }
 
+/* ---- at a place on the axes of a variable font */
+
+/* The tag of an axis: SUBSETTER_TAG('w', 'g', 'h', 't'). */
+#define SUBSETTER_TAG(a, b, c, d)                                                              \
+    (((uint32_t)(uint8_t)(a) << 24) | ((uint32_t)(uint8_t)(b) << 16) | ((uint32_t)(uint8_t)(c) << 8) | (uint32_t)(uint8_t)(d))
+
+/* A value on an axis. */
+typedef struct subsetter_coordinate {
+    /* The tag of the axis: its four bytes, the first in the highest bits. */
+    uint32_t tag;
+    /* The value in 65536ths of what the axis counts: weight 650 is 650 * 65536. */
+    int32_t value;
+} subsetter_coordinate;
+
+/* The subset of a font as it is at these coordinates, with all choices.
+ *
+ * An axis without a value stays at its default, of several values for an axis the last counts, one past an axis's end is that
+ * end, and a tag that the font doesn't have is passed over. Where the font stands at its default, has no axes or has its
+ * outlines in `CFF `, it is subset as it is, with its hints. Else the new font is a static one: each glyph is a simple outline
+ * without instructions, as the font draws it there, with the advance that it has there, and there are no further glyphs.
+ *
+ * The answers are those of `subsetter_subset_by_words`; besides, where there are outlines in `glyf`:
+ *   2: what says how the font varies (`fvar`, `avar`, `gvar`, `HVAR`) is cut.
+ *   3: `avar` has another version than 1, or a glyph is put together in a way that isn't taken.
+ *   5: a glyph takes more steps than `tokens`, which bounds them here: one for each glyph that it leads to, each point, each
+ *      tuple, and each point again of a tuple that counts; or a coordinate or an advance doesn't fit its 16 bits.
+ */
+uint32_t subsetter_subset_at_by_words(const uint8_t *font, size_t font_size, uint32_t index,
+                                      const subsetter_coordinate *coordinates, size_t coordinate_count,
+                                      const uint16_t *glyphs, size_t glyph_count,
+                                      const uint32_t *options, size_t option_count,
+                                      uint8_t *out, size_t out_size, size_t *length);
+
+static inline uint32_t subsetter_subset_at(const uint8_t *font, size_t font_size, uint32_t index,
+                                           const subsetter_coordinate *coordinates, size_t coordinate_count,
+                                           const uint16_t *glyphs, size_t glyph_count,
+                                           const subsetter_options *options,
+                                           uint8_t *out, size_t out_size, size_t *length)
+{
+    return subsetter_subset_at_by_words(font, font_size, index, coordinates, coordinate_count, glyphs, glyph_count,
+                                        subsetter_option_words(options), subsetter_option_count(options), out, out_size,
+                                        length);
+}
+
 /* ---- with CIDs and widths */
 
 /* How large the parts of an embedded font are. */
@@ -258,6 +302,22 @@ static inline uint32_t subsetter_make_subset(const uint8_t *font, size_t font_si
 {
     return subsetter_make_subset_by_words(font, font_size, index, glyphs, glyph_count, subsetter_option_words(options),
                                           subsetter_option_count(options), made);
+}
+
+/* The same at coordinates, as `subsetter_subset_at_by_words`. */
+uint32_t subsetter_make_subset_at_by_words(const uint8_t *font, size_t font_size, uint32_t index,
+                                           const subsetter_coordinate *coordinates, size_t coordinate_count,
+                                           const uint16_t *glyphs, size_t glyph_count,
+                                           const uint32_t *options, size_t option_count,
+                                           subsetter_made *made);
+
+static inline uint32_t subsetter_make_subset_at(const uint8_t *font, size_t font_size, uint32_t index,
+                                                const subsetter_coordinate *coordinates, size_t coordinate_count,
+                                                const uint16_t *glyphs, size_t glyph_count,
+                                                const subsetter_options *options, subsetter_made *made)
+{
+    return subsetter_make_subset_at_by_words(font, font_size, index, coordinates, coordinate_count, glyphs, glyph_count,
+                                             subsetter_option_words(options), subsetter_option_count(options), made);
 }
 
 /* The same with CIDs and widths. 2 also where the font has no `hmtx` or no `head`, or 0 units per em. */

@@ -79,9 +79,10 @@ struct row {
     const uint8_t *font, *bytes;
     const uint16_t *glyphs, *cids;
     const uint32_t *widths;
-    size_t font_size, size, glyph_count, cid_count, width_count;
+    const subsetter_coordinate *coordinates;
+    size_t font_size, size, glyph_count, cid_count, width_count, coordinate_count;
     uint32_t index, tokens, depth, drop, most, status;
-    int embeds, limits, options;
+    int embeds, limits, options, varies;
 };
 
 struct named_font {
@@ -155,6 +156,21 @@ static uint16_t *short_numbers(char *list, size_t *count)
     return narrow;
 }
 
+/* The coordinates of a list as `wght=42598400`; null for `-`. */
+static subsetter_coordinate *coordinates_of(char *list, size_t *count)
+{
+    *count = 0;
+    if (strcmp(list, "-") == 0)
+        return NULL;
+    subsetter_coordinate *found = room((strlen(list) / 6 + 1) * sizeof *found);
+    for (char *at = list; at != NULL; at = *at == ',' ? at + 1 : NULL) {
+        struct subsetter_coordinate *one = &found[(*count)++];
+        one->tag = SUBSETTER_TAG(at[0], at[1], at[2], at[3]);
+        one->value = (int32_t)strtol(at + 5, &at, 10);
+    }
+    return found;
+}
+
 static uint32_t number(const char *word)
 {
     return (uint32_t)strtoul(word, NULL, 10);
@@ -194,17 +210,20 @@ static void add_row(char **words)
     find_font(row);
     row->embeds = strncmp(words[0], "embed", 5) == 0;
     row->limits = strcmp(words[0], "limits") == 0;
-    row->options = strstr(words[0], "options") != NULL;
+    row->varies = strstr(words[0], "_at") != NULL;
+    row->options = strstr(words[0], "options") != NULL || row->varies;
     row->index = number(words[3]);
     row->glyphs = short_numbers(words[4], &row->glyph_count);
     int next = 5;
+    if (row->varies)
+        row->coordinates = coordinates_of(words[next++], &row->coordinate_count);
     if (row->limits || row->options) {
         row->tokens = number(words[next++]);
         row->depth = number(words[next++]);
     }
     if (row->options)
         row->drop = number(words[next++]);
-    if (strstr(words[0], "bounded") != NULL)
+    if (strstr(words[0], "bounded") != NULL || row->varies)
         row->most = number(words[next++]);
     row->status = number(words[next++]);
     row->bytes = hex(words[next++], &row->size);
@@ -224,7 +243,7 @@ static int is_one_of(const char *word, const char *const *words)
 static void read_line(char *line)
 {
     static const char *const kinds[] = {"subset", "limits", "options", "bounded_options", "embed", "embed_options",
-        "embed_bounded_options", NULL};
+        "embed_bounded_options", "subset_at", NULL};
     char *words[WORDS] = {0};
     int count = 0;
     for (char *word = strtok(line, " \n"); word != NULL && count < WORDS; word = strtok(NULL, " \n"))
@@ -325,6 +344,11 @@ static void call_with(const struct row *row, const subsetter_options *options, s
         return;
     }
     a->told.cids = a->told.widths = 0;
+    if (row->varies) {
+        a->status = subsetter_subset_at(row->font, row->font_size, row->index, row->coordinates, row->coordinate_count,
+            row->glyphs, row->glyph_count, options, a->font, a->room, &a->told.font);
+        return;
+    }
     a->status = subsetter_subset_with_options(row->font, row->font_size, row->index, row->glyphs, row->glyph_count,
         options, a->font, a->room, &a->told.font);
 }
@@ -422,8 +446,9 @@ static void check_buffers(const struct row *row)
     check(nothing.status == 8 && told(&nothing, size, cids, widths), "null buffers", row->words[1]);
 }
 
-/* Each request for memory refused in turn: nothing is written. Where it asks to give room back, the call goes on without it.
- * A font that is none is told as such, whatever memory there is. */
+/* Each request for memory refused in turn: nothing is written. Where it asks to give room back, the call goes on without it,
+ * and with coordinates it may go on where a list asked for room for more than it comes to hold. A font that is none is told as
+ * such, whatever memory there is. */
 static void check_memory(const struct row *row)
 {
     struct answer a;
@@ -440,7 +465,7 @@ static void check_memory(const struct row *row)
             && is_same(a.font, row->bytes, row->size);
         check(held == before, "all memory is given back", row->words[1]);
         check(is_whole || (met && is_clean && row->status != 1), "out of memory", row->words[1]);
-        check(!met || row->status != 0 || is_clean != gave_back, "which requests may be refused", row->words[1]);
+        check(!met || row->status != 0 || is_clean != gave_back || (row->varies && !gave_back), "which requests may be refused", row->words[1]);
         give_up(&a);
     }
     refused = 0;
@@ -524,6 +549,9 @@ static uint32_t make(const struct row *row, const subsetter_options *options, su
     memset(made, 0xA5, sizeof *made);
     if (row->embeds)
         return subsetter_make_embedded(row->font, row->font_size, row->index, row->glyphs, row->glyph_count, options, made);
+    if (row->varies)
+        return subsetter_make_subset_at(row->font, row->font_size, row->index, row->coordinates, row->coordinate_count,
+            row->glyphs, row->glyph_count, options, made);
     return subsetter_make_subset(row->font, row->font_size, row->index, row->glyphs, row->glyph_count, options, made);
 }
 

@@ -45,6 +45,22 @@ export interface Choices {
     readonly glyphNames?: boolean;
 }
 
+/** Where on the axes of a variable font its glyphs are taken. */
+export interface Place {
+    /**
+     * Tags of axes, of four ASCII characters, with values in what the axes count: `{ wght: 650, wdth: 87.5 }`. A value is
+     * finite, and is taken as the nearest number of 65536ths, a half rounded up. An axis without a value stays at its default,
+     * one past an axis's end is that end, and a tag that the font doesn't have is passed over.
+     *
+     * Where the font stands at its default, has no axes or has its outlines in `CFF `, it is subset as it is, with its hints.
+     * Else the new font is a static one, each glyph a simple outline without instructions, and `limits.tokens` bounds the
+     * steps of a glyph: one for each glyph that it leads to, each point, each tuple, and each point again of a tuple that
+     * counts; OverflowError where it takes more. Besides, MalformedFont is thrown where `fvar`, `avar`, `gvar` or `HVAR` is cut,
+     * and Unimplemented for an `avar` of another version than 1.
+     */
+    readonly coordinates?: { readonly [tag: string]: number };
+}
+
 export interface Face {
     /** The face of a collection, from 0. In a file with one font it isn't looked at. */
     readonly index?: number;
@@ -64,13 +80,13 @@ export interface Embedded {
  * then the given glyphs in order, each once, and then each further glyph that these need as components.
  *
  * Each call throws a SubsetterError by its name; TypeError for what is no font, no iterable of numbers or no such option;
- * and RangeError for a number that is not whole or too large.
+ * and RangeError for a number that is not whole or too large, or for a wrong tag or value of a coordinate.
  */
 export interface Subsetter {
     /** The library's version, as "0.2.6+1". */
     readonly version: string;
     /** The subset of a font for glyph 0 and the given glyphs. */
-    subset(data: FontData, glyphs: Iterable<number>, options?: Face & Choices): Uint8Array;
+    subset(data: FontData, glyphs: Iterable<number>, options?: Face & Choices & Place): Uint8Array;
     /**
      * The subset, the CID of each given glyph, and the width of each CID. Besides, MalformedFont is thrown where the font
      * has no `hmtx` or no `head`, or 0 units per em.
@@ -83,7 +99,7 @@ export interface Subsetter {
 /** A font in the module's memory. */
 export interface Font {
     /** As `Subsetter.subset`. */
-    subset(glyphs: Iterable<number>, options?: Choices): Uint8Array;
+    subset(glyphs: Iterable<number>, options?: Choices & Place): Uint8Array;
     /** As `Subsetter.embed`. */
     embed(glyphs: Iterable<number>, options?: Choices): Embedded;
     /** Gives the font's memory back to later calls. `subset` and `embed` throw a TypeError afterwards. */

@@ -108,16 +108,48 @@ function kept(value, what) {
     return value ?? true;
 }
 
-const CHOICES = ["limits", "hinting", "names", "glyphNames"];
+/** A value in 65536ths, to the nearest, a half rounded up; one past 32 bits is the nearest one within. */
+const fixed = (value) => Math.max(-(2 ** 31), Math.min(Math.round(value * 65536), 2 ** 31 - 1));
 
-/** The limits, and what is dropped, of the options. */
-function choicesOf({ limits, hinting, names, glyphNames }) {
+/** Coordinates as the library takes them: for each axis its tag and its value. None: undefined. Else TypeError or RangeError. */
+function coordinatesOf(coordinates) {
+    if (coordinates === undefined) {
+        return undefined;
+    }
+    if (typeof coordinates !== "object" || coordinates === null || Symbol.iterator in coordinates) {
+        throw new TypeError("coordinates must be an object of tags with numbers");
+    }
+    const words = [];
+    for (const [tag, value] of Object.entries(coordinates)) {
+        if (!/^[\0-\x7f]{4}$/.test(tag)) {
+            throw new RangeError(`the tag of an axis must have four ASCII characters, and not be ${shown(tag)}`);
+        }
+        if (typeof value !== "number") {
+            throw new TypeError(`the value of ${tag} must be a number, and not ${typeof value}`);
+        }
+        if (!Number.isFinite(value)) {
+            throw new RangeError(`the value of ${tag} must be finite, and not ${value}`);
+        }
+        words.push([...tag].reduce((word, letter) => word * 256 + letter.charCodeAt(0), 0), fixed(value));
+    }
+    return Int32Array.from(words);
+}
+
+/** The choices of each call. */
+const CHOICES = {
+    subset: ["limits", "hinting", "names", "glyphNames", "coordinates"],
+    embed: ["limits", "hinting", "names", "glyphNames"],
+};
+
+/** The limits, what is dropped and the coordinates of the options. */
+function choicesOf({ limits, hinting, names, glyphNames, coordinates }) {
     const { tokens = TOKENS, depth = DEPTH, bytes } = named(limits, ["tokens", "depth", "bytes"], "limits");
     return {
         tokens: whole(tokens, 1, WORD_AT_MOST, "tokens"),
         depth: whole(depth, 1, 255, "depth"),
         bytes: bytes === undefined ? 0 : whole(bytes, 1, WORD_AT_MOST, "bytes"),
         drop: (kept(hinting, "hinting") ? 0 : 1) | (kept(names, "names") ? 0 : 2) | (kept(glyphNames, "glyphNames") ? 0 : 4),
+        coordinates: coordinatesOf(coordinates),
     };
 }
 
@@ -255,11 +287,14 @@ class Library {
     }
 
     /** What the call `name` makes of a font that is held here: its three lists, as copies. */
-    make(name, font, index, glyphs, { tokens, depth, drop, bytes }) {
+    make(name, font, index, glyphs, { tokens, depth, drop, bytes, coordinates }) {
         const options = Uint32Array.of(20, tokens, depth, drop, bytes);
-        const words = (list, choices, made) =>
-            [BigInt(font.at), BigInt(font.size), index, list, BigInt(glyphs.length), choices, BigInt(options.length), made];
-        const { status, buffer, made } = this.#call(name, words, [glyphs, options], 48);
+        const lists = coordinates ? [coordinates, glyphs, options] : [glyphs, options];
+        // (a coordinate is two numbers)
+        const count = (list) => BigInt(list === coordinates ? list.length / 2 : list.length);
+        const words = (...places) =>
+            [BigInt(font.at), BigInt(font.size), index, ...lists.flatMap((list, i) => [places[i], count(list)]), places.at(-1)];
+        const { status, buffer, made } = this.#call(name, words, lists, 48);
         if (status !== DONE) {
             throw new (ERRORS[status] ?? SubsetterError)(this.#texts[status] ?? `status ${status}`);
         }
@@ -276,8 +311,9 @@ class Library {
         };
     }
 
-    subset(...words) {
-        return this.make("subsetter_make_subset_by_words", ...words).font;
+    subset(font, index, glyphs, choices) {
+        const name = choices.coordinates ? "subsetter_make_subset_at_by_words" : "subsetter_make_subset_by_words";
+        return this.make(name, font, index, glyphs, choices).font;
     }
 
     embed(...words) {
@@ -298,7 +334,7 @@ class Font {
     }
 
     #made(name, glyphs, options) {
-        const choices = choicesOf(named(options, CHOICES, "options"));
+        const choices = choicesOf(named(options, CHOICES[name], "options"));
         const numbers = glyphsOf(glyphs);
         // (looked at last, as a caller's iterator may close the font)
         if (!this.#place) {
@@ -328,7 +364,7 @@ function callsOf(library) {
     /** One call on a font that is put into the memory for it. */
     function once(name, data, glyphs, options) {
         const bytes = bytesOf(data);
-        const given = named(options, ["index", ...CHOICES], "options");
+        const given = named(options, ["index", ...CHOICES[name]], "options");
         const index = indexOf(given), choices = choicesOf(given), numbers = glyphsOf(glyphs);
         const place = library.hold(bytes);
         try {

@@ -5,6 +5,8 @@ the library is looked for, and memory."""
 import array
 import builtins
 import ctypes
+import decimal
+import fractions
 import inspect
 import mmap
 import os
@@ -60,7 +62,7 @@ def hexadecimal(word):
 
 # By the kind of a row: how many choices it has, and whether it embeds.
 KINDS = {"subset": (0, False), "limits": (2, False), "options": (3, False), "bounded_options": (4, False),
-         "embed": (0, True), "embed_options": (3, True), "embed_bounded_options": (4, True)}
+         "embed": (0, True), "embed_options": (3, True), "embed_bounded_options": (4, True), "subset_at": (4, False)}
 
 
 class Row:
@@ -68,6 +70,9 @@ class Row:
         choices, self.embeds = KINDS[words[0]]
         self.kind, self.name = words[:2]
         self.font, self.index, self.glyphs = fonts[words[2]], int(words[3]), numbers(words[4])
+        self.coordinates = None
+        if self.kind == "subset_at":
+            self.coordinates = [(part[:4], int(part[5:]) / 65536) for part in words.pop(5).split(",") if part != "-"]
         self.tokens, self.depth, self.drop, self.most_bytes = (list(map(int, words[5:5 + choices])) + [0, 0, 0, 0])[:4]
         status, font, *lists = words[5 + choices:]
         assert len(lists) == (2 if self.embeds else 0), words[1]
@@ -80,7 +85,8 @@ class Row:
             self.wanted = hexadecimal(font)
 
     def can_be_said(self):
-        return self.drop < 8 and self.depth < 256
+        tags = [tag for tag, _ in self.coordinates or []]
+        return self.drop < 8 and self.depth < 256 and len(set(tags)) == len(tags)
 
     def choices(self):
         """The keywords of the row: those alone that aren't the default."""
@@ -94,11 +100,14 @@ class Row:
                 found[name] = False
         if self.most_bytes:
             found["most_bytes"] = self.most_bytes
+        if self.coordinates is not None:
+            found["coordinates"] = dict(self.coordinates)
         return found
 
     def all_choices(self):
+        coordinates = {} if self.embeds else {"coordinates": None}
         return {"hinting": True, "names": True, "glyph_names": True, "tokens": None, "depth": None, "most_bytes": None,
-                **self.choices()}
+                **coordinates, **self.choices()}
 
 
 def answer(call, *arguments, **choices):
@@ -267,8 +276,48 @@ def check_refusals(font):
         for name in ("hinting", "names", "glyph_names"):
             for value in (0, 1, None, "no", "", 1.0):
                 check(type(raised(call, font, [2], **{name: value})) is TypeError, f"{name} {value!r}")
+        if call is subsetter.subset:
+            check_wrong_coordinates(font)
+        else:
+            check(type(raised(call, font, [2], coordinates={})) is TypeError, "no coordinates for embed")
         check(type(raised(call, font, [2], 0, 5)) is TypeError, "choices are given by name alone")
         check(type(raised(call, font, [2], hint=False)) is TypeError, "no such choice")
+
+
+def check_wrong_coordinates(font):
+    for tag in ("", "w", "wgh", "wghtt", "wgh\xe9", "w\u0119ht", "\U0001F600", "wght "):
+        check(type(raised(subsetter.subset, font, [2], coordinates={tag: 1})) is ValueError, f"the tag {tag!r}")
+    for tag in (b"wght", 0x77676874, None, ("w", "g", "h", "t")):
+        check(type(raised(subsetter.subset, font, [2], coordinates={tag: 1})) is TypeError, f"the tag {tag!r}")
+    for value in (float("nan"), float("inf"), -float("inf"), decimal.Decimal("nan"), decimal.Decimal("-inf")):
+        check(type(raised(subsetter.subset, font, [2], coordinates={"wght": value})) is ValueError, f"the value {value!r}")
+    for value in (None, "650", b"650", [650], (650,), 650j, {}):
+        check(type(raised(subsetter.subset, font, [2], coordinates={"wght": value})) is TypeError, f"the value {value!r}")
+    for coordinates in (5, "wght", [("wght", 650)], (("wght", 650),), {"wght"}, iter([]), [], True):
+        check(type(raised(subsetter.subset, font, [2], coordinates=coordinates)) is TypeError, f"coordinates {coordinates!r}")
+
+
+def check_values():
+    """A value is the nearest number of 65536ths, a half rounded up."""
+    class Number:
+        def __float__(self):
+            return 2.5
+
+    class Index:
+        def __index__(self):
+            return 3
+
+    least, most, part = -0x80000000, 0x7FFFFFFF, 1 / 65536
+    for value, wanted in (
+            (0, 0), (-0.0, 0), (650, 650 * 65536), (87.5, 5734400), (-10.25, -671744), (0.5 * part, 1),
+            (0.49999999999999994 * part, 0), (-0.5 * part, 0), (-0.5000000000000001 * part, -1), (-1.5 * part, -1),
+            (1.5 * part, 2), (2.5 * part, 3), (5e-324, 0), (-5e-324, 0), (32768 - part, most), (32768, most), (32769.5, most),
+            (-32768, least), (-32768 - part, least), (1e300, most), (1.7e308, most), (-1.7e308, least), (10 ** 400, most),
+            (-10 ** 400, least), (True, 65536), (decimal.Decimal("1.5"), 98304), (fractions.Fraction(1, 65536), 1),
+            (Number(), 163840), (Index(), 196608)):
+        check(subsetter._fixed("wght", value) == wanted, f"the value {value!r}")
+    found = subsetter._coordinates({"wght": 2, "AZ~ ": -1})
+    check([(it.tag, it.value) for it in found] == [(0x77676874, 131072), (0x415A7E20, -65536)], "tags in their order")
 
 
 def check_iterables(font, wanted):
@@ -320,9 +369,10 @@ def check_names(texts):
     for call in (subsetter.subset, subsetter.embed):
         found = [(it.name, it.default, it.kind) for it in inspect.signature(call).parameters.values()]
         both, named, none = inspect.Parameter.POSITIONAL_OR_KEYWORD, inspect.Parameter.KEYWORD_ONLY, inspect.Parameter.empty
-        check(found == [("data", none, both), ("glyphs", none, both), ("index", 0, both), ("tokens", None, named),
-                        ("depth", None, named), ("most_bytes", None, named), ("hinting", True, named),
-                        ("names", True, named), ("glyph_names", True, named)], "the signature")
+        wanted = [("data", none, both), ("glyphs", none, both), ("index", 0, both), ("tokens", None, named),
+                  ("depth", None, named), ("most_bytes", None, named), ("hinting", True, named),
+                  ("names", True, named), ("glyph_names", True, named)]
+        check(found == wanted + [("coordinates", None, named)] * (call is subsetter.subset), "the signature")
         check(set(call.__annotations__) == {name for name, _, _ in found} | {"return"}, "each argument has its type")
 
 
@@ -351,7 +401,8 @@ def check_work(fonts):
 
         return real, call
 
-    names = ["subsetter_make_subset_by_words", "subsetter_make_embedded_by_words", "subsetter_free"]
+    names = ["subsetter_make_subset_by_words", "subsetter_make_embedded_by_words", "subsetter_free",
+             "subsetter_make_subset_at_by_words"]
     real = {name: counted(name) for name in names}
     held, refused = bytearray(font), []
     for name in names:
@@ -362,6 +413,9 @@ def check_work(fonts):
         counts.clear()
         check(len(subsetter.embed(font, []).font) > len(font), "an embedded font outgrows its font")
         check(counts == {names[1]: 1, names[2]: 1}, f"one embedded font is made: {counts}")
+        counts.clear()
+        check(len(subsetter.subset(font, [], coordinates={})) > len(font), "a subset at coordinates outgrows its font")
+        check(counts == {names[3]: 1, names[2]: 1}, f"one subset at coordinates is made: {counts}")
         held[:] = font
         refused.clear()
         subsetter.subset(held, [])
@@ -471,6 +525,7 @@ def check_places():
         with open(source, "w") as file:
             file.write("int subsetter_make_subset_by_words(void) { return 99; }\n"
                        "int subsetter_make_embedded_by_words(void) { return 8; }\n"
+                       "int subsetter_make_subset_at_by_words(void) { return 9; }\n"
                        "int subsetter_error_text(void) { return 0; }\n#ifdef FREE\nvoid subsetter_free(void) {}\n#endif\n")
         for flag, words in (("-DFREE", "answers status 99: it is of another version"),
                             ("-DNONE", f"{named} has no call subsetter_free: it is of another version")):
@@ -489,6 +544,7 @@ def main():
     check_buffers(fonts, rows)
     check_refusals(fonts["three_glyphs"])
     check_iterables(fonts["three_glyphs"], simple)
+    check_values()
     check_limits(fonts)
     check_names(texts)
     check_work(fonts)

@@ -69,6 +69,7 @@ function wrongArguments({ library, subsetter, fonts }) {
     for (const limits of [{ tokens: 0 }, { tokens: -1 }, { tokens: 2 ** 32 }, { tokens: 0.5 }, { depth: 0 }, { depth: 256 }, { depth: 1.5 }, { depth: NaN }, { bytes: 0 }, { bytes: 2 ** 32 }, { bytes: 1.5 }]) {
         wrong(RangeError, `the limits ${JSON.stringify(limits)}`, font, [1], { limits });
     }
+    wrongCoordinates(subsetter, font, opened);
     throws(() => opened.subset([1], { index: 0 }), TypeError, "an index for an opened font");
     throws(() => subsetter.open(font, { limits: {} }), TypeError, "limits for open");
     for (const name of ["subset", "embed"]) {
@@ -84,6 +85,66 @@ function wrongArguments({ library, subsetter, fonts }) {
         ok(!Object.keys(error).includes("name"), "the name isn't the error's own");
     }
     equal(new library.SubsetterError("why").name, "SubsetterError", "the name of them all");
+}
+
+function wrongCoordinates(subsetter, font, opened) {
+    const wrong = (kind, what, coordinates) => {
+        throws(() => subsetter.subset(font, [1], { coordinates }), kind, what);
+        throws(() => opened.subset([1], { coordinates }), kind, `opened: ${what}`);
+    };
+    for (const coordinates of [5, null, "wght", true, [], ["wght", 650], [["wght", 650]], new Map([["wght", 650]]), new Set(), Int32Array.of(1)]) {
+        wrong(TypeError, `coordinates that are ${Object.prototype.toString.call(coordinates)}`, coordinates);
+    }
+    for (const tag of ["", "w", "wgh", "wghtt", "wgh\u00e9", "\u{1f600}", "wght\n", "wgh\u0080"]) {
+        wrong(RangeError, `the tag ${JSON.stringify(tag)}`, { [tag]: 1 });
+        wrong(RangeError, `the tag ${JSON.stringify(tag)} behind another`, { wght: 1, [tag]: 1 });
+    }
+    for (const value of [NaN, Infinity, -Infinity]) {
+        wrong(RangeError, `the value ${value}`, { wght: value });
+        wrong(RangeError, `the value ${value} behind another`, { wdth: 1, wght: value });
+    }
+    for (const value of ["650", null, undefined, 650n, [650], true, {}]) {
+        wrong(TypeError, `a value that is ${Object.prototype.toString.call(value)}`, { wght: value });
+    }
+    for (const call of [() => subsetter.embed(font, [1], { coordinates: {} }), () => opened.embed([1], { coordinates: {} })]) {
+        throws(call, TypeError, "coordinates for embed");
+    }
+}
+
+/** A value is the nearest number of 65536ths, a half rounded up: what the module passes on. */
+async function valuesOfCoordinates({ library, wasm, fonts }) {
+    let passed = [], memory;
+    const change = (exports) => {
+        const call = exports.subsetter_make_subset_at_by_words;
+        memory = exports.memory;
+        exports.subsetter_make_subset_at_by_words = (...words) => {
+            const [at, count] = [Number(words[3]), Number(words[4])];
+            passed = [...new Int32Array(memory.buffer, at, 2 * count)];
+            return call(...words);
+        };
+        return exports;
+    };
+    await watched(async () => {
+        const { subset } = await library.load(wasm), least = -(2 ** 31), most = 2 ** 31 - 1, part = 1 / 65536;
+        const rows = [
+            [0, 0], [-0, 0], [650, 650 * 65536], [87.5, 5734400], [-10.25, -671744], [0.5 * part, 1], [0.49999999999999994 * part, 0],
+            [-0.5 * part, 0], [-0.5000000000000001 * part, -1], [-1.5 * part, -1], [1.5 * part, 2], [2.5 * part, 3], [5e-324, 0],
+            [32768 - part, most], [32768, most], [32769.5, most], [-32768, least], [-32768 - part, least], [1.7e308, most], [-1.7e308, least],
+        ];
+        for (const [value, wanted] of rows) {
+            subset(fonts.three_glyphs, [1], { coordinates: { wght: value } });
+            same(passed, [0x77676874, wanted], `the value ${value}`);
+        }
+        subset(fonts.three_glyphs, [1], { coordinates: { "AZ~ ": -1, wdth: 2, 1000: 3 } });
+        // (numbers come first in an object)
+        same(passed, [0x31303030, 196608, 0x415a7e20, -65536, 0x77647468, 131072], "three coordinates");
+        passed = null;
+        const none = subset(fonts.three_glyphs, [1], { coordinates: {} });
+        same(passed, [], "no coordinates");
+        passed = null;
+        same(subset(fonts.three_glyphs, [1], { coordinates: undefined }), none, "coordinates not said");
+        equal(passed, null, "the call without coordinates");
+    }, change);
 }
 
 function kindsOfArguments({ subsetter }) {
@@ -356,7 +417,7 @@ async function waysToLoad({ library, wasm, fonts }) {
 export async function runCalls(library, wasm, table, count) {
     const { fonts } = readRows(table), subsetter = await library.load(wasm);
     const all = { library, subsetter, fonts, wasm };
-    const parts = [wrongArguments, kindsOfArguments, answersAreCopies, openedFonts, memoryStays, memoryEnds, trapsPass, stackEnds, waysToLoad];
+    const parts = [wrongArguments, valuesOfCoordinates, kindsOfArguments, answersAreCopies, openedFonts, memoryStays, memoryEnds, trapsPass, stackEnds, waysToLoad];
     for (const part of parts) {
         try {
             await part(all, count);

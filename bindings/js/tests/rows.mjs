@@ -3,7 +3,7 @@ import { equal, same, throws } from "./assert.mjs";
 
 const ERRORS = [, "UnknownKind", "MalformedFont", "Unimplemented", "SubsetError", "OverflowError", "CFFError", "OutOfMemory"];
 
-const KINDS = ["subset", "limits", "options", "bounded_options", "embed", "embed_options", "embed_bounded_options"];
+const KINDS = ["subset", "limits", "options", "bounded_options", "embed", "embed_options", "embed_bounded_options", "subset_at"];
 
 /** What stands in a status's place where the module throws a RangeError, and for what can't be said to it at all. */
 const NOT_WHOLE = "RangeError", NOT_SAID = "not said";
@@ -21,8 +21,15 @@ const numbersOf = (word) =>
 /** A row's call: what is asked for, its status, and what it is to answer. */
 function callOf(words, fonts) {
     const [kind, name, font, index, glyphs, ...rest] = words;
-    const isEmbed = kind.startsWith("embed"), options = {};
-    if (kind === "limits" || kind.endsWith("options")) {
+    const isEmbed = kind.startsWith("embed"), varies = kind.endsWith("_at"), options = {};
+    let isSaid = true;
+    if (varies) {
+        const list = rest.shift(), pairs = list === "-" ? [] : list.split(",").map((part) => [part.slice(0, 4), Number(part.slice(5)) / 65536]);
+        options.coordinates = Object.fromEntries(pairs);
+        // (an object has each tag once)
+        isSaid = Object.keys(options.coordinates).length === pairs.length;
+    }
+    if (kind === "limits" || kind.endsWith("options") || varies) {
         const [tokens, depth] = [Number(rest.shift()), Number(rest.shift())];
         // In a row of options 0 is the default, which isn't named here.
         const isNamed = (value) => kind === "limits" || value !== 0;
@@ -30,20 +37,20 @@ function callOf(words, fonts) {
             options.limits = { ...(isNamed(tokens) && { tokens }), ...(isNamed(depth) && { depth }) };
         }
     }
-    if (kind.endsWith("options")) {
+    if (kind.endsWith("options") || varies) {
         const drop = Number(rest.shift());
         ["hinting", "names", "glyphNames"].forEach((choice, i) => {
             if (drop & (1 << i)) options[choice] = false;
         });
     }
-    if (kind.includes("bounded")) {
+    if (kind.includes("bounded") || varies) {
         const bytes = Number(rest.shift());
         if (bytes !== 0) options.limits = { ...options.limits, bytes };
     }
     const [given, made, cids, widths] = rest;
     // Not to be said here: limits of no tokens, which every charstring passes, of no depth, and of too much; unknown bits.
     const { tokens, depth } = options.limits ?? {};
-    const status = tokens === 0 || given === "9" ? NOT_WHOLE : given === "10" ? (depth > 255 ? NOT_WHOLE : NOT_SAID) : Number(given);
+    const status = !isSaid ? NOT_SAID : tokens === 0 || given === "9" ? NOT_WHOLE : given === "10" ? (depth > 255 ? NOT_WHOLE : NOT_SAID) : Number(given);
     if (!(font in fonts)) throw new Error(`${name}: there is no font ${font}`);
     return {
         name: `${kind} ${name}`,

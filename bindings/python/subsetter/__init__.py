@@ -17,6 +17,7 @@ from __future__ import annotations
 
 import builtins
 import ctypes
+import math
 import operator
 import os
 import sys
@@ -24,9 +25,11 @@ import threading
 from array import array
 from contextlib import contextmanager
 from typing import (
-    TYPE_CHECKING, Any, Dict, Iterable, Iterator, List, NamedTuple, Optional, SupportsIndex, Tuple, Type,
+    TYPE_CHECKING, Any, Dict, Iterable, Iterator, List, Mapping, NamedTuple, Optional, SupportsFloat, SupportsIndex, Tuple,
+    Type, Union,
 )
 
+Value = Union[SupportsFloat, SupportsIndex]
 if TYPE_CHECKING:
     from _typeshed import ReadableBuffer as Buffer
 elif sys.version_info >= (3, 12):
@@ -95,6 +98,12 @@ _ERRORS: Dict[int, Type[Error]] = {
 _DROP_HINTING, _DROP_NAMES, _DROP_GLYPH_NAMES = 1, 2, 4
 
 
+class _Coordinate(ctypes.Structure):
+    """A value on an axis, in 65536ths."""
+
+    _fields_ = [("tag", ctypes.c_uint32), ("value", ctypes.c_int32)]
+
+
 class _Made(ctypes.Structure):
     """What the library hands over."""
 
@@ -138,8 +147,10 @@ def _open() -> ctypes.CDLL:
 def _declare(library: ctypes.CDLL) -> ctypes.CDLL:
     pointer, size = ctypes.c_void_p, ctypes.c_size_t
     make = [pointer, size, ctypes.c_uint32, pointer, size, pointer, size, ctypes.POINTER(_Made)]
+    make_at = make[:3] + [ctypes.POINTER(_Coordinate), size] + make[3:]
     declared = {
         "subsetter_make_subset_by_words": (make, ctypes.c_uint32),
+        "subsetter_make_subset_at_by_words": (make_at, ctypes.c_uint32),
         "subsetter_make_embedded_by_words": (make, ctypes.c_uint32),
         "subsetter_free": ([ctypes.POINTER(_Made)], None),
         "subsetter_error_text": ([ctypes.c_uint32, pointer, size, ctypes.POINTER(size)], ctypes.c_uint32),
@@ -215,6 +226,35 @@ def _number(what: str, value: SupportsIndex, least: int, most: int) -> int:
     return number
 
 
+def _tag(tag: str) -> int:
+    if not isinstance(tag, str):
+        raise TypeError(f"the tag of an axis is a str, and no {type(tag).__name__}")
+    if len(tag) != 4 or not tag.isascii():
+        raise ValueError(f"the tag of an axis has four ASCII characters, and {tag!r} hasn't")
+    return int.from_bytes(tag.encode("ascii"), "big")
+
+
+def _fixed(tag: str, value: Value) -> int:
+    """A value as the nearest number of 65536ths, a half rounded up; one past 32 bits is the nearest one within."""
+    try:
+        scaled = math.ldexp(value, 16)
+    except builtins.OverflowError:
+        return 0x7FFFFFFF if value > 0 else -0x80000000  # type: ignore[operator]
+    except TypeError:
+        raise TypeError(f"the value of the axis {tag} is a number, and no {type(value).__name__}") from None
+    if not math.isfinite(scaled):
+        raise ValueError(f"the value of the axis {tag} is {value}")
+    below = math.floor(scaled)
+    return max(-0x80000000, min(below + (scaled - below >= 0.5), 0x7FFFFFFF))
+
+
+def _coordinates(coordinates: Mapping[str, Value]) -> ctypes.Array[_Coordinate]:
+    if not isinstance(coordinates, Mapping):
+        raise TypeError(f"coordinates are a mapping of tags to numbers, and no {type(coordinates).__name__}")
+    found = [_Coordinate(_tag(tag), _fixed(tag, value)) for tag, value in coordinates.items()]
+    return (_Coordinate * len(found))(*found)
+
+
 def _words(
     tokens: Optional[SupportsIndex], depth: Optional[SupportsIndex], most_bytes: Optional[SupportsIndex], hinting: bool,
     names: bool, glyph_names: bool,
@@ -249,14 +289,16 @@ def _text(library: ctypes.CDLL, status: int) -> str:
 
 @contextmanager
 def _made(
-    call: str, data: Buffer, glyphs: Iterable[SupportsIndex], index: SupportsIndex, words: array[int]
+    call: str, data: Buffer, glyphs: Iterable[SupportsIndex], index: SupportsIndex, words: array[int],
+    coordinates: Optional[ctypes.Array[_Coordinate]] = None,
 ) -> Iterator[_Made]:
     """What a call of the library makes of a font; it is given back at the end."""
     numbers, face = _glyph_numbers(glyphs), _number("index", index, 0, 0xFFFFFFFF)
     library, made = _library(), _Made()
+    place = () if coordinates is None else (coordinates, len(coordinates))
     with _bytes_of(data) as (font, size):
         status = getattr(library, call)(
-            font, size, face, numbers.buffer_info()[0], len(numbers), words.buffer_info()[0], len(words),
+            font, size, face, *place, numbers.buffer_info()[0], len(numbers), words.buffer_info()[0], len(words),
             ctypes.byref(made),
         )
     try:
@@ -280,6 +322,7 @@ def subset(
     hinting: bool = True,
     names: bool = True,
     glyph_names: bool = True,
+    coordinates: Optional[Mapping[str, Value]] = None,
 ) -> bytes:
     """The subset of a font for glyph 0 and the given glyphs.
 
@@ -297,9 +340,23 @@ def subset(
     `fpgm` and `prep` (not for fonts that draw by their instructions, as MingLiU does); without `names` no `name`; without
     `glyph_names` `post` has version 3.0.
 
-    Raises an `Error` by its name; `TypeError` for arguments of another kind, and `ValueError` for numbers out of range.
+    `coordinates` are where a variable font is taken: the tags of axes with values in what the axes count, as
+    {"wght": 650, "wdth": 87.5}. An axis without a value stays at its default, one past an axis's end is that end, and a tag
+    that the font doesn't have is passed over. A value is taken as the nearest number of 65536ths, a half rounded up. Where
+    the font stands at its default, has no axes or has its outlines in `CFF `, it is subset as it is, with its hints; else the
+    new font is a static one, each glyph a simple outline without instructions, and `tokens` bounds the steps of a glyph
+    (one for each glyph that it leads to, each point, each tuple, and each point again of a tuple that counts).
+
+    Raises an `Error` by its name (with coordinates `MalformedFont` also where `fvar`, `avar`, `gvar` or `HVAR` is cut,
+    `Unimplemented` also for an `avar` of another version than 1, and `OverflowError` for too many steps); `TypeError` for
+    arguments of another kind, and `ValueError` for numbers out of range, a value that is NaN or infinite, and a tag that
+    hasn't four ASCII characters.
     """
     words = _words(tokens, depth, most_bytes, hinting, names, glyph_names)
+    if coordinates is not None:
+        place = _coordinates(coordinates)
+        with _made("subsetter_make_subset_at_by_words", data, glyphs, index, words, place) as made:
+            return ctypes.string_at(made.font, made.font_size)
     with _made("subsetter_make_subset_by_words", data, glyphs, index, words) as made:
         return ctypes.string_at(made.font, made.font_size)
 

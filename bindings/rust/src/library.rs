@@ -15,6 +15,17 @@ struct Made {
     width_count: usize,
 }
 
+/// A value on an axis of a variable font.
+#[cfg(feature = "variable-fonts")]
+#[derive(Copy, Clone, Debug, Eq, PartialEq)]
+#[repr(C)]
+pub(crate) struct Coordinate {
+    /// The tag of the axis: its four bytes, the first in the highest bits.
+    pub(crate) tag: u32,
+    /// The value in 65536ths.
+    pub(crate) value: i32,
+}
+
 /// The type of the two calls that make a subset.
 type Make = unsafe extern "C" fn(
     font: *const u8,
@@ -42,6 +53,19 @@ extern "C" {
         font: *const u8,
         font_size: usize,
         index: u32,
+        glyphs: *const u16,
+        glyph_count: usize,
+        options: *const u32,
+        option_count: usize,
+        made: *mut Made,
+    ) -> u32;
+    #[cfg(feature = "variable-fonts")]
+    fn subsetter_make_subset_at_by_words(
+        font: *const u8,
+        font_size: usize,
+        index: u32,
+        coordinates: *const Coordinate,
+        coordinate_count: usize,
         glyphs: *const u16,
         glyph_count: usize,
         options: *const u32,
@@ -90,14 +114,7 @@ impl Made {
         options: &Options,
     ) -> Result<Self, Error> {
         let words = words(options);
-        let mut made = Self {
-            font: ptr::null(),
-            font_size: 0,
-            cids: ptr::null(),
-            cid_count: 0,
-            widths: ptr::null(),
-            width_count: 0,
-        };
+        let mut made = Self::nothing();
         #[cfg(test)]
         tests::CALLS.with(|calls| calls.set(calls.get() + 1));
         // SAFETY: each pointer is that of a slice, with its count, or of `made`, which is borrowed for writing alone. The
@@ -114,8 +131,57 @@ impl Made {
                 &mut made,
             )
         };
+        made.answered(status)
+    }
+
+    /// What the call with coordinates makes of a font.
+    #[cfg(feature = "variable-fonts")]
+    fn at(
+        data: &[u8],
+        index: u32,
+        coordinates: &[Coordinate],
+        glyphs: &[u16],
+        options: &Options,
+    ) -> Result<Self, Error> {
+        let (font, font_size) = (data.as_ptr(), data.len());
+        let (list, count) = (glyphs.as_ptr(), glyphs.len());
+        let words = words(options);
+        let mut made = Self::nothing();
+        #[cfg(test)]
+        tests::CALLS.with(|calls| calls.set(calls.get() + 1));
+        // SAFETY: as in `by`.
+        let status = unsafe {
+            subsetter_make_subset_at_by_words(
+                font,
+                font_size,
+                index,
+                coordinates.as_ptr(),
+                coordinates.len(),
+                list,
+                count,
+                words.as_ptr(),
+                words.len(),
+                &mut made,
+            )
+        };
+        made.answered(status)
+    }
+
+    fn nothing() -> Self {
+        Self {
+            font: ptr::null(),
+            font_size: 0,
+            cids: ptr::null(),
+            cid_count: 0,
+            widths: ptr::null(),
+            width_count: 0,
+        }
+    }
+
+    /// What was handed over by a call of this status.
+    fn answered(self, status: u32) -> Result<Self, Error> {
         match status {
-            DONE => Ok(made),
+            DONE => Ok(self),
             OUT_OF_MEMORY => handle_alloc_error(Layout::new::<u8>()),
             _ => Err(Error::of_status(status)),
         }
@@ -167,6 +233,19 @@ pub(crate) fn subset(
     Ok(Made::by(make, data, index, glyphs, options)?
         .font()
         .to_vec())
+}
+
+/// The subset of a font at coordinates.
+#[cfg(feature = "variable-fonts")]
+pub(crate) fn subset_at(
+    data: &[u8],
+    index: u32,
+    coordinates: &[Coordinate],
+    glyphs: &[u16],
+    options: &Options,
+) -> Result<Vec<u8>, Error> {
+    let made = Made::at(data, index, coordinates, glyphs, options)?;
+    Ok(made.font().to_vec())
 }
 
 /// The subset of a font with CIDs and widths.
@@ -241,6 +320,13 @@ mod tests {
         assert_eq!(calls(|| embed_with_limits(&data, 0, &[], &limits)), 1);
         assert_eq!(calls(|| embed_with_options(&data, 0, &[], &options)), 1);
         assert_eq!(calls(|| subset(&[], 0, &mapper)), 1);
+        #[cfg(feature = "variable-fonts")]
+        {
+            use crate::subset_with_variations;
+            assert!(subset_with_variations(&data, 0, &[], &mapper).is_ok());
+            let at = || subset_with_variations(&data, 0, &[], &mapper);
+            assert_eq!(calls(at), 1);
+        }
     }
 
     #[test]

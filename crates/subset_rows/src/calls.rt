@@ -3,6 +3,8 @@
 ghost use Rattle.std.specs.Prelude.{◌≡◌, [], ◌∷◌, IfNone, IfOk};
 ghost use Rattle.subsetter.specs.Subset.{IsSubset};
 ghost use Rattle.subsetter_base.specs.Places.{with_glyphs};
+ghost use Rattle.subsetter_sfnt.specs.FontAt.{font_at};
+ghost use Rattle.subsetter_variable.specs.Subset.{IsSubsetAt};
 
 use crate::answer::{Answer, Difference, compare};
 use crate::row::{Kind, Row};
@@ -12,6 +14,7 @@ use std::fmt;
 use subsetter::{
     Error, GlyphRemapper, Limits, Options, subset, subset_with_limits, subset_with_options,
 };
+use subsetter_variable::subset_with_variations_and_options;
 
 /// A call that answered something else than the row says.
 #[derive(Clone, Copy, Debug, PartialEq, Eq)]
@@ -92,8 +95,11 @@ fn miss_by_kind(alloc: Global, font: &[u8], row: &Row<'_>, limits: &Limits) -> O
         Kind::Subset => "subset",
         Kind::Limits => "subset_with_limits",
         Kind::Embed => "embed",
-        Kind::Options | Kind::BoundedOptions | Kind::EmbedOptions | Kind::EmbedBoundedOptions =>
-            return None,
+        Kind::Options
+        | Kind::BoundedOptions
+        | Kind::EmbedOptions
+        | Kind::EmbedBoundedOptions
+        | Kind::SubsetAt => return None,
     };
     let answered = by_kind(alloc, font, row, limits);
     let difference = compare(&answered, &row.wanted)?;
@@ -118,6 +124,39 @@ pub fn miss_of(alloc: Global, font: &[u8], row: &Row<'_>, options: &Options) -> 
     }
     if let Some(miss) = miss_by_kind(alloc, font, row, &options.limits) {
         return Some(miss);
+    }
+    None
+}
+
+/// The subset of a row's font at its coordinates, for glyph 0 and its glyphs.
+fn subset_at(alloc: Global, font: &[u8], row: &Row<'_>, options: &Options) -> Result<Vec<u8>, Error>
+    ensures { IfOk result (λ out. IsSubsetAt options.now.limits.tokens options.now.limits.depth (font_at font.now row.now.index options.now.extras) row.now.coordinates.items (with_glyphs (0 ∷ []) row.now.glyphs.items) out.items) }
+{
+    let mapper = GlyphRemapper::new_from_glyphs(alloc, &row.glyphs)?;
+    subset_with_variations_and_options(alloc, font, row.index, &row.coordinates, &mapper, options)
+}
+
+/// What the call with coordinates and options answers.
+fn by_coordinates(alloc: Global, font: &[u8], row: &Row<'_>, options: &Options) -> Answer
+    // What is answered with status 0 is a subset of the font at these coordinates.
+    ensures { result.status ≡ 0 → IsSubsetAt options.now.limits.tokens options.now.limits.depth (font_at font.now row.now.index options.now.extras) row.now.coordinates.items (with_glyphs (0 ∷ []) row.now.glyphs.items) result.font.items }
+{
+    match subset_at(alloc, font, row, options) {
+        Ok(made) => Answer::of_font(alloc, made),
+        Err(error) => Answer::of_error(alloc, error),
+    }
+}
+
+/// How the call with coordinates and options answers something else than the row says.
+pub fn miss_at(alloc: Global, font: &[u8], row: &Row<'_>, options: &Options) -> Option<Miss>
+    // A row of status 0 is as expected only where its very bytes are a subset of the font at these coordinates.
+    ensures { IfNone result (row.now.wanted.status ≡ 0 → IsSubsetAt options.now.limits.tokens options.now.limits.depth (font_at font.now row.now.index options.now.extras) row.now.coordinates.items (with_glyphs (0 ∷ []) row.now.glyphs.items) row.now.wanted.font.items) }
+{
+    let call = "subset_with_variations_and_options";
+    let answered = by_coordinates(alloc, font, row, options);
+    match compare(&answered, &row.wanted) {
+        Some(difference) => return Some(Miss { call, difference }),
+        None => {}
     }
     None
 }

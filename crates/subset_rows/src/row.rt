@@ -7,8 +7,8 @@ use crate::answer::Answer;
 use crate::digits::{word_bytes, word_numbers, word_short_numbers};
 use crate::failure::Failure;
 use std::alloc::Global;
-use subsetter::{Extras, Limits, Options};
-use subsetter_words::u32_of;
+use subsetter::{Extras, Limits, Options, Tag};
+use subsetter_words::{parts_of, u32_of};
 
 /// The kind of a row.
 #[derive(Clone, Copy, Debug, PartialEq, Eq)]
@@ -20,6 +20,7 @@ pub enum Kind {
     Embed,
     EmbedOptions,
     EmbedBoundedOptions,
+    SubsetAt,
 }
 
 /// The kind that a word says.
@@ -34,6 +35,7 @@ pub fn kind_of(word: &str) -> Option<Kind>
         "embed" => Some(Kind::Embed),
         "embed_options" => Some(Kind::EmbedOptions),
         "embed_bounded_options" => Some(Kind::EmbedBoundedOptions),
+        "subset_at" => Some(Kind::SubsetAt),
         _ => None,
     }
 }
@@ -60,6 +62,8 @@ pub struct Row<'a> {
     pub index: u32,
     /// The old numbers of the glyphs to keep, in order.
     pub glyphs: Vec<u16>,
+    /// Tags of axes, each with a value in 65536ths, which `SubsetAt` alone has.
+    pub coordinates: Vec<(Tag, i32)>,
     /// The limits and what is kept, or the status of a choice that can't be passed to these calls.
     pub options: Result<Options, u32>,
     pub wanted: Answer,
@@ -143,7 +147,7 @@ fn choices<'a, 'b>(
             Ok((options, behind))
         }
         (
-            Kind::BoundedOptions | Kind::EmbedBoundedOptions,
+            Kind::BoundedOptions | Kind::EmbedBoundedOptions | Kind::SubsetAt,
             [tokens, depth, drop, bytes, behind @ ..],
         ) => {
             let bytes = number(bytes)?;
@@ -164,9 +168,10 @@ fn wanted(alloc: Global, kind: Kind, words: &[&str]) -> Result<Answer, Failure> 
             Kind::Embed | Kind::EmbedOptions | Kind::EmbedBoundedOptions,
             [status, font, cids, widths],
         ) => (status, font, *cids, *widths),
-        (Kind::Subset | Kind::Limits | Kind::Options | Kind::BoundedOptions, [status, font]) => (
-            status, font, "-", "-",
-        ),
+        (
+            Kind::Subset | Kind::Limits | Kind::Options | Kind::BoundedOptions | Kind::SubsetAt,
+            [status, font],
+        ) => (status, font, "-", "-"),
         _ => return Err(Failure::Row),
     };
     Ok(Answer {
@@ -177,6 +182,35 @@ fn wanted(alloc: Global, kind: Kind, words: &[&str]) -> Result<Answer, Failure> 
     })
 }
 
+/// A tag with a value, as `wght=42598400`.
+fn coordinate(part: &str) -> Result<(Tag, i32), Failure> {
+    let (tag, value) = part.split_once('=').ok_or(Failure::Row)?;
+    let tag = tag.parse::<Tag>().map_err(|_| Failure::Row)?;
+    let value = value.parse::<i32>().map_err(|_| Failure::Row)?;
+    Ok((tag, value))
+}
+
+/// The coordinates of a row by its kind, and the words behind them.
+fn coordinates<'a, 'b>(
+    alloc: Global,
+    kind: Kind,
+    words: &'b [&'a str],
+) -> Result<(Vec<(Tag, i32)>, &'b [&'a str]), Failure> {
+    let mut found = Vec::new(alloc);
+    if kind != Kind::SubsetAt {
+        return Ok((found, words));
+    }
+    let [list, behind @ ..] = words else {
+        return Err(Failure::Row);
+    };
+    if *list != "-" {
+        for part in &parts_of(alloc, list)? {
+            found.push(coordinate(part)?)?;
+        }
+    }
+    Ok((found, behind))
+}
+
 /// Reads a row from its words behind the one that says its kind.
 ///
 /// `Row` where they aren't as the kind has them.
@@ -184,6 +218,7 @@ pub fn read_row<'a>(alloc: Global, kind: Kind, words: &[&'a str]) -> Result<Row<
     let [name, font, index, glyphs, behind @ ..] = words else {
         return Err(Failure::Row);
     };
+    let (coordinates, behind) = coordinates(alloc, kind, behind)?;
     let (options, behind) = choices(kind, behind)?;
     Ok(Row {
         kind,
@@ -191,6 +226,7 @@ pub fn read_row<'a>(alloc: Global, kind: Kind, words: &[&'a str]) -> Result<Row<
         font: *font,
         index: number(index)?,
         glyphs: word_short_numbers(alloc, glyphs)?,
+        coordinates,
         options,
         wanted: wanted(alloc, kind, behind)?,
     })

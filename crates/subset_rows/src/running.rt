@@ -3,7 +3,7 @@
 ghost use Rattle.std.specs.Prelude.{◌≤◌};
 
 use crate::answer::status_of;
-use crate::calls::{Miss, miss_of};
+use crate::calls::{Miss, miss_at, miss_of};
 use crate::digits::word_bytes;
 use crate::failure::Failure;
 use crate::row::{Kind, kind_of, read_row};
@@ -94,10 +94,17 @@ fn run_row<'a>(
     Ok(match &row.options {
         Err(status) if row.wanted.status == *status => Outcome::AsExpected(row.name),
         Err(status) => Outcome::NotAsked(row.name, *status),
-        Ok(options) => match miss_of(alloc, font, &row, options) {
-            None => Outcome::AsExpected(row.name),
-            Some(miss) => Outcome::Missed(row.name, miss),
-        },
+        Ok(options) => {
+            let miss = if kind == Kind::SubsetAt {
+                miss_at(alloc, font, &row, options)
+            } else {
+                miss_of(alloc, font, &row, options)
+            };
+            match miss {
+                None => Outcome::AsExpected(row.name),
+                Some(miss) => Outcome::Missed(row.name, miss),
+            }
+        }
     })
 }
 

@@ -36,7 +36,7 @@ answer_handed Said Named answer before after told status ok err = said_as (IsAns
     (λ bytes a. subst Said a.2 (subst (λ (r : Result (Vec ℕ Global) Error). IfOk r (λ v. Said v.items)) a.1 ok))
     (λ e is. subst (λ (r : Result (Vec ℕ Global) Error). IfErr r Named) is err)
 
-abbrev failed : {X : Type 0} → Error → Result X Error
+abbrev pub failed : {X : Type 0} → Error → Result X Error
 failed e = Err e
 
 -- want of memory, where no fault stands that is found before memory is taken
@@ -45,7 +45,7 @@ wanting {X = X} font e memory before = record { is = memory; opens = λ why faul
 
 module _ (bound : Option ℕ) (tokens depth : ℕ) (font : Font) (glyphs : List ℕ) where
   -- a subset has fewer than 65536 glyphs
-  no_room : HasAllAboveZero glyphs → HasNoAnswer tokens depth font (numbering glyphs)
+  pub no_room : HasAllAboveZero glyphs → HasNoAnswer tokens depth font (numbering glyphs)
   no_room all out a =
       let order = a.subset.keeps.order in
       let o = a.subset.keeps.is_order in

@@ -1,4 +1,5 @@
 mod Asked
+mod AtCoordinates
 mod Bytes
 mod Lists
 mod Made

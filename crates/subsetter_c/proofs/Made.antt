@@ -5,8 +5,8 @@ use Rattle.subsetter_base.specs.declared.error.Error.{Error}
 use Rattle.subsetter_sfnt.specs.Read.{Font}
 use Rattle.cid_embed.specs.declared.embedding.Embedded.{Embedded}
 use Rattle.subsetter_c.specs.Embedding.{Buffers, lists_of, IsSoundEmbedding, IsEmbeddingRefusal}
-use Rattle.subsetter_c.specs.Handed.{IsAnswered, IsSoundSubset, IsRefusal}
-use Rattle.subsetter_c.specs.Made.{IsMade, whole, refused, only_font, IsSubsetMade, IsEmbeddingMade}
+use Rattle.subsetter_c.specs.Handed.{IsAnswered}
+use Rattle.subsetter_c.specs.Made.{IsMade, whole, refused, only_font, IsFontMade, IsEmbeddingMade}
 
 abbrev make_buffers : List ℕ → List ℕ → List ℕ → Buffers
 make_buffers font cids widths = record { font = font; cids = cids; widths = widths }
@@ -15,13 +15,13 @@ make_buffers font cids widths = record { font = font; cids = cids; widths = widt
 pub alike : (font cids widths f c w : List ℕ) → font ≡ f → cids ≡ c → widths ≡ w → make_buffers font cids widths ≡ make_buffers f c w
 alike font cids widths f c w pf pc pw = ap (λ x. make_buffers x cids widths) pf ∙ ap (λ x. make_buffers f x widths) pc ∙ ap (make_buffers f c) pw
 
-module _ (bound : Option ℕ) (tokens depth : ℕ) (font : Font) (glyphs : List ℕ) where
-  -- a subset is made: then what is known of it
-  pub subset_made : (answer : Result (Vec ℕ Global) Error) (made : Buffers) (status : ℕ) → IfOk answer (λ v. IsSoundSubset bound tokens depth font glyphs v.items) → IfErr answer (IsRefusal bound tokens depth font glyphs) → IsMade (λ lists. (bytes : List ℕ) × IsAnswered answer bytes × (lists ≡ only_font bytes)) (λ e. answer ≡ Err e) made status → IsSubsetMade bound tokens depth font glyphs made status
-  subset_made answer made status ok err (whole is s) =
-      whole (is.0, subst (IsSoundSubset bound tokens depth font glyphs) is.1.2 (subst (λ (r : Result (Vec ℕ Global) Error). IfOk r (λ v. IsSoundSubset bound tokens depth font glyphs v.items)) is.1.1 ok), is.2) s
-  subset_made answer made status ok err (refused e w m s) = refused e (subst (λ (r : Result (Vec ℕ Global) Error). IfErr r (IsRefusal bound tokens depth font glyphs)) w err) m s
+-- a font is made: then what is known of it
+pub font_made : (Said : List ℕ → Type 0) (Named : Error → Type 0) (answer : Result (Vec ℕ Global) Error) (made : Buffers) (status : ℕ) → IfOk answer (λ v. Said v.items) → IfErr answer Named → IsMade (λ lists. (bytes : List ℕ) × IsAnswered answer bytes × (lists ≡ only_font bytes)) (λ e. answer ≡ Err e) made status → IsFontMade Said Named made status
+font_made Said Named answer made status ok err (whole is s) =
+    whole (is.0, subst Said is.1.2 (subst (λ (r : Result (Vec ℕ Global) Error). IfOk r (λ v. Said v.items)) is.1.1 ok), is.2) s
+font_made Said Named answer made status ok err (refused e w m s) = refused e (subst (λ (r : Result (Vec ℕ Global) Error). IfErr r Named) w err) m s
 
+module _ (bound : Option ℕ) (tokens depth : ℕ) (font : Font) (glyphs : List ℕ) where
   -- and so with CIDs and widths
   pub embedding_made : (answer : Result Embedded Error) (made : Buffers) (status : ℕ) → IfOk answer (IsSoundEmbedding bound tokens depth font glyphs) → IfErr answer (IsEmbeddingRefusal bound tokens depth font glyphs) → IsMade (λ lists. (e : Embedded) × (answer ≡ Ok e) × (lists ≡ lists_of e)) (λ e. answer ≡ Err e) made status → IsEmbeddingMade bound tokens depth font glyphs made status
   embedding_made answer made status ok err (whole is s) = whole (is.0, subst (λ (r : Result Embedded Error). IfOk r (IsSoundEmbedding bound tokens depth font glyphs)) is.1 ok, is.2) s

@@ -26,9 +26,13 @@ pub record IsNothingMade (why : ℕ) (made : Buffers) (status : ℕ) : Type 0 wh
   pub empty : made ≡ only_font []
   pub status_is : status ≡ why
 
--- a subset, without CIDs and widths
+-- bytes of which `Is` holds, without CIDs and widths
+abbrev pub IsFontMade : (List ℕ → Type 0) → (Error → Type 0) → Buffers → ℕ → Type 0
+IsFontMade Is Why = IsMade (λ made. (bytes : List ℕ) × Is bytes × (made ≡ only_font bytes)) Why
+
+-- a subset
 abbrev pub IsSubsetMade : Option ℕ → ℕ → ℕ → Font → List ℕ → Buffers → ℕ → Type 0
-IsSubsetMade bound tokens depth font glyphs = IsMade (λ made. (bytes : List ℕ) × IsSoundSubset bound tokens depth font glyphs bytes × (made ≡ only_font bytes)) (IsRefusal bound tokens depth font glyphs)
+IsSubsetMade bound tokens depth font glyphs = IsFontMade (IsSoundSubset bound tokens depth font glyphs) (IsRefusal bound tokens depth font glyphs)
 
 -- a subset with its CIDs and widths
 abbrev pub IsEmbeddingMade : Option ℕ → ℕ → ℕ → Font → List ℕ → Buffers → ℕ → Type 0

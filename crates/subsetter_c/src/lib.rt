@@ -13,5 +13,7 @@ mod calls;
 mod handing;
 mod making;
 mod options;
+mod settings;
 mod status;
+mod variations;
 mod version;

@@ -29,10 +29,10 @@ touched_moves ps q start [] k s d h from below e = absurd (omega arith)
 touched_moves ps q start (end ∷ ends) k s d h from below e = elim (cases_lt end k) [
   | inl past ↦ ap (λ b. cond b (moved (slice_range ps start (end + 1)) (k - start) s) (moved_in ps (end + 1) ends k s)) (lt-leb k end past) ∙ touched_moves ps q (end + 1) ends k s d h.2 (omega arith) below e
   | inr within ↦
-    let last = h.1 in
-    let first = h.0 in
-    ap (λ b. cond b (moved (slice_range ps start (end + 1)) (k - start) s) (moved_in ps (end + 1) ends k s)) (le-leb k end within)
-    ∙ moved_touched (slice_range ps start (end + 1)) (k - start) q s d (omega (arith, length_part ps start (end + 1) (omega arith) (omega arith))) (ap (λ p. p.delta) (point_at ps q start (end + 1 - start) k from (omega arith)) ∙ e)
+      let last = h.1 in
+      let first = h.0 in
+      ap (λ b. cond b (moved (slice_range ps start (end + 1)) (k - start) s) (moved_in ps (end + 1) ends k s)) (le-leb k end within)
+      ∙ moved_touched (slice_range ps start (end + 1)) (k - start) q s d (omega (arith, length_part ps start (end + 1) (omega arith) (omega arith))) (ap (λ p. p.delta) (point_at ps q start (end + 1 - start) k from (omega arith)) ∙ e)
 ]
 
 -- of a tuple that gives each point a delta

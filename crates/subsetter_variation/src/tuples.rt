@@ -185,7 +185,12 @@ fn peaks_in<'a>(t: &Gvar<'a>, flags: u16, bytes: &'a [u8]) -> Option<(&'a [u8], 
 }
 
 /// The region with these peaks, and the bytes of the header behind it.
-fn ends_in<'a>(axis_count: u16, flags: u16, peaks: &'a [u8], bytes: &'a [u8]) -> Option<(TupleRegion<'a>, &'a [u8])>
+fn ends_in<'a>(
+    axis_count: u16,
+    flags: u16,
+    peaks: &'a [u8],
+    bytes: &'a [u8],
+) -> Option<(TupleRegion<'a>, &'a [u8])>
     requires { length peaks.now ≡ tuple_size axis_count }
     ensures axes { IfSome result (λ r. length r.0 ≡ axis_count) }
     ensures value { MatchOption result (ends_in axis_count flags peaks.now bytes.now ≡ None) (λ r. ends_in axis_count flags peaks.now bytes.now ≡ Some (r.0, r.1.now)) }
@@ -277,7 +282,10 @@ impl<'a> TupleHeaders<'a> {
 
 /// The next tuple, without its deltas, and those behind it, unless it is cut.
 #[tactic(auto, unfolding(crate::specs::Tuples::next_header))]
-pub fn next_header<'a>(t: &Gvar<'a>, r: TupleHeaders<'a>) -> Option<(TupleHeader<'a>, TupleHeaders<'a>)>
+pub fn next_header<'a>(
+    t: &Gvar<'a>,
+    r: TupleHeaders<'a>,
+) -> Option<(TupleHeader<'a>, TupleHeaders<'a>)>
     ensures value { result ≡ next_header t.now r.entry }
     ensures axes { IfSome result (λ x. length x.0.region ≡ t.now.axis_count) }
 {

@@ -185,7 +185,13 @@ pub fn added(
     ensures bound { (b : ℕ) → All (λ z. unsigned_abs z ≤ b) sums.items → IfOk result (λ v. All (λ z. unsigned_abs z ≤ b + 2 ^ 45) v.items) }
 {
     match numbers {
-        None if deltas.len() == coordinates.len() => Ok(added_to_each(coordinates, ends, deltas, scalar, sums)),
+        None if deltas.len() == coordinates.len() => Ok(added_to_each(
+            coordinates,
+            ends,
+            deltas,
+            scalar,
+            sums,
+        )),
         _ => added_by_contour(alloc, coordinates, ends, numbers, deltas, scalar, sums),
     }
 }

@@ -5,7 +5,7 @@
 use std::collections::HashMap;
 use std::env;
 use std::fs;
-use subsetter::{Embedded, Error, Limits, Options};
+use subsetter::{Embedded, Error, Limits, Options, Tag};
 
 /// What a row asks for.
 #[derive(Clone, Copy, Eq, PartialEq, Debug)]
@@ -17,6 +17,7 @@ pub enum Call {
     Embed,
     EmbedOptions,
     EmbedBoundedOptions,
+    SubsetAt,
 }
 
 impl Call {
@@ -44,6 +45,8 @@ pub struct Row {
     pub font: Vec<u8>,
     pub index: u32,
     pub glyphs: Vec<u16>,
+    /// Tags with values in 65536ths, of `SubsetAt` alone.
+    pub coordinates: Vec<(Tag, i32)>,
     pub choice: Choice,
     pub status: u32,
     pub wanted: Embedded,
@@ -81,6 +84,16 @@ fn short_numbers(word: &str) -> Vec<u16> {
     numbers(word).into_iter().map(narrow).collect()
 }
 
+/// The coordinates of a list as `wght=42598400`.
+fn coordinates(word: &str) -> Vec<(Tag, i32)> {
+    let parts = word.split(',').filter(|part| *part != "-");
+    let one = |part: &str| {
+        let (tag, value) = part.split_once('=').unwrap();
+        (tag.parse().unwrap(), value.parse().unwrap())
+    };
+    parts.map(one).collect()
+}
+
 impl Table {
     fn add(&mut self, line: &str) {
         let words: Vec<&str> = line.split_whitespace().collect();
@@ -102,18 +115,20 @@ impl Table {
             ["embed", ..] => (Call::Embed, 0),
             ["embed_options", ..] => (Call::EmbedOptions, 3),
             ["embed_bounded_options", ..] => (Call::EmbedBoundedOptions, 4),
+            ["subset_at", ..] => (Call::SubsetAt, 4),
             _ => panic!("no row: {line}"),
         };
         let embeds = call.embeds();
+        let first = if call == Call::SubsetAt { 6 } else { 5 };
         assert_eq!(
             words.len(),
-            7 + choices + if embeds { 2 } else { 0 },
+            2 + first + choices + if embeds { 2 } else { 0 },
             "{line}"
         );
-        let mut chosen = words[5..5 + choices]
+        let mut chosen = words[first..first + choices]
             .iter()
             .map(|word| word.parse().unwrap());
-        let behind = &words[5 + choices..];
+        let behind = &words[first + choices..];
         let list = |at: usize| behind.get(at).copied().unwrap_or("-");
         self.rows.push(Row {
             call,
@@ -121,6 +136,7 @@ impl Table {
             font: self.fonts[words[2]].clone(),
             index: words[3].parse().unwrap(),
             glyphs: short_numbers(words[4]),
+            coordinates: coordinates(if first == 6 { words[5] } else { "-" }),
             choice: Choice {
                 tokens: chosen.next().unwrap_or(0),
                 depth: chosen.next().unwrap_or(0),
@@ -185,6 +201,15 @@ impl Row {
 
     pub fn embeds(&self) -> bool {
         self.call.embeds()
+    }
+
+    /// The coordinates as numbers of Rust; None where one has no such number.
+    pub fn variations(&self) -> Option<Vec<(Tag, f32)>> {
+        let of = |(tag, value): &(Tag, i32)| {
+            let number = (f64::from(*value) / 65536.0) as f32;
+            (f64::from(number) * 65536.0 == f64::from(*value)).then_some((*tag, number))
+        };
+        self.coordinates.iter().map(of).collect()
     }
 
     /// The limits of the row: None where they are no limits.

@@ -1,8 +1,9 @@
 use Rattle.std.proofs.Common.{inl, inr, refl}
 use Rattle.subsetter_sfnt.specs.declared.extras.Extras.{Extras}
 use Rattle.subsetter_sfnt.specs.Read.{Font}
+use Rattle.subsetter_c.specs.Handed.{IsSoundSubset, IsRefusal}
 use Rattle.subsetter_c.specs.Made.{IsSubsetMade, lists_in}
-use Rattle.subsetter_c.proofs.Made.{subset_made}
+use Rattle.subsetter_c.proofs.Made.{font_made}
 use Rattle.subsetter_c.proofs.Asked.{at_asked}
 use Rattle.subsetter_c.proofs.calls.subsetter_make_subset_by_words.Goals as goal
 
@@ -17,7 +18,7 @@ returns-in-Some c =
     inr (
       c.in-Some.ensures.0,
       at_asked (λ b t d x. IsSubsetMade b t d (font x) glyphs (lists_in c.make_subset.new.made) c.make_subset.result) c.args.options.now c.in-Some.options c.in-Some.ensures.1
-          (subset_made bound tokens depth asked glyphs c.subset_for.result (lists_in c.make_subset.new.made) c.make_subset.result c.subset_for.ensures.ok c.subset_for.ensures.err c.make_subset.ensures),
+          (font_made (IsSoundSubset bound tokens depth asked glyphs) (IsRefusal bound tokens depth asked glyphs) c.subset_for.result (lists_in c.make_subset.new.made) c.make_subset.result c.subset_for.ensures.ok c.subset_for.ensures.err c.make_subset.ensures),
     )
 
 pub returns-in-None : goal.returns-in-None

@@ -1,0 +1,25 @@
+use Rattle.std.proofs.Common.{inl, inr, refl}
+use Rattle.subsetter_sfnt.specs.declared.extras.Extras.{Extras}
+use Rattle.subsetter_sfnt.specs.Read.{Font}
+use Rattle.subsetter_c.specs.Settings.{settings_of, IsSoundSubsetAt, IsRefusalAt, IsSubsetHandedAt}
+use Rattle.subsetter_c.proofs.Bytes.{answer_handed}
+use Rattle.subsetter_c.proofs.Asked.{at_asked}
+use Rattle.subsetter_c.proofs.variations.subsetter_subset_at_by_words.Goals as goal
+
+pub returns-in-Some : goal.returns-in-Some
+returns-in-Some c =
+    let font : Extras → Font = λ x. record { bytes = c.args.font.now; index = c.args.index; extras = x } in
+    let bound = c.in-Some.options.limits.bytes in
+    let tokens = c.in-Some.options.limits.tokens in
+    let depth = c.in-Some.options.limits.depth in
+    let asked = font c.in-Some.options.extras in
+    let settings = settings_of c.args.coordinates.now in
+    let glyphs = c.args.glyphs.now in
+    inr (
+      c.in-Some.ensures.0,
+      at_asked (λ b t d x. IsSubsetHandedAt b t d (font x) settings glyphs c.args.out.now c.hand_answer.new.buffer c.hand_answer.new.told c.hand_answer.result) c.args.options.now c.in-Some.options c.in-Some.ensures.1
+          (answer_handed (IsSoundSubsetAt bound tokens depth asked settings glyphs) (IsRefusalAt bound tokens depth asked settings glyphs) c.subset_for.result c.args.out.now c.hand_answer.new.buffer c.hand_answer.new.told c.hand_answer.result c.subset_for.ensures.ok c.subset_for.ensures.err c.hand_answer.ensures),
+    )
+
+pub returns-in-None : goal.returns-in-None
+returns-in-None c = inl (c.in-None.ensures, record { unchanged = refl; none = refl; status_is = refl })

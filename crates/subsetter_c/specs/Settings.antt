@@ -1,0 +1,53 @@
+-- How coordinates on the axes of a variable font come from C, and what is handed to it of a subset at them.
+use Rattle.std.specs.Prelude.{◌⊎◌, ℕ, List, map, Option, ℤ}
+use Rattle.std.specs.Int.{w32, to_be_bytes}
+use Rattle.subsetter_base.specs.Places.{HasAllAboveZero}
+use Rattle.subsetter_base.specs.declared.tag.Tag.{Tag}
+use Rattle.subsetter_base.specs.declared.error.Error.{Error}
+use Rattle.subsetter_base.specs.declared.error.Error.TheVariants.{OverflowError}
+use Rattle.subsetter_sfnt.specs.Read.{Font}
+use Rattle.subsetter.specs.Bound.{IsWithin}
+use Rattle.cid_embed.specs.Embed.{numbering}
+use Rattle.subsetter_variable.specs.Afresh.{HasGlyphsDrawn}
+use Rattle.subsetter_variable.specs.Standing.{IsAtDefault}
+use Rattle.subsetter_variable.specs.Subset.{whole, IsAnswerAt, HasFaultAt, HasNoAnswerAt, IsTheAnswerAt}
+use Rattle.subsetter_c.specs.Embedding.{Buffers}
+use Rattle.subsetter_c.specs.Handed.{IsHandedOver, IsWantOfMemory}
+use Rattle.subsetter_c.specs.Made.{IsFontMade}
+use Rattle.subsetter_c.specs.declared.settings.Coordinate.{Coordinate}
+
+-- the tag has the bytes of its number, the highest first
+abbrev pub setting : Coordinate → Tag × ℤ
+setting coordinate = (record { 0 = to_be_bytes w32 coordinate.tag }, coordinate.value)
+
+abbrev pub settings_of : List Coordinate → List (Tag × ℤ)
+settings_of coordinates = map setting coordinates
+
+-- what is answered for glyph 0 and the given glyphs, as they are at these settings
+pub record IsSoundSubsetAt (bound : Option ℕ) (tokens depth : ℕ) (font : Font) (settings : List (Tag × ℤ)) (glyphs out : List ℕ) : Type 0 where
+  -- a subset of the font as it is, at its default, or else of its instance, where no fault stands in them
+  pub answer : IsAnswerAt tokens depth font settings (numbering glyphs) out
+  -- whatever is answered for the same settings and glyphs, within these limits or others, is these bytes
+  pub same : IsTheAnswerAt font settings (numbering glyphs) out
+  -- elsewhere than at its default it has these glyphs and no other, each as it is drawn there, read afresh
+  pub drawn : ¬ (IsAtDefault (whole font) settings) → HasGlyphsDrawn (whole font) settings (numbering glyphs) out
+  -- no longer than it may be
+  pub within : IsWithin bound out
+
+-- what can stand against it within a bound, but for want of memory
+pub data HasCallFaultAt (bound : Option ℕ) (tokens depth : ℕ) (font : Font) (settings : List (Tag × ℤ)) (glyphs : List ℕ) : Error → Type 0 where
+  -- the glyphs leave no number for glyph 0
+  in_numbering : HasAllAboveZero glyphs → HasCallFaultAt bound tokens depth font settings glyphs OverflowError
+  in_subset : {e : Error} → (order : List ℕ) → HasFaultAt bound tokens depth font settings (numbering glyphs) order e → HasCallFaultAt bound tokens depth font settings glyphs e
+
+-- why no subset is answered: memory ran out, or a fault stands, and then no call answers one
+abbrev pub IsRefusalAt : Option ℕ → ℕ → ℕ → Font → List (Tag × ℤ) → List ℕ → Error → Type 0
+IsRefusalAt bound tokens depth font settings glyphs e = IsWantOfMemory font e ⊎ (HasCallFaultAt bound tokens depth font settings glyphs e × HasNoAnswerAt bound tokens depth font settings (numbering glyphs))
+
+-- a subset is handed over in a buffer of the caller
+abbrev pub IsSubsetHandedAt : Option ℕ → ℕ → ℕ → Font → List (Tag × ℤ) → List ℕ → List ℕ → List ℕ → ℕ → ℕ → Type 0
+IsSubsetHandedAt bound tokens depth font settings glyphs = IsHandedOver (IsSoundSubsetAt bound tokens depth font settings glyphs) (IsRefusalAt bound tokens depth font settings glyphs)
+
+-- a subset, in memory of the library
+abbrev pub IsSubsetMadeAt : Option ℕ → ℕ → ℕ → Font → List (Tag × ℤ) → List ℕ → Buffers → ℕ → Type 0
+IsSubsetMadeAt bound tokens depth font settings glyphs = IsFontMade (IsSoundSubsetAt bound tokens depth font settings glyphs) (IsRefusalAt bound tokens depth font settings glyphs)

@@ -1,0 +1,92 @@
+//! The calls at coordinates on the axes of a variable font.
+
+ghost use Rattle.std.specs.Prelude.{◌⊎◌, IfOk, IfErr};
+ghost use Rattle.subsetter_c.specs.Handed.{IsNothingHanded};
+ghost use Rattle.subsetter_c.specs.Made.{lists_in, IsNothingMade};
+ghost use Rattle.subsetter_c.specs.Options.{AreKnown, bytes_asked, tokens_asked, depth_asked, extras_asked};
+ghost use Rattle.subsetter_c.specs.Settings.{settings_of, IsSoundSubsetAt, IsRefusalAt, IsSubsetHandedAt, IsSubsetMadeAt};
+ghost use Rattle.subsetter_c.specs.Status.{unknown_option};
+
+use crate::handing::hand_answer;
+use crate::making::{self, Made};
+use crate::options::options_of;
+use crate::settings::{Coordinate, settings_for};
+use crate::status;
+use cid_embed::mapper_for;
+use std::alloc::Global;
+use subsetter::{Error, Options};
+use subsetter_variable::subset_with_variations_and_options;
+
+/// A subset for glyph 0 and the given glyphs at coordinates.
+fn subset_for(
+    alloc: Global,
+    font: &[u8],
+    index: u32,
+    coordinates: &[Coordinate],
+    glyphs: &[u16],
+    options: &Options,
+) -> Result<Vec<u8>, Error>
+    ensures ok { IfOk result (λ v. IsSoundSubsetAt options.now.limits.bytes options.now.limits.tokens options.now.limits.depth (record { bytes = font.now; index = index; extras = options.now.extras }) (settings_of coordinates.now) glyphs.now v.items) }
+    ensures err { IfErr result (λ e. IsRefusalAt options.now.limits.bytes options.now.limits.tokens options.now.limits.depth (record { bytes = font.now; index = index; extras = options.now.extras }) (settings_of coordinates.now) glyphs.now e) }
+{
+    let settings = settings_for(alloc, font, index, coordinates, options.extras)?;
+    let mapper = mapper_for(alloc, font, index, glyphs, options.extras)?;
+    subset_with_variations_and_options(alloc, font, index, &settings, &mapper, options)
+}
+
+/// As `subsetter_subset_by_words`, with the glyphs as they are at coordinates.
+///
+/// A font that stands at its default there, as one without axes does, is subset as it is, with its hints; else its instance
+/// is.
+#[unsafe(no_mangle)]
+pub extern "C" fn subsetter_subset_at_by_words(
+    alloc: Global,
+    font: &[u8],
+    index: u32,
+    coordinates: &[Coordinate],
+    glyphs: &[u16],
+    options: &[u32],
+    out: &mut [u8],
+    length: &mut usize,
+) -> u32
+    ensures { ((¬ (AreKnown options.now)) × IsNothingHanded unknown_option out.old out.new length.new result) ⊎ (AreKnown options.now × IsSubsetHandedAt (bytes_asked options.now) (tokens_asked options.now) (depth_asked options.now) (record { bytes = font.now; index = index; extras = extras_asked options.now }) (settings_of coordinates.now) glyphs.now out.old out.new length.new result) }
+{
+    match options_of(options) {
+        Some(options) => hand_answer(
+            subset_for(alloc, font, index, coordinates, glyphs, &options),
+            out,
+            length,
+        ),
+        None => {
+            *length = 0;
+            status::UNKNOWN_OPTION
+        }
+    }
+}
+
+/// As `subsetter_subset_at_by_words`, in memory of the library.
+///
+/// Status 0: `made` has the subset alone. Another status: `made` is empty.
+#[unsafe(no_mangle)]
+pub extern "C" fn subsetter_make_subset_at_by_words(
+    alloc: Global,
+    font: &[u8],
+    index: u32,
+    coordinates: &[Coordinate],
+    glyphs: &[u16],
+    options: &[u32],
+    made: &mut Made,
+) -> u32
+    ensures { ((¬ (AreKnown options.now)) × IsNothingMade unknown_option (lists_in made.new) result) ⊎ (AreKnown options.now × IsSubsetMadeAt (bytes_asked options.now) (tokens_asked options.now) (depth_asked options.now) (record { bytes = font.now; index = index; extras = extras_asked options.now }) (settings_of coordinates.now) glyphs.now (lists_in made.new) result) }
+{
+    match options_of(options) {
+        Some(options) => making::make_subset(
+            subset_for(alloc, font, index, coordinates, glyphs, &options),
+            made,
+        ),
+        None => {
+            *made = making::nothing();
+            status::UNKNOWN_OPTION
+        }
+    }
+}
