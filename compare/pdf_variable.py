@@ -17,19 +17,16 @@ And by MuPDF's trace each glyph of the line must be as wide as FreeType says, to
 
 The glyphs lean by a ten thousandth, a fortieth of a pixel, as Ghostscript lets FreeType hint what stands upright. --plant makes a mistake
 before the program is called: `place` moves the first axis by a fifth of its range, `axes` gives each axis the value of the next one,
-`widths` takes those of the default. The status is 1 where a place differs, or nothing was compared.
+`widths` takes those of the default. The status is 1 where a place differs or is refused, or nothing was
+compared.
 """
 import ctypes
-import functools
 import os
 import random
-import subprocess
 import tempfile
 
-import build
 import fonts
 import instance
-import instances
 import pdf
 from pdf_file import Face, Pdf, embedded, pages
 
@@ -53,16 +50,9 @@ LINE_SLACK = 2
 
 # ---- the program
 
-@functools.cache
-def takes_places():
-    """Whether the program has `--at`."""
-    said = subprocess.run([pdf.PROGRAM, "--help"], capture_output=True, text=True)
-    return "--at" in said.stdout + said.stderr
-
-
 def coordinate(value):
-    """A coordinate of 65536ths as a decimal text, exactly."""
-    return f"{value / 65536:.16f}".rstrip("0").rstrip(".")
+    """A coordinate of 65536ths as a decimal text, which is nearest to this one (the program takes nine digits behind the point)."""
+    return f"{value / 65536:.9f}".rstrip("0").rstrip(".")
 
 
 def words_at(place):
@@ -70,13 +60,8 @@ def words_at(place):
 
 
 def subset_at(font, place, glyphs, out):
-    """As pdf.subset, of a variable font at a place; where the program can't do so, of the instance that subset_bench makes."""
-    if takes_places():
-        return pdf.subset(font, 0, glyphs, out, True, ["--at", words_at(place)])
-    line = instances.port([instances.words_of(font, glyphs, out + ".instance", place)], os.path.dirname(out))[0]
-    if not line.startswith("ok "):
-        raise pdf.Refused(line)
-    return pdf.subset(out + ".instance", 0, glyphs, out, True)
+    """As pdf.subset, of a variable font at a place."""
+    return pdf.subset(font, 0, glyphs, out, True, ["--at", words_at(place)])
 
 
 def mistaken(plant, place, axes):
@@ -288,11 +273,8 @@ def compare_font(path, count, usual, keep, plant):
 def all_fonts(folders, count, only, keep, plant):
     """A line a font, and the sum; whether all places are alike."""
     fonts.install(PACKAGES)
-    if not takes_places():
-        build.program(build.BENCH)
     total, paths = Report(), instance.font_paths(folders, only)
-    way = "by --at" if takes_places() else "by way of an instance"
-    print(f"Variable fonts in PDF files, commit {instance.commit()}, {way}, {count} places of each, {DPI} pixels an inch"
+    print(f"Variable fonts in PDF files, commit {instance.commit()}, {count} places of each, {DPI} pixels an inch"
           + f", with a planted bug ({plant})" * bool(plant), flush=True)
     with tempfile.TemporaryDirectory(prefix="empty-") as room:
         usual = usual_lines(room)
@@ -301,4 +283,4 @@ def all_fonts(folders, count, only, keep, plant):
     print(f"{len(paths)} fonts, {total.text()}")
     if not total.alike + total.different:
         print("nothing was compared")
-    return total.different == 0 and total.alike > 0
+    return total.different + total.refused == 0 and total.alike > 0
