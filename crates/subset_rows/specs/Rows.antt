@@ -2,7 +2,7 @@
 use Rattle.std.specs.Prelude.{ℕ, if◌then◌else◌, Bool, true, false, List, codes, Option, Some, None}
 use Rattle.std.specs.Str.{bytes_eq}
 use Rattle.subset_rows.specs.declared.row.Kind.{Kind}
-use Rattle.subset_rows.specs.declared.row.Kind.TheVariants.{Subset, Limits, Options, BoundedOptions, Embed, EmbedOptions, EmbedBoundedOptions}
+use Rattle.subset_rows.specs.declared.row.Kind.TheVariants.{Subset, Limits, Options, BoundedOptions, Embed, EmbedOptions, EmbedBoundedOptions, SubsetAt}
 
 abbrev pub kind_of : List ℕ → Option Kind
 kind_of word =
@@ -13,6 +13,7 @@ kind_of word =
     else if bytes_eq word (codes "embed") then Some Embed
     else if bytes_eq word (codes "embed_options") then Some EmbedOptions
     else if bytes_eq word (codes "embed_bounded_options") then Some EmbedBoundedOptions
+    else if bytes_eq word (codes "subset_at") then Some SubsetAt
     else None
 
 -- the row has CIDs and widths
@@ -24,3 +25,4 @@ embeds BoundedOptions = false
 embeds Embed = true
 embeds EmbedOptions = true
 embeds EmbedBoundedOptions = true
+embeds SubsetAt = false
