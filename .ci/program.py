@@ -24,7 +24,7 @@ sys.dont_write_bytecode = True
 import made  # noqa: E402
 
 USAGE = b"usage: subset_font IN OUT INDEX GID[,GID..]\n"
-OPTIONS = ["--widths", "--limits", "--no-hinting", "--no-names", "--no-glyph-names", "--gids-file", "--text", "--json",
+OPTIONS = ["--widths", "--limits", "--at", "--no-hinting", "--no-names", "--no-glyph-names", "--gids-file", "--text", "--json",
            "--quiet", "--help", "-h", "--version", "--"]
 
 
@@ -96,7 +96,32 @@ SIMPLE_2 = bytes.fromhex(
     "676C7966 00000000 0000003C 0000000C 68656164 00000000 00000048 00000036 6C6F6361 00060000 00000080 00000006"
 ) + bytes(20) + bytes.fromhex("755E7013") + bytes(44) + bytes.fromhex("0000 0000 0006 0000")
 
+# One axis, `wght` of 100..400..900: an empty glyph, a triangle, two triangles and a rectangle; and what an independent
+# implementation makes of glyphs 1 to 3 at 650.
+VARIABLE = bytes.fromhex(
+    "00010000000800800003000066766172000000000000008c00000024676c796600000000000000b00000004667766172000000000000"
+    "00f80000005468656164000000000000014c0000003668686561000000000000018400000024686d747800000000000001a800000010"
+    "6c6f636100000000000001b80000000a6d61787000000000000001c40000002000010000001000020001001400000000776768740064"
+    "00000190000003840000000001000001000000000064006500020000313327643265ffff0000000000000000002200010a14000b0001"
+    "012c0000200000010000000000c800640004000031333335233296c86400000000010000000100010000001e00040000000000200000"
+    "0000000b0012001a400000010008000d2000008100038000148102ff00fb830000010008000520000000068485000001000800082000"
+    "02010002010028810001000000010000000000005f0f3cf5000303e80000000000000000000000000000000000000000019001900000"
+    "00080002000000000000000100000320ff38000001f40000000001f400010000000000000000000000000000000401f4000001f40000"
+    "01f4000001f4000000000000000a0017002300000001000000040006000200000000000100000000000000000000000000000001"
+)
+AT_650 = bytes.fromhex(
+    "000100000006004000020020676c7966b165fa770000006c0000004c6865616460a64275000000b80000003668686561051601310000"
+    "00f000000024686d747807da000d00000114000000106c6f63610030001a000001240000000a6d617870000700080000013000000020"
+    "00010000000000640063000200003133276430630002000d0000015e00770002000500003733271733270d6430eb3218146377310001"
+    "0000000000dc006400040000313333352337a5dc64000001000000010000f8c89bf25f0f3cf5000303e8000000000000000000000000"
+    "000000000000000001900190000000080002000000000000000100000320ff38000001f40000000001f4000100000000000000000000"
+    "00000000000401f4000001fe000001f4000d01f4000000000000000a001a002600000001000000040006000200000000000100000000"
+    "000000000000000000000001"
+)
+
 FONTS = {
+    "variable": VARIABLE,
+    "at_650": AT_650,
     "simple": SIMPLE,
     "cff": SID_KEYED,
     "six": six(),
@@ -207,6 +232,24 @@ ROWS = [
     Row("--limits 1,1 --widths six out 0 2,1", out=lines((2, 1), (1, 2)) + b"[0 [0 200 100]]\n", same="six 2,1"),
     Row("--widths simple out 0 2", 1, err=b"malformed font\n", after=USED),
     Row("--widths --widths six out 0 1", 2, err=USAGE, after=USED),
+    # coordinates
+    Row("at_650 out 0 1,2,3", out=lines((1, 1), (2, 2), (3, 3)), same="at 650"),
+    Row("--at wght=650 variable out 0 1,2,3", out=lines((1, 1), (2, 2), (3, 3)), same="at 650"),
+    Row("--at wght=900,wght=649.999999999,wdth=-87.5 variable out 0 1,2,3", out=lines((1, 1), (2, 2), (3, 3)), same="at 650"),
+    Row("--widths --at wght=650 variable out 0 1,2,3", out=lines((1, 1), (2, 2), (3, 3)) + b"[0 [500 510 500 500]]\n", same="at 650"),
+    Row("variable out 0 2,1", out=lines((2, 1), (1, 2)), same="at the default"),
+    Row("--at wght=400 variable out 0 2,1", out=lines((2, 1), (1, 2)), same="at the default"),
+    Row("--at slnt=-32767.5 variable out 0 2,1", out=lines((2, 1), (1, 2)), same="at the default"),
+    Row("--at wght=650 simple out 0 2", out=lines((2, 1)), same="simple 2"),
+    Row("--at wght=650 cff out 0 0", out=lines((0, 0)), same="cff 0"),
+    Row("--at wght=650 variable out 0 4", 1, err=b"malformed font\nGID 4: the face has 4 glyphs, from 0 on\n", after=USED),
+    Row("--limits 20,64 --at wght=650 variable out 0 2", 1, err=b"overflow occurred\n", after=USED),
+    *(Row(f"--at {it} variable out 0 1", 2, err=USAGE, after=USED)
+      for it in ("wght", "wght=", "wght=+1", "wght=1.", "wght=.5", "wght=1.0000000000", "wght=1-", "wght=--1", "wgh=1", "weight=1",
+                 "wght=32768", "wght=650,", "wght=1=1", "wght=1e2")),
+    Row("--at wght=-32768 variable out 0 1", out=lines((1, 1)), same="at 100"),
+    Row("--at wght=100 variable out 0 1", out=lines((1, 1)), same="at 100"),
+    Row("--at wght=1 --at wght=1 variable out 0 1", 2, err=USAGE, after=USED),
     # JSON and silence
     Row("--json six out 0 2,1", out=b'{"glyphs":[{"old":2,"new":1},{"old":1,"new":2}]}\n', same="six 2,1"),
     Row("--json --widths six out 0 2,1", out=b'{"glyphs":[{"old":2,"new":1},{"old":1,"new":2}],"widths":[0,200,100]}\n',

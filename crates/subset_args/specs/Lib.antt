@@ -4,3 +4,5 @@ pub mod Request
 pub mod View
 pub mod Lists
 pub mod ListView
+pub mod Coordinates
+pub mod CoordinateView

@@ -6,7 +6,7 @@ use Rattle.subset_args.specs.Limits.{Bounds, limits_in}
 use Rattle.subset_args.specs.declared.options.Switch.{Switch}
 use Rattle.subset_args.specs.declared.options.Switch.TheVariants.{Widths, NoHinting, NoNames, NoGlyphNames, Json, Quiet}
 use Rattle.subset_args.specs.declared.options.Setting.{Setting}
-use Rattle.subset_args.specs.declared.options.Setting.TheVariants.{Limits, GidsFile, Text}
+use Rattle.subset_args.specs.declared.options.Setting.TheVariants.{Limits, GidsFile, Text, At}
 use Rattle.subset_args.specs.declared.options.Kind.{Kind}
 use Rattle.subset_args.specs.declared.options.Kind.TheVariants.{Switch as IsSwitch, Setting as IsSetting, Help, Version, End, Place}
 use Rattle.subset_args.specs.declared.options.Switches.{Switches}
@@ -28,6 +28,7 @@ setting_of word =
     if bytes_eq word (codes "--limits") then Some Limits
     else if bytes_eq word (codes "--gids-file") then Some GidsFile
     else if bytes_eq word (codes "--text") then Some Text
+    else if bytes_eq word (codes "--at") then Some At
     else None
 
 -- what an argument that is neither is
@@ -76,10 +77,11 @@ pub record Choice : Type 0 where
   pub switches : Switches
   pub limits : Option Bounds
   pub source : Option GlyphSource
+  pub at : Option (List ℕ)
 
 -- nothing
 abbrev pub no_choice : Choice
-no_choice = record { switches = record { widths = false; no_hinting = false; no_names = false; no_glyph_names = false; json = false; quiet = false }; limits = None; source = None }
+no_choice = record { switches = record { widths = false; no_hinting = false; no_names = false; no_glyph_names = false; json = false; quiet = false }; limits = None; source = None; at = None }
 
 -- with an option without a value; none where it was given before
 abbrev pub with_switch : Switch → Choice → Option Choice
@@ -93,11 +95,16 @@ with_limits value choice = if is_some choice.limits then None else option_map (�
 abbrev pub with_source : GlyphSource → Choice → Option Choice
 with_source source choice = if is_some choice.source then None else Some (record choice { source = Some source })
 
+-- with user coordinates; none where they were given before
+abbrev pub with_at : List ℕ → Choice → Option Choice
+with_at value choice = if is_some choice.at then None else Some (record choice { at = Some value })
+
 -- with an option and its value
 abbrev pub with_setting : Setting → List ℕ → Choice → Option Choice
 with_setting Limits value choice = with_limits value choice
 with_setting GidsFile value choice = with_source (in_file value) choice
 with_setting Text value choice = with_source (by_text value) choice
+with_setting At value choice = with_at value choice
 
 -- what the arguments with options in front say: that help or the version is wanted, or what is chosen, and the arguments behind the options
 pub data Options : Type 0 where

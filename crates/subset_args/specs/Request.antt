@@ -1,9 +1,11 @@
 -- What the arguments after the program's name ask for.
-use Rattle.std.specs.Prelude.{ℕ, Bool, false, ◌&&◌, ◌==◌, if◌then◌else◌, List, [], ◌∷◌, map, Option, Some, None, codes}
+use Rattle.std.specs.Prelude.{ℕ, ℤ, Bool, false, ◌&&◌, ◌==◌, if◌then◌else◌, List, [], ◌∷◌, map, Option, Some, None, codes}
 use Rattle.std.specs.Option.{option_map, option_and_then}
 use Rattle.std.specs.List.{slice_split}
 use Rattle.std.specs.Str.{bytes_eq}
 use Rattle.subsetter_words.specs.Numbers.{number_in_bits}
+use Rattle.subsetter_base.specs.declared.tag.Tag.{Tag}
+use Rattle.subset_args.specs.Coordinates.{coordinates_in}
 use Rattle.subset_args.specs.Limits.{Bounds}
 use Rattle.subset_args.specs.Options.{GlyphSource, in_file, by_text, Choice, Options, helped, versioned, chosen, no_choice, parsed}
 use Rattle.subset_args.specs.declared.options.Switches.{Switches}
@@ -30,6 +32,8 @@ pub record Request : Type 0 where
   pub output : List ℕ
   pub index : ℕ
   pub glyphs : Asked
+  -- user coordinates, where they are said
+  pub coordinates : Option (List (Tag × ℤ))
 
 -- what a run is to do
 pub data Command : Type 0 where
@@ -54,9 +58,14 @@ lists_in_stream (listed glyphs) = false
 lists_in_stream (from (in_file name)) = is_stream name
 lists_in_stream (from (by_text text)) = false
 
+-- the user coordinates that are said, if any
+abbrev pub said_at : Option (List ℕ) → Option (Option (List (Tag × ℤ)))
+said_at None = Some None
+said_at (Some text) = option_map (λ c. Some c) (coordinates_in text)
+
 -- what is asked for, where standard input isn't to be read twice
 abbrev pub request_of : Choice → List ℕ → List ℕ → ℕ → Asked → Option Request
-request_of choice input output index glyphs = if is_stream input && lists_in_stream glyphs then None else Some (record { switches = choice.switches; limits = choice.limits; input = input; output = output; index = index; glyphs = glyphs })
+request_of choice input output index glyphs = if is_stream input && lists_in_stream glyphs then None else option_map (λ at. record { switches = choice.switches; limits = choice.limits; input = input; output = output; index = index; glyphs = glyphs; coordinates = at }) (said_at choice.at)
 
 -- what the arguments `IN OUT INDEX GID[,GID..]` ask for with these choices, or `IN OUT INDEX` where the glyphs are found elsewhere; none where their count is another, or one isn't as it should be
 abbrev pub request_with : Choice → List (List ℕ) → Option Request

@@ -1,6 +1,6 @@
 -- What was read of the arguments, as the definitions name it.
 use Rattle.std.specs.Prelude.{map, string_bytes}
-use Rattle.std.specs.Option.{option_map}
+use Rattle.std.specs.Option.{option_copied, option_map}
 use Rattle.subset_args.specs.Limits.{limits_view}
 use Rattle.subset_args.specs.Options.{GlyphSource, in_file, by_text, Choice, Options, helped, versioned, chosen}
 use Rattle.subset_args.specs.Request.{Asked, listed, from, Request, Command as Wanted, help, version, subset}
@@ -20,7 +20,7 @@ source_view (File name) = in_file name.now
 source_view (Text text) = by_text text.now
 
 abbrev pub chosen_view : Chosen → Choice
-chosen_view c = record { switches = c.switches; limits = option_map limits_view c.limits; source = option_map source_view c.source }
+chosen_view c = record { switches = c.switches; limits = option_map limits_view c.limits; source = option_map source_view c.source; at = option_copied c.at }
 
 abbrev pub parsed_view : Parsed → Options
 parsed_view Help = helped
@@ -33,7 +33,7 @@ asked_view (InFile name) = from (in_file (string_bytes name))
 asked_view (ByText text) = from (by_text (string_bytes text))
 
 abbrev pub job_view : Job → Request
-job_view job = record { switches = job.switches; limits = option_map limits_view job.limits; input = string_bytes job.input; output = string_bytes job.output; index = job.index; glyphs = asked_view job.glyphs }
+job_view job = record { switches = job.switches; limits = option_map limits_view job.limits; input = string_bytes job.input; output = string_bytes job.output; index = job.index; glyphs = asked_view job.glyphs; coordinates = option_map (λ v. v.items) job.coordinates }
 
 abbrev pub command_view : Command → Wanted
 command_view ForHelp = help

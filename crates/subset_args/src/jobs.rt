@@ -1,14 +1,16 @@
 //! What the arguments ask for.
 
 ghost use Rattle.std.specs.Prelude.{◌≡◌, ◌⊎◌, ℕ, List, map, IfOk, IfErr, Some, None, string_bytes};
-ghost use Rattle.std.specs.Option.{option_map};
-ghost use Rattle.subset_args.specs.Request.{glyph_list, asked, is_stream, lists_in_stream, request_with, command};
+ghost use Rattle.std.specs.Option.{option_copied, option_map};
+ghost use Rattle.subset_args.specs.Request.{glyph_list, asked, is_stream, lists_in_stream, said_at, request_with, command};
 ghost use Rattle.subset_args.specs.View.{source_view, chosen_view, asked_view, job_view, command_view};
 ghost use Rattle.subset_args.specs.declared.jobs.ArgsError.TheVariants.{Usage, OutOfMemory};
 
+use crate::coordinates::read_coordinates;
 use crate::limits::RunLimits;
 use crate::options::{Chosen, Parsed, Source, Switches, parse_options};
 use std::alloc::{AllocError, Global};
+use subsetter_base::Tag;
 use subsetter_words::{parts_of, u16_of, u32_of};
 
 /// Why the arguments ask for nothing.
@@ -57,6 +59,8 @@ pub struct Job {
     pub limits: Option<RunLimits>,
     /// The options without a value that were given.
     pub switches: Switches,
+    /// The user coordinates on the axes of a variable font, in 65536ths, where they are said.
+    pub coordinates: Option<Vec<(Tag, i32)>>,
 }
 
 /// What a run of the program is to do.
@@ -118,10 +122,21 @@ fn lists_in_stream(glyphs: &Glyphs) -> bool
     }
 }
 
+/// The user coordinates that are said, if any.
+fn read_at(alloc: Global, at: Option<&str>) -> Result<Option<Vec<(Tag, i32)>>, ArgsError>
+    ensures ok { IfOk result (λ v. said_at (option_copied at.entry) ≡ Some (option_map (λ c. c.items) v)) }
+    ensures err { IfErr result (λ e. (e ≡ OutOfMemory) ⊎ ((e ≡ Usage) × (said_at (option_copied at.entry) ≡ None))) }
+{
+    match at {
+        None => Ok(None),
+        Some(text) => Ok(Some(read_coordinates(alloc, text)?)),
+    }
+}
+
 /// What the arguments `IN OUT INDEX GID[,GID..]` ask for, or `IN OUT INDEX` where the glyphs are found elsewhere.
 ///
 /// `Usage` where their count is another, where INDEX or a GID isn't one or more ASCII digits whose value fits `u32` or
-/// `u16`, or where standard input is to be read twice.
+/// `u16`, where the coordinates aren't as `read_coordinates` takes them, or where standard input is to be read twice.
 fn read_job(alloc: Global, chosen: Chosen<'_>, words: &[String]) -> Result<Job, ArgsError>
     ensures ok { IfOk result (λ job. request_with (chosen_view chosen.entry) (map (λ word. string_bytes word) words.now) ≡ Some (job_view job)) }
     ensures err { IfErr result (λ e. (e ≡ OutOfMemory) ⊎ ((e ≡ Usage) × (request_with (chosen_view chosen.entry) (map (λ word. string_bytes word) words.now) ≡ None))) }
@@ -134,6 +149,7 @@ fn read_job(alloc: Global, chosen: Chosen<'_>, words: &[String]) -> Result<Job, 
     if is_stream(input) && lists_in_stream(&glyphs) {
         return Err(ArgsError::Usage);
     }
+    let coordinates = read_at(alloc, chosen.at)?;
     Ok(Job {
         input: input.clone()?,
         output: output.clone()?,
@@ -141,6 +157,7 @@ fn read_job(alloc: Global, chosen: Chosen<'_>, words: &[String]) -> Result<Job, 
         glyphs,
         limits: chosen.limits,
         switches: chosen.switches,
+        coordinates,
     })
 }
 

@@ -10,11 +10,13 @@
 //! ```
 #![tactic(auto)]
 
+mod coordinates;
 mod jobs;
 mod limits;
 mod lists;
 mod options;
 
+pub use coordinates::read_coordinates;
 pub use jobs::{ArgsError, Command, Glyphs, Job, is_stream, read_words};
 pub use limits::RunLimits;
 pub use lists::{GlyphList, read_list};

@@ -3,7 +3,7 @@
 ghost use Rattle.std.specs.Prelude.{◌≡◌, map, string_bytes, None};
 ghost use Rattle.std.specs.Option.{option_map};
 ghost use Rattle.subset_args.specs.Limits.{limits_from, limits_in, limits_view};
-ghost use Rattle.subset_args.specs.Options.{switch_of, setting_of, kind_of, is_on, switched_on, with_switch, with_limits, with_source, with_setting, parsed};
+ghost use Rattle.subset_args.specs.Options.{switch_of, setting_of, kind_of, is_on, switched_on, with_switch, with_limits, with_source, with_at, with_setting, parsed};
 ghost use Rattle.subset_args.specs.View.{source_view, chosen_view, parsed_view};
 
 use crate::limits::RunLimits;
@@ -35,6 +35,8 @@ pub enum Setting {
     GidsFile,
     /// `--text TEXT`
     Text,
+    /// `--at TAG=VALUE[,TAG=VALUE..]`
+    At,
 }
 
 /// Where the glyphs are found that no argument lists.
@@ -123,6 +125,8 @@ pub struct Chosen<'a> {
     pub limits: Option<RunLimits>,
     /// Where the glyphs are found, where that is said.
     pub source: Option<Source<'a>>,
+    /// The user coordinates, where they are said.
+    pub at: Option<&'a str>,
 }
 
 impl<'a> Chosen<'a> {
@@ -131,6 +135,7 @@ impl<'a> Chosen<'a> {
         switches: Switches::NONE,
         limits: None,
         source: None,
+        at: None,
     };
 
     /// With an option without a value, which is given once.
@@ -144,6 +149,7 @@ impl<'a> Chosen<'a> {
             switches: self.switches.switched_on(switch),
             limits: self.limits,
             source: self.source,
+            at: self.at,
         })
     }
 
@@ -155,6 +161,7 @@ impl<'a> Chosen<'a> {
             Setting::Limits => self.with_limits(value),
             Setting::GidsFile => self.with_source(Source::File(value)),
             Setting::Text => self.with_source(Source::Text(value)),
+            Setting::At => self.with_at(value),
         }
     }
 
@@ -169,6 +176,7 @@ impl<'a> Chosen<'a> {
             switches: self.switches,
             limits: Some(limits_of(value)?),
             source: self.source,
+            at: self.at,
         })
     }
 
@@ -183,6 +191,22 @@ impl<'a> Chosen<'a> {
             switches: self.switches,
             limits: self.limits,
             source: Some(source),
+            at: self.at,
+        })
+    }
+
+    /// With user coordinates.
+    fn with_at(self, value: &'a str) -> Option<Chosen<'a>>
+        ensures { option_map chosen_view result ≡ with_at value.now (chosen_view self.entry) }
+    {
+        if self.at.is_some() {
+            return None;
+        }
+        Some(Chosen {
+            switches: self.switches,
+            limits: self.limits,
+            source: self.source,
+            at: Some(value),
         })
     }
 }
@@ -228,6 +252,7 @@ fn setting_of(word: &str) -> Option<Setting>
         "--limits" => Some(Setting::Limits),
         "--gids-file" => Some(Setting::GidsFile),
         "--text" => Some(Setting::Text),
+        "--at" => Some(Setting::At),
         _ => None,
     }
 }

@@ -1,5 +1,6 @@
 -- What the options in front of IN choose for a task.
 use Rattle.std.specs.Prelude.{◌≡◌, ℕ, List, [], Bool, not, if◌then◌else◌, Option, Some, None, string_bytes}
+use Rattle.std.specs.Option.{option_copied, option_map}
 use Rattle.subsetter.specs.Limits.{token_limit, depth_limit}
 use Rattle.subsetter_sfnt.specs.declared.extras.Extras.{Extras}
 use Rattle.subsetter_type2.specs.declared.limits.Limits.{Limits}
@@ -63,3 +64,4 @@ pub record IsTaskOf (job : Job) (list : Option GlyphList) (task : Task) : Type 0
   pub extras : task.options.extras ≡ extras_chosen job.switches
   pub widths : task.widths ≡ job.switches.widths
   pub form : task.form ≡ form_chosen job.switches
+  pub at : option_copied task.at ≡ option_map (λ v. v.items) job.coordinates

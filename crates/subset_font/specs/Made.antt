@@ -1,13 +1,19 @@
 -- What is made of a font that is read, and why it isn't.
-use Rattle.std.specs.Prelude.{◌≡◌, ◌⊎◌, ℕ, List, [], ◌∷◌, map, Option, Some, MatchBool}
+use Rattle.std.specs.Prelude.{◌≡◌, ◌⊎◌, ℕ, ℤ, List, [], map, Option, Some, None, MatchBool}
+use Rattle.std.specs.Option.{option_copied}
 use Rattle.subsetter_sfnt.specs.Extras.{all_extras}
 use Rattle.subsetter.specs.Bound.{IsWithin, HasFaultWithin}
 use Rattle.subsetter.specs.Fault.{HasFault}
+use Rattle.subsetter_sfnt.specs.FontAt.{font_at}
 use Rattle.subsetter_sfnt.specs.Read.{Font}
 use Rattle.subsetter.specs.Subset.{IsSubset}
-use Rattle.subsetter_base.specs.Places.{with_glyphs, HasAllAboveZero}
+use Rattle.subsetter_base.specs.Places.{HasAllAboveZero}
+use Rattle.subsetter_base.specs.declared.tag.Tag.{Tag}
 use Rattle.subsetter_base.specs.declared.error.Error.{Error as Refusal}
 use Rattle.subsetter_base.specs.declared.error.Error.TheVariants.{OutOfMemory, OverflowError}
+use Rattle.subsetter_instance.specs.Fault.{HasInstanceFault}
+use Rattle.subsetter_variable.specs.Standing.{IsAtDefault}
+use Rattle.subsetter_variable.specs.Subset.{IsStatic}
 use Rattle.cid_embed.specs.Embed.{numbering, HasEmbedFault, HasEmbedFaultWithin}
 use Rattle.cid_embed.specs.Text.{width_array}
 use Rattle.cid_embed.specs.Width.{width}
@@ -36,9 +42,14 @@ IsFaultless tokens depth font glyphs out = (s : IsSubset tokens depth font (numb
 abbrev pub IsFaultlessWithWidths : ℕ → ℕ → Font → List ℕ → List ℕ → Type 0
 IsFaultlessWithWidths tokens depth font glyphs out = (s : IsSubset tokens depth font (numbering glyphs) out) × ((e : Refusal) → ¬ (HasEmbedFault tokens depth font glyphs s.keeps.order e))
 
+-- the font that is subset: as it is given, or the static font that it is at user coordinates, where these are said
+pub data IsTaken (task : Task) (bytes glyphs : List ℕ) : Font → Type 0 where
+  as_given : option_copied task.at ≡ None → IsTaken task bytes glyphs (font_of task bytes)
+  placed : (at : List (Tag × ℤ)) (static : Font) → option_copied task.at ≡ Some at → IsStatic (font_of task bytes) at (numbering glyphs) static → IsTaken task bytes glyphs static
+
 -- a faultless subset of the font for the asked glyphs, also for its widths where they are told
-abbrev pub IsCleanSubset : Task → List ℕ → List ℕ → List ℕ → Type 0
-IsCleanSubset task bytes glyphs out = MatchBool task.widths (IsFaultlessWithWidths task.options.limits.tokens task.options.limits.depth (font_of task bytes) glyphs out) (IsFaultless task.options.limits.tokens task.options.limits.depth (font_of task bytes) glyphs out)
+abbrev pub IsCleanSubset : Task → Font → List ℕ → List ℕ → Type 0
+IsCleanSubset task font glyphs out = MatchBool task.widths (IsFaultlessWithWidths task.options.limits.tokens task.options.limits.depth font glyphs out) (IsFaultless task.options.limits.tokens task.options.limits.depth font glyphs out)
 
 -- the text of widths: the value of `W` in a PDF, or in JSON an array
 abbrev pub width_text : Form → List ℕ → List ℕ
@@ -53,17 +64,23 @@ pub record IsWidthText (form : Form) (font : Font) (glyphs text : List ℕ) : Ty
   pub text_is : text ≡ width_text form widths
 
 -- the text that is told last: the widths, where they are asked for, and else nothing
-abbrev pub IsLastText : Task → List ℕ → List ℕ → List ℕ → Type 0
-IsLastText task bytes glyphs text = MatchBool task.widths (IsWidthText task.form (font_of task bytes) glyphs text) (text ≡ [])
+abbrev pub IsLastText : Task → Font → List ℕ → List ℕ → Type 0
+IsLastText task font glyphs text = MatchBool task.widths (IsWidthText task.form font glyphs text) (text ≡ [])
+
+-- what a task makes of the font that is taken
+pub record IsMadeOf (task : Task) (font : Font) (glyphs : List ℕ) (made : Made) : Type 0 where
+  pub order : made.mapper ≡ numbering glyphs
+  pub subset : IsCleanSubset task font glyphs made.font.items
+  -- no longer than it may be
+  pub within : IsWithin task.options.limits.bytes made.font.items
+  pub text : IsLastText task font glyphs made.text.items
 
 -- what a task makes of the bytes of a font
 pub record IsMade (task : Task) (bytes : List ℕ) (made : Made) : Type 0 where
   pub asked : IsAsked (face_of task bytes) task.asked made.picked.characters.items made.picked.glyphs.items
-  pub order : made.mapper ≡ numbering made.picked.glyphs.items
-  pub subset : IsCleanSubset task bytes made.picked.glyphs.items made.font.items
-  -- no longer than it may be
-  pub within : IsWithin task.options.limits.bytes made.font.items
-  pub text : IsLastText task bytes made.picked.glyphs.items made.text.items
+  pub font : Font
+  pub taken : IsTaken task bytes made.picked.glyphs.items font
+  pub is_made : IsMadeOf task font made.picked.glyphs.items made
 
 -- the given glyphs leave no number for glyph 0, or a fault stands in the font, or a bound is set that every subset passes
 abbrev pub IsRefusal : Option ℕ → ℕ → ℕ → Font → List ℕ → Refusal → Type 0
@@ -73,9 +90,24 @@ IsRefusal bound tokens depth font glyphs why = ((why ≡ OverflowError) × HasAl
 abbrev pub IsRefusalOfWidths : Option ℕ → ℕ → ℕ → Font → List ℕ → Refusal → Type 0
 IsRefusalOfWidths bound tokens depth font glyphs why = (order : List ℕ) × HasEmbedFaultWithin bound tokens depth font glyphs order why
 
--- why there is no subset for glyphs
-abbrev pub IsRefused : Task → List ℕ → List ℕ → Refusal → Type 0
-IsRefused task bytes glyphs why = MatchBool task.widths (IsRefusalOfWidths task.options.limits.bytes task.options.limits.tokens task.options.limits.depth (font_of task bytes) glyphs why) (IsRefusal task.options.limits.bytes task.options.limits.tokens task.options.limits.depth (font_of task bytes) glyphs why)
+-- why there is no subset of the font that is taken
+abbrev pub IsRefused : Task → Font → List ℕ → Refusal → Type 0
+IsRefused task font glyphs why = MatchBool task.widths (IsRefusalOfWidths task.options.limits.bytes task.options.limits.tokens task.options.limits.depth font glyphs why) (IsRefusal task.options.limits.bytes task.options.limits.tokens task.options.limits.depth font glyphs why)
+
+-- why no font is taken: at user coordinates the glyphs leave no number for glyph 0, or a fault stands against the instance
+pub data IsUntaken (task : Task) (bytes glyphs : List ℕ) : Refusal → Type 0 where
+  unnumbered : HasAllAboveZero glyphs → IsUntaken task bytes glyphs OverflowError
+  unplaced : {why : Refusal} (at : List (Tag × ℤ)) → option_copied task.at ≡ Some at → ¬ (IsAtDefault (face_of task bytes) at) → HasInstanceFault (face_of task bytes) at (numbering glyphs) task.options.limits.tokens why → IsUntaken task bytes glyphs why
+
+pub data HasRefusal (task : Task) (bytes glyphs : List ℕ) (why : Refusal) : Type 0 where
+  untaken : IsUntaken task bytes glyphs why → HasRefusal task bytes glyphs why
+  of_taken : (font : Font) → IsTaken task bytes glyphs font → IsRefused task font glyphs why → HasRefusal task bytes glyphs why
+
+-- a failure that names a refusal
+pub record IsRefusedFace (task : Task) (font : Font) (glyphs : List ℕ) (failure : Failure) : Type 0 where
+  pub why : Refusal
+  pub failure_is : failure ≡ Error why
+  pub refused : IsRefused task font glyphs why
 
 -- the asked glyphs are refused
 pub record IsRefusedTask (task : Task) (bytes : List ℕ) (failure : Failure) : Type 0 where
@@ -84,7 +116,12 @@ pub record IsRefusedTask (task : Task) (bytes : List ℕ) (failure : Failure) : 
   pub asked : IsAsked (face_of task bytes) task.asked characters glyphs
   pub why : Refusal
   pub failure_is : failure ≡ Error why
-  pub refused : IsRefused task bytes glyphs why
+  pub refused : HasRefusal task bytes glyphs why
+
+-- the font that is taken, by the file of the static font, if there is one
+abbrev pub taken_of : Task → List ℕ → Option (List ℕ) → Font
+taken_of task bytes None = font_of task bytes
+taken_of task bytes (Some file) = font_at file 0 task.options.extras
 
 -- why nothing is made of the bytes of a font: memory ran out, no glyphs are found, or they are refused
 abbrev pub IsUnmade : Task → List ℕ → Failure → Type 0

@@ -31,6 +31,9 @@ Options stand in front of IN, each once, in any order:
   --limits TOKENS,DEPTH[,BYTES]
                     how far a charstring may run (default 1000000,64), and how
                     many bytes the font may have
+  --at TAG=VALUE[,TAG=VALUE..]
+                    subset a variable font at these coordinates, as
+                    wght=650,wdth=87.5
   --json            print one JSON object in place of the lines
   --quiet           print no lines
   --                end the options

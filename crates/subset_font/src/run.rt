@@ -13,7 +13,7 @@ use crate::failure::{Failure, Told, status_of_run};
 use crate::help::{HELP, VERSION_LINE};
 use crate::hint::find_hint;
 use crate::streams::{Source, Target, lines_beside, open_source};
-use crate::task::{Asked, Task, extras_of, form_of, limits_of};
+use crate::task::{Asked, Task, at_of, extras_of, form_of, limits_of};
 use std::alloc::Global;
 use std::fs::OpenFile;
 use std::io::{BufWriter, ErrorKind, Read, Write};
@@ -112,6 +112,7 @@ fn task_of<'a>(job: &'a Job, list: &'a Option<GlyphList>) -> Task<'a>
         },
         widths: job.switches.widths,
         form: form_of(job.switches),
+        at: at_of(&job.coordinates),
     }
 }
 

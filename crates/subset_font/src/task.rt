@@ -1,10 +1,11 @@
 //! What is made of the font that is read.
 
 ghost use Rattle.std.specs.Prelude.{◌≡◌, None};
+ghost use Rattle.std.specs.Option.{option_copied, option_map};
 ghost use Rattle.subset_font.specs.Chosen.{LimitsAreChosen, extras_chosen, form_chosen};
 
 use subset_args::{RunLimits, Switches};
-use subsetter::{Extras, Limits, Options};
+use subsetter::{Extras, Limits, Options, Tag};
 
 /// Which glyphs are kept.
 #[derive(Clone, Copy)]
@@ -41,6 +42,8 @@ pub struct Task<'a> {
     pub widths: bool,
     /// How the new numbers are told.
     pub form: Form,
+    /// The user coordinates on the axes of a variable font, in 65536ths, where they are said.
+    pub at: Option<&'a [(Tag, i32)]>,
 }
 
 /// With a bound on the bytes of the font, if there is one.
@@ -76,6 +79,16 @@ pub fn extras_of(switches: Switches) -> Extras
         hinting: !switches.no_hinting,
         names: !switches.no_names,
         glyph_names: !switches.no_glyph_names,
+    }
+}
+
+/// The user coordinates, where they are said.
+pub fn at_of(coordinates: &Option<Vec<(Tag, i32)>>) -> Option<&[(Tag, i32)]>
+    ensures { option_copied result ≡ option_map (λ v. v.items) coordinates.now }
+{
+    match coordinates {
+        Some(coordinates) => Some(coordinates.as_slice()),
+        None => None,
     }
 }
 

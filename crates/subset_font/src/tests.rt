@@ -119,6 +119,7 @@ fn task_of(glyphs: &[u16]) -> Task<'_> {
         },
         widths: false,
         form: Form::Lines,
+        at: None,
     }
 }
 

@@ -51,7 +51,7 @@ kept_outlines tokens depth font order out _ (by_outlines k) h t = k
 kept_outlines tokens depth font order out _ (by_charstrings k) h t = let both = sym h ∙ t in absurd cc
 
 module _ (font : Font) (settings : List (Tag × ℤ)) (glyphs file : List ℕ) (x : Extras) (i : IsInstance font settings glyphs file) where
-  read : IsRead (stored (as_font file)) i.out
+  read : IsRead (stored (as_font file)) 0 i.out
   read = is_read (stored (as_font file)) 0 i.out i.out_is
 
   -- ---- the glyphs

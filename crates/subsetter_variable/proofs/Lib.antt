@@ -4,3 +4,5 @@ pub mod Static
 pub mod Simple
 pub mod SourceRead
 pub mod Afresh
+pub mod Redrawn
+pub mod Again

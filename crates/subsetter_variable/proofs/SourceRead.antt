@@ -21,7 +21,7 @@ use Rattle.subsetter_variable.proofs.Unopened.{same_stored}
 -- ---- what was read
 
 -- each of the tables, and what they say
-pub record IsRead (find : List ℕ → Option (List ℕ)) (s : Source) : Type 0 where
+pub record IsRead (find : List ℕ → Option (List ℕ)) (axes : ℕ) (s : Source) : Type 0 where
   pub glyf_is : find (codes "glyf") ≡ Some s.glyf
   pub loca_is : find (codes "loca") ≡ Some s.loca
   pub head : List ℕ
@@ -33,6 +33,8 @@ pub record IsRead (find : List ℕ → Option (List ℕ)) (s : Source) : Type 0 
   pub hhea_is : find (codes "hhea") ≡ Some hhea
   pub pairs_is : number hhea 34 2 ≡ Some s.pairs
   pub hmtx_is : find (codes "hmtx") ≡ Some s.hmtx
+  pub variations_are : variations_in (find (codes "gvar")) axes ≡ Some s.gvar
+  pub hvar_is : find (codes "HVAR") ≡ s.hvar
 
 -- what is read after each of the tables
 module _ (find : List ℕ → Option (List ℕ)) (axes : ℕ) where
@@ -70,7 +72,7 @@ module _ (find : List ℕ → Option (List ℕ)) (axes : ℕ) where
   unfolding source_in
   in_turn = refl
 
-  pub is_read : (s : Source) → source_in find axes ≡ Some s → IsRead find s
+  pub is_read : (s : Source) → source_in find axes ≡ Some s → IsRead find axes s
   is_read s h =
       let a = bind_some (find (codes "glyf")) after_glyf s (sym in_turn ∙ h) in
       let b = bind_some (find (codes "loca")) (after_loca a.0) s a.2 in
@@ -96,6 +98,8 @@ module _ (find : List ℕ → Option (List ℕ)) (axes : ℕ) where
         hhea_is = g.1;
         pairs_is = i.1 ∙ ap (λ (t : Source). Some t.pairs) is;
         hmtx_is = j.1 ∙ ap (λ (t : Source). Some t.hmtx) is;
+        variations_are = k.1 ∙ ap (λ (t : Source). Some t.gvar) is;
+        hvar_is = ap (λ (t : Source). t.hvar) is;
       }
 
 -- ---- among the tables that are asked for
@@ -129,7 +133,7 @@ module _ (file : List ℕ) (x : Extras) where
   found : (tag bytes : List ℕ) → IsAlways tag → stored (as_font file) tag ≡ Some bytes → table (font_at file 0 x) tag ≡ Some bytes
   found tag bytes a h = always tag a x.hinting x.names x.glyph_names (stored (font_at file 0 x) tag) ∙ sym (same_stored (font_at file 0 x) tag) ∙ h
 
-  module _ (s : Source) (r : IsRead (stored (as_font file)) s) where
+  module _ (s : Source) (r : IsRead (stored (as_font file)) 0 s) where
     plain : {tag : List ℕ} → is_program tag ≡ false → bytes_eq tag (codes "name") ≡ false → bytes_eq tag (codes "post") ≡ false → IsAlways tag
     plain p n g = record { program = p; names = n; glyph_names = g }
 

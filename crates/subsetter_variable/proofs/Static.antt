@@ -1,5 +1,5 @@
 -- There is one static font, and what is said of its subset is said of the font.
-use Rattle.std.proofs.Common.{◌≡◌, ℕ, ◌<◌, Bool, true, false, List, [], Option, Some, None, Result, Ok, Err, ℤ, refl, ap, subst, ◌∙◌, ◌⊎◌, inl, inr, arith}
+use Rattle.std.proofs.Common.{◌≡◌, ℕ, ◌<◌, Bool, false, List, [], Option, Some, None, Result, Ok, Err, ℤ, refl, ap, subst, ◌∙◌, ◌⊎◌, inl, inr, arith}
 use Rattle.std.specs.Prelude.{codes, length, IfOk, IfErr, IsTrue, ◌↔◌}
 use Rattle.subsetter_base.specs.declared.tag.Tag.{Tag}
 use Rattle.subsetter_base.specs.declared.error.Error.{Error}
@@ -37,25 +37,27 @@ pub not_default : (font : Font) (settings : List (Tag × ℤ)) (e : Error) → H
 not_default font settings e h (no_outlines n) = let there = h.outlines in cc
 not_default font settings e h (no_move at is all) = ok_not_err (place (stored font) settings) at e is h.refused
 
+pub unplaced : (font : Font) (settings : List (Tag × ℤ)) (glyphs : List ℕ) (steps : ℕ) (e : Error) → (e ≡ OutOfMemory) ⊎ HasNoPlace font settings e → (e ≡ OutOfMemory) ⊎ ((IsAtDefault font settings → ⊥) × HasInstanceFault font settings glyphs steps e)
+unplaced font settings glyphs steps e (inl m) = inl m
+unplaced font settings glyphs steps e (inr h) = inr (not_default font settings e h, no_place h.refused)
+
+-- ---- an instance that isn't made
+
+pub not_made : (font : Font) (settings : List (Tag × ℤ)) (glyphs : List ℕ) (steps : ℕ) (e : Error) → (IsAtDefault font settings → ⊥) → (e ≡ OutOfMemory) ⊎ HasInstanceFault font settings glyphs steps e → (e ≡ OutOfMemory) ⊎ ((IsAtDefault font settings → ⊥) × HasInstanceFault font settings glyphs steps e)
+not_made font settings glyphs steps e not (inl m) = inl m
+not_made font settings glyphs steps e not (inr f) = inr (not, f)
+
 module _ (bound : Option ℕ) (tokens depth : ℕ) (font : Font) (settings : List (Tag × ℤ)) (glyphs : List ℕ) where
-  pub unplaced : (e : Error) → (e ≡ OutOfMemory) ⊎ HasNoPlace (whole font) settings e → (e ≡ OutOfMemory) ⊎ ((order : List ℕ) × HasFaultAt bound tokens depth font settings glyphs order e)
-  unplaced e (inl m) = inl m
-  unplaced e (inr h) = inr ([], in_instance (not_default (whole font) settings e h) (no_place h.refused))
+  abbrev pub NotMade : Error → Type 0
+  NotMade e = (e ≡ OutOfMemory) ⊎ ((IsAtDefault (whole font) settings → ⊥) × HasInstanceFault (whole font) settings glyphs tokens e)
 
-  pub unplaced_final : (e : Error) → (e ≡ OutOfMemory) ⊎ HasNoPlace (whole font) settings e → (e ≡ OutOfMemory) ⊎ HasNoAnswerAt bound tokens depth font settings glyphs
-  unplaced_final e (inl m) = inl m
-  unplaced_final e (inr h) = inr (λ out within a. a.made e (not_default (whole font) settings e h) (no_place h.refused))
+  pub unmade : (e : Error) → NotMade e → (e ≡ OutOfMemory) ⊎ ((order : List ℕ) × HasFaultAt bound tokens depth font settings glyphs order e)
+  unmade e (inl m) = inl m
+  unmade e (inr f) = inr ([], in_instance f.0 f.1)
 
-  -- ---- an instance that isn't made
-
-  module _ (not : IsAtDefault (whole font) settings → ⊥) where
-    pub unmade : (e : Error) → (e ≡ OutOfMemory) ⊎ HasInstanceFault (whole font) settings glyphs tokens e → (e ≡ OutOfMemory) ⊎ ((order : List ℕ) × HasFaultAt bound tokens depth font settings glyphs order e)
-    unmade e (inl m) = inl m
-    unmade e (inr f) = inr ([], in_instance not f)
-
-    pub unmade_final : (e : Error) → (e ≡ OutOfMemory) ⊎ HasInstanceFault (whole font) settings glyphs tokens e → (e ≡ OutOfMemory) ⊎ HasNoAnswerAt bound tokens depth font settings glyphs
-    unmade_final e (inl m) = inl m
-    unmade_final e (inr f) = inr (λ out within a. a.made e not f)
+  pub unmade_final : (e : Error) → NotMade e → (e ≡ OutOfMemory) ⊎ HasNoAnswerAt bound tokens depth font settings glyphs
+  unmade_final e (inl m) = inl m
+  unmade_final e (inr f) = inr (λ out within a. a.made e f.0 f.1)
 
 -- ---- the static font
 
@@ -109,8 +111,11 @@ module _ (bound : Option ℕ) (tokens depth : ℕ) (font : Font) (settings : Lis
 
 -- ---- a font that can't be opened is at its default
 
-pub opened_at : (font : Font) (e : Error) → HasOpeningFault font e → (r : Result Bool Error) → (stored (whole font) (codes "glyf") ≡ None → r ≡ Ok true) → r ≡ Ok true
+pub opened_at : {X : Type 0} (font : Font) (e : Error) → HasOpeningFault font e → (r : Result (Option X) Error) → (stored (whole font) (codes "glyf") ≡ None → r ≡ Ok None) → r ≡ Ok None
 opened_at font e fault r h = h (same_stored font (codes "glyf") ∙ no_glyf font e fault)
+
+pub some_apart : {X : Type 0} (r : Result (Option X) Error) (made : Option X) (x : X) → r ≡ Ok made → made ≡ Some x → r ≡ Ok None → ⊥
+some_apart r made x was is h = cc
 
 pub not_so : (b : Bool) (P : Type 0) → IsTrue b ↔ P → b ≡ false → P → ⊥
 not_so b P both is_false p = let is_true = both.1 p in cc

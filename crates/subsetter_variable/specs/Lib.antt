@@ -1,3 +1,4 @@
 pub mod Standing
 pub mod Subset
 pub mod Afresh
+pub mod Laws

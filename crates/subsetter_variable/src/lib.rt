@@ -1,7 +1,8 @@
 //! Subsets of variable fonts: a font with some glyphs of a font, as they are at user coordinates on its axes.
 //!
 //! [`subset_with_variations`] answers what `subset` answers for a font that stands at its default, with its hints. Where it
-//! stands elsewhere, it makes the static font that `instance` answers, and subsets that.
+//! stands elsewhere, it makes the static font that `instance` answers, and subsets that. [`static_font`] answers that font
+//! itself, for whatever takes one, as `embed` of `cid_embed`.
 //!
 //! ```text
 //! let mapper = GlyphRemapper::new_from_glyphs(alloc, &[36, 68])?;
@@ -10,9 +11,11 @@
 //! ```
 #![tactic(auto)]
 
+pub mod laws;
 mod standing;
 mod subsetting;
 
+pub use standing::static_font;
 pub use subsetter::{Error, Extras, GlyphRemapper, Limits, Options, Tag};
 pub use subsetting::{
     subset_with_variations, subset_with_variations_and_limits, subset_with_variations_and_options,

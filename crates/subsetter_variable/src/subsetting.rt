@@ -15,10 +15,9 @@ ghost use Rattle.subsetter_variable.specs.Afresh.{HasGlyphsDrawn};
 ghost use Rattle.subsetter_variable.specs.Standing.{IsAtDefault};
 ghost use Rattle.subsetter_variable.specs.Subset.{IsSubsetAt, HasFaultAt, IsAnswerAt, HasNoAnswerAt, IsTheAnswerAt};
 
-use crate::standing::is_at_default;
+use crate::standing::static_font;
 use std::alloc::Global;
 use subsetter::{Error, GlyphRemapper, Limits, Options, Tag, subset_with_options};
-use subsetter_instance::instance;
 
 /// A font with exactly the mapper's glyphs, in order, as a font has them at user coordinates, and each further glyph that these
 /// reach through components.
@@ -142,11 +141,10 @@ pub fn subset_with_variations_and_options(
     // Without hinting the new font has no instructions, read afresh.
     ensures bare { IfOk result (λ out. OnFalse options.now.extras.hinting (HasNoInstructions (as_font out.items))) }
 {
-    let at_default = is_at_default(alloc, data, index, coordinates)?;
-    if at_default {
-        return subset_with_options(alloc, data, index, mapper, options);
-    }
     let steps = options.limits.tokens();
-    let file = instance(alloc, data, index, coordinates, mapper, steps)?;
-    subset_with_options(alloc, &file, 0, mapper, options)
+    let made = static_font(alloc, data, index, coordinates, mapper, steps)?;
+    match made {
+        None => subset_with_options(alloc, data, index, mapper, options),
+        Some(file) => subset_with_options(alloc, &file, 0, mapper, options),
+    }
 }

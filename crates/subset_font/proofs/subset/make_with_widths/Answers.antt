@@ -1,12 +1,12 @@
 use Rattle.std.proofs.lemmas.Result.{err_from_is_err_and}
-use Rattle.subset_font.specs.Made.{font_of}
+use Rattle.subsetter_sfnt.specs.FontAt.{font_at}
 use Rattle.subset_font.proofs.Making.{unnumbered}
 use Rattle.subset_font.proofs.subset.make_with_widths.Goals as goal
 
 pub returns-in_err-mapper-clause-err : goal.returns-in_err-mapper-clause-err
 returns-in_err-mapper-clause-err c =
     let p = err_from_is_err_and c.from_residual.result c.from_residual.ensures.1 in
-    rw (p.1, p.2) (unnumbered c.args.task.now.options.limits.bytes c.args.task.now.options.limits.tokens c.args.task.now.options.limits.depth (font_of c.args.task.now c.args.font.now) c.args.glyphs.now c.in_err-mapper.field-0.0 c.in_err-mapper.ensures.err)
+    rw (p.1, p.2) (unnumbered c.args.task.now.options.limits.bytes c.args.task.now.options.limits.tokens c.args.task.now.options.limits.depth (font_at c.args.font.now c.args.index c.args.task.now.options.extras) c.args.glyphs.now c.in_err-mapper.field-0.0 c.in_err-mapper.ensures.err)
 
 pub returns-in_err-embedded-clause-err : goal.returns-in_err-embedded-clause-err
 returns-in_err-embedded-clause-err c =

@@ -1,0 +1,94 @@
+-- User coordinates on the axes of a variable font, as an argument writes them: `wght=650,wdth=87.5`.
+use Rattle.std.specs.Prelude.{ℕ, ◌+◌, ◌*◌, ◌^◌, ◌==◌, nat_lt, Bool, if◌then◌else◌, List, [], ◌∷◌, length, Option, Some, None, ℤ, pos, negsuc, neg_ℤ}
+use Rattle.std.specs.Option.{option_map, option_and_then}
+use Rattle.std.specs.List.{slice_split, before_first, after_first, position_or_len}
+use Rattle.subsetter_base.specs.declared.tag.Tag.{Tag}
+use Rattle.subsetter_variation.specs.Nearest.{nearest}
+use Rattle.subsetter_words.specs.Numbers.{number_in_bits}
+
+-- ---- a decimal number, in 65536ths
+
+-- how many parts of a unit so many digits behind the point count: one to nine digits
+abbrev pub parts_of_unit : ℕ → Option ℕ
+parts_of_unit n =
+    if n == 1 then Some (10 ^ 1)
+    else if n == 2 then Some (10 ^ 2)
+    else if n == 3 then Some (10 ^ 3)
+    else if n == 4 then Some (10 ^ 4)
+    else if n == 5 then Some (10 ^ 5)
+    else if n == 6 then Some (10 ^ 6)
+    else if n == 7 then Some (10 ^ 7)
+    else if n == 8 then Some (10 ^ 8)
+    else if n == 9 then Some (10 ^ 9)
+    else None
+
+-- a number of parts of a unit
+pub record Decimal : Type 0 where
+  pub count : ℕ
+  pub parts : ℕ
+
+abbrev pub is_point : ℕ → Bool
+is_point b = b == 46
+
+abbrev pub is_minus : ℕ → Bool
+is_minus b = b == 45
+
+-- a text has a byte
+abbrev pub has_byte : (ℕ → Bool) → List ℕ → Bool
+has_byte test word = nat_lt (position_or_len test word) (length word)
+
+-- digits in front of the point, and behind it
+abbrev pub decimal_of : List ℕ → List ℕ → Option Decimal
+decimal_of whole digits = option_and_then (λ parts. option_and_then (λ count. option_map (λ units. record { count = units * parts + count; parts = parts }) (number_in_bits 16 whole)) (number_in_bits 32 digits)) (parts_of_unit (length digits))
+
+-- the same, or digits alone
+abbrev pub size_in : List ℕ → Option Decimal
+size_in word = if has_byte is_point word then decimal_of (before_first is_point word) (after_first is_point word) else option_map (λ units. record { count = units; parts = 1 }) (number_in_bits 16 word)
+
+-- it fits 32 bits with a sign
+abbrev pub in_32_bits : ℤ → Option ℤ
+in_32_bits (pos n) = if nat_lt n (2 ^ 31) then Some (pos n) else None
+in_32_bits (negsuc n) = if nat_lt n (2 ^ 31) then Some (negsuc n) else None
+
+-- to the nearest 65536th, halves up
+abbrev pub fixed : ℤ → ℕ → Option ℤ
+fixed count parts = in_32_bits (nearest count parts)
+
+-- behind a minus, and without one
+abbrev pub below_zero : List ℕ → Option ℤ
+below_zero word = option_and_then (λ d. fixed (neg_ℤ (pos (d.count * 65536))) d.parts) (size_in word)
+
+abbrev pub above_zero : List ℕ → Option ℤ
+above_zero word = option_and_then (λ d. fixed (pos (d.count * 65536)) d.parts) (size_in word)
+
+-- a minus may stand first, and nowhere else
+abbrev pub with_minus : List ℕ → List ℕ → Option ℤ
+with_minus front behind = if length front == 0 then below_zero behind else None
+
+abbrev pub value_in : List ℕ → Option ℤ
+value_in word = if has_byte is_minus word then with_minus (before_first is_minus word) (after_first is_minus word) else above_zero word
+
+-- ---- coordinates
+
+abbrev pub is_equals : ℕ → Bool
+is_equals b = b == 61
+
+-- the four bytes of an axis' tag
+abbrev pub tag_in : List ℕ → Option Tag
+tag_in name = if length name == 4 then Some (record { 0 = name }) else None
+
+-- `wght=650`
+abbrev pub coordinate_of : List ℕ → List ℕ → Option (Tag × ℤ)
+coordinate_of name value = option_and_then (λ tag. option_map (λ v. (tag, v)) (value_in value)) (tag_in name)
+
+abbrev pub coordinate_in : List ℕ → Option (Tag × ℤ)
+coordinate_in part = if has_byte is_equals part then coordinate_of (before_first is_equals part) (after_first is_equals part) else None
+
+-- each of the parts
+abbrev pub coordinates_of : List (List ℕ) → Option (List (Tag × ℤ))
+coordinates_of [] = Some []
+coordinates_of (part ∷ parts) = option_and_then (λ c. option_map (λ more. c ∷ more) (coordinates_of parts)) (coordinate_in part)
+
+-- with a comma (44) between each two
+abbrev pub coordinates_in : List ℕ → Option (List (Tag × ℤ))
+coordinates_in text = coordinates_of (slice_split (λ b. b == 44) text)

@@ -1,0 +1,152 @@
+-- An instance of an instance, at no settings and for the same glyphs, is it again.
+use Rattle.std.proofs.Common.{◌≡◌, ℕ, ◌≤◌, Bool, false, List, [], ◌∷◌, ◌++◌, length, take, drop, Option, Some, None, Ok, ℤ, refl, sym, ap, ◌∙◌, arith}
+use Rattle.std.specs.Prelude.{codes, slice_range, Contains, if◌then◌else◌}
+use Rattle.std.specs.Int.{w16, to_be_bytes}
+use Rattle.std.specs.Str.{bytes_eq}
+use Rattle.subsetter_base.specs.Bytes.{◌>>=◌}
+use Rattle.subsetter_base.specs.declared.tag.Tag.{Tag}
+use Rattle.subsetter_base.proofs.ByteLemmas.{number-fits}
+use Rattle.subsetter_base.proofs.Lists.{Contains-later}
+use Rattle.subsetter_base.proofs.Options.{just_is}
+use Rattle.subsetter_base.proofs.Results.{done_is, bind_ok}
+use Rattle.subsetter_sfnt.specs.declared.flavor.FontFlavor.TheVariants.{TrueType}
+use Rattle.subsetter_sfnt.specs.Read.{Font, as_font, stored}
+use Rattle.subsetter_sfnt.specs.Rows.{FontTables, bytes_of, rows, present}
+use Rattle.subsetter_sfnt.specs.Written.{file, kind_word}
+use Rattle.subsetter_sfnt.proofs.Laws.Laid.{row_back}
+use Rattle.subsetter_variation.specs.Tuples.{Gvar}
+use Rattle.subsetter_instance.specs.Source.{Source, place_by, source_in, variations_in}
+use Rattle.subsetter_instance.specs.Drawn.{Drawn, drawn}
+use Rattle.subsetter_instance.specs.Instance.{IsInstance}
+use Rattle.subsetter_instance.specs.Plain.{drawn_if, drawn_all}
+use Rattle.subsetter_instance.specs.Written.{by_glyph, glyf_bytes, is_long, offsets_from, loca_bytes, hmtx_bytes, head_bytes, hhea_bytes, maxp_bytes, tables}
+use Rattle.subsetter_instance.proofs.FileLaws.Among.{drawn_one}
+use Rattle.subsetter_instance.proofs.FileLaws.Laid.{has_room}
+use Rattle.subsetter_instance.proofs.FileLaws.Steps.{InstanceSteps, font_steps, source_steps}
+use Rattle.subsetter_variable.proofs.Redrawn.{redrawn}
+use Rattle.subsetter_variable.proofs.SourceRead.{IsRead, is_read}
+
+-- ---- what an instance doesn't have
+
+module _ (font : Font) (settings : List (Tag × ℤ)) (glyphs : List ℕ) (steps : ℕ) (out : List ℕ) (p : InstanceSteps (stored font) settings glyphs steps out) where
+  abbrev all : List (Option Drawn)
+  all = by_glyph glyphs p.ds p.source.count
+
+  abbrev laid : FontTables
+  laid = tables (stored font) p.head p.hhea p.source.count p.ds all
+
+  long_head : 52 ≤ length p.head
+  long_head =
+      let read = source_steps (stored font) (length p.at) p.source p.source_is in
+      omega (arith, number-fits read.head 50 2 read.format read.format_is, ap length (just_is read.head p.head (sym read.head_is ∙ p.head_is)))
+
+  pub back : (tag : List ℕ) → bytes_eq tag (codes "head") ≡ false → stored (as_font out) tag ≡ bytes_of tag (rows laid)
+  back tag other = ap (λ (f : List ℕ). stored (as_font f) tag) (sym p.file_is) ∙ row_back TrueType laid (has_room (is_long (glyf_bytes all)) p.head long_head) p.fit tag other
+
+-- ---- its glyphs
+
+all_redrawn : (s t : Source) (at : List ℤ) (m n : ℕ) (glyphs : List ℕ) (xs ys : List Drawn) → ((g : ℕ) → Contains glyphs g → (a b : Drawn) → drawn s [] m g ≡ Ok a → drawn t at n g ≡ Ok b → a ≡ b) → drawn_all s [] m glyphs ≡ Ok xs → drawn_all t at n glyphs ≡ Ok ys → xs ≡ ys
+all_redrawn s t at m n [] xs ys alike e f = done_is xs ys (sym e ∙ f)
+all_redrawn s t at m n (g ∷ gs) xs ys alike e f =
+    let a = bind_ok (drawn_if s [] m g) (λ d. drawn_all s [] m gs >>= λ rest. Ok (d ∷ rest)) xs e in
+    let b = bind_ok (drawn_if t at n g) (λ d. drawn_all t at n gs >>= λ rest. Ok (d ∷ rest)) ys f in
+    let c = bind_ok (drawn_all s [] m gs) (λ rest. Ok (a.0 ∷ rest)) xs a.2 in
+    let d = bind_ok (drawn_all t at n gs) (λ rest. Ok (b.0 ∷ rest)) ys b.2 in
+    let first : a.0 ≡ b.0 = alike g (0, omega arith, refl) a.0 b.0 (drawn_one s [] m g a.0 a.1).1 (drawn_one t at n g b.0 b.1).1 in
+    let rest : c.0 ≡ d.0 = all_redrawn s t at m n gs c.0 d.0 (λ h there. alike h (Contains-later g h gs there)) c.1 d.1 in
+    sym (done_is (a.0 ∷ c.0) xs c.2) ∙ ap (λ (x : Drawn). x ∷ c.0) first ∙ ap (λ (l : List Drawn). b.0 ∷ l) rest ∙ done_is (b.0 ∷ d.0) ys d.2
+
+-- ---- its headers
+
+head_by : Bool → List ℕ → List ℕ → List ℕ → List ℕ
+head_by long front middle end = front ++ (0 ∷ 0 ∷ 0 ∷ 0 ∷ []) ++ middle ++ (0 ∷ (if long then 1 else 0) ∷ []) ++ end
+
+same_head : (long : Bool) (a b : List ℕ) → take 8 a ≡ take 8 b → slice_range a 12 50 ≡ slice_range b 12 50 → drop 52 a ≡ drop 52 b → head_bytes long a ≡ head_bytes long b
+unfolding head_by
+same_head long a b f m e =
+    ap (λ (l : List ℕ). head_by long l (slice_range a 12 50) (drop 52 a)) f ∙ ap (λ (l : List ℕ). head_by long (take 8 b) l (drop 52 a)) m ∙ ap (λ (l : List ℕ). head_by long (take 8 b) (slice_range b 12 50) l) e
+
+same_hhea : (n : ℕ) (a b : List ℕ) → take 34 a ≡ take 34 b → drop 36 a ≡ drop 36 b → hhea_bytes n a ≡ hhea_bytes n b
+same_hhea n a b f e = ap (λ (l : List ℕ). l ++ to_be_bytes w16 n ++ drop 36 a) f ∙ ap (λ (l : List ℕ). take 34 b ++ to_be_bytes w16 n ++ l) e
+
+-- ---- the file
+
+abbrev with_parts : ℕ → List Drawn → List (Option Drawn) → List ℕ → List ℕ → Option (List ℕ) → Option (List ℕ) → FontTables
+with_parts n ds all head hhea name post = record {
+  cff = None;
+  cvt = None;
+  fpgm = None;
+  glyf = Some (glyf_bytes all);
+  head = Some head;
+  hhea = Some hhea;
+  hmtx = Some (hmtx_bytes all);
+  loca = Some (loca_bytes (is_long (glyf_bytes all)) (offsets_from 0 all));
+  maxp = Some (maxp_bytes n ds);
+  name = name;
+  post = post;
+  prep = None;
+}
+
+module _ (font : Font) (settings : List (Tag × ℤ)) (glyphs out again : List ℕ) (i : IsInstance font settings glyphs out) (j : IsInstance (as_font out) [] glyphs again) where
+  p : InstanceSteps (stored font) settings glyphs i.steps out
+  p = font_steps font settings glyphs i.steps out i.layout
+
+  q : InstanceSteps (stored (as_font out)) [] glyphs j.steps again
+  q = font_steps (as_font out) [] glyphs j.steps again j.layout
+
+  read : IsRead (stored (as_font out)) 0 i.out
+  read = is_read (stored (as_font out)) 0 i.out i.out_is
+
+  still : i.out.gvar ≡ None
+  still = sym (just_is {A = Option Gvar} None i.out.gvar (ap (λ (o : Option (List ℕ)). variations_in o 0) (sym (back font settings glyphs i.steps out p (codes "gvar") refl)) ∙ read.variations_are))
+
+  wide : i.out.hvar ≡ None
+  wide = sym read.hvar_is ∙ back font settings glyphs i.steps out p (codes "HVAR") refl
+
+  no_place : q.at ≡ []
+  no_place = sym (done_is [] q.at (ap (λ (o : Option (List ℕ)). place_by o (stored (as_font out) (codes "avar")) []) (sym (back font settings glyphs i.steps out p (codes "fvar") refl)) ∙ q.place_is))
+
+  own_source : q.source ≡ i.out
+  own_source = just_is q.source i.out (sym q.source_is ∙ ap (λ (l : List ℤ). source_in (stored (as_font out)) (length l)) no_place ∙ i.out_is)
+
+  first_place : p.at ≡ i.at
+  first_place = done_is p.at i.at (sym p.place_is ∙ i.place_is)
+
+  first_source : p.source ≡ i.source
+  first_source = just_is p.source i.source (sym p.source_is ∙ ap (λ (l : List ℤ). source_in (stored font) (length l)) first_place ∙ i.source_is)
+
+  same_drawn : q.ds ≡ p.ds
+  same_drawn =
+      all_redrawn i.out i.source i.at j.steps i.steps glyphs q.ds p.ds (λ g c a b e f. redrawn i.source i.out i.at i.steps g (i.asked_for g c) still wide j.steps a e ∙ done_is (i.asked_for g c).it b (sym (i.asked_for g c).drawn_is ∙ f))
+      (ap (λ (s : Source). drawn_all s [] j.steps glyphs) (sym own_source) ∙ ap (λ (l : List ℤ). drawn_all q.source l j.steps glyphs) (sym no_place) ∙ q.drawn_is)
+      (ap (λ (s : Source). drawn_all s i.at i.steps glyphs) (sym first_source) ∙ ap (λ (l : List ℤ). drawn_all p.source l i.steps glyphs) (sym first_place) ∙ p.drawn_is)
+
+  same_count : q.source.count ≡ p.source.count
+  same_count = ap (λ (s : Source). s.count) own_source ∙ i.count ∙ ap (λ (s : Source). s.count) (sym first_source)
+
+  head_kept : (long : Bool) → head_bytes long q.head ≡ head_bytes long p.head
+  head_kept long =
+      let source : i.head.source ≡ p.head = just_is i.head.source p.head (sym i.head.source_is ∙ p.head_is) in
+      let copy : q.head ≡ i.head.copy = just_is q.head i.head.copy (sym q.head_is ∙ i.head.copy_is) in
+      same_head long q.head p.head (ap (take 8) copy ∙ i.head.front ∙ ap (take 8) source) (i.head_middle p.head q.head p.head_is q.head_is) (ap (drop 52) copy ∙ i.head.end ∙ ap (drop 52) source)
+
+  hhea_kept : (n : ℕ) → hhea_bytes n q.hhea ≡ hhea_bytes n p.hhea
+  hhea_kept n =
+      let source : i.hhea.source ≡ p.hhea = just_is i.hhea.source p.hhea (sym i.hhea.source_is ∙ p.hhea_is) in
+      let copy : q.hhea ≡ i.hhea.copy = just_is q.hhea i.hhea.copy (sym q.hhea_is ∙ i.hhea.copy_is) in
+      same_hhea n q.hhea p.hhea (ap (take 34) copy ∙ i.hhea.front ∙ ap (take 34) source) (ap (drop 36) copy ∙ i.hhea.end ∙ ap (drop 36) source)
+
+  same_parts : (n : ℕ) (ds : List Drawn) (all : List (Option Drawn)) → tables (stored (as_font out)) q.head q.hhea n ds all ≡ tables (stored font) p.head p.hhea n ds all
+  same_parts n ds all =
+      let long = is_long (glyf_bytes all) in
+      ap (λ (l : List ℕ). with_parts n ds all l (hhea_bytes n q.hhea) (stored (as_font out) (codes "name")) (stored (as_font out) (codes "post"))) (head_kept long)
+      ∙ ap (λ (l : List ℕ). with_parts n ds all (head_bytes long p.head) l (stored (as_font out) (codes "name")) (stored (as_font out) (codes "post"))) (hhea_kept n)
+      ∙ ap (λ (o : Option (List ℕ)). with_parts n ds all (head_bytes long p.head) (hhea_bytes n p.hhea) o (stored (as_font out) (codes "post"))) i.name
+      ∙ ap (λ (o : Option (List ℕ)). with_parts n ds all (head_bytes long p.head) (hhea_bytes n p.hhea) (stored font (codes "name")) o) i.post
+
+  pub itself_again : again ≡ out
+  itself_again =
+      sym q.file_is
+      ∙ ap (λ (n : ℕ). file (kind_word TrueType) (present (rows (tables (stored (as_font out)) q.head q.hhea n q.ds (by_glyph glyphs q.ds n))))) same_count
+      ∙ ap (λ (ds : List Drawn). file (kind_word TrueType) (present (rows (tables (stored (as_font out)) q.head q.hhea p.source.count ds (by_glyph glyphs ds p.source.count))))) same_drawn
+      ∙ ap (λ (t : FontTables). file (kind_word TrueType) (present (rows t))) (same_parts p.source.count p.ds (by_glyph glyphs p.ds p.source.count)) ∙ p.file_is
