@@ -1,10 +1,9 @@
 -- Which failures there are where nothing is made.
 use Rattle.std.proofs.Common.{◌≡◌, ◌≢◌, ◌⊎◌, inl, inr, ℕ, List, Option, Some, None, Result, Ok, Err, sym, subst}
-use Rattle.std.specs.Prelude.{⊤, IfOk, IfErr, IfSome, OnOk}
-use Rattle.subsetter_base.specs.declared.error.Error.TheVariants.{OutOfMemory, MalformedFont}
+use Rattle.std.specs.Prelude.{IfOk, IfErr, IfSome, OnOk}
 use Rattle.subsetter_sfnt.specs.Read.{Font}
 use Rattle.subset_font.specs.Asked.{IsUnasked}
-use Rattle.subset_font.specs.Made.{face_of, IsMade, IsRefusedTask, IsUnmade}
+use Rattle.subset_font.specs.Made.{face_of, IsMade, IsUnmade}
 use Rattle.subset_font.specs.Carried.{IsOfMaking, IsFailureOf, IsBeforeWriting}
 use Rattle.subset_font.specs.declared.task.Task.{Task}
 use Rattle.subset_font.specs.declared.task.Asked.{Asked}

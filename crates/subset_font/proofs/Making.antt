@@ -9,7 +9,7 @@ use Rattle.subsetter_sfnt.specs.Read.{Font}
 use Rattle.subsetter.specs.Bound.{IsWithin, HasFaultWithin}
 use Rattle.subsetter.specs.Fault.{HasFault}
 use Rattle.subsetter.specs.Subset.{IsSubset}
-use Rattle.cid_embed.specs.Embed.{numbering, HasEmbedFault, HasEmbedFaultWithin, in_numbering, in_font}
+use Rattle.cid_embed.specs.Embed.{numbering, HasEmbedFaultWithin, in_numbering, in_font}
 use Rattle.subset_font.specs.Asked.{IsAsked, IsUnasked}
 use Rattle.subsetter_base.specs.declared.tag.Tag.{Tag}
 use Rattle.subsetter_sfnt.specs.FontAt.{font_at}

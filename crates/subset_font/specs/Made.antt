@@ -24,7 +24,7 @@ use Rattle.subset_font.specs.declared.task.Form.{Form}
 use Rattle.subset_font.specs.declared.task.Form.TheVariants.{Lines, Json, Silence}
 use Rattle.subset_font.specs.declared.subset.Made.{Made}
 use Rattle.subset_font.specs.declared.failure.Failure.{Failure}
-use Rattle.subset_font.specs.declared.failure.Failure.TheVariants.{Error, Read}
+use Rattle.subset_font.specs.declared.failure.Failure.TheVariants.{Error}
 
 -- the face that is read, with all that stands in it
 abbrev pub face_of : Task → List ℕ → Font

@@ -1,4 +1,4 @@
-use Rattle.std.proofs.Common.{◌≡◌, ◌+◌, ◌-◌, [], ◌∷◌, ◌++◌, sym, ap, ◌∙◌, append_assoc}
+use Rattle.std.proofs.Common.{◌+◌, ◌-◌, [], ◌∷◌, ◌++◌, sym, ap, ◌∙◌, append_assoc}
 use Rattle.subset_args.specs.Lists.{counting}
 use Rattle.subset_args.proofs.Counting.{counting_step}
 use Rattle.subset_font.proofs.asked.first_glyphs.Goals as goal
