@@ -19,12 +19,43 @@ struct Named<'a> {
     bytes: Vec<u8>,
 }
 
+/// The value of a hexadecimal digit.
+fn digit(character: u8) -> Option<u8> {
+    match character {
+        48..=57 => character.checked_sub(48),
+        97..=102 => character.checked_sub(87),
+        _ => None,
+    }
+}
+
+/// The byte that two hexadecimal digits write.
+fn byte_of(high: u8, low: u8) -> Option<u8> {
+    digit(high)?.checked_mul(16)?.checked_add(digit(low)?)
+}
+
+/// The bytes that hexadecimal digits write, two digits each. `Row` where one isn't a digit or the last one is alone.
+fn pairs_of(alloc: Global, digits: &[u8]) -> Result<Vec<u8>, Failure> {
+    let mut bytes = Vec::new(alloc);
+    let mut left = digits;
+    for _ in 0..digits.len() {
+        match left {
+            [] => return Ok(bytes),
+            [_] => return Err(Failure::Row),
+            [high, low, rest @ ..] => {
+                bytes.push(byte_of(*high, *low).ok_or(Failure::Row)?)?;
+                left = rest;
+            }
+        }
+    }
+    Ok(bytes)
+}
+
 /// The bytes that hexadecimal digits write, none for `-`.
 fn bytes_of(alloc: Global, digits: &str) -> Result<Vec<u8>, Failure> {
     if digits == "-" {
         return Ok(Vec::new(alloc));
     }
-    hex::decode(alloc, digits).ok().ok_or(Failure::Row)
+    pairs_of(alloc, digits.as_bytes())
 }
 
 /// The bytes of a name.
