@@ -2,9 +2,9 @@
 """Tries the wrong bodies that the gate doesn't: wrong_bodies.py [CRATE[/NAME] ..]
 
 Each file of compare/wrong_bodies/CRATE is a must-fail edit: a wrong body, which a contract of the crate refuses. As an edit costs
-a check of its crate, the gate has only a few (crates/CRATE/must-fail). This copies the crates with what their checks have kept,
-puts these edits in place of the gate's, and lets `rt must-fail` try them. It prints what that says of each, and how many were
-refused. The status is 1 where one wasn't.
+a check of its crate, the gate has only a few (crates/CRATE/must-fail). This copies these crates, and those that they stand on, with
+what their checks have kept, puts the edits in place of the gate's, and lets `rt must-fail` try them. It prints what that says of
+each, and how many were refused. The status is 1 where one wasn't.
 """
 import os
 import re
@@ -33,11 +33,28 @@ def asked(words):
     return wanted
 
 
-def copy_crates(room):
-    """A copy of the crates, with what their checks have kept and without the gate's edits."""
-    for name in ("crates.txt", "HANDLES"):
-        shutil.copy(os.path.join(ROOT, name), room)
-    shutil.copytree(os.path.join(ROOT, "crates"), os.path.join(room, "crates"), symlinks=True, ignore=shutil.ignore_patterns("must-fail"))
+def with_those_below(crates):
+    """The lines of crates.txt for crates and for all that they stand on, by crate."""
+    with open(os.path.join(ROOT, "crates.txt"), encoding="utf-8") as file:
+        lines = {line.split(":")[0].split()[0]: line for line in file if line.strip()}
+    wanted, more = set(), list(crates)
+    while more:
+        crate = more.pop()
+        # (a library of the kit has no line)
+        if crate in lines and crate not in wanted:
+            wanted.add(crate)
+            more += lines[crate].split(":")[1].split()
+    return {crate: line for crate, line in lines.items() if crate in wanted}
+
+
+def copy_crates(room, crates):
+    """A copy of crates and of all that they stand on, with what their checks have kept and without the gate's edits."""
+    shutil.copy(os.path.join(ROOT, "HANDLES"), room)
+    lines = with_those_below(crates)
+    with open(os.path.join(room, "crates.txt"), "w", encoding="utf-8") as file:
+        file.writelines(lines.values())
+    for crate in lines:
+        shutil.copytree(os.path.join(ROOT, "crates", crate), os.path.join(room, "crates", crate), symlinks=True, ignore=shutil.ignore_patterns("must-fail"))
 
 
 def tried(room, crate, names):
@@ -56,7 +73,7 @@ def main():
     edits = asked(sys.argv[1:])
     count = sum(map(len, edits.values()))
     with tempfile.TemporaryDirectory(prefix="wrong-") as room:
-        copy_crates(room)
+        copy_crates(room, edits)
         refused = sum(tried(room, crate, names) for crate, names in edits.items())
     print(f"{count} wrong bodies of {len(edits)} crates, {refused} refused")
     sys.exit(0 if refused == count else 1)
