@@ -40,6 +40,8 @@ pub data Command : Type 0 where
   help : Command
   version : Command
   subset : Request → Command
+  -- to tell the axes of a face: its file and its index
+  axes : List ℕ → ℕ → Command
 
 -- which glyphs the arguments behind INDEX ask for: one argument that lists them, or none where they are found elsewhere
 abbrev pub asked : Option GlyphSource → List (List ℕ) → Option Asked
@@ -79,5 +81,22 @@ command_of versioned = Some version
 command_of (chosen choice words) = option_map subset (request_with choice words)
 
 -- what the arguments `[OPTIONS] IN OUT INDEX [GID[,GID..]]` ask for
+abbrev pub command_by_options : List (List ℕ) → Option Command
+command_by_options words = option_and_then command_of (parsed None no_choice words)
+
+-- what the arguments `FONT INDEX` behind `--axes` ask for
+abbrev pub axes_with : List (List ℕ) → Option Command
+axes_with (input ∷ index ∷ []) = option_map (axes input) (number_in_bits 32 index)
+axes_with _ = None
+
+-- the arguments behind a first one that is `--axes`
+abbrev pub behind_axes : List (List ℕ) → Option (List (List ℕ))
+behind_axes [] = None
+behind_axes (word ∷ words) = if bytes_eq word (codes "--axes") then Some words else None
+
+-- what the arguments ask for: `--axes FONT INDEX`, or `[OPTIONS] IN OUT INDEX [GID[,GID..]]`
 abbrev pub command : List (List ℕ) → Option Command
-command words = option_and_then command_of (parsed None no_choice words)
+command words = elim (behind_axes words) [
+  | Some behind ↦ axes_with behind
+  | None ↦ command_by_options words
+]

@@ -3,7 +3,7 @@ use Rattle.std.specs.Prelude.{map, string_bytes}
 use Rattle.std.specs.Option.{option_copied, option_map}
 use Rattle.subset_args.specs.Limits.{limits_view}
 use Rattle.subset_args.specs.Options.{GlyphSource, in_file, by_text, Choice, Options, helped, versioned, chosen}
-use Rattle.subset_args.specs.Request.{Asked, listed, from, Request, Command as Wanted, help, version, subset}
+use Rattle.subset_args.specs.Request.{Asked, listed, from, Request, Command as Wanted, help, version, subset, axes}
 use Rattle.subset_args.specs.declared.options.Source.{Source}
 use Rattle.subset_args.specs.declared.options.Source.TheVariants.{File, Text}
 use Rattle.subset_args.specs.declared.options.Chosen.{Chosen}
@@ -13,7 +13,7 @@ use Rattle.subset_args.specs.declared.jobs.Glyphs.{Glyphs}
 use Rattle.subset_args.specs.declared.jobs.Glyphs.TheVariants.{Listed, InFile, ByText}
 use Rattle.subset_args.specs.declared.jobs.Job.{Job}
 use Rattle.subset_args.specs.declared.jobs.Command.{Command}
-use Rattle.subset_args.specs.declared.jobs.Command.TheVariants.{Help as ForHelp, Version as ForVersion, Subset}
+use Rattle.subset_args.specs.declared.jobs.Command.TheVariants.{Help as ForHelp, Version as ForVersion, Subset, Axes}
 
 abbrev pub source_view : Source → GlyphSource
 source_view (File name) = in_file name.now
@@ -39,3 +39,4 @@ abbrev pub command_view : Command → Wanted
 command_view ForHelp = help
 command_view ForVersion = version
 command_view (Subset job) = subset (job_view job)
+command_view (Axes input index) = axes (string_bytes input) index

@@ -2,7 +2,7 @@
 
 ghost use Rattle.std.specs.Prelude.{◌≡◌, ◌⊎◌, ℕ, List, map, IfOk, IfErr, Some, None, string_bytes};
 ghost use Rattle.std.specs.Option.{option_copied, option_map};
-ghost use Rattle.subset_args.specs.Request.{glyph_list, asked, is_stream, lists_in_stream, said_at, request_with, command};
+ghost use Rattle.subset_args.specs.Request.{glyph_list, asked, is_stream, lists_in_stream, said_at, request_with, command_by_options, behind_axes, axes_with, command};
 ghost use Rattle.subset_args.specs.View.{source_view, chosen_view, asked_view, job_view, command_view};
 ghost use Rattle.subset_args.specs.declared.jobs.ArgsError.TheVariants.{Usage, OutOfMemory};
 
@@ -72,6 +72,8 @@ pub enum Command {
     Version,
     /// To make a subset.
     Subset(Job),
+    /// To tell the axes of a face: the name of its file, and its place in a collection, from 0.
+    Axes(String, u32),
 }
 
 /// The glyphs of a list with a comma between each two.
@@ -161,8 +163,43 @@ fn read_job(alloc: Global, chosen: Chosen<'_>, words: &[String]) -> Result<Job, 
     })
 }
 
-/// What the arguments after the program's name ask for: `[OPTIONS] IN OUT INDEX GID[,GID..]`, where the last one is left
-/// out with `--gids-file` and `--text`.
+/// What the arguments `[OPTIONS] IN OUT INDEX [GID[,GID..]]` ask for.
+fn read_by_options(alloc: Global, words: &[String]) -> Result<Command, ArgsError>
+    ensures ok { IfOk result (λ c. command_by_options (map (λ word. string_bytes word) words.now) ≡ Some (command_view c)) }
+    ensures err { IfErr result (λ e. (e ≡ OutOfMemory) ⊎ ((e ≡ Usage) × (command_by_options (map (λ word. string_bytes word) words.now) ≡ None))) }
+{
+    match parse_options(Chosen::NOTHING, words) {
+        None => Err(ArgsError::Usage),
+        Some(Parsed::Help) => Ok(Command::Help),
+        Some(Parsed::Version) => Ok(Command::Version),
+        Some(Parsed::Chosen(chosen, rest)) => Ok(Command::Subset(read_job(alloc, chosen, rest)?)),
+    }
+}
+
+/// The arguments behind a first one that is `--axes`.
+fn behind_axes(words: &[String]) -> Option<&[String]>
+    ensures { option_map (λ behind. map (λ word. string_bytes word) behind.now) result ≡ behind_axes (map (λ word. string_bytes word) words.now) }
+{
+    let [word, behind @ ..] = words else {
+        return None;
+    };
+    if word.as_str() == "--axes" { Some(behind) } else { None }
+}
+
+/// What the arguments `FONT INDEX` behind `--axes` ask for.
+fn read_axes_words(words: &[String]) -> Result<Command, ArgsError>
+    ensures ok { IfOk result (λ c. axes_with (map (λ word. string_bytes word) words.now) ≡ Some (command_view c)) }
+    ensures err { IfErr result (λ e. (e ≡ OutOfMemory) ⊎ ((e ≡ Usage) × (axes_with (map (λ word. string_bytes word) words.now) ≡ None))) }
+{
+    let [input, index] = words else {
+        return Err(ArgsError::Usage);
+    };
+    let index = u32_of(index).ok_or(ArgsError::Usage)?;
+    Ok(Command::Axes(input.clone()?, index))
+}
+
+/// What the arguments after the program's name ask for: `--axes FONT INDEX`, or `[OPTIONS] IN OUT INDEX GID[,GID..]`, where the
+/// last one is left out with `--gids-file` and `--text`.
 ///
 /// `Usage` where an option is given twice or isn't followed by its value, where the count of the other arguments is another,
 /// where INDEX or a GID isn't one or more ASCII digits whose value fits `u32` or `u16`, where the limits aren't such
@@ -171,10 +208,8 @@ pub fn read_words(alloc: Global, words: &[String]) -> Result<Command, ArgsError>
     ensures ok { IfOk result (λ c. command (map (λ word. string_bytes word) words.now) ≡ Some (command_view c)) }
     ensures err { IfErr result (λ e. (e ≡ OutOfMemory) ⊎ ((e ≡ Usage) × (command (map (λ word. string_bytes word) words.now) ≡ None))) }
 {
-    match parse_options(Chosen::NOTHING, words) {
-        None => Err(ArgsError::Usage),
-        Some(Parsed::Help) => Ok(Command::Help),
-        Some(Parsed::Version) => Ok(Command::Version),
-        Some(Parsed::Chosen(chosen, rest)) => Ok(Command::Subset(read_job(alloc, chosen, rest)?)),
+    match behind_axes(words) {
+        Some(behind) => read_axes_words(behind),
+        None => read_by_options(alloc, words),
     }
 }

@@ -6,3 +6,4 @@ pub mod Carried
 pub mod FaceView
 pub mod Failure
 pub mod Hint
+pub mod Axes

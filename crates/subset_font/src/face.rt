@@ -55,7 +55,7 @@ fn place_in_collection(file: &[u8], index: u32) -> Option<usize>
 
 /// Where the font's header stands.
 #[tactic(auto, unfolding(subsetter_sfnt::specs::Read::header_place))]
-fn header_place(file: &[u8], index: u32) -> Option<usize>
+pub fn header_place(file: &[u8], index: u32) -> Option<usize>
     ensures place { result ≡ header_place (record { bytes = file.now; index = index; extras = all_extras }) }
     ensures small { IfSome result (λ at. at < 2 ^ 32) }
 {
@@ -116,7 +116,7 @@ fn find_place(records: &[u8], tag: Tag) -> Option<Place>
 }
 
 /// The bytes of a table.
-fn table(file: &[u8], index: u32, tag: Tag) -> Option<&[u8]>
+pub fn table(file: &[u8], index: u32, tag: Tag) -> Option<&[u8]>
     ensures { option_copied result ≡ stored (record { bytes = file.now; index = index; extras = all_extras }) tag.0 }
 {
     let records = records(file, index)?;

@@ -55,16 +55,16 @@ impl Failure {
 pub struct Told<'a> {
     /// Why the run failed.
     pub failure: &'a Failure,
-    /// What the run was to do, if the arguments said it.
-    pub job: Option<&'a Job>,
+    /// The name of the file that failed, if one did.
+    pub file: Option<&'a str>,
 }
 
-/// The name of the file that failed.
-fn file_of<'a>(failure: &Failure, job: &'a Job) -> Option<&'a str> {
-    match (failure, &job.glyphs) {
-        (Failure::Read, _) => Some(job.input.as_str()),
-        (Failure::Write, _) => Some(job.output.as_str()),
-        (Failure::ReadList, Glyphs::InFile(name)) => Some(name.as_str()),
+/// The name of the file that failed, if one did.
+pub fn file_of<'a>(ended: &Result<(), Failure>, job: &'a Job) -> Option<&'a str> {
+    match (ended, &job.glyphs) {
+        (Err(Failure::Read), _) => Some(job.input.as_str()),
+        (Err(Failure::Write), _) => Some(job.output.as_str()),
+        (Err(Failure::ReadList), Glyphs::InFile(name)) => Some(name.as_str()),
         _ => None,
     }
 }
@@ -72,10 +72,7 @@ fn file_of<'a>(failure: &Failure, job: &'a Job) -> Option<&'a str> {
 impl fmt::Display for Told<'_> {
     fn fmt<W: fmt::Write>(&self, f: &mut fmt::Formatter<W>) -> fmt::Result {
         let failure = self.failure;
-        let Some(job) = self.job else {
-            return write!(f, "{failure}");
-        };
-        match file_of(failure, job) {
+        match self.file {
             Some(name) => write!(f, "{failure} {name}"),
             None => write!(f, "{failure}"),
         }

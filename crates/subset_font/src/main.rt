@@ -9,6 +9,7 @@
 #![tactic(auto)]
 
 mod asked;
+mod axes;
 mod carried;
 mod face;
 mod failure;
@@ -21,6 +22,7 @@ mod subset;
 mod task;
 
 pub use asked::{Picked, pick};
+pub use axes::{axes_there, carry_axes, has_axis};
 pub use carried::carry_out;
 pub use failure::{Failure, Told, status_of_run};
 pub use help::{HELP, VERSION_LINE};

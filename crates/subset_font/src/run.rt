@@ -9,19 +9,20 @@ ghost use Rattle.subset_font.specs.declared.failure.Failure.TheVariants.{Error a
 ghost use Rattle.subsetter_base.specs.declared.error.Error.TheVariants.{OutOfMemory};
 
 use crate::carried::{carry_out, read_whole};
-use crate::failure::{Failure, Told, status_of_run};
+use crate::axes::{axes_there, carry_axes, has_axis};
+use crate::failure::{Failure, Told, file_of, status_of_run};
 use crate::help::{HELP, VERSION_LINE};
 use crate::hint::find_hint;
 use crate::streams::{Source, Target, lines_beside, open_source};
-use crate::task::{Asked, Task, at_of, extras_of, form_of, limits_of};
+use crate::task::{Asked, Form, Task, at_of, extras_of, form_of, limits_of};
 use std::alloc::Global;
 use std::fs::OpenFile;
 use std::io::{BufWriter, ErrorKind, Read, Write};
 use std::process::{ExitCode, Termination};
 use std::rt::{Env, Files};
 use std::{env, io};
-use subset_args::{ArgsError, Command, GlyphList, Glyphs, Job, read_list, read_words};
-use subsetter::{Error, Options};
+use subset_args::{ArgsError, Command, GlyphList, Glyphs, Job, Switches, read_list, read_words};
+use subsetter::{Error, Options, Tag};
 
 /// The arguments after the program's name, which is the first.
 fn after_name(alloc: Global, all: env::Args) -> Result<Vec<String>, Failure>
@@ -158,12 +159,12 @@ fn perform<R: Files + Print + Eprint + Input + AllocGlobal>(
 }
 
 /// Prints why a run failed, if it did, and answers the status.
-fn report<R: Eprint>(rt: &R, ended: &Result<(), Failure>, job: Option<&Job>) -> u8
+fn report<R: Eprint>(rt: &R, ended: &Result<(), Failure>, file: Option<&str>) -> u8
     ensures { result ≡ status_of_end ended.now }
 {
     if let Err(failure) = ended {
         // Nobody could be told of a failure here, so the status alone tells.
-        let _ = eprintln!(rt; "{}", Told { failure, job });
+        let _ = eprintln!(rt; "{}", Told { failure, file });
     }
     status_of_run(ended)
 }
@@ -177,18 +178,84 @@ fn tell_hint<R: Eprint>(rt: &R, ended: &Result<(), Failure>, font: &[u8], task: 
     }
 }
 
+/// Says which tags of the coordinates are those of no axis of the font. It is passed over where memory runs out.
+fn tell_unknown<R: Eprint + AllocGlobal>(rt: &R, font: &[u8], index: u32, at: &[(Tag, i32)]) {
+    let Ok(axes) = axes_there(rt.alloc(), font, index) else {
+        return;
+    };
+    for setting in at {
+        if !has_axis(&axes, setting.0) {
+            let _ = eprintln!(rt; "no axis {} in the font", setting.0);
+        }
+    }
+}
+
 /// Makes a subset, and answers the status.
 fn run_job<R: Files + Print + Eprint + Input + AllocGlobal>(rt: &R, job: &Job) -> u8
     ensures { result ≤ 3 }
 {
     let list = match list_of(rt, &job.glyphs) {
         Ok(list) => list,
-        Err(failure) => return report(rt, &Err(failure), Some(job)),
+        Err(failure) => {
+            let ended = Err(failure);
+            return report(rt, &ended, file_of(&ended, job));
+        }
     };
     let task = task_of(job, &list);
     let mut font = Vec::new(rt.alloc());
     let ended = perform(rt, job, &task, &mut font);
-    let status = report(rt, &ended, Some(job));
+    let status = report(rt, &ended, file_of(&ended, job));
+    tell_hint(rt, &ended, &font, &task);
+    if let (Ok(()), Some(at)) = (&ended, task.at) {
+        tell_unknown(rt, &font, task.index, at);
+    }
+    status
+}
+
+/// Tells the axes of a face on standard output.
+fn perform_axes<R: Files + Print + Input + AllocGlobal>(
+    rt: &R,
+    input: &str,
+    index: u32,
+    source: &mut Vec<u8>,
+) -> Result<(), Failure>
+    ensures { IfErr result (λ e. e ≢ Usage) }
+{
+    let Ok(mut lines) = BufWriter::new(rt.alloc(), io::writer(rt)) else {
+        return Err(Failure::Error(Error::OutOfMemory));
+    };
+    let mut input = open_source(rt, input).map_err(|_| Failure::Read)?;
+    let room = room_of(&input)?;
+    carry_axes(rt.alloc(), index, &mut input, room, source, &mut lines)
+}
+
+/// The name of the file of a face, if it can't be read.
+fn unread_file<'a>(ended: &Result<(), Failure>, input: &'a str) -> Option<&'a str> {
+    match ended {
+        Err(Failure::Read) => Some(input),
+        _ => None,
+    }
+}
+
+/// Tells the axes of a face, and answers the status.
+fn run_axes<R: Files + Print + Eprint + Input + AllocGlobal>(rt: &R, input: &str, index: u32) -> u8
+    ensures { result ≤ 3 }
+{
+    let mut font = Vec::new(rt.alloc());
+    let ended = perform_axes(rt, input, index, &mut font);
+    let status = report(rt, &ended, unread_file(&ended, input));
+    let none = None;
+    let task = Task {
+        asked: Asked::Every,
+        index,
+        options: Options {
+            limits: limits_of(None),
+            extras: extras_of(Switches::NONE),
+        },
+        widths: false,
+        form: Form::Silence,
+        at: at_of(&none),
+    };
     tell_hint(rt, &ended, &font, &task);
     status
 }
@@ -226,6 +293,7 @@ pub fn run<R: Env + Files + Print + Eprint + Input + AllocGlobal>(rt: &R) -> End
         Ok(Command::Help) => print_text(rt, HELP),
         Ok(Command::Version) => print_text(rt, VERSION_LINE),
         Ok(Command::Subset(job)) => run_job(rt, &job),
+        Ok(Command::Axes(input, index)) => run_axes(rt, &input, index),
         Err(failure) => report(rt, &Err(failure), None),
     };
     Ended { status }

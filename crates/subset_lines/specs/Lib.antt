@@ -2,3 +2,5 @@ pub mod Text
 pub mod Lines
 pub mod Json
 pub mod View
+pub mod Fixed
+pub mod Axes

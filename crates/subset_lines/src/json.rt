@@ -7,18 +7,9 @@ ghost use Rattle.subset_lines.specs.View.{numbers_view};
 
 use crate::entry::{Numbering, Unwritten, take_first};
 use crate::plain::flush;
+use crate::text::write_text;
 use std::alloc::Global;
 use std::io::Write;
-
-/// Writes a text.
-fn write_text<W: Write>(text: &[u8], out: &mut W) -> Result<(), Unwritten>
-    ensures { OnOk result (Appends (W.contents out.old) (W.contents out.new) text.now) }
-{
-    if out.write_all(text).is_err() {
-        return Err(Unwritten);
-    }
-    Ok(())
-}
 
 /// Writes the member that has a character's number, if there is a character.
 fn write_character<W: Write>(character: Option<char>, out: &mut W) -> Result<(), Unwritten>

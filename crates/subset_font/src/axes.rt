@@ -1,0 +1,97 @@
+//! The axes of the font that is read.
+
+ghost use Rattle.std.specs.Prelude.{◌≡◌, ◌⊎◌, ◌≢◌, IfOk, IfErr, IfSome, OnOk, codes, Some, None};
+ghost use Rattle.subsetter_base.specs.declared.error.Error.TheVariants.{OutOfMemory, MalformedFont};
+ghost use Rattle.subsetter_sfnt.specs.Extras.{all_extras};
+ghost use Rattle.subsetter_sfnt.specs.Read.{stored};
+ghost use Rattle.subset_font.specs.Axes.{lines_of_axes, axes_text, IsAxesTold, IsAxesFault, axes_or_none, has_axis};
+ghost use Rattle.subset_font.specs.declared.failure.Failure.TheVariants.{Error as Refused, Read as CannotRead, Output, Usage};
+ghost use Rattle.std.specs.Io.KnownBytes.{Appends};
+
+use crate::carried::read_whole;
+use crate::face::{header_place, table};
+use crate::failure::Failure;
+use std::alloc::Global;
+use std::io::{Read, Write};
+use subset_lines::{read_axes, write_axes};
+use subsetter::{Error, Tag};
+use subsetter_variation::axes::{Axis, axes};
+
+/// Writes the lines of `fvar`.
+fn tell_fvar<L: Write>(alloc: Global, fvar: &[u8], lines: &mut L) -> Result<(), Failure>
+    ensures ok { OnOk result (IfSome (lines_of_axes fvar.now) (λ text. Appends (L.contents lines.old) (L.contents lines.new) text)) }
+    ensures there { OnOk result (lines_of_axes fvar.now ≢ None) }
+    ensures err { IfErr result (λ e. (e ≡ Output) ⊎ ((e ≡ Refused OutOfMemory) ⊎ ((e ≡ Refused MalformedFont) × (lines_of_axes fvar.now ≡ None)))) }
+    ensures kind { IfErr result (λ e. e ≢ Usage) }
+{
+    let all = match read_axes(alloc, fvar) {
+        Ok(all) => all,
+        Err(error) => return Err(Failure::Error(error)),
+    };
+    write_axes(&all, lines).map_err(|_| Failure::Output)
+}
+
+/// Writes the lines of a face: one for each axis and each named instance, none of a face that isn't variable.
+///
+/// `UnknownKind` where no font stands at its place, `MalformedFont` where `fvar` is cut; `Output` where the writer fails.
+pub fn tell_axes<L: Write>(
+    alloc: Global,
+    font: &[u8],
+    index: u32,
+    lines: &mut L,
+) -> Result<(), Failure>
+    ensures ok { OnOk result (IsAxesTold (record { bytes = font.now; index = index; extras = all_extras }) (L.contents lines.old) (L.contents lines.new)) }
+    ensures err { IfErr result (λ e. (e ≡ Output) ⊎ ((e ≡ Refused OutOfMemory) ⊎ IsAxesFault (record { bytes = font.now; index = index; extras = all_extras }) e)) }
+    ensures kind { IfErr result (λ e. e ≢ Usage) }
+{
+    if header_place(font, index).is_none() {
+        return Err(Failure::Error(Error::UnknownKind));
+    }
+    match table(font, index, Tag::new(b"fvar")) {
+        Some(fvar) => tell_fvar(alloc, fvar, lines),
+        None => Ok(()),
+    }
+}
+
+/// Reads the font from the reader, and writes the lines of a face. The bytes that were read are kept. Room for so many of
+/// them is taken at once.
+pub fn carry_axes<R: Read, L: Write>(
+    alloc: Global,
+    index: u32,
+    reader: &mut R,
+    room: usize,
+    source: &mut Vec<u8>,
+    lines: &mut L,
+) -> Result<(), Failure>
+    ensures ok { OnOk result (IfSome (R.remaining reader.old) (λ bytes. IsAxesTold (record { bytes = bytes; index = index; extras = all_extras }) (L.contents lines.old) (L.contents lines.new))) }
+    ensures err { IfErr result (λ e. (e ≡ CannotRead) ⊎ ((e ≡ Output) ⊎ ((e ≡ Refused OutOfMemory) ⊎ IfSome (R.remaining reader.old) (λ bytes. IsAxesFault (record { bytes = bytes; index = index; extras = all_extras }) e)))) }
+    ensures kind { IfErr result (λ e. e ≢ Usage) }
+{
+    let font = read_whole(alloc, reader, room)?;
+    let told = tell_axes(alloc, &font, index, lines);
+    *source = font;
+    told
+}
+
+/// The axes of a face, none of one that isn't variable.
+pub fn axes_there(alloc: Global, font: &[u8], index: u32) -> Result<Vec<Axis>, Error>
+    ensures ok { IfOk result (λ v. axes_or_none (stored (record { bytes = font.now; index = index; extras = all_extras }) (codes "fvar")) ≡ Some v.items) }
+    ensures err { IfErr result (λ e. (e ≡ OutOfMemory) ⊎ ((e ≡ MalformedFont) × (axes_or_none (stored (record { bytes = font.now; index = index; extras = all_extras }) (codes "fvar")) ≡ None))) }
+{
+    match table(font, index, Tag::new(b"fvar")) {
+        Some(fvar) => axes(alloc, fvar),
+        None => Ok(Vec::new(alloc)),
+    }
+}
+
+/// Whether an axis bears a tag.
+pub fn has_axis(axes: &[Axis], tag: Tag) -> bool
+    ensures { result ≡ has_axis axes.now tag }
+{
+    for axis in axes {
+        if axis.tag == tag {
+            return true;
+        }
+    }
+    false
+}

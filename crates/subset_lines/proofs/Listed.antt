@@ -1,0 +1,30 @@
+-- Records that are read one after another.
+use Rattle.std.proofs.Common.{◌≡◌, ℕ, suc, ◌+◌, ◌-◌, ◌<◌, List, [], ◌∷◌, ◌++◌, map, Option, Some, None, Result, Err, refl, sym, ap, ◌∙◌, append_assoc, arith}
+use Rattle.std.specs.Borrow.{Bor}
+use Rattle.std.proofs.lemmas.List.{map-append}
+use Rattle.std.specs.Option.{ok_or, option_map, option_and_then}
+use Rattle.subsetter_base.specs.Bytes.{range}
+use Rattle.subsetter_base.specs.declared.error.Error.{Error}
+use Rattle.subsetter_base.proofs.Results.{with_front}
+use Rattle.subset_lines.specs.Axes.{records_at}
+
+-- a member that is read moves to the front
+front_more : (front : List (List ℕ)) (x : List ℕ) (o : Option (List (List ℕ))) (e : Error) → with_front front (ok_or (option_map (λ xs. x ∷ xs) o) e) ≡ with_front (front ++ x ∷ []) (ok_or o e)
+front_more front x None e = refl
+front_more front x (Some xs) e = simp append_assoc
+
+records_step : (front : List (List ℕ)) (n i size : ℕ) (fvar : List ℕ) (at : ℕ) (bytes : List ℕ) (e : Error) → i < n → range fvar at size ≡ Some bytes → with_front front (ok_or (records_at (n - i) size fvar at) e) ≡ with_front (front ++ bytes ∷ []) (ok_or (records_at (n - (i + 1)) size fvar (at + size)) e)
+records_step front n i size fvar at bytes e less h =
+    let one : n - i ≡ suc (n - (i + 1)) = omega arith in
+    rw (one, h) (front_more front bytes (records_at (n - (i + 1)) size fvar (at + size)) e)
+
+-- the same for slices
+pub slices_step : (front : List (Bor (List ℕ))) (n i size : ℕ) (fvar : List ℕ) (at : ℕ) (bytes : Bor (List ℕ)) (e : Error) (total : Result (List (List ℕ)) Error) → i < n → range fvar at size ≡ Some bytes.now → with_front (map (λ b. b.now) front) (ok_or (records_at (n - i) size fvar at) e) ≡ total → with_front (map (λ b. b.now) (front ++ bytes ∷ [])) (ok_or (records_at (n - (i + 1)) size fvar (at + size)) e) ≡ total
+slices_step front n i size fvar at bytes e total less h t =
+    let m = map-append (λ (b : Bor (List ℕ)). b.now) front (bytes ∷ []) in
+    ap (λ f. with_front f (ok_or (records_at (n - (i + 1)) size fvar (at + size)) e)) m ∙ (sym (records_step (map (λ b. b.now) front) n i size fvar at bytes.now e less h) ∙ t)
+
+pub records_cut : (front : List (List ℕ)) (n i size : ℕ) (fvar : List ℕ) (at : ℕ) (e : Error) → i < n → range fvar at size ≡ None → with_front front (ok_or (records_at (n - i) size fvar at) e) ≡ Err e
+records_cut front n i size fvar at e less h =
+    let one : n - i ≡ suc (n - (i + 1)) = omega arith in
+    rw (one, h) refl

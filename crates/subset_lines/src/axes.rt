@@ -1,0 +1,250 @@
+//! The axes of a variable font and its named instances (OpenType, "fvar"), as lines.
+
+ghost use Rattle.std.specs.Prelude.{◌≡◌, ◌⊎◌, ◌++◌, [], codes, map, drop, OnOk, IfOk, IfErr, Some, None};
+ghost use Rattle.std.specs.Io.KnownBytes.{Appends};
+ghost use Rattle.std.specs.Option.{ok_or};
+ghost use Rattle.subsetter_base.specs.Gives.{Gives};
+ghost use Rattle.subsetter_base.specs.declared.error.Error.TheVariants.{MalformedFont, OutOfMemory};
+ghost use Rattle.subsetter_variation.specs.Axes.{axes};
+ghost use Rattle.subset_lines.specs.Axes.{shown, behind_blank, numbers_text, axis_line, axis_lines, records_at, instances_of, instances, coordinate_text, settings_text, instance_line, instance_lines, text_of};
+ghost use Rattle.subset_lines.specs.Fixed.{fixed_text};
+ghost use Rattle.subsetter_base.specs.Bytes.{number};
+
+use crate::entry::Unwritten;
+use crate::fixed::write_fixed;
+use crate::plain::flush;
+use crate::text::write_text;
+use std::alloc::Global;
+use std::io::Write;
+use subsetter_base::read::Reader;
+use subsetter_base::{Error, Tag};
+use subsetter_variation::axes::{Axis, axes};
+
+// ---- reading
+
+/// So many records of one size each.
+#[tactic(auto, using(crate::proofs::Listed::slices_step, crate::proofs::Listed::records_cut))]
+fn records_at(
+    alloc: Global,
+    count: u16,
+    size: usize,
+    fvar: &[u8],
+    at: usize,
+) -> Result<Vec<&[u8]>, Error>
+    ensures { Gives (λ v. map (λ bytes. bytes.now) v.items) result (ok_or (records_at count size fvar.now at) MalformedFont) }
+{
+    let mut r = Reader::new_at(fvar, at);
+    let mut records = Vec::new(alloc);
+    for i in 0..count {
+        let bytes = r.read_bytes(size).ok_or(Error::MalformedFont)?;
+        records.push(bytes)?;
+    }
+    Ok(records)
+}
+
+/// The records of named instances behind so many axes.
+fn instances_of(
+    alloc: Global,
+    at: u16,
+    axes: u16,
+    axis_size: u16,
+    count: u16,
+    size: u16,
+    fvar: &[u8],
+) -> Result<Vec<&[u8]>, Error>
+    ensures { Gives (λ v. map (λ bytes. bytes.now) v.items) result (ok_or (instances_of at axes axis_size count size fvar.now) MalformedFont) }
+{
+    if count == 0 {
+        return Ok(Vec::new(alloc));
+    }
+    let (at, axes, axis_size, size) = (at as usize, axes as usize, axis_size as usize, size as usize);
+    if size < 4 + 4 * axes {
+        return Err(Error::MalformedFont);
+    }
+    records_at(alloc, count, size, fvar, at + axes * axis_size)
+}
+
+/// A uint16 of `fvar`.
+fn field(fvar: &[u8], at: usize) -> Result<u16, Error>
+    ensures { result ≡ ok_or (number fvar.now at 2) MalformedFont }
+{
+    Reader::new_at(fvar, at)
+        .read::<u16>()
+        .ok_or(Error::MalformedFont)
+}
+
+/// The records of the named instances.
+#[tactic(auto, unfolding(crate::specs::Axes::instances))]
+fn instances(alloc: Global, fvar: &[u8]) -> Result<Vec<&[u8]>, Error>
+    ensures { Gives (λ v. map (λ bytes. bytes.now) v.items) result (ok_or (instances fvar.now) MalformedFont) }
+{
+    let at = field(fvar, 4)?;
+    let axes = field(fvar, 8)?;
+    let axis_size = field(fvar, 10)?;
+    let count = field(fvar, 12)?;
+    let size = field(fvar, 14)?;
+    instances_of(alloc, at, axes, axis_size, count, size, fvar)
+}
+
+/// The axes of a variable font, and the records of its named instances.
+#[derive(Drop)]
+pub struct FontAxes<'a> {
+    pub axes: Vec<Axis>,
+    pub instances: Vec<&'a [u8]>,
+}
+
+/// The axes and the named instances that `fvar` lists. A cut table is `MalformedFont`.
+pub fn read_axes(alloc: Global, fvar: &[u8]) -> Result<FontAxes<'_>, Error>
+    ensures axes { IfOk result (λ a. axes fvar.now ≡ Some a.axes.items) }
+    ensures instances { IfOk result (λ a. instances fvar.now ≡ Some (map (λ bytes. bytes.now) a.instances.items)) }
+    ensures err { IfErr result (λ e. (e ≡ OutOfMemory) ⊎ ((e ≡ MalformedFont) × ((axes fvar.now ≡ None) ⊎ (instances fvar.now ≡ None)))) }
+{
+    let axes = axes(alloc, fvar)?;
+    let instances = instances(alloc, fvar)?;
+    Ok(FontAxes { axes, instances })
+}
+
+// ---- writing
+
+/// A byte of a tag: a printable one of ASCII, and `?` for another.
+fn shown(byte: u8) -> u8
+    ensures { result ≡ shown byte }
+{
+    if byte >= 32 && byte < 127 { byte } else { b'?' }
+}
+
+/// Writes a tag.
+pub fn write_tag<W: Write>(tag: Tag, out: &mut W) -> Result<(), Unwritten>
+    ensures { OnOk result (Appends (W.contents out.old) (W.contents out.new) (map shown tag.0)) }
+{
+    let [a, b, c, d] = *tag.get();
+    write_text(&[shown(a), shown(b), shown(c), shown(d)], out)
+}
+
+/// Writes a coordinate behind a blank.
+#[tactic(auto, using(crate::proofs::Written::both), unfolding(crate::specs::Axes::behind_blank))]
+fn write_behind_blank<W: Write>(value: i32, out: &mut W) -> Result<(), Unwritten>
+    ensures { OnOk result (Appends (W.contents out.old) (W.contents out.new) (behind_blank value)) }
+{
+    write_text(b" ", out)?;
+    write_fixed(value, out)
+}
+
+/// Writes the least coordinate of an axis, its default and its greatest coordinate.
+#[tactic(auto, using(crate::proofs::Written::both), unfolding(crate::specs::Axes::numbers_text))]
+fn write_numbers<W: Write>(axis: &Axis, out: &mut W) -> Result<(), Unwritten>
+    ensures { OnOk result (Appends (W.contents out.old) (W.contents out.new) (numbers_text axis.now)) }
+{
+    write_behind_blank(axis.minimum, out)?;
+    write_behind_blank(axis.default, out)?;
+    write_behind_blank(axis.maximum, out)
+}
+
+/// Writes the line of an axis.
+#[tactic(auto, using(crate::proofs::Written::both), unfolding(crate::specs::Axes::axis_line))]
+fn write_axis<W: Write>(axis: &Axis, out: &mut W) -> Result<(), Unwritten>
+    ensures { OnOk result (Appends (W.contents out.old) (W.contents out.new) (axis_line axis.now)) }
+{
+    write_text(b"axis ", out)?;
+    write_tag(axis.tag, out)?;
+    write_numbers(axis, out)?;
+    write_text(b"\n", out)
+}
+
+/// Writes a line for each axis.
+#[tactic(auto, using(crate::proofs::Written::at_first, crate::proofs::Written::after_part, crate::proofs::Written::at_last))]
+fn write_axis_lines<W: Write>(axes: &[Axis], out: &mut W) -> Result<(), Unwritten>
+    ensures { OnOk result (Appends (W.contents out.old) (W.contents out.new) (axis_lines axes.now)) }
+{
+    for axis in axes {
+        write_axis(axis, out)?;
+    }
+    Ok(())
+}
+
+/// Writes the coordinate that four bytes say.
+fn write_coordinate<W: Write>(bytes: &[u8], out: &mut W) -> Result<(), Unwritten>
+    ensures { OnOk result (Appends (W.contents out.old) (W.contents out.new) (coordinate_text (number bytes.now 0 4))) }
+{
+    match Reader::new(bytes).read::<u32>() {
+        Some(bits) => write_fixed(bits.cast_signed(), out),
+        None => Ok(()),
+    }
+}
+
+/// Writes an axis with the coordinate that four bytes say, behind a text.
+#[tactic(auto, using(crate::proofs::Written::both))]
+fn write_setting<W: Write>(
+    before: &[u8],
+    tag: Tag,
+    bytes: &[u8],
+    out: &mut W,
+) -> Result<(), Unwritten>
+    ensures { OnOk result (Appends (W.contents out.old) (W.contents out.new) (before.now ++ map shown tag.0 ++ codes "=" ++ coordinate_text (number bytes.now 0 4))) }
+{
+    write_text(before, out)?;
+    write_tag(tag, out)?;
+    write_text(b"=", out)?;
+    write_coordinate(bytes, out)
+}
+
+/// The bytes behind the first four.
+fn after_four(bytes: &[u8]) -> &[u8]
+    ensures { result.now ≡ drop 4 bytes.now }
+{
+    match bytes {
+        [_, _, _, _, rest @ ..] => rest,
+        _ => &[],
+    }
+}
+
+/// Writes each axis with its coordinate, as `--at` takes them.
+#[tactic(auto, using(crate::proofs::Written::at_first, crate::proofs::Written::after_part, crate::proofs::Written::at_last))]
+fn write_settings<W: Write>(axes: &[Axis], bytes: &[u8], out: &mut W) -> Result<(), Unwritten>
+    ensures { OnOk result (Appends (W.contents out.old) (W.contents out.new) (settings_text [] axes.now bytes.now)) }
+{
+    let mut before = b"".as_slice();
+    let mut rest = bytes;
+    for axis in axes {
+        write_setting(before, axis.tag, rest, out)?;
+        before = b",".as_slice();
+        rest = after_four(rest);
+    }
+    Ok(())
+}
+
+/// Writes the line of a named instance.
+#[tactic(auto, using(crate::proofs::Written::both))]
+fn write_instance<W: Write>(axes: &[Axis], bytes: &[u8], out: &mut W) -> Result<(), Unwritten>
+    ensures { OnOk result (Appends (W.contents out.old) (W.contents out.new) (instance_line axes.now bytes.now)) }
+{
+    write_text(b"instance ", out)?;
+    write_settings(axes, after_four(bytes), out)?;
+    write_text(b"\n", out)
+}
+
+/// Writes a line for each named instance.
+#[tactic(auto, using(crate::proofs::Written::at_first, crate::proofs::Written::after_part, crate::proofs::Written::at_last))]
+fn write_instance_lines<W: Write>(
+    axes: &[Axis],
+    records: &[&[u8]],
+    out: &mut W,
+) -> Result<(), Unwritten>
+    ensures { OnOk result (Appends (W.contents out.old) (W.contents out.new) (instance_lines axes.now (map (λ bytes. bytes.now) records.now))) }
+{
+    for bytes in records {
+        write_instance(axes, bytes, out)?;
+    }
+    Ok(())
+}
+
+/// Writes a line for each axis, as `axis wght 100 400 900` (the tag, the least coordinate, the default and the greatest one),
+/// and one for each named instance, as `instance wght=650,wdth=87.5`. Then it passes on what the writer keeps back.
+#[tactic(auto, using(crate::proofs::Written::both, crate::proofs::Written::flushed))]
+pub fn write_axes<W: Write>(all: &FontAxes<'_>, out: &mut W) -> Result<(), Unwritten>
+    ensures { OnOk result (Appends (W.contents out.old) (W.contents out.new) (text_of all.now.axes.items (map (λ bytes. bytes.now) all.now.instances.items))) }
+{
+    write_axis_lines(&all.axes, out)?;
+    write_instance_lines(&all.axes, &all.instances, out)?;
+    flush(out)
+}
