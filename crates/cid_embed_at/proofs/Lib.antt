@@ -1,1 +1,1 @@
-mod AtPlace
+pub mod AtPlace

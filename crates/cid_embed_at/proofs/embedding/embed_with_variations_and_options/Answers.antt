@@ -1,4 +1,4 @@
-use Rattle.std.proofs.Common.{◌≡◌, ℕ, List, None, subst}
+use Rattle.std.proofs.Common.{ℕ, List, None, subst}
 use Rattle.std.proofs.lemmas.Result.{err_from_is_err_and}
 use Rattle.subsetter_base.specs.declared.error.Error.{Error}
 use Rattle.subsetter_base.proofs.Results.{ok_not_err}
@@ -84,7 +84,7 @@ returns-clause-drawn c =
     let static : Font = font_at c.deref.result.now 0 c.args.options.now.extras in
     let is : IsStatic font c.args.coordinates.now (numbering c.args.glyphs.now) static = instanced c.deref.result.now both.0 j in
     drawn_at c.args.options.now.limits.tokens c.args.options.now.limits.depth font c.args.coordinates.now (numbering c.args.glyphs.now) c.deref.result.now j {X = Embedded} (λ e. e.font.items) c.embed_with_options-in-Some.result
-      (subset_in c.args.options.now.limits.bytes c.args.options.now.limits.tokens c.args.options.now.limits.depth font c.args.coordinates.now c.args.glyphs.now static is c.embed_with_options-in-Some.result c.embed_with_options-in-Some.ensures.ok)
+    (subset_in c.args.options.now.limits.bytes c.args.options.now.limits.tokens c.args.options.now.limits.depth font c.args.coordinates.now c.args.glyphs.now static is c.embed_with_options-in-Some.result c.embed_with_options-in-Some.ensures.ok)
 
 pub returns-clause-same : goal.returns-clause-same
 returns-clause-same c =
