@@ -98,6 +98,10 @@ static void check_calls()
         == SUBSETTER_MALFORMED_FONT, "embed with options");
     check(subsetter_make_embedded(font, 55, 0, NULL, 0, &options, &made) == SUBSETTER_MALFORMED_FONT && made.font_size == 0
         && made.cid_count == 0 && made.width_count == 0, "make embedded");
+    check(subsetter_embed_at(font, 55, 0, coordinates, 2, NULL, 0, &options, out, 164, cids, 1, widths, 1, &sizes)
+        == SUBSETTER_MALFORMED_FONT && sizes.font == 0, "embed at coordinates");
+    check(subsetter_make_embedded_at(font, 55, 0, coordinates, 2, NULL, 0, &options, &made) == SUBSETTER_MALFORMED_FONT
+        && made.font_size == 0 && made.cid_count == 0 && made.width_count == 0, "make embedded at coordinates");
     subsetter_free(&made);
     check(subsetter_make_subset(font, 55, 0, NULL, 0, NULL, &made) == SUBSETTER_DONE && made.font_size == 164, "make subset");
     check(std::memcmp(made.font, out, 164) == 0, "its bytes");

@@ -271,6 +271,32 @@ static inline uint32_t subsetter_embed_with_options(const uint8_t *font, size_t 
                                     sizes);
 }
 
+/* The same of a font as it is at coordinates, which are as for `subsetter_subset_at_by_words`: the font is the one that that
+ * call answers, and a width is the advance that its glyph has there. The statuses are those of both calls.
+ */
+uint32_t subsetter_embed_at_by_words(const uint8_t *font, size_t font_size, uint32_t index,
+                                     const subsetter_coordinate *coordinates, size_t coordinate_count,
+                                     const uint16_t *glyphs, size_t glyph_count,
+                                     const uint32_t *options, size_t option_count,
+                                     uint8_t *out, size_t out_size,
+                                     uint16_t *cids, size_t cid_count,
+                                     uint32_t *widths, size_t width_count,
+                                     subsetter_sizes *sizes);
+
+static inline uint32_t subsetter_embed_at(const uint8_t *font, size_t font_size, uint32_t index,
+                                          const subsetter_coordinate *coordinates, size_t coordinate_count,
+                                          const uint16_t *glyphs, size_t glyph_count,
+                                          const subsetter_options *options,
+                                          uint8_t *out, size_t out_size,
+                                          uint16_t *cids, size_t cid_count,
+                                          uint32_t *widths, size_t width_count,
+                                          subsetter_sizes *sizes)
+{
+    return subsetter_embed_at_by_words(font, font_size, index, coordinates, coordinate_count, glyphs, glyph_count,
+                                       subsetter_option_words(options), subsetter_option_count(options), out, out_size, cids,
+                                       cid_count, widths, width_count, sizes);
+}
+
 /* ---- in memory of the library's: one call, and no size to be asked first */
 
 /* What a `make` call hands over: lists that the caller only reads, and gives back by `subsetter_free`. Where a size or a
@@ -332,6 +358,22 @@ static inline uint32_t subsetter_make_embedded(const uint8_t *font, size_t font_
 {
     return subsetter_make_embedded_by_words(font, font_size, index, glyphs, glyph_count,
                                             subsetter_option_words(options), subsetter_option_count(options), made);
+}
+
+/* The same at coordinates, as `subsetter_embed_at_by_words`. */
+uint32_t subsetter_make_embedded_at_by_words(const uint8_t *font, size_t font_size, uint32_t index,
+                                             const subsetter_coordinate *coordinates, size_t coordinate_count,
+                                             const uint16_t *glyphs, size_t glyph_count,
+                                             const uint32_t *options, size_t option_count,
+                                             subsetter_made *made);
+
+static inline uint32_t subsetter_make_embedded_at(const uint8_t *font, size_t font_size, uint32_t index,
+                                                  const subsetter_coordinate *coordinates, size_t coordinate_count,
+                                                  const uint16_t *glyphs, size_t glyph_count,
+                                                  const subsetter_options *options, subsetter_made *made)
+{
+    return subsetter_make_embedded_at_by_words(font, font_size, index, coordinates, coordinate_count, glyphs, glyph_count,
+                                               subsetter_option_words(options), subsetter_option_count(options), made);
 }
 
 /* Gives back what a `make` call handed over, and sets the pointers to null and the sizes to 0, so that it may be called

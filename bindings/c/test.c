@@ -72,7 +72,7 @@ void __wrap_free(void *block)
 
 /* ---- rows */
 
-enum { MOST = 1024, WORDS = 13, BEHIND = 8, LINES = 4096 };
+enum { MOST = 1024, WORDS = 14, BEHIND = 8, LINES = 4096 };
 
 struct row {
     char *words[WORDS];
@@ -243,7 +243,7 @@ static int is_one_of(const char *word, const char *const *words)
 static void read_line(char *line)
 {
     static const char *const kinds[] = {"subset", "limits", "options", "bounded_options", "embed", "embed_options",
-        "embed_bounded_options", "subset_at", NULL};
+        "embed_bounded_options", "subset_at", "embed_at", NULL};
     char *words[WORDS] = {0};
     int count = 0;
     for (char *word = strtok(line, " \n"); word != NULL && count < WORDS; word = strtok(NULL, " \n"))
@@ -338,6 +338,11 @@ static subsetter_options options_of(const struct row *row)
 
 static void call_with(const struct row *row, const subsetter_options *options, struct answer *a)
 {
+    if (row->embeds && row->varies) {
+        a->status = subsetter_embed_at(row->font, row->font_size, row->index, row->coordinates, row->coordinate_count,
+            row->glyphs, row->glyph_count, options, a->font, a->room, a->cids, a->cid_room, a->widths, a->width_room, &a->told);
+        return;
+    }
     if (row->embeds) {
         a->status = subsetter_embed_with_options(row->font, row->font_size, row->index, row->glyphs, row->glyph_count,
             options, a->font, a->room, a->cids, a->cid_room, a->widths, a->width_room, &a->told);
@@ -547,6 +552,9 @@ static void check_bound(const struct row *row)
 static uint32_t make(const struct row *row, const subsetter_options *options, subsetter_made *made)
 {
     memset(made, 0xA5, sizeof *made);
+    if (row->embeds && row->varies)
+        return subsetter_make_embedded_at(row->font, row->font_size, row->index, row->coordinates, row->coordinate_count,
+            row->glyphs, row->glyph_count, options, made);
     if (row->embeds)
         return subsetter_make_embedded(row->font, row->font_size, row->index, row->glyphs, row->glyph_count, options, made);
     if (row->varies)

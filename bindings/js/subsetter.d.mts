@@ -89,9 +89,9 @@ export interface Subsetter {
     subset(data: FontData, glyphs: Iterable<number>, options?: Face & Choices & Place): Uint8Array;
     /**
      * The subset, the CID of each given glyph, and the width of each CID. Besides, MalformedFont is thrown where the font
-     * has no `hmtx` or no `head`, or 0 units per em.
+     * has no `hmtx` or no `head`, or 0 units per em. With coordinates a width is the advance that its glyph has there.
      */
-    embed(data: FontData, glyphs: Iterable<number>, options?: Face & Choices): Embedded;
+    embed(data: FontData, glyphs: Iterable<number>, options?: Face & Choices & Place): Embedded;
     /** Copies a font into the module, for any number of calls. What is wrong with it is told by the first of them. */
     open(data: FontData, options?: Face): Font;
 }
@@ -101,7 +101,7 @@ export interface Font {
     /** As `Subsetter.subset`. */
     subset(glyphs: Iterable<number>, options?: Choices & Place): Uint8Array;
     /** As `Subsetter.embed`. */
-    embed(glyphs: Iterable<number>, options?: Choices): Embedded;
+    embed(glyphs: Iterable<number>, options?: Choices & Place): Embedded;
     /** Gives the font's memory back to later calls. `subset` and `embed` throw a TypeError afterwards. */
     close(): void;
 }

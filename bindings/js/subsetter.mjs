@@ -136,10 +136,7 @@ function coordinatesOf(coordinates) {
 }
 
 /** The choices of each call. */
-const CHOICES = {
-    subset: ["limits", "hinting", "names", "glyphNames", "coordinates"],
-    embed: ["limits", "hinting", "names", "glyphNames"],
-};
+const CHOICES = ["limits", "hinting", "names", "glyphNames", "coordinates"];
 
 /** The limits, what is dropped and the coordinates of the options. */
 function choicesOf({ limits, hinting, names, glyphNames, coordinates }) {
@@ -316,8 +313,9 @@ class Library {
         return this.make(name, font, index, glyphs, choices).font;
     }
 
-    embed(...words) {
-        return this.make("subsetter_make_embedded_by_words", ...words);
+    embed(font, index, glyphs, choices) {
+        const name = choices.coordinates ? "subsetter_make_embedded_at_by_words" : "subsetter_make_embedded_by_words";
+        return this.make(name, font, index, glyphs, choices);
     }
 }
 
@@ -334,7 +332,7 @@ class Font {
     }
 
     #made(name, glyphs, options) {
-        const choices = choicesOf(named(options, CHOICES[name], "options"));
+        const choices = choicesOf(named(options, CHOICES, "options"));
         const numbers = glyphsOf(glyphs);
         // (looked at last, as a caller's iterator may close the font)
         if (!this.#place) {
@@ -364,7 +362,7 @@ function callsOf(library) {
     /** One call on a font that is put into the memory for it. */
     function once(name, data, glyphs, options) {
         const bytes = bytesOf(data);
-        const given = named(options, ["index", ...CHOICES[name]], "options");
+        const given = named(options, ["index", ...CHOICES], "options");
         const index = indexOf(given), choices = choicesOf(given), numbers = glyphsOf(glyphs);
         const place = library.hold(bytes);
         try {

@@ -62,7 +62,7 @@ def hexadecimal(word):
 
 # By the kind of a row: how many choices it has, and whether it embeds.
 KINDS = {"subset": (0, False), "limits": (2, False), "options": (3, False), "bounded_options": (4, False),
-         "embed": (0, True), "embed_options": (3, True), "embed_bounded_options": (4, True), "subset_at": (4, False)}
+         "embed": (0, True), "embed_options": (3, True), "embed_bounded_options": (4, True), "subset_at": (4, False), "embed_at": (4, True)}
 
 
 class Row:
@@ -71,7 +71,7 @@ class Row:
         self.kind, self.name = words[:2]
         self.font, self.index, self.glyphs = fonts[words[2]], int(words[3]), numbers(words[4])
         self.coordinates = None
-        if self.kind == "subset_at":
+        if self.kind in ("subset_at", "embed_at"):
             self.coordinates = [(part[:4], int(part[5:]) / 65536) for part in words.pop(5).split(",") if part != "-"]
         self.tokens, self.depth, self.drop, self.most_bytes = (list(map(int, words[5:5 + choices])) + [0, 0, 0, 0])[:4]
         status, font, *lists = words[5 + choices:]
@@ -105,9 +105,8 @@ class Row:
         return found
 
     def all_choices(self):
-        coordinates = {} if self.embeds else {"coordinates": None}
         return {"hinting": True, "names": True, "glyph_names": True, "tokens": None, "depth": None, "most_bytes": None,
-                **coordinates, **self.choices()}
+                "coordinates": None, **self.choices()}
 
 
 def answer(call, *arguments, **choices):
@@ -276,25 +275,22 @@ def check_refusals(font):
         for name in ("hinting", "names", "glyph_names"):
             for value in (0, 1, None, "no", "", 1.0):
                 check(type(raised(call, font, [2], **{name: value})) is TypeError, f"{name} {value!r}")
-        if call is subsetter.subset:
-            check_wrong_coordinates(font)
-        else:
-            check(type(raised(call, font, [2], coordinates={})) is TypeError, "no coordinates for embed")
+        check_wrong_coordinates(call, font)
         check(type(raised(call, font, [2], 0, 5)) is TypeError, "choices are given by name alone")
         check(type(raised(call, font, [2], hint=False)) is TypeError, "no such choice")
 
 
-def check_wrong_coordinates(font):
+def check_wrong_coordinates(call, font):
     for tag in ("", "w", "wgh", "wghtt", "wgh\xe9", "w\u0119ht", "\U0001F600", "wght "):
-        check(type(raised(subsetter.subset, font, [2], coordinates={tag: 1})) is ValueError, f"the tag {tag!r}")
+        check(type(raised(call, font, [2], coordinates={tag: 1})) is ValueError, f"the tag {tag!r}")
     for tag in (b"wght", 0x77676874, None, ("w", "g", "h", "t")):
-        check(type(raised(subsetter.subset, font, [2], coordinates={tag: 1})) is TypeError, f"the tag {tag!r}")
+        check(type(raised(call, font, [2], coordinates={tag: 1})) is TypeError, f"the tag {tag!r}")
     for value in (float("nan"), float("inf"), -float("inf"), decimal.Decimal("nan"), decimal.Decimal("-inf")):
-        check(type(raised(subsetter.subset, font, [2], coordinates={"wght": value})) is ValueError, f"the value {value!r}")
+        check(type(raised(call, font, [2], coordinates={"wght": value})) is ValueError, f"the value {value!r}")
     for value in (None, "650", b"650", [650], (650,), 650j, {}):
-        check(type(raised(subsetter.subset, font, [2], coordinates={"wght": value})) is TypeError, f"the value {value!r}")
+        check(type(raised(call, font, [2], coordinates={"wght": value})) is TypeError, f"the value {value!r}")
     for coordinates in (5, "wght", [("wght", 650)], (("wght", 650),), {"wght"}, iter([]), [], True):
-        check(type(raised(subsetter.subset, font, [2], coordinates=coordinates)) is TypeError, f"coordinates {coordinates!r}")
+        check(type(raised(call, font, [2], coordinates=coordinates)) is TypeError, f"coordinates {coordinates!r}")
 
 
 def check_values():
@@ -371,8 +367,8 @@ def check_names(texts):
         both, named, none = inspect.Parameter.POSITIONAL_OR_KEYWORD, inspect.Parameter.KEYWORD_ONLY, inspect.Parameter.empty
         wanted = [("data", none, both), ("glyphs", none, both), ("index", 0, both), ("tokens", None, named),
                   ("depth", None, named), ("most_bytes", None, named), ("hinting", True, named),
-                  ("names", True, named), ("glyph_names", True, named)]
-        check(found == wanted + [("coordinates", None, named)] * (call is subsetter.subset), "the signature")
+                  ("names", True, named), ("glyph_names", True, named), ("coordinates", None, named)]
+        check(found == wanted, "the signature")
         check(set(call.__annotations__) == {name for name, _, _ in found} | {"return"}, "each argument has its type")
 
 
@@ -402,7 +398,7 @@ def check_work(fonts):
         return real, call
 
     names = ["subsetter_make_subset_by_words", "subsetter_make_embedded_by_words", "subsetter_free",
-             "subsetter_make_subset_at_by_words"]
+             "subsetter_make_subset_at_by_words", "subsetter_make_embedded_at_by_words"]
     real = {name: counted(name) for name in names}
     held, refused = bytearray(font), []
     for name in names:
@@ -416,6 +412,9 @@ def check_work(fonts):
         counts.clear()
         check(len(subsetter.subset(font, [], coordinates={})) > len(font), "a subset at coordinates outgrows its font")
         check(counts == {names[3]: 1, names[2]: 1}, f"one subset at coordinates is made: {counts}")
+        counts.clear()
+        check(len(subsetter.embed(font, [], coordinates={}).font) > len(font), "one embedded at coordinates outgrows its font")
+        check(counts == {names[4]: 1, names[2]: 1}, f"one embedded at coordinates is made: {counts}")
         held[:] = font
         refused.clear()
         subsetter.subset(held, [])
@@ -526,6 +525,7 @@ def check_places():
             file.write("int subsetter_make_subset_by_words(void) { return 99; }\n"
                        "int subsetter_make_embedded_by_words(void) { return 8; }\n"
                        "int subsetter_make_subset_at_by_words(void) { return 9; }\n"
+                       "int subsetter_make_embedded_at_by_words(void) { return 9; }\n"
                        "int subsetter_error_text(void) { return 0; }\n#ifdef FREE\nvoid subsetter_free(void) {}\n#endif\n")
         for flag, words in (("-DFREE", "answers status 99: it is of another version"),
                             ("-DNONE", f"{named} has no call subsetter_free: it is of another version")):

@@ -91,6 +91,8 @@ function wrongCoordinates(subsetter, font, opened) {
     const wrong = (kind, what, coordinates) => {
         throws(() => subsetter.subset(font, [1], { coordinates }), kind, what);
         throws(() => opened.subset([1], { coordinates }), kind, `opened: ${what}`);
+        throws(() => subsetter.embed(font, [1], { coordinates }), kind, `embedded: ${what}`);
+        throws(() => opened.embed([1], { coordinates }), kind, `opened, embedded: ${what}`);
     };
     for (const coordinates of [5, null, "wght", true, [], ["wght", 650], [["wght", 650]], new Map([["wght", 650]]), new Set(), Int32Array.of(1)]) {
         wrong(TypeError, `coordinates that are ${Object.prototype.toString.call(coordinates)}`, coordinates);
@@ -106,26 +108,25 @@ function wrongCoordinates(subsetter, font, opened) {
     for (const value of ["650", null, undefined, 650n, [650], true, {}]) {
         wrong(TypeError, `a value that is ${Object.prototype.toString.call(value)}`, { wght: value });
     }
-    for (const call of [() => subsetter.embed(font, [1], { coordinates: {} }), () => opened.embed([1], { coordinates: {} })]) {
-        throws(call, TypeError, "coordinates for embed");
-    }
 }
 
 /** A value is the nearest number of 65536ths, a half rounded up: what the module passes on. */
 async function valuesOfCoordinates({ library, wasm, fonts }) {
     let passed = [], memory;
     const change = (exports) => {
-        const call = exports.subsetter_make_subset_at_by_words;
         memory = exports.memory;
-        exports.subsetter_make_subset_at_by_words = (...words) => {
-            const [at, count] = [Number(words[3]), Number(words[4])];
-            passed = [...new Int32Array(memory.buffer, at, 2 * count)];
-            return call(...words);
-        };
+        for (const name of ["subsetter_make_subset_at_by_words", "subsetter_make_embedded_at_by_words"]) {
+            const call = exports[name];
+            exports[name] = (...words) => {
+                const [at, count] = [Number(words[3]), Number(words[4])];
+                passed = [...new Int32Array(memory.buffer, at, 2 * count)];
+                return call(...words);
+            };
+        }
         return exports;
     };
     await watched(async () => {
-        const { subset } = await library.load(wasm), least = -(2 ** 31), most = 2 ** 31 - 1, part = 1 / 65536;
+        const { subset, embed } = await library.load(wasm), least = -(2 ** 31), most = 2 ** 31 - 1, part = 1 / 65536;
         const rows = [
             [0, 0], [-0, 0], [650, 650 * 65536], [87.5, 5734400], [-10.25, -671744], [0.5 * part, 1], [0.49999999999999994 * part, 0],
             [-0.5 * part, 0], [-0.5000000000000001 * part, -1], [-1.5 * part, -1], [1.5 * part, 2], [2.5 * part, 3], [5e-324, 0],
@@ -144,6 +145,10 @@ async function valuesOfCoordinates({ library, wasm, fonts }) {
         passed = null;
         same(subset(fonts.three_glyphs, [1], { coordinates: undefined }), none, "coordinates not said");
         equal(passed, null, "the call without coordinates");
+        throws(() => embed(fonts.three_glyphs, [1], { coordinates: undefined }), library.MalformedFont, "no coordinates, embedded");
+        equal(passed, null, "the call without coordinates, embedded");
+        throws(() => embed(fonts.three_glyphs, [1], { coordinates: { wght: 2 } }), library.MalformedFont, "a font without widths");
+        same(passed, [0x77676874, 131072], "a coordinate, embedded");
     }, change);
 }
 

@@ -3,7 +3,7 @@ import { equal, same, throws } from "./assert.mjs";
 
 const ERRORS = [, "UnknownKind", "MalformedFont", "Unimplemented", "SubsetError", "OverflowError", "CFFError", "OutOfMemory"];
 
-const KINDS = ["subset", "limits", "options", "bounded_options", "embed", "embed_options", "embed_bounded_options", "subset_at"];
+const KINDS = ["subset", "limits", "options", "bounded_options", "embed", "embed_options", "embed_bounded_options", "subset_at", "embed_at"];
 
 /** What stands in a status's place where the module throws a RangeError, and for what can't be said to it at all. */
 const NOT_WHOLE = "RangeError", NOT_SAID = "not said";

@@ -152,6 +152,7 @@ def _declare(library: ctypes.CDLL) -> ctypes.CDLL:
         "subsetter_make_subset_by_words": (make, ctypes.c_uint32),
         "subsetter_make_subset_at_by_words": (make_at, ctypes.c_uint32),
         "subsetter_make_embedded_by_words": (make, ctypes.c_uint32),
+        "subsetter_make_embedded_at_by_words": (make_at, ctypes.c_uint32),
         "subsetter_free": ([ctypes.POINTER(_Made)], None),
         "subsetter_error_text": ([ctypes.c_uint32, pointer, size, ctypes.POINTER(size)], ctypes.c_uint32),
     }
@@ -372,14 +373,17 @@ def embed(
     hinting: bool = True,
     names: bool = True,
     glyph_names: bool = True,
+    coordinates: Optional[Mapping[str, Value]] = None,
 ) -> Embedded:
     """The subset of a font, the CID of each given glyph, and the width of each CID.
 
-    The arguments and errors are those of `subset`; besides, `MalformedFont` is raised where the font has no `hmtx` or no
-    `head`, or 0 units per em.
+    The arguments and errors are those of `subset`; with `coordinates` a width is the advance that its glyph has there.
+    Besides, `MalformedFont` is raised where the font has no `hmtx` or no `head`, or 0 units per em.
     """
     words = _words(tokens, depth, most_bytes, hinting, names, glyph_names)
-    with _made("subsetter_make_embedded_by_words", data, glyphs, index, words) as made:
+    place = None if coordinates is None else _coordinates(coordinates)
+    call = "subsetter_make_embedded_by_words" if place is None else "subsetter_make_embedded_at_by_words"
+    with _made(call, data, glyphs, index, words, place) as made:
         return Embedded(
             ctypes.string_at(made.font, made.font_size), made.cids[:made.cid_count], made.widths[:made.width_count]
         )

@@ -38,6 +38,21 @@ type Make = unsafe extern "C" fn(
     made: *mut Made,
 ) -> u32;
 
+/// The type of the two calls that make one at coordinates.
+#[cfg(feature = "variable-fonts")]
+type MakeAt = unsafe extern "C" fn(
+    font: *const u8,
+    font_size: usize,
+    index: u32,
+    coordinates: *const Coordinate,
+    coordinate_count: usize,
+    glyphs: *const u16,
+    glyph_count: usize,
+    options: *const u32,
+    option_count: usize,
+    made: *mut Made,
+) -> u32;
+
 extern "C" {
     fn subsetter_make_subset_by_words(
         font: *const u8,
@@ -61,6 +76,19 @@ extern "C" {
     ) -> u32;
     #[cfg(feature = "variable-fonts")]
     fn subsetter_make_subset_at_by_words(
+        font: *const u8,
+        font_size: usize,
+        index: u32,
+        coordinates: *const Coordinate,
+        coordinate_count: usize,
+        glyphs: *const u16,
+        glyph_count: usize,
+        options: *const u32,
+        option_count: usize,
+        made: *mut Made,
+    ) -> u32;
+    #[cfg(feature = "variable-fonts")]
+    fn subsetter_make_embedded_at_by_words(
         font: *const u8,
         font_size: usize,
         index: u32,
@@ -134,9 +162,10 @@ impl Made {
         made.answered(status)
     }
 
-    /// What the call with coordinates makes of a font.
+    /// What a call with coordinates makes of a font.
     #[cfg(feature = "variable-fonts")]
     fn at(
+        make: MakeAt,
         data: &[u8],
         index: u32,
         coordinates: &[Coordinate],
@@ -151,7 +180,7 @@ impl Made {
         tests::CALLS.with(|calls| calls.set(calls.get() + 1));
         // SAFETY: as in `by`.
         let status = unsafe {
-            subsetter_make_subset_at_by_words(
+            make(
                 font,
                 font_size,
                 index,
@@ -213,6 +242,15 @@ impl Made {
         // SAFETY: as for the font.
         unsafe { Self::list(self.widths, self.width_count) }
     }
+
+    /// Copies of all lists.
+    fn embedded(&self) -> Embedded {
+        Embedded {
+            font: self.font().to_vec(),
+            cids: self.cids().to_vec(),
+            widths: self.widths().to_vec(),
+        }
+    }
 }
 
 impl Drop for Made {
@@ -244,7 +282,8 @@ pub(crate) fn subset_at(
     glyphs: &[u16],
     options: &Options,
 ) -> Result<Vec<u8>, Error> {
-    let made = Made::at(data, index, coordinates, glyphs, options)?;
+    let make = subsetter_make_subset_at_by_words;
+    let made = Made::at(make, data, index, coordinates, glyphs, options)?;
     Ok(made.font().to_vec())
 }
 
@@ -255,18 +294,21 @@ pub(crate) fn embed(
     glyphs: &[u16],
     options: &Options,
 ) -> Result<Embedded, Error> {
-    let made = Made::by(
-        subsetter_make_embedded_by_words,
-        data,
-        index,
-        glyphs,
-        options,
-    )?;
-    Ok(Embedded {
-        font: made.font().to_vec(),
-        cids: made.cids().to_vec(),
-        widths: made.widths().to_vec(),
-    })
+    let make = subsetter_make_embedded_by_words;
+    Ok(Made::by(make, data, index, glyphs, options)?.embedded())
+}
+
+/// The subset of a font with CIDs and widths, at coordinates.
+#[cfg(feature = "variable-fonts")]
+pub(crate) fn embed_at(
+    data: &[u8],
+    index: u32,
+    coordinates: &[Coordinate],
+    glyphs: &[u16],
+    options: &Options,
+) -> Result<Embedded, Error> {
+    let make = subsetter_make_embedded_at_by_words;
+    Ok(Made::at(make, data, index, coordinates, glyphs, options)?.embedded())
 }
 
 #[cfg(test)]
@@ -322,10 +364,12 @@ mod tests {
         assert_eq!(calls(|| subset(&[], 0, &mapper)), 1);
         #[cfg(feature = "variable-fonts")]
         {
-            use crate::subset_with_variations;
+            use crate::{embed_with_variations, subset_with_variations};
             assert!(subset_with_variations(&data, 0, &[], &mapper).is_ok());
+            assert!(embed_with_variations(&data, 0, &[], &[]).is_ok());
             let at = || subset_with_variations(&data, 0, &[], &mapper);
             assert_eq!(calls(at), 1);
+            assert_eq!(calls(|| embed_with_variations(&data, 0, &[], &[])), 1);
         }
     }
 

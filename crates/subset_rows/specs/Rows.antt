@@ -2,7 +2,7 @@
 use Rattle.std.specs.Prelude.{ℕ, if◌then◌else◌, Bool, true, false, List, codes, Option, Some, None}
 use Rattle.std.specs.Str.{bytes_eq}
 use Rattle.subset_rows.specs.declared.row.Kind.{Kind}
-use Rattle.subset_rows.specs.declared.row.Kind.TheVariants.{Subset, Limits, Options, BoundedOptions, Embed, EmbedOptions, EmbedBoundedOptions, SubsetAt}
+use Rattle.subset_rows.specs.declared.row.Kind.TheVariants.{Subset, Limits, Options, BoundedOptions, Embed, EmbedOptions, EmbedBoundedOptions, SubsetAt, EmbedAt}
 
 abbrev pub kind_of : List ℕ → Option Kind
 kind_of word =
@@ -14,6 +14,7 @@ kind_of word =
     else if bytes_eq word (codes "embed_options") then Some EmbedOptions
     else if bytes_eq word (codes "embed_bounded_options") then Some EmbedBoundedOptions
     else if bytes_eq word (codes "subset_at") then Some SubsetAt
+    else if bytes_eq word (codes "embed_at") then Some EmbedAt
     else None
 
 -- the row has CIDs and widths
@@ -26,3 +27,16 @@ embeds Embed = true
 embeds EmbedOptions = true
 embeds EmbedBoundedOptions = true
 embeds SubsetAt = false
+embeds EmbedAt = true
+
+-- the row has coordinates
+abbrev pub varies : Kind → Bool
+varies Subset = false
+varies Limits = false
+varies Options = false
+varies BoundedOptions = false
+varies Embed = false
+varies EmbedOptions = false
+varies EmbedBoundedOptions = false
+varies SubsetAt = true
+varies EmbedAt = true

@@ -9,6 +9,7 @@ ghost use Rattle.subsetter_variable.specs.Subset.{IsSubsetAt};
 use crate::answer::{Answer, Difference, compare};
 use crate::row::{Kind, Row};
 use cid_embed::{embed, embed_with_options};
+use cid_embed_at::embed_with_variations_and_options;
 use std::alloc::Global;
 use std::fmt;
 use subsetter::{
@@ -99,7 +100,8 @@ fn miss_by_kind(alloc: Global, font: &[u8], row: &Row<'_>, limits: &Limits) -> O
         | Kind::BoundedOptions
         | Kind::EmbedOptions
         | Kind::EmbedBoundedOptions
-        | Kind::SubsetAt => return None,
+        | Kind::SubsetAt
+        | Kind::EmbedAt => return None,
     };
     let answered = by_kind(alloc, font, row, limits);
     let difference = compare(&answered, &row.wanted)?;
@@ -136,11 +138,27 @@ fn subset_at(alloc: Global, font: &[u8], row: &Row<'_>, options: &Options) -> Re
     subset_with_variations_and_options(alloc, font, row.index, &row.coordinates, &mapper, options)
 }
 
-/// What the call with coordinates and options answers.
+/// What the call with CIDs, widths, coordinates and options answers.
+fn embedded_at(alloc: Global, font: &[u8], row: &Row<'_>, options: &Options) -> Answer
+    // What is answered with status 0 is a subset of the font at these coordinates.
+    ensures { result.status ≡ 0 → IsSubsetAt options.now.limits.tokens options.now.limits.depth (font_at font.now row.now.index options.now.extras) row.now.coordinates.items (with_glyphs (0 ∷ []) row.now.glyphs.items) result.font.items }
+{
+    let (at, glyphs) = (&row.coordinates, &row.glyphs);
+    match embed_with_variations_and_options(alloc, font, row.index, at, glyphs, options) {
+        Ok(made) => Answer::of_embedded(made),
+        Err(error) => Answer::of_error(alloc, error),
+    }
+}
+
+/// What the call with coordinates and options answers, which is `embed_with_variations_and_options` where the row has CIDs and
+/// widths.
 fn by_coordinates(alloc: Global, font: &[u8], row: &Row<'_>, options: &Options) -> Answer
     // What is answered with status 0 is a subset of the font at these coordinates.
     ensures { result.status ≡ 0 → IsSubsetAt options.now.limits.tokens options.now.limits.depth (font_at font.now row.now.index options.now.extras) row.now.coordinates.items (with_glyphs (0 ∷ []) row.now.glyphs.items) result.font.items }
 {
+    if row.kind.embeds() {
+        return embedded_at(alloc, font, row, options);
+    }
     match subset_at(alloc, font, row, options) {
         Ok(made) => Answer::of_font(alloc, made),
         Err(error) => Answer::of_error(alloc, error),
@@ -152,7 +170,11 @@ pub fn miss_at(alloc: Global, font: &[u8], row: &Row<'_>, options: &Options) -> 
     // A row of status 0 is as expected only where its very bytes are a subset of the font at these coordinates.
     ensures { IfNone result (row.now.wanted.status ≡ 0 → IsSubsetAt options.now.limits.tokens options.now.limits.depth (font_at font.now row.now.index options.now.extras) row.now.coordinates.items (with_glyphs (0 ∷ []) row.now.glyphs.items) row.now.wanted.font.items) }
 {
-    let call = "subset_with_variations_and_options";
+    let call = if row.kind.embeds() {
+        "embed_with_variations_and_options"
+    } else {
+        "subset_with_variations_and_options"
+    };
     let answered = by_coordinates(alloc, font, row, options);
     match compare(&answered, &row.wanted) {
         Some(difference) => return Some(Miss { call, difference }),

@@ -1,8 +1,8 @@
 //! Runs a table of worked rows: `subset_rows FILE`.
 //!
 //! The head of the table, `data/rows.txt`, says what each kind of row holds. A row goes through `subset_with_options`,
-//! `embed_with_options` or `subset_with_variations_and_options`, and where its kind is `subset`, `limits` or `embed` also through the call of that name. For each
-//! row a line is printed: `NAME: as expected`, or what a call answered in place of what the row says. A line of the file
+//! `embed_with_options` or one of these two with variations, and where its kind is `subset`, `limits` or `embed` also through
+//! the call of that name. For each row a line is printed: `NAME: as expected`, or what a call answered in place of what the row says. A line of the file
 //! that is no row, or names a font that isn't in front of it, is told with its number. The last line counts the rows, and
 //! the status is 0 where all of them are as expected and no line is wrong, else 1.
 #![tactic(auto)]

@@ -1,7 +1,7 @@
 //! A row of the table.
 
 ghost use Rattle.std.specs.Prelude.{◌≡◌};
-ghost use Rattle.subset_rows.specs.Rows.{kind_of, embeds};
+ghost use Rattle.subset_rows.specs.Rows.{kind_of, embeds, varies};
 
 use crate::answer::Answer;
 use crate::digits::{word_bytes, word_numbers, word_short_numbers};
@@ -21,6 +21,7 @@ pub enum Kind {
     EmbedOptions,
     EmbedBoundedOptions,
     SubsetAt,
+    EmbedAt,
 }
 
 /// The kind that a word says.
@@ -36,6 +37,7 @@ pub fn kind_of(word: &str) -> Option<Kind>
         "embed_options" => Some(Kind::EmbedOptions),
         "embed_bounded_options" => Some(Kind::EmbedBoundedOptions),
         "subset_at" => Some(Kind::SubsetAt),
+        "embed_at" => Some(Kind::EmbedAt),
         _ => None,
     }
 }
@@ -47,8 +49,15 @@ impl Kind {
     {
         matches!(
             self,
-            Kind::Embed | Kind::EmbedOptions | Kind::EmbedBoundedOptions
+            Kind::Embed | Kind::EmbedOptions | Kind::EmbedBoundedOptions | Kind::EmbedAt
         )
+    }
+
+    /// Whether the row has coordinates.
+    pub fn varies(&self) -> bool
+        ensures { result ≡ varies self.now }
+    {
+        matches!(self, Kind::SubsetAt | Kind::EmbedAt)
     }
 }
 
@@ -62,7 +71,7 @@ pub struct Row<'a> {
     pub index: u32,
     /// The old numbers of the glyphs to keep, in order.
     pub glyphs: Vec<u16>,
-    /// Tags of axes, each with a value in 65536ths, which `SubsetAt` alone has.
+    /// Tags of axes, each with a value in 65536ths, which `SubsetAt` and `EmbedAt` alone have.
     pub coordinates: Vec<(Tag, i32)>,
     /// The limits and what is kept, or the status of a choice that can't be passed to these calls.
     pub options: Result<Options, u32>,
@@ -147,7 +156,7 @@ fn choices<'a, 'b>(
             Ok((options, behind))
         }
         (
-            Kind::BoundedOptions | Kind::EmbedBoundedOptions | Kind::SubsetAt,
+            Kind::BoundedOptions | Kind::EmbedBoundedOptions | Kind::SubsetAt | Kind::EmbedAt,
             [tokens, depth, drop, bytes, behind @ ..],
         ) => {
             let bytes = number(bytes)?;
@@ -165,7 +174,7 @@ fn choices<'a, 'b>(
 fn wanted(alloc: Global, kind: Kind, words: &[&str]) -> Result<Answer, Failure> {
     let (status, font, cids, widths) = match (kind, words) {
         (
-            Kind::Embed | Kind::EmbedOptions | Kind::EmbedBoundedOptions,
+            Kind::Embed | Kind::EmbedOptions | Kind::EmbedBoundedOptions | Kind::EmbedAt,
             [status, font, cids, widths],
         ) => (status, font, *cids, *widths),
         (
@@ -197,7 +206,7 @@ fn coordinates<'a, 'b>(
     words: &'b [&'a str],
 ) -> Result<(Vec<(Tag, i32)>, &'b [&'a str]), Failure> {
     let mut found = Vec::new(alloc);
-    if kind != Kind::SubsetAt {
+    if !kind.varies() {
         return Ok((found, words));
     }
     let [list, behind @ ..] = words else {

@@ -95,7 +95,7 @@ fn run_row<'a>(
         Err(status) if row.wanted.status == *status => Outcome::AsExpected(row.name),
         Err(status) => Outcome::NotAsked(row.name, *status),
         Ok(options) => {
-            let miss = if kind == Kind::SubsetAt {
+            let miss = if kind.varies() {
                 miss_at(alloc, font, &row, options)
             } else {
                 miss_of(alloc, font, &row, options)

@@ -1,5 +1,5 @@
 -- What is said of a subset at coordinates, in other words.
-use Rattle.std.proofs.Common.{◌≡◌, ℕ, List, [], subst, ◌∙◌, ◌⊎◌, inl, inr, Vec, Global, Result, Ok, Err, ℤ, Option}
+use Rattle.std.proofs.Common.{◌≡◌, ℕ, List, [], sym, subst, ◌∙◌, ◌⊎◌, inl, inr, Vec, Global, Result, Ok, Err, ℤ, Option}
 use Rattle.std.specs.Prelude.{IfOk, IfErr, codes}
 use Rattle.subsetter_base.specs.declared.tag.Tag.{Tag}
 use Rattle.subsetter_base.specs.declared.error.Error.{Error}
@@ -9,14 +9,20 @@ use Rattle.subsetter_sfnt.specs.Fault.{HasOpeningFault}
 use Rattle.subsetter.specs.Answer.{IsAnswer}
 use Rattle.subsetter.specs.Bound.{IsWithin, in_font}
 use Rattle.subsetter.specs.Fault.{in_opening}
-use Rattle.cid_embed.specs.Embed.{numbering, HasMapperFault, all_asked, unopened}
+use Rattle.cid_embed.specs.Embed.{numbering, HasMapperFault, all_asked, unopened, IsEmbedded}
+use Rattle.cid_embed.specs.declared.embedding.Embedded.{Embedded}
+use Rattle.cid_embed_at.specs.Embed.{IsEmbeddingAnswerAt, HasEmbedFaultAt, HasNoEmbeddingAt}
+use Rattle.cid_embed_at.proofs.AtPlace.{opening_fault, opening_final}
 use Rattle.subsetter_variable.specs.Afresh.{HasGlyphsDrawn}
 use Rattle.subsetter_variable.specs.Standing.{IsAtDefault, no_outlines}
 use Rattle.subsetter_variable.specs.Subset.{whole, IsAnswerAt, HasFaultAt, HasNoAnswerAt, IsTheAnswerAt, as_it_is, in_static}
 use Rattle.subsetter_variable.proofs.Static.{one_static}
 use Rattle.subsetter_variable.proofs.Unopened.{no_glyf, same_stored}
-use Rattle.subsetter_c.specs.Settings.{IsSoundSubsetAt, IsRefusalAt, in_numbering, in_subset}
+use Rattle.subsetter_c.specs.Embedding.{lists_of}
+use Rattle.subsetter_c.specs.Settings.{IsSoundSubsetAt, IsRefusalAt, in_numbering, in_subset, IsSoundEmbeddingAt, IsEmbeddingRefusalAt}
 use Rattle.subsetter_c.proofs.Bytes.{wanting, no_room, failed}
+use Rattle.subsetter_c.proofs.Lists.{same_members}
+use Rattle.subsetter_c.proofs.Made.{alike}
 
 module _ (bound : Option ℕ) (tokens depth : ℕ) (font : Font) (settings : List (Tag × ℤ)) (glyphs : List ℕ) where
   -- a font that can't be opened stands at its default
@@ -58,3 +64,39 @@ module _ (bound : Option ℕ) (tokens depth : ℕ) (font : Font) (settings : Lis
       within = within;
     }
     subset_sound (Err e) exact same drawn within = exact
+
+-- ---- with CIDs and widths
+
+module _ (bound : Option ℕ) (tokens depth : ℕ) (font : Font) (settings : List (Tag × ℤ)) (glyphs : List ℕ) where
+  pub embedding_unopened : {X : Type 0} (e : Error) → (e ≡ OutOfMemory) ⊎ HasOpeningFault font e → ((why : Error) → HasOpeningFault font why → failed {X = X} e ≡ Err OutOfMemory → ⊥) → IsEmbeddingRefusalAt bound tokens depth font settings glyphs e
+  embedding_unopened e (inl memory) before = inl (wanting font e memory before)
+  embedding_unopened e (inr fault) before = inr (([], opening_fault bound tokens depth font settings glyphs e fault), opening_final bound tokens depth font settings glyphs e fault)
+
+  -- where the font is the one answer, the CIDs and the widths are too
+  same_lists : (more deeper : ℕ) (e other : Embedded) → IsEmbeddingAnswerAt tokens depth font settings glyphs e → IsTheAnswerAt font settings (numbering glyphs) e.font.items → IsEmbeddingAnswerAt more deeper font settings glyphs other → lists_of e ≡ lists_of other
+  same_lists more deeper e other a same b =
+      let is : b.static ≡ a.static = one_static font settings (numbering glyphs) b.static a.static b.is_static a.is_static in
+      let there : IsEmbedded more deeper a.static glyphs other = subst (λ (f : Font). IsEmbedded more deeper f glyphs other) is b.answer.embedded in
+      let fonts : e.font.items ≡ other.font.items = same more deeper other.font.items (record { static = b.static; is_static = b.is_static; made = b.made; answer = b.answer.font_is }) in
+      let cids : e.cids.items ≡ other.cids.items = same_members e.cids.items other.cids.items (a.answer.embedded.cids ∙ sym there.cids) in
+      let widths : e.widths.items ≡ other.widths.items = same_members e.widths.items other.widths.items (a.answer.embedded.widths ∙ sym there.widths) in
+      alike e.font.items e.cids.items e.widths.items other.font.items other.cids.items other.widths.items fonts cids widths
+
+  module _ (given : List (Tag × ℤ)) (g : given ≡ settings) where
+    pub embedding_sound : (r : Result Embedded Error) → IfOk r (λ e. IsEmbeddingAnswerAt tokens depth font given glyphs e) → IfOk r (λ e. IsTheAnswerAt font given (numbering glyphs) e.font.items) → IfOk r (λ e. (IsAtDefault (whole font) given → ⊥) → HasGlyphsDrawn (whole font) given (numbering glyphs) e.font.items) → IfOk r (λ e. IsWithin bound e.font.items) → IfOk r (λ e. IsSoundEmbeddingAt bound tokens depth font settings glyphs e)
+    embedding_sound (Ok e) ok same drawn within =
+        let answer : IsEmbeddingAnswerAt tokens depth font settings glyphs e = subst (λ (s : List (Tag × ℤ)). IsEmbeddingAnswerAt tokens depth font s glyphs e) g ok in
+        let one : IsTheAnswerAt font settings (numbering glyphs) e.font.items = subst (λ (s : List (Tag × ℤ)). IsTheAnswerAt font s (numbering glyphs) e.font.items) g same in
+        record {
+          answer = answer;
+          same = λ more deeper other b. same_lists more deeper e other answer one b;
+          drawn = subst (λ (s : List (Tag × ℤ)). (IsAtDefault (whole font) s → ⊥) → HasGlyphsDrawn (whole font) s (numbering glyphs) e.font.items) g drawn;
+          within = within;
+        }
+    embedding_sound (Err why) ok same drawn within = ok
+
+    pub embedding_refused : (r : Result Embedded Error) → IfErr r (λ why. (why ≡ OutOfMemory) ⊎ ((order : List ℕ) × HasEmbedFaultAt bound tokens depth font given glyphs order why)) → IfErr r (λ why. (why ≡ OutOfMemory) ⊎ HasNoEmbeddingAt bound tokens depth font given glyphs) → ((why : Error) → HasOpeningFault font why → r ≡ Err OutOfMemory → ⊥) → IfErr r (IsEmbeddingRefusalAt bound tokens depth font settings glyphs)
+    embedding_refused (Ok e) fault none before = fault
+    embedding_refused (Err why) (inl memory) none before = inl (wanting font why memory before)
+    embedding_refused (Err why) (inr fault) (inl memory) before = inl (wanting font why memory before)
+    embedding_refused (Err why) (inr fault) (inr none) before = inr ((fault.0, subst (λ (s : List (Tag × ℤ)). HasEmbedFaultAt bound tokens depth font s glyphs fault.0 why) g fault.1), subst (λ (s : List (Tag × ℤ)). HasNoEmbeddingAt bound tokens depth font s glyphs) g none)

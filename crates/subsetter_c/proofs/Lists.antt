@@ -20,7 +20,7 @@ answer_handed Said Named answer before after told status ok err (whole e i f a t
 answer_handed Said Named answer before after told status ok err (short e i f a t s) = short e (subst (λ (r : Result Embedded Error). IfOk r Said) i ok) f a t s
 answer_handed Said Named answer before after told status ok err (refused e w a t s) = refused e (subst (λ (r : Result Embedded Error). IfErr r Named) w err) a t s
 
-abbrev make_buffers : List ℕ → List ℕ → List ℕ → Buffers
+abbrev pub make_buffers : List ℕ → List ℕ → List ℕ → Buffers
 make_buffers font cids widths = record { font = font; cids = cids; widths = widths }
 
 -- three lists put into their buffers one by one
@@ -34,7 +34,7 @@ all_placed font cids widths e f c w font_after cids_after widths_after pf pc pw 
 -- ---- one answer
 
 -- lists are equal where each member is
-same_members : (xs ys : List ℕ) → map Some xs ≡ map Some ys → xs ≡ ys
+pub same_members : (xs ys : List ℕ) → map Some xs ≡ map Some ys → xs ≡ ys
 same_members [] [] e = refl
 same_members [] (y ∷ ys) e = absurd cc
 same_members (x ∷ xs) [] e = absurd cc

@@ -1,12 +1,11 @@
 -- What is said of lists that the library keeps for the caller, in other words.
-use Rattle.std.proofs.Common.{◌≡◌, ℕ, List, Option, ap, subst, ◌∙◌, Vec, Global, Result, Ok, Err}
+use Rattle.std.proofs.Common.{◌≡◌, ℕ, List, ap, subst, ◌∙◌, Vec, Global, Result, Ok, Err}
 use Rattle.std.specs.Prelude.{IfOk, IfErr}
 use Rattle.subsetter_base.specs.declared.error.Error.{Error}
-use Rattle.subsetter_sfnt.specs.Read.{Font}
 use Rattle.cid_embed.specs.declared.embedding.Embedded.{Embedded}
-use Rattle.subsetter_c.specs.Embedding.{Buffers, lists_of, IsSoundEmbedding, IsEmbeddingRefusal}
+use Rattle.subsetter_c.specs.Embedding.{Buffers, lists_of}
 use Rattle.subsetter_c.specs.Handed.{IsAnswered}
-use Rattle.subsetter_c.specs.Made.{IsMade, whole, refused, only_font, IsFontMade, IsEmbeddingMade}
+use Rattle.subsetter_c.specs.Made.{IsMade, whole, refused, only_font, IsFontMade}
 
 abbrev make_buffers : List ℕ → List ℕ → List ℕ → Buffers
 make_buffers font cids widths = record { font = font; cids = cids; widths = widths }
@@ -21,8 +20,7 @@ font_made Said Named answer made status ok err (whole is s) =
     whole (is.0, subst Said is.1.2 (subst (λ (r : Result (Vec ℕ Global) Error). IfOk r (λ v. Said v.items)) is.1.1 ok), is.2) s
 font_made Said Named answer made status ok err (refused e w m s) = refused e (subst (λ (r : Result (Vec ℕ Global) Error). IfErr r Named) w err) m s
 
-module _ (bound : Option ℕ) (tokens depth : ℕ) (font : Font) (glyphs : List ℕ) where
-  -- and so with CIDs and widths
-  pub embedding_made : (answer : Result Embedded Error) (made : Buffers) (status : ℕ) → IfOk answer (IsSoundEmbedding bound tokens depth font glyphs) → IfErr answer (IsEmbeddingRefusal bound tokens depth font glyphs) → IsMade (λ lists. (e : Embedded) × (answer ≡ Ok e) × (lists ≡ lists_of e)) (λ e. answer ≡ Err e) made status → IsEmbeddingMade bound tokens depth font glyphs made status
-  embedding_made answer made status ok err (whole is s) = whole (is.0, subst (λ (r : Result Embedded Error). IfOk r (IsSoundEmbedding bound tokens depth font glyphs)) is.1 ok, is.2) s
-  embedding_made answer made status ok err (refused e w m s) = refused e (subst (λ (r : Result Embedded Error). IfErr r (IsEmbeddingRefusal bound tokens depth font glyphs)) w err) m s
+-- and so with CIDs and widths
+pub embedding_made : (Said : Embedded → Type 0) (Named : Error → Type 0) (answer : Result Embedded Error) (made : Buffers) (status : ℕ) → IfOk answer Said → IfErr answer Named → IsMade (λ lists. (e : Embedded) × (answer ≡ Ok e) × (lists ≡ lists_of e)) (λ e. answer ≡ Err e) made status → IsMade (λ lists. (e : Embedded) × Said e × (lists ≡ lists_of e)) Named made status
+embedding_made Said Named answer made status ok err (whole is s) = whole (is.0, subst (λ (r : Result Embedded Error). IfOk r Said) is.1 ok, is.2) s
+embedding_made Said Named answer made status ok err (refused e w m s) = refused e (subst (λ (r : Result Embedded Error). IfErr r Named) w err) m s

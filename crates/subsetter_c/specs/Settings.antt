@@ -1,5 +1,5 @@
 -- How coordinates on the axes of a variable font come from C, and what is handed to it of a subset at them.
-use Rattle.std.specs.Prelude.{◌⊎◌, ℕ, List, map, Option, ℤ}
+use Rattle.std.specs.Prelude.{◌≡◌, ◌⊎◌, ℕ, List, map, Option, ℤ}
 use Rattle.std.specs.Int.{w32, to_be_bytes}
 use Rattle.subsetter_base.specs.Places.{HasAllAboveZero}
 use Rattle.subsetter_base.specs.declared.tag.Tag.{Tag}
@@ -11,9 +11,12 @@ use Rattle.cid_embed.specs.Embed.{numbering}
 use Rattle.subsetter_variable.specs.Afresh.{HasGlyphsDrawn}
 use Rattle.subsetter_variable.specs.Standing.{IsAtDefault}
 use Rattle.subsetter_variable.specs.Subset.{whole, IsAnswerAt, HasFaultAt, HasNoAnswerAt, IsTheAnswerAt}
-use Rattle.subsetter_c.specs.Embedding.{Buffers}
+use Rattle.cid_embed.specs.declared.embedding.Embedded.{Embedded}
+use Rattle.cid_embed_at.specs.Embed.{IsEmbeddingAnswerAt, HasEmbedFaultAt, HasNoEmbeddingAt}
+use Rattle.subsetter_c.specs.Embedding.{Buffers, lists_of, AreHandedOver}
 use Rattle.subsetter_c.specs.Handed.{IsHandedOver, IsWantOfMemory}
-use Rattle.subsetter_c.specs.Made.{IsFontMade}
+use Rattle.subsetter_c.specs.Made.{IsMade, IsFontMade}
+use Rattle.subsetter_c.specs.declared.handing.Sizes.{Sizes}
 use Rattle.subsetter_c.specs.declared.settings.Coordinate.{Coordinate}
 
 -- the tag has the bytes of its number, the highest first
@@ -51,3 +54,28 @@ IsSubsetHandedAt bound tokens depth font settings glyphs = IsHandedOver (IsSound
 -- a subset, in memory of the library
 abbrev pub IsSubsetMadeAt : Option ℕ → ℕ → ℕ → Font → List (Tag × ℤ) → List ℕ → Buffers → ℕ → Type 0
 IsSubsetMadeAt bound tokens depth font settings glyphs = IsFontMade (IsSoundSubsetAt bound tokens depth font settings glyphs) (IsRefusalAt bound tokens depth font settings glyphs)
+
+-- ---- with CIDs and widths
+
+-- what is answered, as it is at these settings
+pub record IsSoundEmbeddingAt (bound : Option ℕ) (tokens depth : ℕ) (font : Font) (settings : List (Tag × ℤ)) (glyphs : List ℕ) (e : Embedded) : Type 0 where
+  -- an embedding of the font as it is, at its default, or else of its instance, where no fault stands in them
+  pub answer : IsEmbeddingAnswerAt tokens depth font settings glyphs e
+  -- whatever is answered for the same settings and glyphs, within these limits or others, is these three lists
+  pub same : (more deeper : ℕ) (other : Embedded) → IsEmbeddingAnswerAt more deeper font settings glyphs other → lists_of e ≡ lists_of other
+  -- elsewhere than at its default its font has these glyphs and no other, each as it is drawn there, read afresh
+  pub drawn : ¬ (IsAtDefault (whole font) settings) → HasGlyphsDrawn (whole font) settings (numbering glyphs) e.font.items
+  -- its font is no longer than it may be
+  pub within : IsWithin bound e.font.items
+
+-- why nothing is answered: memory ran out, or a fault stands, and then no call answers anything
+abbrev pub IsEmbeddingRefusalAt : Option ℕ → ℕ → ℕ → Font → List (Tag × ℤ) → List ℕ → Error → Type 0
+IsEmbeddingRefusalAt bound tokens depth font settings glyphs why = IsWantOfMemory font why ⊎ (((order : List ℕ) × HasEmbedFaultAt bound tokens depth font settings glyphs order why) × HasNoEmbeddingAt bound tokens depth font settings glyphs)
+
+-- a subset with its CIDs and widths is handed over in buffers of the caller
+abbrev pub IsEmbeddingHandedAt : Option ℕ → ℕ → ℕ → Font → List (Tag × ℤ) → List ℕ → Buffers → Buffers → Sizes → ℕ → Type 0
+IsEmbeddingHandedAt bound tokens depth font settings glyphs = AreHandedOver (IsSoundEmbeddingAt bound tokens depth font settings glyphs) (IsEmbeddingRefusalAt bound tokens depth font settings glyphs)
+
+-- in memory of the library
+abbrev pub IsEmbeddingMadeAt : Option ℕ → ℕ → ℕ → Font → List (Tag × ℤ) → List ℕ → Buffers → ℕ → Type 0
+IsEmbeddingMadeAt bound tokens depth font settings glyphs = IsMade (λ made. (e : Embedded) × IsSoundEmbeddingAt bound tokens depth font settings glyphs e × (made ≡ lists_of e)) (IsEmbeddingRefusalAt bound tokens depth font settings glyphs)

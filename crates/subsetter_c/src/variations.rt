@@ -1,18 +1,20 @@
 //! The calls at coordinates on the axes of a variable font.
 
 ghost use Rattle.std.specs.Prelude.{◌⊎◌, IfOk, IfErr};
+ghost use Rattle.subsetter_c.specs.Embedding.{AreNoneHanded};
 ghost use Rattle.subsetter_c.specs.Handed.{IsNothingHanded};
 ghost use Rattle.subsetter_c.specs.Made.{lists_in, IsNothingMade};
 ghost use Rattle.subsetter_c.specs.Options.{AreKnown, bytes_asked, tokens_asked, depth_asked, extras_asked};
-ghost use Rattle.subsetter_c.specs.Settings.{settings_of, IsSoundSubsetAt, IsRefusalAt, IsSubsetHandedAt, IsSubsetMadeAt};
+ghost use Rattle.subsetter_c.specs.Settings.{settings_of, IsSoundSubsetAt, IsRefusalAt, IsSubsetHandedAt, IsSubsetMadeAt, IsSoundEmbeddingAt, IsEmbeddingRefusalAt, IsEmbeddingHandedAt, IsEmbeddingMadeAt};
 ghost use Rattle.subsetter_c.specs.Status.{unknown_option};
 
-use crate::handing::hand_answer;
+use crate::handing::{Sizes, hand_answer, hand_embedded};
 use crate::making::{self, Made};
 use crate::options::options_of;
 use crate::settings::{Coordinate, settings_for};
 use crate::status;
-use cid_embed::mapper_for;
+use cid_embed::{Embedded, mapper_for};
+use cid_embed_at::embed_with_variations_and_options;
 use std::alloc::Global;
 use subsetter::{Error, Options};
 use subsetter_variable::subset_with_variations_and_options;
@@ -32,6 +34,22 @@ fn subset_for(
     let settings = settings_for(alloc, font, index, coordinates, options.extras)?;
     let mapper = mapper_for(alloc, font, index, glyphs, options.extras)?;
     subset_with_variations_and_options(alloc, font, index, &settings, &mapper, options)
+}
+
+/// A subset with CIDs and widths at coordinates.
+fn embedded_for(
+    alloc: Global,
+    font: &[u8],
+    index: u32,
+    coordinates: &[Coordinate],
+    glyphs: &[u16],
+    options: &Options,
+) -> Result<Embedded, Error>
+    ensures ok { IfOk result (λ e. IsSoundEmbeddingAt options.now.limits.bytes options.now.limits.tokens options.now.limits.depth (record { bytes = font.now; index = index; extras = options.now.extras }) (settings_of coordinates.now) glyphs.now e) }
+    ensures err { IfErr result (λ why. IsEmbeddingRefusalAt options.now.limits.bytes options.now.limits.tokens options.now.limits.depth (record { bytes = font.now; index = index; extras = options.now.extras }) (settings_of coordinates.now) glyphs.now why) }
+{
+    let settings = settings_for(alloc, font, index, coordinates, options.extras)?;
+    embed_with_variations_and_options(alloc, font, index, &settings, glyphs, options)
 }
 
 /// As `subsetter_subset_by_words`, with the glyphs as they are at coordinates.
@@ -84,6 +102,63 @@ pub extern "C" fn subsetter_make_subset_at_by_words(
             subset_for(alloc, font, index, coordinates, glyphs, &options),
             made,
         ),
+        None => {
+            *made = making::nothing();
+            status::UNKNOWN_OPTION
+        }
+    }
+}
+
+/// As `subsetter_embed_by_words`, with the glyphs and the widths as they are at coordinates.
+///
+/// A font that stands at its default there is embedded as it is; else its instance is.
+#[unsafe(no_mangle)]
+pub extern "C" fn subsetter_embed_at_by_words(
+    alloc: Global,
+    font: &[u8],
+    index: u32,
+    coordinates: &[Coordinate],
+    glyphs: &[u16],
+    options: &[u32],
+    out: &mut [u8],
+    cids: &mut [u16],
+    widths: &mut [u32],
+    sizes: &mut Sizes,
+) -> u32
+    ensures { ((¬ (AreKnown options.now)) × AreNoneHanded unknown_option (record { font = out.old; cids = cids.old; widths = widths.old }) (record { font = out.new; cids = cids.new; widths = widths.new }) sizes.new result) ⊎ (AreKnown options.now × IsEmbeddingHandedAt (bytes_asked options.now) (tokens_asked options.now) (depth_asked options.now) (record { bytes = font.now; index = index; extras = extras_asked options.now }) (settings_of coordinates.now) glyphs.now (record { font = out.old; cids = cids.old; widths = widths.old }) (record { font = out.new; cids = cids.new; widths = widths.new }) sizes.new result) }
+{
+    match options_of(options) {
+        Some(options) => {
+            let answer = embedded_for(alloc, font, index, coordinates, glyphs, &options);
+            hand_embedded(answer, out, cids, widths, sizes)
+        }
+        None => {
+            *sizes = Sizes::NONE;
+            status::UNKNOWN_OPTION
+        }
+    }
+}
+
+/// As `subsetter_embed_at_by_words`, in memory of the library.
+///
+/// Status 0: `made` has the subset, the CIDs and the widths. Another status: `made` is empty.
+#[unsafe(no_mangle)]
+pub extern "C" fn subsetter_make_embedded_at_by_words(
+    alloc: Global,
+    font: &[u8],
+    index: u32,
+    coordinates: &[Coordinate],
+    glyphs: &[u16],
+    options: &[u32],
+    made: &mut Made,
+) -> u32
+    ensures { ((¬ (AreKnown options.now)) × IsNothingMade unknown_option (lists_in made.new) result) ⊎ (AreKnown options.now × IsEmbeddingMadeAt (bytes_asked options.now) (tokens_asked options.now) (depth_asked options.now) (record { bytes = font.now; index = index; extras = extras_asked options.now }) (settings_of coordinates.now) glyphs.now (lists_in made.new) result) }
+{
+    match options_of(options) {
+        Some(options) => {
+            let answer = embedded_for(alloc, font, index, coordinates, glyphs, &options);
+            making::make_embedded(answer, made)
+        }
         None => {
             *made = making::nothing();
             status::UNKNOWN_OPTION

@@ -18,14 +18,20 @@ pub enum Call {
     EmbedOptions,
     EmbedBoundedOptions,
     SubsetAt,
+    EmbedAt,
 }
 
 impl Call {
     fn embeds(self) -> bool {
         matches!(
             self,
-            Call::Embed | Call::EmbedOptions | Call::EmbedBoundedOptions
+            Call::Embed | Call::EmbedOptions | Call::EmbedBoundedOptions | Call::EmbedAt
         )
+    }
+
+    /// Whether the row has coordinates.
+    pub fn varies(self) -> bool {
+        matches!(self, Call::SubsetAt | Call::EmbedAt)
     }
 }
 
@@ -45,7 +51,7 @@ pub struct Row {
     pub font: Vec<u8>,
     pub index: u32,
     pub glyphs: Vec<u16>,
-    /// Tags with values in 65536ths, of `SubsetAt` alone.
+    /// Tags with values in 65536ths, of `SubsetAt` and `EmbedAt` alone.
     pub coordinates: Vec<(Tag, i32)>,
     pub choice: Choice,
     pub status: u32,
@@ -116,10 +122,11 @@ impl Table {
             ["embed_options", ..] => (Call::EmbedOptions, 3),
             ["embed_bounded_options", ..] => (Call::EmbedBoundedOptions, 4),
             ["subset_at", ..] => (Call::SubsetAt, 4),
+            ["embed_at", ..] => (Call::EmbedAt, 4),
             _ => panic!("no row: {line}"),
         };
         let embeds = call.embeds();
-        let first = if call == Call::SubsetAt { 6 } else { 5 };
+        let first = if call.varies() { 6 } else { 5 };
         assert_eq!(
             words.len(),
             2 + first + choices + if embeds { 2 } else { 0 },

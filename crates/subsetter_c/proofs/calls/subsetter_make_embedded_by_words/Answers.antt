@@ -1,6 +1,7 @@
 use Rattle.std.proofs.Common.{inl, inr, refl}
 use Rattle.subsetter_sfnt.specs.declared.extras.Extras.{Extras}
 use Rattle.subsetter_sfnt.specs.Read.{Font}
+use Rattle.subsetter_c.specs.Embedding.{IsSoundEmbedding, IsEmbeddingRefusal}
 use Rattle.subsetter_c.specs.Made.{IsEmbeddingMade, lists_in}
 use Rattle.subsetter_c.proofs.Lists.{embedding_sound, embedding_refused}
 use Rattle.subsetter_c.proofs.Made.{embedding_made}
@@ -20,7 +21,7 @@ returns-in-Some c =
     inr (
       c.in-Some.ensures.0,
       at_asked (λ b t d x. IsEmbeddingMade b t d (font x) glyphs (lists_in c.make_embedded.new.made) c.make_embedded.result) c.args.options.now c.in-Some.options c.in-Some.ensures.1
-          (embedding_made bound tokens depth asked glyphs answer (lists_in c.make_embedded.new.made) c.make_embedded.result (embedding_sound bound tokens depth asked glyphs answer of.clean of.exact of.same of.within) (embedding_refused bound tokens depth asked glyphs answer of.err of.no_answer of.before_memory) c.make_embedded.ensures),
+          (embedding_made (IsSoundEmbedding bound tokens depth asked glyphs) (IsEmbeddingRefusal bound tokens depth asked glyphs) answer (lists_in c.make_embedded.new.made) c.make_embedded.result (embedding_sound bound tokens depth asked glyphs answer of.clean of.exact of.same of.within) (embedding_refused bound tokens depth asked glyphs answer of.err of.no_answer of.before_memory) c.make_embedded.ensures),
     )
 
 pub returns-in-None : goal.returns-in-None

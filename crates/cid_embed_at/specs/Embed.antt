@@ -1,0 +1,33 @@
+-- What a PDF writer gets of a variable font at settings of its user coordinates, and why it doesn't.
+use Rattle.std.specs.Prelude.{ℕ, List, Option, ℤ}
+use Rattle.subsetter_base.specs.Places.{HasAllAboveZero}
+use Rattle.subsetter_base.specs.declared.tag.Tag.{Tag}
+use Rattle.subsetter_base.specs.declared.error.Error.{Error}
+use Rattle.subsetter_base.specs.declared.error.Error.TheVariants.{OverflowError}
+use Rattle.subsetter_sfnt.specs.Read.{Font}
+use Rattle.subsetter.specs.Bound.{IsWithin}
+use Rattle.subsetter_instance.specs.Fault.{HasInstanceFault}
+use Rattle.subsetter_variable.specs.Standing.{IsAtDefault}
+use Rattle.subsetter_variable.specs.Subset.{whole, IsStatic}
+use Rattle.cid_embed.specs.Embed.{numbering, HasEmbedFaultWithin, IsEmbeddingAnswer}
+use Rattle.cid_embed.specs.declared.embedding.Embedded.{Embedded}
+
+-- an embedding of the static font, which could be made in these steps, where no fault stands in it
+pub record IsEmbeddingAnswerAt (tokens depth : ℕ) (font : Font) (settings : List (Tag × ℤ)) (glyphs : List ℕ) (e : Embedded) : Type 0 where
+  pub static : Font
+  pub is_static : IsStatic font settings (numbering glyphs) static
+  pub made : (why : Error) → ¬ (IsAtDefault (whole font) settings) → ¬ (HasInstanceFault (whole font) settings (numbering glyphs) tokens why)
+  pub answer : IsEmbeddingAnswer tokens depth static glyphs e
+
+-- What can stand against it within a bound, under the name of the error; sizes are judged for an order of the new font's glyphs.
+pub data HasEmbedFaultAt (bound : Option ℕ) (tokens depth : ℕ) (font : Font) (settings : List (Tag × ℤ)) (glyphs order : List ℕ) : Error → Type 0 where
+  -- the asked glyphs leave no number for glyph 0
+  in_numbering : HasAllAboveZero glyphs → HasEmbedFaultAt bound tokens depth font settings glyphs order OverflowError
+  -- elsewhere than at its default, against the instance
+  in_instance : {e : Error} → ¬ (IsAtDefault (whole font) settings) → HasInstanceFault (whole font) settings (numbering glyphs) tokens e → HasEmbedFaultAt bound tokens depth font settings glyphs order e
+  -- against the embedding of the static font
+  in_static : {e : Error} (static : Font) → IsStatic font settings (numbering glyphs) static → HasEmbedFaultWithin bound tokens depth static glyphs order e → HasEmbedFaultAt bound tokens depth font settings glyphs order e
+
+-- nothing within the bound is answered for the asked glyphs of a font
+abbrev pub HasNoEmbeddingAt : Option ℕ → ℕ → ℕ → Font → List (Tag × ℤ) → List ℕ → Type 0
+HasNoEmbeddingAt bound tokens depth font settings glyphs = (e : Embedded) → IsWithin bound e.font.items → ¬ (IsEmbeddingAnswerAt tokens depth font settings glyphs e)
