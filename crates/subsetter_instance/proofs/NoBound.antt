@@ -1,8 +1,8 @@
 -- What is given within a bound, where none is set.
-use Rattle.std.proofs.Common.{ℕ, Option, None, Result, Ok, Err, refl, inl, inr}
+use Rattle.std.proofs.Common.{ℕ, None, Result, Ok, Err, refl, inl, inr}
 use Rattle.subsetter_base.specs.declared.error.Error.{Error}
 use Rattle.subsetter_base.specs.Gives.{Gives}
-use Rattle.subsetter_base.specs.Within.{IsTooLong, GivesWithin}
+use Rattle.subsetter_base.specs.Within.{GivesWithin}
 use Rattle.subsetter_base.proofs.Options.{some_not_none}
 
 pub given : {X Y : Type 0} (view : X → Y) (size : Y → ℕ) (result : Result X Error) (read : Result Y Error) → GivesWithin view None size result read → Gives view result read

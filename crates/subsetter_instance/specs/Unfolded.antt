@@ -99,6 +99,17 @@ simple_outline bytes m ends points xs ys = record {
   right = right_point bytes m (length points) xs;
 }
 
+-- the same by the flags of the points, of which bit 0 says whether they are on the curve
+abbrev pub outline_by_flags : List ℕ → Metric → List ℕ → List ℕ → List ℤ → List ℤ → Unfolded
+outline_by_flags bytes m ends flags xs ys = record {
+  ends = ends;
+  on = map (λ f. has f 1) flags;
+  xs = take (length flags) xs;
+  ys = take (length flags) ys;
+  left = left_point bytes m (length flags) xs;
+  right = right_point bytes m (length flags) xs;
+}
+
 -- a step, one for each point and four more are taken before the variations are read
 unfoldable pub unfolded_simple : Source → List ℤ → ℕ → ℕ → List ℕ → Metric → Result (Unfolded × ℕ) Error
 unfolded_simple s at steps g bytes m = do
@@ -106,6 +117,13 @@ unfolded_simple s at steps g bytes m = do
   left ← spent (length outline.1 + 5) steps
   to ← moved s.gvar g (with_phantoms outline.0 (xs_of outline.1) (ys_of outline.1)) at left
   near_or_fault (simple_outline bytes m outline.0 outline.1 to.0 to.1) to.2
+
+-- the same of an outline of which flags and coordinates are known
+unfoldable pub unfolded_by_flags : Source → List ℤ → ℕ → ℕ → List ℕ → Metric → List ℕ → List ℕ → List ℤ → List ℤ → Result (Unfolded × ℕ) Error
+unfolded_by_flags s at steps g bytes m ends flags xs ys = do
+  left ← spent (length flags + 5) steps
+  to ← moved s.gvar g (with_phantoms ends xs ys) at left
+  near_or_fault (outline_by_flags bytes m ends flags to.0 to.1) to.2
 
 -- ---- a component
 

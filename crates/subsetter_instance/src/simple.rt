@@ -3,17 +3,17 @@
 ghost use Rattle.std.specs.Prelude.{◌≡◌, ◌≤◌, ◌<◌, ◌^◌, ◌+◌, ◌++◌, ◌∷◌, [], ◌*ℤ◌, ◌+ℤ◌, ℕ, pos, length, map, take, slice_index_or, unsigned_abs, All, IsTrue, IfOk};
 ghost use Rattle.std.specs.Option.{option_copied};
 ghost use Rattle.subsetter_base.specs.Gives.{Gives};
-ghost use Rattle.subsetter_points.specs.Simple.{are_ends, xs_of, ys_of};
+ghost use Rattle.subsetter_points.specs.Simple.{are_ends, has};
 ghost use Rattle.subsetter_variation.specs.Movement.{AreWithin, IsOutline};
 ghost use Rattle.subsetter_instance.specs.Source.{HasAxes};
-ghost use Rattle.subsetter_instance.specs.Unfolded.{IsInReach, are_near, left_point, left_side, moved, near_or_fault, right_point, simple_outline, unfolded_simple, with_phantoms, IsShaped, x_min};
+ghost use Rattle.subsetter_instance.specs.Unfolded.{IsInReach, are_near, left_point, left_side, moved, near_or_fault, outline_by_flags, right_point, unfolded_by_flags, unfolded_simple, with_phantoms, IsShaped, x_min};
 
 use crate::source::{Metric, Source};
 use crate::unfolding::Unfolded;
 use std::alloc::{AllocError, Global};
 use subsetter_base::Error;
 use subsetter_base::read::Reader;
-use subsetter_points::{Outline, Point, read_simple};
+use subsetter_points::{Columns, read_columns};
 use subsetter_variation::movement::{Outline as DefaultOutline, moved_points, spent};
 use subsetter_variation::rounding::plus;
 use subsetter_variation::tuples::Gvar;
@@ -133,28 +133,13 @@ pub fn moved(
     }
 }
 
-/// The coordinates from left to right of points, and of the four phantom points, which are handed over at 0.
-fn xs_with_phantoms(alloc: Global, points: &[Point]) -> Result<Vec<i16>, AllocError>
-    ensures { IfOk result (λ v. v.items ≡ xs_of points.now ++ (pos 0 ∷ pos 0 ∷ pos 0 ∷ pos 0 ∷ [])) }
+/// The same coordinates, and 0 for each of the four phantom points.
+fn with_phantoms(coordinates: Vec<i16>) -> Result<Vec<i16>, AllocError>
+    ensures { IfOk result (λ v. v.items ≡ coordinates.items ++ (pos 0 ∷ pos 0 ∷ pos 0 ∷ pos 0 ∷ [])) }
 {
-    let mut xs = Vec::with_capacity(alloc, points.len().saturating_add(4))?;
-    for point in points {
-        xs.push(point.x)?;
-    }
-    xs.extend_from_slice(&[0; 4])?;
-    Ok(xs)
-}
-
-/// The coordinates from below to above of the same.
-fn ys_with_phantoms(alloc: Global, points: &[Point]) -> Result<Vec<i16>, AllocError>
-    ensures { IfOk result (λ v. v.items ≡ ys_of points.now ++ (pos 0 ∷ pos 0 ∷ pos 0 ∷ pos 0 ∷ [])) }
-{
-    let mut ys = Vec::with_capacity(alloc, points.len().saturating_add(4))?;
-    for point in points {
-        ys.push(point.y)?;
-    }
-    ys.extend_from_slice(&[0; 4])?;
-    Ok(ys)
+    let mut all = coordinates;
+    all.extend_from_slice(&[0; 4])?;
+    Ok(all)
 }
 
 /// The ends of contours of n points, and of the four phantom points, each a contour of its own.
@@ -170,13 +155,13 @@ fn ends_with_phantoms(alloc: Global, ends: &[u16], n: usize) -> Result<Vec<usize
     Ok(all)
 }
 
-/// Whether each point is on the curve.
-fn on_curve(alloc: Global, points: &[Point]) -> Result<Vec<bool>, AllocError>
-    ensures { IfOk result (λ v. v.items ≡ map (λ p. p.on_curve) points.now) }
+/// Whether each point is on the curve, by bit 0 of its flag.
+fn on_curve(alloc: Global, flags: &[u8]) -> Result<Vec<bool>, AllocError>
+    ensures { IfOk result (λ v. v.items ≡ map (λ f. has f 1) flags.now) }
 {
-    let mut on = Vec::with_capacity(alloc, points.len())?;
-    for point in points {
-        on.push(point.on_curve)?;
+    let mut on = Vec::with_capacity(alloc, flags.len())?;
+    for flag in flags {
+        on.push(*flag & 1 != 0)?;
     }
     Ok(on)
 }
@@ -186,23 +171,26 @@ fn moved_simple(
     alloc: Global,
     gvar: Option<&Gvar<'_>>,
     glyph: u16,
-    outline: &Outline,
+    ends: &[u16],
+    xs: Vec<i16>,
+    ys: Vec<i16>,
     at: &[i32],
     steps: u32,
 ) -> Result<(Vec<i64>, Vec<i64>, u32), Error>
-    requires sound { IsTrue (are_ends 0 outline.now.ends.items (length outline.now.points.items)) }
-    requires few { length outline.now.points.items + 4 < 2 ^ 32 }
+    requires sound { IsTrue (are_ends 0 ends.now (length xs.items)) }
+    requires as_many { length ys.items ≡ length xs.items }
+    requires few { length xs.items + 4 < 2 ^ 32 }
     requires axes { HasAxes (option_copied gvar) (length at.now) }
-    ensures value { Gives (λ r. (r.0.items, r.1.items, r.2)) result (moved (option_copied gvar.entry) glyph (with_phantoms outline.now.ends.items (xs_of outline.now.points.items) (ys_of outline.now.points.items)) at.now steps) }
-    ensures bound { IfOk result (λ r. AreWithin (2 ^ 57) (with_phantoms outline.now.ends.items (xs_of outline.now.points.items) (ys_of outline.now.points.items)) r.0.items r.1.items) }
+    ensures value { Gives (λ r. (r.0.items, r.1.items, r.2)) result (moved (option_copied gvar.entry) glyph (with_phantoms ends.now xs.items ys.items) at.now steps) }
+    ensures bound { IfOk result (λ r. AreWithin (2 ^ 57) (with_phantoms ends.now xs.items ys.items) r.0.items r.1.items) }
 {
-    let xs = xs_with_phantoms(alloc, &outline.points)?;
-    let ys = ys_with_phantoms(alloc, &outline.points)?;
-    let ends = ends_with_phantoms(alloc, &outline.ends, outline.points.len())?;
+    let all_ends = ends_with_phantoms(alloc, ends, xs.len())?;
+    let all_xs = with_phantoms(xs)?;
+    let all_ys = with_phantoms(ys)?;
     let default = DefaultOutline {
-        xs: &xs,
-        ys: &ys,
-        ends: &ends,
+        xs: &all_xs,
+        ys: &all_ys,
+        ends: &all_ends,
     };
     moved(alloc, gvar, glyph, &default, at, steps)
 }
@@ -212,23 +200,23 @@ fn simple_outline(
     alloc: Global,
     bytes: &[u8],
     metric: Metric,
-    outline: Outline,
+    ends: Vec<u16>,
+    flags: &[u8],
     xs: Vec<i64>,
     ys: Vec<i64>,
 ) -> Result<Unfolded, AllocError>
-    requires sound { IsTrue (are_ends 0 outline.ends.items (length outline.points.items)) }
-    requires few { length outline.points.items + 4 < 2 ^ 32 }
-    requires xs_count { length xs.items ≡ length outline.points.items + 4 }
-    requires ys_count { length ys.items ≡ length outline.points.items + 4 }
+    requires sound { IsTrue (are_ends 0 ends.items (length flags.now)) }
+    requires few { length flags.now + 4 < 2 ^ 32 }
+    requires xs_count { length xs.items ≡ length flags.now + 4 }
+    requires ys_count { length ys.items ≡ length flags.now + 4 }
     requires bound { All (λ x. unsigned_abs x ≤ 2 ^ 57) xs.items }
-    ensures value { IfOk result (λ u. u ≡ simple_outline bytes.now metric outline.ends.items outline.points.items xs.items ys.items) }
+    ensures value { IfOk result (λ u. u ≡ outline_by_flags bytes.now metric ends.items flags.now xs.items ys.items) }
     ensures shape { IfOk result (λ u. IsShaped u) }
 {
-    let n = outline.points.len();
+    let n = flags.len();
     let left = left_point(bytes, metric, n, &xs);
     let right = right_point(bytes, metric, n, &xs);
-    let on = on_curve(alloc, &outline.points)?;
-    let Outline { ends, .. } = outline;
+    let on = on_curve(alloc, flags)?;
     let mut xs = xs;
     let mut ys = ys;
     xs.truncate(n);
@@ -241,6 +229,37 @@ fn simple_outline(
         left,
         right,
     })
+}
+
+/// A simple glyph at a place, of which the description is read, and the steps that are left.
+#[tactic(auto, unfolding(crate::specs::Unfolded::unfolded_by_flags))]
+fn unfold_columns(
+    alloc: Global,
+    source: &Source<'_>,
+    at: &[i32],
+    steps: u32,
+    glyph: u16,
+    bytes: &[u8],
+    metric: Metric,
+    columns: Columns,
+) -> Result<(Unfolded, u32), Error>
+    requires xs { length columns.xs.items ≡ length columns.flags.items }
+    requires ys { length columns.ys.items ≡ length columns.flags.items }
+    requires sound { IsTrue (are_ends 0 columns.ends.items (length columns.flags.items)) }
+    requires axes { HasAxes source.now.gvar (length at.now) }
+    ensures value { Gives (λ r. (r.0, r.1)) result (unfolded_by_flags source.now at.now steps glyph bytes.now metric columns.ends.items columns.flags.items columns.xs.items columns.ys.items) }
+    ensures bound { IfOk result (λ r. IsInReach r.0) }
+{
+    let Columns {
+        ends,
+        flags,
+        xs,
+        ys,
+    } = columns;
+    let steps = spent(flags.len() + 5, steps)?;
+    let (xs, ys, steps) = moved_simple(alloc, source.gvar(), glyph, &ends, xs, ys, at, steps)?;
+    let unfolded = simple_outline(alloc, bytes, metric, ends, &flags, xs, ys)?;
+    near_or_fault(unfolded, steps)
 }
 
 /// A simple glyph at a place, and the steps that are left.
@@ -258,9 +277,6 @@ pub fn unfold_simple(
     ensures value { Gives (λ r. (r.0, r.1)) result (unfolded_simple source.now at.now steps glyph bytes.now metric) }
     ensures bound { IfOk result (λ r. IsInReach r.0) }
 {
-    let outline = read_simple(alloc, bytes)?.ok_or(Error::MalformedFont)?;
-    let steps = spent(outline.points.len() + 5, steps)?;
-    let (xs, ys, steps) = moved_simple(alloc, source.gvar(), glyph, &outline, at, steps)?;
-    let unfolded = simple_outline(alloc, bytes, metric, outline, xs, ys)?;
-    near_or_fault(unfolded, steps)
+    let columns = read_columns(alloc, bytes)?.ok_or(Error::MalformedFont)?;
+    unfold_columns(alloc, source, at, steps, glyph, bytes, metric, columns)
 }

@@ -146,3 +146,11 @@ simple_of_parts (Some o) bytes e = ap (λ p. p >>= λ q. Some (contours 0 q.0 q.
 pub if_ok : {X E : Type 0} {P Q : X → Type 0} (r : Result X E) → ((x : X) → P x → Q x) → IfOk r P → IfOk r Q
 if_ok (Ok x) f h = f x h
 if_ok (Err e) f h = tt
+
+pub if_ok_three : {X E : Type 0} {P Q R S : X → Type 0} (r : Result X E) → ((x : X) → P x → Q x → R x → S x) → IfOk r P → IfOk r Q → IfOk r R → IfOk r S
+if_ok_three (Ok x) f h i j = f x h i j
+if_ok_three (Err e) f h i j = tt
+
+pub no_columns : points [] [] [] ≡ []
+unfolding points
+no_columns = refl

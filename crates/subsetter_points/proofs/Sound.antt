@@ -7,7 +7,8 @@ use Rattle.subsetter_points.specs.Optional.{◌>>=◌}
 use Rattle.subsetter_points.specs.declared.outline.Point.{Point}
 use Rattle.subsetter_points.specs.declared.outline.Outline as code
 use Rattle.subsetter_points.specs.declared.flags.Run.{Run}
-use Rattle.subsetter_points.specs.View.{parts_of}
+use Rattle.subsetter_points.specs.declared.outline.Columns.{Columns}
+use Rattle.subsetter_points.specs.View.{parts_of, parts_of_columns}
 use Rattle.subsetter_points.specs.Simple.{word, end_at, ends, count, next, flags, coordinate, coordinates, xs, ys, points, points_at, body_at, header_at, parts_at, description_at, parts, are_ends}
 
 -- a step that led to something began with something
@@ -38,7 +39,7 @@ coordinates_length short same v (f ∷ fs) bytes out e =
     let b = came (coordinates short same a.0.0 fs a.0.1) (λ m. Some (a.0.0 ∷ m.0, m.1)) out a.2 in
     ap length (put_in a.0.0 b.0 out b.2) ∙ ap suc (coordinates_length short same a.0.0 fs a.0.1 b.0 b.1)
 
-points_length : (fs : List ℕ) (us vs : List ℤ) → length us ≡ length fs → length vs ≡ length fs → length (points fs us vs) ≡ length fs
+pub points_length : (fs : List ℕ) (us vs : List ℤ) → length us ≡ length fs → length vs ≡ length fs → length (points fs us vs) ≡ length fs
 unfolding points
 points_length [] us vs a b = refl
 points_length (f ∷ fs) [] vs a b = absurd (omega arith)
@@ -107,3 +108,9 @@ parts_sound (b ∷ bytes) out e =
 pub sound_of_parts : (o : Option code.Outline) (bytes : List ℕ) → option_map parts_of o ≡ parts bytes → IfSome o (λ x. IsTrue (are_ends 0 x.ends.items (length x.points.items)))
 sound_of_parts None bytes e = tt
 sound_of_parts (Some o) bytes e = parts_sound bytes (parts_of o) (sym e)
+
+pub sound_of_columns : (o : Option Columns) (bytes : List ℕ) → option_map parts_of_columns o ≡ parts bytes → IfSome o (λ c. length c.xs.items ≡ length c.flags.items) → IfSome o (λ c. length c.ys.items ≡ length c.flags.items)
+    → IfSome o (λ c. IsTrue (are_ends 0 c.ends.items (length c.flags.items)))
+sound_of_columns None bytes e a b = tt
+sound_of_columns (Some c) bytes e a b =
+    sym (ap (are_ends 0 c.ends.items) (points_length c.flags.items c.xs.items c.ys.items a b)) ∙ parts_sound bytes (parts_of_columns c) (sym e)

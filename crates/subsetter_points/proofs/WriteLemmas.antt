@@ -1,5 +1,5 @@
 -- What is left to write, behind what was written, and what is left to test: the step of each loop.
-use Rattle.std.proofs.Common.{◌≡◌, ℕ, ◌+◌, ◌-◌, ◌<◌, ◌≤◌, true, false, List, [], ◌∷◌, ◌++◌, length, take, drop, refl, sym, ap, ◌∙◌, append_assoc, arith, ℤ, pos, negsuc, w16}
+use Rattle.std.proofs.Common.{◌≡◌, ℕ, ◌+◌, ◌-◌, ◌<◌, ◌≤◌, Bool, true, false, List, [], ◌∷◌, ◌++◌, length, take, drop, refl, sym, ap, ◌∙◌, append_assoc, arith, ℤ, pos, negsuc, w16}
 use Rattle.std.specs.Prelude.{◌==◌, ◌&&◌, nat_lt, nat_le, ◌-ℤ◌, IsTrue}
 use Rattle.std.specs.List.{list_all}
 use Rattle.std.specs.Int.{to_be_bytes}
@@ -51,6 +51,16 @@ flags_written_end out x y all s = ap (λ l. out ++ flag_bytes x y l) s ∙ simp 
 pub fit_more : (v x : ℤ) (all zs : List ℤ) → all ≡ x ∷ zs → has_16_bits x ≡ true → has_16_bits (x -ℤ v) ≡ true → deltas_fit v all ≡ deltas_fit x zs
 unfolding deltas_fit
 fit_more v x all zs s a b = ap (deltas_fit v) s ∙ ap (λ t. t && (has_16_bits (x -ℤ v) && deltas_fit x zs)) a ∙ ap (λ t. t && deltas_fit x zs) b
+
+pub fit_step : (fit : Bool) (v x : ℤ) (all zs : List ℤ) → all ≡ x ∷ zs → has_16_bits x ≡ true → fit && deltas_fit v all ≡ (fit && has_16_bits (x -ℤ v)) && deltas_fit x zs
+unfolding deltas_fit
+fit_step true v x all zs s a = ap (deltas_fit v) s ∙ ap (λ t. t && (has_16_bits (x -ℤ v) && deltas_fit x zs)) a
+fit_step false v x all zs s a = refl
+
+pub fit_over : (fit : Bool) (v : ℤ) (all : List ℤ) → all ≡ [] → fit && deltas_fit v all ≡ fit
+unfolding deltas_fit
+fit_over true v all s = ap (deltas_fit v) s
+fit_over false v all s = refl
 
 pub fit_none : (v x : ℤ) (all zs : List ℤ) → all ≡ x ∷ zs → has_16_bits x ≡ true → has_16_bits (x -ℤ v) ≡ false → deltas_fit v all ≡ false
 unfolding deltas_fit

@@ -9,6 +9,9 @@ use crate::deltas::read_coordinate;
 use std::alloc::Global;
 use subsetter_base::Error;
 
+/// Room for the coordinates of the phantom points of a glyph, which may be put behind those of its points.
+const PHANTOM_POINTS: usize = 4;
+
 /// The coordinate that each flag says, by the two bits that tell how its delta is encoded, and the bytes after them.
 pub fn read_coordinates<'a>(
     alloc: Global,
@@ -21,7 +24,7 @@ pub fn read_coordinates<'a>(
     ensures len { IfOk result (λ o. IfSome o (λ p. vec_len p.0 ≡ length flags.now)) }
     ensures err { IfErr result (λ e. e ≡ OutOfMemory) }
 {
-    let mut coordinates = Vec::with_capacity(alloc, flags.len())?;
+    let mut coordinates = Vec::with_capacity(alloc, flags.len().saturating_add(PHANTOM_POINTS))?;
     let mut before = 0;
     let mut rest = bytes;
     for flag in flags {

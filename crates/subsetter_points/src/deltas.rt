@@ -28,41 +28,23 @@ pub fn has(flag: u8, bit: u8) -> bool
     flag & bit != 0
 }
 
-/// How a flag says that a delta is encoded, by the bit for a short vector and the one for the same coordinate or the sign.
-pub fn encoding_of(short: u8, same: u8, flag: u8) -> Encoding
-    ensures { result ≡ encoding_of short same flag }
+/// The delta that a flag says how it is encoded, by the bit for a short vector and the one for the same coordinate or the sign, and
+/// the bytes after it.
+pub fn read_delta(short: u8, same: u8, flag: u8, bytes: &[u8]) -> Option<(i16, &[u8])>
+    ensures { option_map (λ p. (p.0, p.1.now)) result ≡ delta_at (encoding_of short same flag) bytes.now }
 {
     if has(flag, short) {
+        let (size, rest) = read_byte(bytes)?;
         if has(flag, same) {
-            Encoding::Positive
-        } else {
-            Encoding::Negative
-        }
-    } else if has(flag, same) {
-        Encoding::Same
-    } else {
-        Encoding::Word
-    }
-}
-
-/// A delta, and the bytes after it.
-pub fn read_delta(encoding: Encoding, bytes: &[u8]) -> Option<(i16, &[u8])>
-    ensures { option_map (λ p. (p.0, p.1.now)) result ≡ delta_at encoding bytes.now }
-{
-    match encoding {
-        Encoding::Same => Some((0, bytes)),
-        Encoding::Positive => {
-            let (size, rest) = read_byte(bytes)?;
             Some((i16::from(size), rest))
-        }
-        Encoding::Negative => {
-            let (size, rest) = read_byte(bytes)?;
+        } else {
             Some((-i16::from(size), rest))
         }
-        Encoding::Word => {
-            let (bits, rest) = read_word(bytes)?;
-            Some((bits.cast_signed(), rest))
-        }
+    } else if has(flag, same) {
+        Some((0, bytes))
+    } else {
+        let (bits, rest) = read_word(bytes)?;
+        Some((bits.cast_signed(), rest))
     }
 }
 
@@ -83,7 +65,7 @@ pub fn read_coordinate(
 ) -> Option<(i16, &[u8])>
     ensures { option_map (λ p. (p.0, p.1.now)) result ≡ coordinate short same before flag bytes.now }
 {
-    let (by, rest) = read_delta(encoding_of(short, same, flag), bytes)?;
+    let (by, rest) = read_delta(short, same, flag, bytes)?;
     let x = next_coordinate(before, by)?;
     Some((x, rest))
 }

@@ -3,7 +3,7 @@
 //! An outline has at most 65,535 points, which is what maxPoints of `maxp` can say, though endPtsOfContours can number
 //! 65,536, and at most 32,767 contours, as numberOfContours is an int16. None of its contours is empty.
 
-ghost use Rattle.std.specs.Prelude.{◌≡◌, pos};
+ghost use Rattle.std.specs.Prelude.{◌≡◌, ◌&&◌, pos};
 ghost use Rattle.subsetter_points.specs.Simple.{are_ends, deltas_fit, xs_of, ys_of, points_fit, parts_fit};
 
 use crate::deltas::delta_fits;
@@ -29,18 +29,24 @@ fn are_ends(ends: &[u16], points: usize) -> bool
     from == points
 }
 
-/// Whether each delta in x has 16 bits.
+/// Whether both hold.
+fn both(one: bool, other: bool) -> bool
+    ensures { result ≡ (one && other) }
+{
+    one && other
+}
+
+/// Whether each delta in x has 16 bits. All are looked at, as a loop with one way out is the faster.
 fn xs_fit(points: &[Point]) -> bool
     ensures { result ≡ deltas_fit (pos 0) (xs_of points.now) }
 {
     let mut x = 0;
+    let mut fit = true;
     for point in points {
-        if !delta_fits(x, point.x) {
-            return false;
-        }
+        fit = both(fit, delta_fits(x, point.x));
         x = point.x;
     }
-    true
+    fit
 }
 
 /// Whether each delta in y has 16 bits.
@@ -48,13 +54,12 @@ fn ys_fit(points: &[Point]) -> bool
     ensures { result ≡ deltas_fit (pos 0) (ys_of points.now) }
 {
     let mut y = 0;
+    let mut fit = true;
     for point in points {
-        if !delta_fits(y, point.y) {
-            return false;
-        }
+        fit = both(fit, delta_fits(y, point.y));
         y = point.y;
     }
-    true
+    fit
 }
 
 /// Whether points can be written.

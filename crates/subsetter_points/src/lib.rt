@@ -2,6 +2,7 @@
 //! points of an outline and writes it anew.
 //!
 //! - [`read_simple`] reads the [`Outline`] of a simple glyph: its points, and the last point of each contour.
+//! - [`read_columns`] reads the same as [`Columns`]: the flags and the coordinates, not joined.
 //! - [`fits`] says whether an outline can be written, and [`write_simple`] appends its bytes.
 //! - [`laws`] says that what is written is read again.
 //!
@@ -30,6 +31,6 @@ mod reading;
 mod writing;
 
 pub use fitting::fits;
-pub use outline::{Outline, Point};
-pub use reading::read_simple;
+pub use outline::{Columns, Outline, Point};
+pub use reading::{read_columns, read_simple};
 pub use writing::write_simple;

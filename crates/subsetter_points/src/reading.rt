@@ -6,17 +6,17 @@
 //! makes the glyph unreadable. A coordinate has 16 bits, as each side of a glyph's bounding box has; a glyph whose
 //! deltas lead beyond has no reading. The bounding box that a glyph states is passed over.
 
-ghost use Rattle.std.specs.Prelude.{◌≡◌, IfOk, IfErr, IfSome, IsTrue, length};
+ghost use Rattle.std.specs.Prelude.{◌≡◌, IfOk, IfErr, IfSome, IsTrue, length, vec_len};
 ghost use Rattle.std.specs.Option.{option_map};
 ghost use Rattle.subsetter_base.specs.declared.error.Error.TheVariants.{OutOfMemory};
-ghost use Rattle.subsetter_points.specs.Simple.{points_at, body_at, parts_at, description_at, header_at, parts, simple, are_ends};
-ghost use Rattle.subsetter_points.specs.View.{parts_of, contours_of};
+ghost use Rattle.subsetter_points.specs.Simple.{points, points_at, body_at, parts_at, description_at, header_at, parts, simple, are_ends};
+ghost use Rattle.subsetter_points.specs.View.{parts_of, parts_of_columns, contours_of};
 
 use crate::coordinates::read_coordinates;
 use crate::ends::{count, read_ends};
 use crate::flags::read_flags;
 use crate::front::{read_after, read_word};
-use crate::outline::{Outline, Point};
+use crate::outline::{Columns, Outline};
 use crate::points::join_points;
 use std::alloc::Global;
 use subsetter_base::Error;
@@ -35,10 +35,16 @@ const Y_SHORT_VECTOR: u8 = 0x04;
 /// That byte is added; without it y is the same as before.
 const Y_IS_SAME_OR_POSITIVE_Y_SHORT_VECTOR: u8 = 0x20;
 
-/// So many points: their flags, then their x coordinates, then their y coordinates.
+/// The flags, the x coordinates and the y coordinates of so many points.
 #[tactic(auto, unfolding(crate::specs::Simple::points_at))]
-fn read_points(alloc: Global, count: usize, bytes: &[u8]) -> Result<Option<Vec<Point>>, Error>
-    ensures ok { IfOk result (λ o. option_map (λ v. v.items) o ≡ points_at count bytes.now) }
+fn read_points(
+    alloc: Global,
+    count: usize,
+    bytes: &[u8],
+) -> Result<Option<(Vec<u8>, Vec<i16>, Vec<i16>)>, Error>
+    ensures ok { IfOk result (λ o. option_map (λ p. points p.0.items p.1.items p.2.items) o ≡ points_at count bytes.now) }
+    ensures xs { IfOk result (λ o. IfSome o (λ p. vec_len p.1 ≡ length p.0.items)) }
+    ensures ys { IfOk result (λ o. IfSome o (λ p. vec_len p.2 ≡ length p.0.items)) }
     ensures err { IfErr result (λ e. e ≡ OutOfMemory) }
 {
     let Some((flags, rest)) = read_flags(alloc, count, bytes)? else {
@@ -64,7 +70,7 @@ fn read_points(alloc: Global, count: usize, bytes: &[u8]) -> Result<Option<Vec<P
     else {
         return Ok(None);
     };
-    Ok(Some(join_points(alloc, &flags, &xs, &ys)?))
+    Ok(Some((flags, xs, ys)))
 }
 
 /// The bytes after the instructions.
@@ -77,8 +83,10 @@ fn read_body(bytes: &[u8]) -> Option<&[u8]>
 
 /// The last points of so many contours, the instructions, which are passed over, and the points.
 #[tactic(auto, unfolding(crate::specs::Simple::parts_at))]
-fn read_parts(alloc: Global, contours: u16, bytes: &[u8]) -> Result<Option<Outline>, Error>
-    ensures ok { IfOk result (λ o. option_map parts_of o ≡ parts_at contours bytes.now) }
+fn read_parts(alloc: Global, contours: u16, bytes: &[u8]) -> Result<Option<Columns>, Error>
+    ensures ok { IfOk result (λ o. option_map parts_of_columns o ≡ parts_at contours bytes.now) }
+    ensures xs { IfOk result (λ o. IfSome o (λ c. length c.xs.items ≡ length c.flags.items)) }
+    ensures ys { IfOk result (λ o. IfSome o (λ c. length c.ys.items ≡ length c.flags.items)) }
     ensures err { IfErr result (λ e. e ≡ OutOfMemory) }
 {
     let Some((ends, rest)) = read_ends(alloc, contours, bytes)? else {
@@ -87,19 +95,27 @@ fn read_parts(alloc: Global, contours: u16, bytes: &[u8]) -> Result<Option<Outli
     let Some(body) = read_body(rest) else {
         return Ok(None);
     };
-    let Some(points) = read_points(alloc, count(&ends), body)? else {
+    let Some((flags, xs, ys)) = read_points(alloc, count(&ends), body)? else {
         return Ok(None);
     };
-    Ok(Some(Outline { points, ends }))
+    Ok(Some(Columns {
+        ends,
+        flags,
+        xs,
+        ys,
+    }))
 }
 
 /// The last points of contours and the points, by what follows the header; none where there are no contours.
-fn read_description(alloc: Global, contours: u16, bytes: &[u8]) -> Result<Option<Outline>, Error>
-    ensures ok { IfOk result (λ o. option_map parts_of o ≡ description_at contours bytes.now) }
+#[tactic(auto, unfolding(crate::specs::Simple::points))]
+fn read_description(alloc: Global, contours: u16, bytes: &[u8]) -> Result<Option<Columns>, Error>
+    ensures ok { IfOk result (λ o. option_map parts_of_columns o ≡ description_at contours bytes.now) }
+    ensures xs { IfOk result (λ o. IfSome o (λ c. length c.xs.items ≡ length c.flags.items)) }
+    ensures ys { IfOk result (λ o. IfSome o (λ c. length c.ys.items ≡ length c.flags.items)) }
     ensures err { IfErr result (λ e. e ≡ OutOfMemory) }
 {
     if contours == 0 {
-        return Ok(Some(Outline::new(alloc)));
+        return Ok(Some(Columns::new(alloc)));
     }
     read_parts(alloc, contours, bytes)
 }
@@ -116,6 +132,23 @@ fn read_header(bytes: &[u8]) -> Option<(u16, &[u8])>
     Some((contours, rest))
 }
 
+/// What [`read_simple`] reads, before the points are joined. Four more coordinates have room behind those of the points.
+pub fn read_columns(alloc: Global, bytes: &[u8]) -> Result<Option<Columns>, Error>
+    ensures parts { IfOk result (λ o. option_map parts_of_columns o ≡ parts bytes.now) }
+    ensures xs { IfOk result (λ o. IfSome o (λ c. length c.xs.items ≡ length c.flags.items)) }
+    ensures ys { IfOk result (λ o. IfSome o (λ c. length c.ys.items ≡ length c.flags.items)) }
+    ensures sound { IfOk result (λ o. IfSome o (λ c. IsTrue (are_ends 0 c.ends.items (length c.flags.items)))) }
+    ensures err { IfErr result (λ e. e ≡ OutOfMemory) }
+{
+    if bytes.is_empty() {
+        return Ok(Some(Columns::new(alloc)));
+    }
+    let Some((contours, rest)) = read_header(bytes) else {
+        return Ok(None);
+    };
+    read_description(alloc, contours, rest)
+}
+
 /// The outline of a simple glyph, if the bytes are its description. A glyph without bytes has an outline without points, and
 /// so has one of no contours.
 pub fn read_simple(alloc: Global, bytes: &[u8]) -> Result<Option<Outline>, Error>
@@ -125,11 +158,10 @@ pub fn read_simple(alloc: Global, bytes: &[u8]) -> Result<Option<Outline>, Error
     ensures sound { IfOk result (λ o. IfSome o (λ x. IsTrue (are_ends 0 x.ends.items (length x.points.items)))) }
     ensures err { IfErr result (λ e. e ≡ OutOfMemory) }
 {
-    if bytes.is_empty() {
-        return Ok(Some(Outline::new(alloc)));
-    }
-    let Some((contours, rest)) = read_header(bytes) else {
+    let Some(columns) = read_columns(alloc, bytes)? else {
         return Ok(None);
     };
-    read_description(alloc, contours, rest)
+    let points = join_points(alloc, &columns.flags, &columns.xs, &columns.ys)?;
+    let Columns { ends, .. } = columns;
+    Ok(Some(Outline { points, ends }))
 }

@@ -1,39 +1,14 @@
-use Rattle.std.proofs.Common.{◌≡◌, ◌<◌, length, Some, None, sym, ap, ◌∙◌, arith}
-use Rattle.std.proofs.lemmas.Bool.{eqb-true, eqb-false}
-use Rattle.subsetter_points.specs.Optional.{◌>>=◌}
-use Rattle.subsetter_points.specs.Simple.{description_at, parts}
-use Rattle.subsetter_points.proofs.ReadLemmas.{parts_of_none, parts_of_bytes, simple_of_parts, if_ok}
-use Rattle.subsetter_points.proofs.Sound.{sound_of_parts}
+use Rattle.std.proofs.Common.{◌≡◌, length, ap, ◌∙◌, rules}
+use Rattle.std.specs.Prelude.{IsTrue}
+use Rattle.subsetter_points.specs.Simple.{are_ends}
+use Rattle.subsetter_points.proofs.Sound.{points_length}
 use Rattle.subsetter_points.proofs.reading.read_simple.Goals as goal
 
-pub returns-then-is_empty-clause-parts : goal.returns-then-is_empty-clause-parts
-returns-then-is_empty-clause-parts c =
-    let none : length c.args.bytes.now ≡ 0 = eqb-true (length c.args.bytes.now) 0 (sym c.if-is_empty.ensures) in
-    let is = parts_of_none c.args.bytes.now none in
-    cc (is, c.new.ensures.points, c.new.ensures.ends)
-
-pub returns-then-is_empty-clause-ok : goal.returns-then-is_empty-clause-ok
-returns-then-is_empty-clause-ok c = simple_of_parts (Some c.new.result) c.args.bytes.now (returns-then-is_empty-clause-parts c)
-
-pub returns-in_default-clause-parts : goal.returns-in_default-clause-parts
-returns-in_default-clause-parts c =
-    let some : 0 < length c.args.bytes.now = omega (arith, eqb-false (length c.args.bytes.now) 0 (sym c.if-is_empty.ensures)) in
-    sym (parts_of_bytes c.args.bytes.now some ∙ ap (λ o. o >>= λ h. description_at h.0 h.1) (sym c.in_default.ensures))
-
-pub returns-in_default-clause-ok : goal.returns-in_default-clause-ok
-returns-in_default-clause-ok c = simple_of_parts None c.args.bytes.now (returns-in_default-clause-parts c)
-
-pub returns-clause-parts : goal.returns-clause-parts
-returns-clause-parts c =
-    let some : 0 < length c.args.bytes.now = omega (arith, eqb-false (length c.args.bytes.now) 0 (sym c.if-is_empty.ensures)) in
-    let is : description_at c.in-Some.contours c.in-Some.rest.now ≡ parts c.args.bytes.now = sym (parts_of_bytes c.args.bytes.now some ∙ ap (λ o. o >>= λ h. description_at h.0 h.1) (sym c.in-Some.ensures)) in
-    if_ok c.read_description.result (λ o e. e ∙ is) c.read_description.ensures.ok
-
-pub returns-clause-ok : goal.returns-clause-ok
-returns-clause-ok c = if_ok c.read_description.result (λ o e. simple_of_parts o c.args.bytes.now e) (returns-clause-parts c)
-
-pub returns-then-is_empty-clause-sound : goal.returns-then-is_empty-clause-sound
-returns-then-is_empty-clause-sound c = sound_of_parts (Some c.new.result) c.args.bytes.now (returns-then-is_empty-clause-parts c)
-
 pub returns-clause-sound : goal.returns-clause-sound
-returns-clause-sound c = if_ok c.read_description.result (λ o e. sound_of_parts o c.args.bytes.now e) (returns-clause-parts c)
+returns-clause-sound c =
+    let flags = c.in-Some.columns.flags.items in
+    let a : length c.in-Some.columns.xs.items ≡ length flags = search rules in
+    let b : length c.in-Some.columns.ys.items ≡ length flags = search rules in
+    let s : IsTrue (are_ends 0 c.in-Some.columns.ends.items (length flags)) = search rules in
+    let n : length c.in_ok-points.points.items ≡ length flags = ap length (search rules) ∙ points_length flags c.in-Some.columns.xs.items c.in-Some.columns.ys.items a b in
+    ap (are_ends 0 c.in-Some.columns.ends.items) n ∙ s
