@@ -1,5 +1,5 @@
 -- A tuple that counts, by the bytes of its deltas.
-use Rattle.std.proofs.Common.{◌≡◌, ◌≤◌, Bool, true, List, length, ℕ, ℤ, Option, Some, None, IfSome, IfOk, Result, Ok, Err, option_map, refl, ap, ◌∙◌, sym}
+use Rattle.std.proofs.Common.{◌≡◌, true, List, length, ℕ, ℤ, Option, Some, None, IfSome, IfOk, Result, Ok, Err, option_map, refl, sym}
 use Rattle.std.specs.Option.{ok_or}
 use Rattle.subsetter_base.specs.Bytes.{◌>>=◌}
 use Rattle.subsetter_base.specs.Gives.{Gives}

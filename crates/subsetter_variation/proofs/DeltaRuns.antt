@@ -1,10 +1,10 @@
 -- The deltas of a whole run, and those behind it.
-use Rattle.std.proofs.Common.{◌≡◌, ℕ, zero, suc, ◌+◌, ◌-◌, ◌*◌, ◌%◌, ◌<◌, ◌≤◌, Bool, true, false, cond, List, [], ◌∷◌, ◌++◌, length, get_or, take, drop, map, Option, Some, None, ℤ, pos, nat_le, nat_eq, refl, ap, sym, ◌∙◌, arith}
+use Rattle.std.proofs.Common.{◌≡◌, ℕ, zero, suc, ◌+◌, ◌-◌, ◌*◌, ◌%◌, ◌<◌, ◌≤◌, Bool, true, false, cond, List, [], ◌∷◌, ◌++◌, length, get_or, take, drop, map, Option, Some, None, ℤ, pos, nat_le, refl, ap, sym, ◌∙◌, arith}
 use Rattle.std.specs.Int.{w8, w16, cast_signed}
 use Rattle.std.specs.Option.{option_map}
 use Rattle.std.proofs.lemmas.Bool.{ne_eqb}
 use Rattle.subsetter_variation.specs.Optional.{◌>>=◌}
-use Rattle.subsetter_variation.specs.Packed.{Run, byte_in, word_in, runs, run_in, begun, behind, ended, delta_in, next_delta, deltas_from}
+use Rattle.subsetter_variation.specs.Packed.{Run, byte_in, word_in, runs, run_in, begun, delta_in, next_delta, deltas_from}
 
 -- a run of so many deltas, behind its first byte
 abbrev pub run_of : ℕ → ℕ → List ℕ → Run

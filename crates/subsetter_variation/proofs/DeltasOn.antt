@@ -1,9 +1,8 @@
 -- Deltas that are read run by run: where a reader of them stands.
-use Rattle.std.proofs.Common.{◌≡◌, ℕ, zero, suc, ◌+◌, ◌-◌, ◌%◌, ◌<◌, ◌≤◌, List, [], ◌∷◌, ◌++◌, length, get_or, take, drop, Option, Some, None, IfSome, ℤ, pos, refl, ap, subst, sym, ◌∙◌, arith}
+use Rattle.std.proofs.Common.{◌≡◌, ℕ, zero, suc, ◌+◌, ◌-◌, ◌%◌, ◌<◌, ◌≤◌, List, [], ◌∷◌, ◌++◌, length, get_or, drop, Option, Some, None, IfSome, ℤ, pos, refl, ap, subst, sym, ◌∙◌, arith}
 use Rattle.std.specs.Option.{option_map}
 use Rattle.std.proofs.lemmas.List.{drop-drop, get_or-drop, get_or_append_left}
 use Rattle.std.proofs.Math.Seq.{drop-append_seam}
-use Rattle.subsetter_variation.specs.Optional.{◌>>=◌}
 use Rattle.subsetter_variation.specs.Packed.{Run, byte_in, runs, ended, next_delta, deltas_from}
 use Rattle.subsetter_variation.proofs.DeltaRuns.{run_of, onto, next_then, then_deltas, run_begins, no_run, run_then, run_past}
 

@@ -1,6 +1,6 @@
 -- Points that a tuple gives a delta: that alone moves them.
-use Rattle.std.proofs.Common.{◌≡◌, ℕ, ◌+◌, ◌-◌, ◌<◌, ◌≤◌, ◌^◌, All, Option, IfSome, option_map, unsigned_abs, cond, List, [], ◌∷◌, length, get_or, take, drop, Some, None, ℤ, pos, ◌+ℤ◌, ◌*ℤ◌, map, slice_get, slice_range, ap, subst, sym, ◌∙◌, inl, inr, arith}
-use Rattle.std.specs.List.{range_with_len, zip}
+use Rattle.std.proofs.Common.{◌≡◌, ℕ, ◌+◌, ◌-◌, ◌<◌, ◌≤◌, ◌^◌, All, Option, IfSome, option_map, unsigned_abs, cond, List, [], ◌∷◌, length, get_or, take, drop, Some, None, ℤ, pos, ◌+ℤ◌, ◌*ℤ◌, slice_range, ap, subst, sym, ◌∙◌, inl, inr, arith}
+use Rattle.std.specs.List.{zip}
 use Rattle.std.specs.Option.{option_or}
 use Rattle.std.proofs.lemmas.List.{get_or-take, get_or-drop, get_or-map}
 use Rattle.std.proofs.lemmas.List.FromFn.{fill_by_all, get_or-map-range_with_len, length-map-range_with_len}
@@ -51,10 +51,6 @@ all_moves coordinates ends deltas k s h same below =
     let pair = get_or-zip coordinates ds k (pos 0, None) below (omega (arith, many)) in
     let point = get_or-map (λ p. record { at = p.0; delta = p.1 }) (zip coordinates ds) k (pos 0, None) q (omega (arith, pairs)) in
     touched_moves (points coordinates ds) q 0 ends k s (get_or deltas k (pos 0)) (subst (AreEnds 0 ends) (sym long) h) (omega arith) (omega (arith, long)) (ap (λ p. p.delta) (point ∙ ap (λ p. record { at = p.0; delta = p.1 }) pair) ∙ own)
-
--- the sum of a call that was handed the same sums and the same scalar under other names
-pub same_sum : (sums now deltas : List ℤ) (k : ℕ) (s t r move : ℤ) → now ≡ sums → s ≡ t → r ≡ get_or now k (pos 0) +ℤ s *ℤ get_or deltas k (pos 0) → move ≡ t *ℤ get_or deltas k (pos 0) → r ≡ get_or sums k (pos 0) +ℤ move
-same_sum sums now deltas k s t r move a e h m = h ∙ ap (λ xs. get_or xs k (pos 0) +ℤ s *ℤ get_or deltas k (pos 0)) a ∙ ap (λ z. get_or sums k (pos 0) +ℤ z *ℤ get_or deltas k (pos 0)) e ∙ ap (λ z. get_or sums k (pos 0) +ℤ z) (sym m)
 
 -- the sums after each was moved by its delta
 pub all_added : (coordinates : List ℤ) (ends : List ℕ) (deltas : List ℤ) (s : ℤ) (sums new : List ℤ) → AreEnds 0 ends (length coordinates) → length deltas ≡ length coordinates → length sums ≡ length coordinates → length new ≡ length sums → ((k : ℕ) → k < length sums → get_or new k (pos 0) ≡ get_or sums k (pos 0) +ℤ s *ℤ get_or deltas k (pos 0)) → new ≡ added coordinates ends (deltas_by_point (length coordinates) None deltas) s sums

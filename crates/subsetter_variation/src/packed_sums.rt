@@ -1,4 +1,4 @@
-//! Packed deltas (OpenType, "Tuple Variation Store"), added to sums as they are read: a run after the other, with no list of
+//! Packed deltas (OpenType, "Tuple Variation Store"), added to sums as they are read: one run after another, with no list of
 //! them in memory.
 
 ghost use Rattle.std.specs.Prelude.{◌≡◌, ◌+◌, ◌*◌, ◌<◌, ◌≤◌, ◌^◌, ◌+ℤ◌, ◌*ℤ◌, pos, length, unsigned_abs, slice_index_or, EachIndex, IfSome, option_map};

@@ -95,15 +95,24 @@ fn points(
         .collect(alloc)
 }
 
+/// Writes coordinates in parts of 2^30.
+fn write_units(sums: &mut [i64], coordinates: &[i16])
+    requires same { length sums.old ≡ length coordinates.now }
+    ensures value { EachIndex coordinates.now (λ k. slice_index_or sums.new k (pos 0) ≡ pos (2 ^ 30) *ℤ slice_index_or coordinates.now k (pos 0)) }
+    ensures bound { EachIndex coordinates.now (λ k. unsigned_abs (slice_index_or sums.new k (pos 0)) ≤ 2 ^ 45) }
+{
+    for (k, x) in coordinates.iter().enumerate() {
+        sums[k] = given(UNIT, *x);
+    }
+}
+
 /// Coordinates in parts of 2^30.
 pub fn in_units(alloc: Global, coordinates: &[i16]) -> Result<Vec<i64>, AllocError>
     ensures value { IfOk result (λ v. v.items ≡ in_units coordinates.now) }
     ensures bound { IfOk result (λ v. All (λ x. unsigned_abs x ≤ 2 ^ 45) v.items) }
 {
-    let mut sums = Vec::with_capacity(alloc, coordinates.len())?;
-    for x in coordinates {
-        sums.push(given(UNIT, *x))?;
-    }
+    let mut sums = vec![in alloc; 0; coordinates.len()]?;
+    write_units(&mut sums, coordinates);
     Ok(sums)
 }
 

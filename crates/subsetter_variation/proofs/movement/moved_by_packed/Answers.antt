@@ -1,9 +1,9 @@
-use Rattle.std.proofs.Common.{◌≤◌, ◌+◌, ◌^◌, ◌∙◌, None, option_map, ap, sym, subst, IfOk, length, unsigned_abs, All, FitsSigned, w64}
+use Rattle.std.proofs.Common.{◌+◌, ◌^◌, ◌∙◌, None, option_map, ap, sym, subst, IfOk, length, FitsSigned, w64}
 use Rattle.std.specs.Option.{ok_or}
 use Rattle.std.proofs.lemmas.Int.{to_z-of_z}
 use Rattle.subsetter_base.specs.declared.error.Error.TheVariants.{MalformedFont}
 use Rattle.subsetter_variation.specs.Tuples.{both_deltas}
-use Rattle.subsetter_variation.specs.Movement.{Walk, IsWithin, moved_by}
+use Rattle.subsetter_variation.specs.Movement.{IsWithin, moved_by}
 use Rattle.subsetter_variation.proofs.Counted.{gives_same, if_ok}
 use Rattle.subsetter_variation.proofs.movement.moved_by_packed.Goals as goal
 

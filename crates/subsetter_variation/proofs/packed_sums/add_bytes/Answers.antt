@@ -1,4 +1,4 @@
-use Rattle.std.proofs.Common.{◌≡◌, ◌+◌, ◌*◌, ◌<◌, ◌≤◌, ◌≢◌, ◌^◌, ◌+ℤ◌, ◌*ℤ◌, length, get_or, arith, pos, ap, subst, ◌∙◌, below_more, get_or-set_other, get_or-set_same, unsigned_abs, rules, FitsSigned, w16, w64, to_z, of_z}
+use Rattle.std.proofs.Common.{◌≡◌, ◌<◌, ◌≤◌, ◌≢◌, ◌^◌, ◌+ℤ◌, ◌*ℤ◌, length, get_or, arith, pos, ap, subst, ◌∙◌, below_more, get_or-set_other, get_or-set_same, unsigned_abs, rules, FitsSigned, w16, w64, to_z, of_z}
 use Rattle.std.specs.Int.{w8, cast_signed}
 use Rattle.std.proofs.lemmas.Int.{to_z-of_z}
 use Rattle.subsetter_variation.proofs.Bounds.{sum_kept}

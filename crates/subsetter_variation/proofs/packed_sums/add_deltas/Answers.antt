@@ -1,4 +1,4 @@
-use Rattle.std.proofs.Common.{◌≡◌, ℕ, ◌+◌, ◌-◌, ◌*◌, ◌%◌, ◌<◌, ◌≤◌, ◌^◌, ◌+ℤ◌, ◌*ℤ◌, List, length, get_or, take, drop, arith, pos, ℤ, Option, Some, None, option_map, IfSome, ap, subst, sym, ◌∙◌, unsigned_abs, FitsSigned, w64, to_z, of_z, inl, inr}
+use Rattle.std.proofs.Common.{◌≡◌, ℕ, ◌+◌, ◌-◌, ◌≤◌, ◌^◌, ◌+ℤ◌, ◌*ℤ◌, List, length, get_or, take, drop, arith, pos, ℤ, None, option_map, ap, sym, ◌∙◌, unsigned_abs, w64, to_z, of_z, inl, inr}
 use Rattle.std.specs.Option.{option_copied}
 use Rattle.std.proofs.lemmas.Bool.{cases_lt}
 use Rattle.subsetter_variation.specs.Packed.{deltas, deltas_from, runs}

@@ -1,4 +1,4 @@
-use Rattle.std.proofs.Common.{◌≡◌, ℕ, ◌+◌, ◌-◌, ◌<◌, ◌≤◌, ◌^◌, List, length, get_or, drop, pos, ℤ, ◌+ℤ◌, ◌*ℤ◌, unsigned_abs, Some, option_map}
+use Rattle.std.proofs.Common.{◌≡◌, ℕ, ◌-◌, ◌<◌, ◌≤◌, ◌^◌, List, length, get_or, drop, pos, ℤ, ◌+ℤ◌, ◌*ℤ◌, unsigned_abs, Some, option_map}
 use Rattle.subsetter_variation.specs.Packed.{deltas_from, runs}
 use Rattle.subsetter_variation.proofs.packed_sums.add_deltas.Given as goal
 

@@ -1,10 +1,10 @@
-use Rattle.std.proofs.Common.{◌≡◌, ℕ, ◌+◌, ◌*◌, ◌<◌, ◌≤◌, ◌^◌, ◌+ℤ◌, ◌*ℤ◌, List, length, get_or, take, drop, map, arith, pos, ℤ, Option, Some, option_map, IfSome, ap, subst, sym, ◌∙◌, unsigned_abs, FitsSigned, w64, to_z, of_z}
+use Rattle.std.proofs.Common.{◌≡◌, ℕ, ◌+◌, ◌*◌, ◌<◌, ◌≤◌, ◌^◌, ◌+ℤ◌, ◌*ℤ◌, List, length, get_or, take, drop, map, arith, pos, ℤ, Option, Some, option_map, IfSome, ap, subst, sym, ◌∙◌, unsigned_abs, FitsSigned, w64}
 use Rattle.std.specs.Int.{w8, w16, cast_signed}
 use Rattle.std.proofs.lemmas.Int.{ints, to_z-of_z}
 use Rattle.std.proofs.lemmas.List.{get_or-take, get_or-map, length-take, take_rest}
 use Rattle.std.proofs.lemmas.Bool.{le-leb, lt-leb}
 use Rattle.std.proofs.Math.IntN.{*ℤ-zero}
-use Rattle.subsetter_variation.specs.Packed.{Run, deltas_from}
+use Rattle.subsetter_variation.specs.Packed.{deltas_from}
 use Rattle.subsetter_variation.proofs.DeltaRuns.{run_of, zeros, words, zero_run, byte_run, word_run, zeros_at, words_at}
 use Rattle.subsetter_variation.proofs.packed_sums.add_run.Goals as goal
 

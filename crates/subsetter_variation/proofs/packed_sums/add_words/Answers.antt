@@ -1,5 +1,5 @@
 use Rattle.std.proofs.Common.{◌≡◌, ◌+◌, ◌*◌, ◌<◌, ◌≤◌, ◌≢◌, ◌^◌, ◌+ℤ◌, ◌*ℤ◌, length, get_or, arith, pos, ap, subst, ◌∙◌, below_more, get_or-set_other, get_or-set_same, unsigned_abs, rules, FitsSigned, w16, w64, to_z, of_z}
-use Rattle.std.specs.Int.{w8, cast_signed}
+use Rattle.std.specs.Int.{cast_signed}
 use Rattle.std.proofs.lemmas.Int.{to_z-of_z}
 use Rattle.subsetter_variation.proofs.Bounds.{sum_fits, sum_kept}
 use Rattle.subsetter_variation.proofs.packed_sums.add_words.Goals as goal

@@ -1,5 +1,5 @@
 use Rattle.std.proofs.Common.{◌≡◌, ℕ, ◌+◌, ◌*◌, ◌<◌, ◌≤◌, ◌^◌, get_or, pos, ◌+ℤ◌, ◌*ℤ◌, unsigned_abs}
-use Rattle.std.specs.Int.{w8, w16, cast_signed}
+use Rattle.std.specs.Int.{w16, cast_signed}
 use Rattle.subsetter_variation.proofs.packed_sums.add_words.Given as goal
 
 abbrev pub invariant-loop-k : goal.invariant-loop-k

@@ -1,4 +1,4 @@
-use Rattle.std.proofs.Common.{◌≡◌, ℕ, ◌+◌, ◌<◌, ◌≤◌, ◌^◌, ◌+ℤ◌, ◌*ℤ◌, ◌++◌, take, drop, List, ℤ, Option, Some, IfSome, option_map, length, get_or, arith, pos, None, ap, subst, sym, ◌∙◌, unsigned_abs, All, FitsSigned, w64, to_z, of_z}
+use Rattle.std.proofs.Common.{◌≡◌, ◌+◌, ◌≤◌, ◌^◌, ◌++◌, take, drop, Some, length, ap, subst, sym, ◌∙◌, unsigned_abs, All, FitsSigned, w64}
 use Rattle.std.proofs.lemmas.Int.{to_z-of_z}
 use Rattle.subsetter_variation.proofs.Given.{added_here, all_within}
 use Rattle.subsetter_variation.proofs.Sums.{all_written}
