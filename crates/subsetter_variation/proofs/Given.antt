@@ -1,17 +1,20 @@
 -- Points that a tuple gives a delta: that alone moves them.
-use Rattle.std.proofs.Common.{◌≡◌, ℕ, ◌+◌, ◌-◌, ◌<◌, ◌≤◌, cond, List, [], ◌∷◌, length, get_or, take, drop, Some, None, ℤ, pos, ◌+ℤ◌, ◌*ℤ◌, map, slice_get, slice_range, ap, subst, sym, ◌∙◌, inl, inr, arith}
-use Rattle.std.specs.List.{range_with_len, zip}
+use Rattle.std.proofs.Common.{◌≡◌, ℕ, ◌+◌, ◌-◌, ◌<◌, ◌≤◌, ◌^◌, All, Option, IfSome, option_map, unsigned_abs, cond, List, [], ◌∷◌, length, get_or, take, drop, Some, None, ℤ, pos, ◌+ℤ◌, ◌*ℤ◌, slice_range, ap, subst, sym, ◌∙◌, inl, inr, arith}
+use Rattle.std.specs.List.{zip}
 use Rattle.std.specs.Option.{option_or}
 use Rattle.std.proofs.lemmas.List.{get_or-take, get_or-drop, get_or-map}
-use Rattle.std.proofs.lemmas.List.FromFn.{get_or-map-range_with_len, length-map-range_with_len}
+use Rattle.std.proofs.lemmas.List.FromFn.{fill_by_all, get_or-map-range_with_len, length-map-range_with_len}
+use Rattle.std.proofs.lemmas.List.Elements.{All-from_get_or, All-get_or}
 use Rattle.std.proofs.lemmas.Slice.Zip.{get_or-zip}
 use Rattle.std.proofs.lemmas.Option.{slice_get-get_or}
 use Rattle.std.proofs.lemmas.Bool.{cases_lt, le-leb, lt-leb}
 use Rattle.subsetter_variation.specs.declared.inference.Point.{Point}
 use Rattle.subsetter_variation.specs.Inferred.{delta_or, first_touched, last_touched, moved}
-use Rattle.subsetter_variation.specs.Varied.{AreEnds, deltas_by_point, delta_of, moved_in, points}
+use Rattle.subsetter_variation.specs.Varied.{AreEnds, added, added_to_each, deltas_by_point, delta_of, moved_in, points}
+use Rattle.subsetter_variation.specs.Packed.{deltas, deltas_from, runs}
 use Rattle.subsetter_variation.proofs.Contours.{length_part}
-use Rattle.subsetter_variation.proofs.Sums.{length_points, length_zip}
+use Rattle.subsetter_variation.proofs.DeltasOn.{length_read}
+use Rattle.subsetter_variation.proofs.Sums.{length_points, length_zip, one_more}
 use Rattle.subsetter_variation.proofs.Walk.{moved_here}
 
 -- a point of a part, as one of the whole list
@@ -49,6 +52,31 @@ all_moves coordinates ends deltas k s h same below =
     let point = get_or-map (λ p. record { at = p.0; delta = p.1 }) (zip coordinates ds) k (pos 0, None) q (omega (arith, pairs)) in
     touched_moves (points coordinates ds) q 0 ends k s (get_or deltas k (pos 0)) (subst (AreEnds 0 ends) (sym long) h) (omega arith) (omega (arith, long)) (ap (λ p. p.delta) (point ∙ ap (λ p. record { at = p.0; delta = p.1 }) pair) ∙ own)
 
--- the sum of a call that was handed the same sums and the same scalar under other names
-pub same_sum : (sums now deltas : List ℤ) (k : ℕ) (s t r move : ℤ) → now ≡ sums → s ≡ t → r ≡ get_or now k (pos 0) +ℤ s *ℤ get_or deltas k (pos 0) → move ≡ t *ℤ get_or deltas k (pos 0) → r ≡ get_or sums k (pos 0) +ℤ move
-same_sum sums now deltas k s t r move a e h m = h ∙ ap (λ xs. get_or xs k (pos 0) +ℤ s *ℤ get_or deltas k (pos 0)) a ∙ ap (λ z. get_or sums k (pos 0) +ℤ z *ℤ get_or deltas k (pos 0)) e ∙ ap (λ z. get_or sums k (pos 0) +ℤ z) (sym m)
+-- the sums after each was moved by its delta
+pub all_added : (coordinates : List ℤ) (ends : List ℕ) (deltas : List ℤ) (s : ℤ) (sums new : List ℤ) → AreEnds 0 ends (length coordinates) → length deltas ≡ length coordinates → length sums ≡ length coordinates → length new ≡ length sums → ((k : ℕ) → k < length sums → get_or new k (pos 0) ≡ get_or sums k (pos 0) +ℤ s *ℤ get_or deltas k (pos 0)) → new ≡ added coordinates ends (deltas_by_point (length coordinates) None deltas) s sums
+all_added coordinates ends deltas s sums new h same count long steps =
+    fill_by_all (λ k. get_or sums k (pos 0) +ℤ moved_in (points coordinates (deltas_by_point (length coordinates) None deltas)) 0 ends k s) new (length sums) (pos 0) long (λ k l. steps k l ∙ ap (λ z. get_or sums k (pos 0) +ℤ z) (sym (all_moves coordinates ends deltas k s h same (omega arith))))
+
+-- what is read of them, and the bytes behind
+all_read_and_added : (coordinates : List ℤ) (ends : List ℕ) (s : ℤ) (sums new : List ℤ) (rest : List ℕ) (o : Option (List ℤ × List ℕ)) → AreEnds 0 ends (length coordinates) → length sums ≡ length coordinates → length new ≡ length sums → IfSome o (λ d. length d.0 ≡ length coordinates) → Some rest ≡ option_map (λ d. d.1) o → IfSome o (λ d. (k : ℕ) → k < length sums → get_or new k (pos 0) ≡ get_or sums k (pos 0) +ℤ s *ℤ get_or d.0 k (pos 0)) → option_map {U = List ℤ × List ℕ} (λ d. (added coordinates ends (deltas_by_point (length coordinates) None d.0) s sums, d.1)) o ≡ Some (new, rest)
+all_read_and_added coordinates ends s sums new rest None h count long same behind steps = absurd (cc)
+all_read_and_added coordinates ends s sums new rest (Some d) h count long same behind steps =
+    let bytes : d.1 ≡ rest = cc in
+    ap (λ xs. Some (xs, d.1)) (sym (all_added coordinates ends d.0 s sums new h same count long steps)) ∙ ap (λ b. Some (new, b)) bytes
+
+-- the same of a call that was handed the same sums and the same scalar under other names
+pub added_here : (coordinates : List ℤ) (ends bytes : List ℕ) (s t : ℤ) (sums now new : List ℤ) (rest : List ℕ) → now ≡ sums → s ≡ t → AreEnds 0 ends (length coordinates) → length sums ≡ length coordinates → length new ≡ length now → Some rest ≡ option_map (λ d. d.1) (deltas (length now) bytes) → IfSome (deltas (length now) bytes) (λ d. (k : ℕ) → k < length now → get_or new k (pos 0) ≡ get_or now k (pos 0) +ℤ s *ℤ get_or d.0 k (pos 0)) → added_to_each coordinates ends bytes t sums ≡ Some (new, rest)
+unfolding deltas
+added_here coordinates ends bytes s t sums now new rest a b h count long behind steps =
+    let many : length now ≡ length coordinates = ap length a ∙ count in
+    ap (added_to_each coordinates ends bytes t) (sym a)
+    ∙ ap (λ z. added_to_each coordinates ends bytes z now) (sym b)
+    ∙ ap (λ n. option_map {U = List ℤ × List ℕ} (λ d. (added coordinates ends (deltas_by_point (length coordinates) None d.0) s now, d.1)) (deltas_from n (runs bytes))) (sym many)
+    ∙ all_read_and_added coordinates ends s now new rest (deltas_from (length now) (runs bytes)) h many long (subst (λ n. IfSome (deltas_from (length now) (runs bytes)) (λ d. length d.0 ≡ n)) many (length_read (length now) (runs bytes))) behind steps
+
+-- the sums stay within a bound
+pub all_within : (s : ℤ) (sums new : List ℤ) (b : ℕ) (rest : List ℕ) (o : Option (List ℤ × List ℕ)) → length new ≡ length sums → Some rest ≡ option_map (λ d. d.1) o → IfSome o (λ d. (k : ℕ) → k < length sums → get_or new k (pos 0) ≡ get_or sums k (pos 0) +ℤ s *ℤ get_or d.0 k (pos 0)) → IfSome o (λ d. (k : ℕ) → k < length sums → unsigned_abs (s *ℤ get_or d.0 k (pos 0)) ≤ 2 ^ 45) → All (λ z. unsigned_abs z ≤ b) sums → All (λ z. unsigned_abs z ≤ b + 2 ^ 45) new
+all_within s sums new b rest None long behind steps small h = absurd (cc)
+all_within s sums new b rest (Some d) long behind steps small h = All-from_get_or (λ z. unsigned_abs z ≤ b + 2 ^ 45) new (pos 0) (λ k lt.
+    let inside : k < length sums = omega arith in
+    one_more (get_or sums k (pos 0)) _ (get_or new k (pos 0)) b (2 ^ 45) (steps k inside) (All-get_or (λ z. unsigned_abs z ≤ b) sums k (pos 0) inside h) (small k inside))

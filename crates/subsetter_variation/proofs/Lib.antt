@@ -2,7 +2,10 @@ pub mod Ascending
 pub mod Between
 pub mod Bounds
 pub mod Contours
+pub mod Counted
 pub mod Defaults
+pub mod DeltaRuns
+pub mod DeltasOn
 pub mod Given
 pub mod Listed
 pub mod ListedDeltas

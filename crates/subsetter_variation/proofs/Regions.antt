@@ -1,5 +1,5 @@
 -- Regions that are read one axis after another.
-use Rattle.std.proofs.Common.{◌≡◌, ℕ, zero, suc, ◌+◌, ◌-◌, ◌<◌, Bool, false, List, [], ◌∷◌, drop, length, get_or, ℤ, pos, refl, ap, sym, ◌∙◌, arith}
+use Rattle.std.proofs.Common.{◌≡◌, ℕ, zero, suc, ◌+◌, ◌-◌, ◌<◌, Bool, false, List, ◌∷◌, drop, length, get_or, ℤ, pos, refl, ap, ◌∙◌, arith}
 use Rattle.std.proofs.lemmas.List.{drop_more}
 use Rattle.subsetter_variation.specs.Region.{counted, scalar_of}
 use Rattle.subsetter_variation.specs.Tuples.{region_axes, region_axis_of}

@@ -25,6 +25,7 @@ pub mod item_variations;
 pub mod laws;
 pub mod movement;
 pub mod packed;
+pub mod packed_sums;
 pub mod region;
 pub mod rounding;
 pub mod segments;

@@ -6,17 +6,19 @@
 //! that whoever opens the font should bound their number. The phantom points are handed over at 0: each is a contour of
 //! its own, and what moves it doesn't depend on where it lies (`laws::is_free_of_place`).
 
-ghost use Rattle.std.specs.Prelude.{◌≡◌, ◌+◌, ◌<◌, ◌≤◌, ◌^◌, ℕ, Ok, IfOk, length, unsigned_abs, All};
+ghost use Rattle.std.specs.Prelude.{◌≡◌, ◌+◌, ◌<◌, ◌≤◌, ◌^◌, ℕ, None, Ok, IfOk, IfSome, length, unsigned_abs, All};
 ghost use Rattle.std.specs.Option.{ok_or, option_map};
 ghost use Rattle.subsetter_base.specs.Gives.{Gives};
 ghost use Rattle.subsetter_base.specs.declared.error.Error.TheVariants.{MalformedFont};
 ghost use Rattle.subsetter_variation.specs.Movement.{AreWithin, IsOutline, IsWithin, spent, moved_by, counted_walk, next_walk, walk_all, start, moved_in_bytes, moved_points};
+ghost use Rattle.subsetter_variation.specs.Tuples.{both_deltas, count_of};
 
+use crate::packed::point_numbers;
 use crate::tuples::{
-    Gvar, TupleHeader, TupleHeaders, both_deltas, count_of, next_header, numbers_and_deltas,
-    shared_numbers, tuple_headers,
+    Gvar, TupleHeader, TupleHeaders, both_deltas, count_of, next_header, shared_numbers,
+    tuple_headers,
 };
-use crate::varied::{added, in_units};
+use crate::varied::{added, added_to_each, in_units};
 use std::alloc::{AllocError, Global};
 use std::marker::Model;
 use subsetter_base::Error;
@@ -124,8 +126,64 @@ fn moved_by<'a>(
     })
 }
 
+/// The points moved by a tuple that gives each a delta, whose bytes these are, and these steps left, unless the deltas are cut.
+#[tactic(auto, unfolding(crate::specs::Tuples::both_deltas))]
+fn moved_by_each<'a>(
+    o: &Outline<'_>,
+    scalar: i64,
+    bytes: &[u8],
+    left: u32,
+    w: Walk<'a>,
+) -> Option<Walk<'a>>
+    requires outline { IsOutline o.now }
+    requires scalar { unsigned_abs scalar ≤ 2 ^ 30 }
+    requires room { IsWithin (2 ^ 62) o.now w }
+    ensures value { result ≡ option_map (λ d. moved_by o.now scalar None d.0 d.1 left w.entry) (both_deltas (length o.now.xs) bytes.now) }
+    ensures bound { (b : ℕ) → IsWithin b o.now w.entry → IfSome result (λ v. IsWithin (b + 2 ^ 45) o.now v) }
+{
+    let Walk {
+        xs,
+        ys,
+        headers,
+        ..
+    } = w;
+    let (xs, rest) = added_to_each(o.xs, o.ends, bytes, scalar, xs)?;
+    let (ys, _) = added_to_each(o.ys, o.ends, rest, scalar, ys)?;
+    Some(Walk {
+        xs,
+        ys,
+        steps: left,
+        headers,
+    })
+}
+
+/// The points moved by a tuple with these point numbers, none for all, and deltas, whose bytes these are, and these steps left.
+fn moved_by_packed<'a>(
+    alloc: Global,
+    o: &Outline<'_>,
+    scalar: i64,
+    numbers: &Option<Vec<u32>>,
+    bytes: &[u8],
+    left: u32,
+    w: Walk<'a>,
+) -> Result<Walk<'a>, Error>
+    requires outline { IsOutline o.now }
+    requires scalar { unsigned_abs scalar ≤ 2 ^ 30 }
+    requires room { IsWithin (2 ^ 62) o.now w }
+    ensures value { Gives (λ v. v) result (ok_or (option_map (λ d. moved_by o.now scalar (option_map (λ x. x.items) numbers.now) d.0 d.1 left w.entry) (both_deltas (count_of (length o.now.xs) (option_map (λ x. x.items) numbers.now)) bytes.now)) MalformedFont) }
+    ensures bound { (b : ℕ) → IsWithin b o.now w.entry → IfOk result (λ v. IsWithin (b + 2 ^ 45) o.now v) }
+{
+    match numbers {
+        None => moved_by_each(o, scalar, bytes, left, w).ok_or(Error::MalformedFont),
+        Some(_) => {
+            let (dx, dy) = both_deltas(alloc, count_of(o.count() as u32, numbers), bytes)?;
+            Ok(moved_by(alloc, o, scalar, numbers, &dx, &dy, left, w)?)
+        }
+    }
+}
+
 /// The points moved by a tuple that counts: a step for each point, and its deltas.
-#[tactic(auto, unfolding(crate::specs::Movement::counted_walk, crate::specs::Tuples::tuple_of))]
+#[tactic(auto, unfolding(crate::specs::Movement::counted_walk, crate::specs::Tuples::tuple_of, crate::specs::Tuples::numbers_and_deltas))]
 fn counted_walk<'a>(
     alloc: Global,
     o: &Outline<'_>,
@@ -143,11 +201,10 @@ fn counted_walk<'a>(
     let n = o.count();
     let left = spent(n, w.steps())?;
     if h.has_private_numbers() {
-        let (numbers, dx, dy) = numbers_and_deltas(alloc, n as u32, h.packed())?;
-        Ok(moved_by(alloc, o, scalar, &numbers, &dx, &dy, left, w)?)
+        let (numbers, rest) = point_numbers(alloc, n as u32, h.packed())?;
+        moved_by_packed(alloc, o, scalar, &numbers, rest, left, w)
     } else {
-        let (dx, dy) = both_deltas(alloc, count_of(n as u32, shared), h.packed())?;
-        Ok(moved_by(alloc, o, scalar, shared, &dx, &dy, left, w)?)
+        moved_by_packed(alloc, o, scalar, shared, h.packed(), left, w)
     }
 }
 

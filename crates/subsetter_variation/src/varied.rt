@@ -1,12 +1,13 @@
 //! Where the points of a glyph go along one axis, by one tuple.
 
-ghost use Rattle.std.specs.Prelude.{None, Some, ◌≡◌, ◌+◌, ◌+ℤ◌, ◌*ℤ◌, ◌≤◌, ◌^◌, ℕ, pos, length, map, unsigned_abs, slice_get, slice_index_or, slice_set, ◌<◌, All, EachIndex, IfOk, Ok};
+ghost use Rattle.std.specs.Prelude.{None, Some, ◌≡◌, ◌+◌, ◌+ℤ◌, ◌*ℤ◌, ◌≤◌, ◌^◌, ℕ, pos, length, map, unsigned_abs, slice_get, slice_index_or, slice_set, ◌<◌, All, EachIndex, IfOk, IfSome, MatchOption, Ok};
 ghost use Rattle.std.specs.Option.{option_map};
 ghost use Rattle.subsetter_base.specs.Gives.{Gives};
-ghost use Rattle.subsetter_variation.specs.Varied.{AreEnds, added, deltas_by_point, in_units, points};
+ghost use Rattle.subsetter_variation.specs.Varied.{AreEnds, added, added_to_each, deltas_by_point, in_units, points};
 
 use crate::glyph::add_tuple;
 use crate::inference::Point;
+use crate::packed_sums::add_deltas;
 use crate::rounding::given;
 use std::alloc::{AllocError, Global};
 use subsetter_base::Error;
@@ -94,20 +95,29 @@ fn points(
         .collect(alloc)
 }
 
+/// Writes coordinates in parts of 2^30.
+fn write_units(sums: &mut [i64], coordinates: &[i16])
+    requires same { length sums.old ≡ length coordinates.now }
+    ensures value { EachIndex coordinates.now (λ k. slice_index_or sums.new k (pos 0) ≡ pos (2 ^ 30) *ℤ slice_index_or coordinates.now k (pos 0)) }
+    ensures bound { EachIndex coordinates.now (λ k. unsigned_abs (slice_index_or sums.new k (pos 0)) ≤ 2 ^ 45) }
+{
+    for (k, x) in coordinates.iter().enumerate() {
+        sums[k] = given(UNIT, *x);
+    }
+}
+
 /// Coordinates in parts of 2^30.
 pub fn in_units(alloc: Global, coordinates: &[i16]) -> Result<Vec<i64>, AllocError>
     ensures value { IfOk result (λ v. v.items ≡ in_units coordinates.now) }
     ensures bound { IfOk result (λ v. All (λ x. unsigned_abs x ≤ 2 ^ 45) v.items) }
 {
-    let mut sums = Vec::with_capacity(alloc, coordinates.len())?;
-    for x in coordinates {
-        sums.push(given(UNIT, *x))?;
-    }
+    let mut sums = vec![in alloc; 0; coordinates.len()]?;
+    write_units(&mut sums, coordinates);
     Ok(sums)
 }
 
 /// The sums of the points, and what a tuple moves each by on top, along one axis, contour by contour.
-fn added_by_contour(
+pub fn added(
     alloc: Global,
     coordinates: &[i16],
     ends: &[usize],
@@ -131,67 +141,24 @@ fn added_by_contour(
     Ok(sums)
 }
 
-/// Adds to each sum its delta times the scalar.
-fn add_to_each(sums: &mut [i64], deltas: &[i16], scalar: i64)
-    requires same { length sums.old ≡ length deltas.now }
-    requires scalar { unsigned_abs scalar ≤ 2 ^ 30 }
-    requires room { EachIndex sums.old (λ k. unsigned_abs (slice_index_or sums.old k (pos 0)) ≤ 2 ^ 62) }
-    ensures added { EachIndex deltas.now (λ k. slice_index_or sums.new k (pos 0) ≡ slice_index_or sums.old k (pos 0) +ℤ scalar *ℤ slice_index_or deltas.now k (pos 0)) }
-    ensures bound { EachIndex deltas.now (λ k. unsigned_abs (scalar *ℤ slice_index_or deltas.now k (pos 0)) ≤ 2 ^ 45) }
-{
-    for (k, delta) in deltas.iter().enumerate() {
-        sums[k] += given(scalar, *delta);
-    }
-}
-
-/// The sums of the points, and what a tuple that gives each a delta moves it by on top, along one axis.
-fn added_to_each(
+/// The sums of the points, and what a tuple that gives each a delta moves it by on top, along one axis, and the bytes behind these
+/// deltas, unless they are cut.
+pub fn added_to_each<'a>(
     coordinates: &[i16],
     ends: &[usize],
-    deltas: &[i16],
+    bytes: &'a [u8],
     scalar: i64,
     sums: Vec<i64>,
-) -> Vec<i64>
+) -> Option<(Vec<i64>, &'a [u8])>
     requires ends { AreEnds 0 ends.now (length coordinates.now) }
     requires scalar { unsigned_abs scalar ≤ 2 ^ 30 }
     requires same { length sums.items ≡ length coordinates.now }
-    requires each { length deltas.now ≡ length coordinates.now }
     requires room { All (λ z. unsigned_abs z ≤ 2 ^ 62) sums.items }
-    ensures value { result.items ≡ added coordinates.now ends.now (deltas_by_point (length coordinates.now) None deltas.now) scalar sums.items }
-    ensures count { length result.items ≡ length sums.items }
-    ensures bound { (b : ℕ) → All (λ z. unsigned_abs z ≤ b) sums.items → All (λ z. unsigned_abs z ≤ b + 2 ^ 45) result.items }
+    ensures value { MatchOption result (added_to_each coordinates.now ends.now bytes.now scalar sums.items ≡ None) (λ r. added_to_each coordinates.now ends.now bytes.now scalar sums.items ≡ Some (r.0.items, r.1.now)) }
+    ensures count { IfSome result (λ r. length r.0.items ≡ length sums.items) }
+    ensures bound { (b : ℕ) → All (λ z. unsigned_abs z ≤ b) sums.items → IfSome result (λ r. All (λ z. unsigned_abs z ≤ b + 2 ^ 45) r.0.items) }
 {
     let mut sums = sums;
-    add_to_each(&mut sums, deltas, scalar);
-    sums
-}
-
-/// The sums of the points, and what a tuple moves each by on top, along one axis.
-pub fn added(
-    alloc: Global,
-    coordinates: &[i16],
-    ends: &[usize],
-    numbers: &Option<Vec<u32>>,
-    deltas: &[i16],
-    scalar: i64,
-    sums: Vec<i64>,
-) -> Result<Vec<i64>, AllocError>
-    requires ends { AreEnds 0 ends.now (length coordinates.now) }
-    requires scalar { unsigned_abs scalar ≤ 2 ^ 30 }
-    requires same { length sums.items ≡ length coordinates.now }
-    requires room { All (λ z. unsigned_abs z ≤ 2 ^ 62) sums.items }
-    ensures value { IfOk result (λ v. v.items ≡ added coordinates.now ends.now (deltas_by_point (length coordinates.now) (option_map (λ x. x.items) numbers.now) deltas.now) scalar sums.items) }
-    ensures count { IfOk result (λ v. length v.items ≡ length sums.items) }
-    ensures bound { (b : ℕ) → All (λ z. unsigned_abs z ≤ b) sums.items → IfOk result (λ v. All (λ z. unsigned_abs z ≤ b + 2 ^ 45) v.items) }
-{
-    match numbers {
-        None if deltas.len() == coordinates.len() => Ok(added_to_each(
-            coordinates,
-            ends,
-            deltas,
-            scalar,
-            sums,
-        )),
-        _ => added_by_contour(alloc, coordinates, ends, numbers, deltas, scalar, sums),
-    }
+    let rest = add_deltas(&mut sums, bytes, scalar)?;
+    Some((sums, rest))
 }

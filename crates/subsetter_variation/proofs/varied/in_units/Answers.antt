@@ -1,23 +1,23 @@
-use Rattle.std.proofs.Common.{◌≡◌, ◌+◌, ◌≤◌, ◌^◌, ◌*ℤ◌, [], ◌∷◌, ◌++◌, pos, ap, subst, ◌∙◌, sym, rules, unsigned_abs, get_or, take, map, w16, w64, FitsSigned, All}
-use Rattle.std.proofs.lemmas.Int.{to_z-of_z}
-use Rattle.std.proofs.lemmas.List.{map_more}
-use Rattle.std.proofs.lemmas.List.Elements.{All-push}
+use Rattle.std.proofs.Common.{◌≡◌, ◌++◌, ◌<◌, ◌≤◌, ◌^◌, ◌*ℤ◌, pos, length, take, drop, map, subst, sym, ◌∙◌, arith, unsigned_abs, All}
+use Rattle.std.proofs.lemmas.List.{ext_get_or, get_or-map, length-map}
+use Rattle.std.proofs.lemmas.List.Elements.{All-from_get_or}
+use Rattle.subsetter_variation.proofs.Sums.{all_written}
 use Rattle.subsetter_variation.proofs.varied.in_units.Goals as goal
 
-items : (c : goal.In_ok-push) → c.push.new.self.items ≡ c.loop-x.sums.items ++ c.given.result ∷ []
-items c = let f : FitsSigned w64 c.given.result = search rules in simp to_z-of_z at c.in_ok-push.ensures.items
+written : (c : goal.After-sums-3-1) → take c.in_ok-sums.sums.len (c.write_units.new.sums ++ drop (length c.write_units.new.sums) c.in_ok-sums.sums.items) ≡ c.write_units.new.sums
+written c = all_written c.in_ok-sums.sums.len c.in_ok-sums.sums.items c.write_units.new.sums (c.write_units.auto.sums ∙ c.deref_mut.ensures.len)
 
-value : (c : goal.In_ok-push) → c.push.new.self.items ≡ map (λ x. pos (2 ^ 30) *ℤ x) (take (c.loop-x.x-index + 1) c.args.coordinates.now)
-value c =
-    let f : FitsSigned w16 (get_or c.args.coordinates.now c.loop-x.x-index (pos 0)) = search rules in
-    let g = simp to_z-of_z at c.given.ensures.value in
-    items c
-    ∙ ap (λ xs. xs ++ c.given.result ∷ []) c.loop-x.invariant.value
-    ∙ ap (λ y. map (λ x. pos (2 ^ 30) *ℤ x) (take c.loop-x.x-index c.args.coordinates.now) ++ y ∷ []) g
-    ∙ sym (map_more (λ x. pos (2 ^ 30) *ℤ x) c.args.coordinates.now c.loop-x.x-index (pos 0) c.loop-x-test.true)
+many : (c : goal.After-sums-3-1) → length c.write_units.new.sums ≡ length c.args.coordinates.now
+many c = c.write_units.auto.sums ∙ c.deref_mut.ensures.len ∙ c.in_ok-sums.ensures.len
 
-pub loop-x-preserved : goal.loop-x-preserved
-loop-x-preserved c = record {
-  value = value c;
-  bound = subst (λ xs. All (λ x. unsigned_abs x ≤ 2 ^ 45) xs) (sym (items c)) (All-push (λ x. unsigned_abs x ≤ 2 ^ 45) c.loop-x.sums.items c.given.result c.loop-x.invariant.bound c.given.ensures.bound);
-}
+pub returns-clause-value : goal.returns-clause-value
+returns-clause-value c =
+    written c
+    ∙ ext_get_or (pos 0) c.write_units.new.sums (map (λ x. pos (2 ^ 30) *ℤ x) c.args.coordinates.now) (many c ∙ sym (length-map c.args.coordinates.now (λ x. pos (2 ^ 30) *ℤ x))) (λ i h.
+    let inside : i < length c.args.coordinates.now = omega (arith, many c) in
+    c.write_units.ensures.value i inside ∙ sym (get_or-map (λ x. pos (2 ^ 30) *ℤ x) c.args.coordinates.now i (pos 0) (pos 0) inside))
+
+pub returns-clause-bound : goal.returns-clause-bound
+returns-clause-bound c =
+    subst (λ xs. All (λ x. unsigned_abs x ≤ 2 ^ 45) xs) (sym (written c))
+    (All-from_get_or (λ x. unsigned_abs x ≤ 2 ^ 45) c.write_units.new.sums (pos 0) (λ i h. c.write_units.ensures.bound i (omega (arith, many c))))

@@ -5,7 +5,7 @@ use Rattle.std.proofs.lemmas.List.Elements.{All-from_get_or, All-get_or}
 use Rattle.std.proofs.lemmas.Int.{to_z-of_z}
 use Rattle.subsetter_variation.specs.Varied.{AreEnds, deltas_by_point, points, moved_in}
 use Rattle.subsetter_variation.proofs.Sums.{all_written, length_points, one_more, same_moves}
-use Rattle.subsetter_variation.proofs.varied.added_by_contour.Goals as goal
+use Rattle.subsetter_variation.proofs.varied.added.Goals as goal
 
 pub add_tuple-requires-clause-same : goal.add_tuple-requires-clause-same
 add_tuple-requires-clause-same c =
