@@ -24,7 +24,7 @@ sys.dont_write_bytecode = True
 import made  # noqa: E402
 
 USAGE = b"usage: subset_font IN OUT INDEX GID[,GID..]\n"
-OPTIONS = ["--widths", "--limits", "--at", "--no-hinting", "--no-names", "--no-glyph-names", "--gids-file", "--text", "--json",
+OPTIONS = ["--widths", "--limits", "--at", "--axes", "--no-hinting", "--no-names", "--no-glyph-names", "--gids-file", "--text", "--json",
            "--quiet", "--help", "-h", "--version", "--"]
 
 
@@ -119,8 +119,30 @@ AT_650 = bytes.fromhex(
     "000000000000000000000001"
 )
 
+
+def fixed(*values):
+    """Numbers of 65536ths."""
+    return b"".join(round(it * 65536).to_bytes(4, "big", signed=True) for it in values)
+
+
+def axes_font(axes, instances, size=None, cut=0):
+    """A font with these axes (tag, least, default, greatest) and coordinates of named instances, whose records have so many bytes."""
+    size = 4 + 4 * len(axes) if size is None else size
+    fvar = made.u16s(1, 0, 16, 2, len(axes), 20, len(instances), size)
+    fvar += b"".join(tag + fixed(*values) + made.u16s(0, 256) for tag, *values in axes)
+    fvar += b"".join(made.u16s(257, 0) + fixed(*it) + bytes(max(size - 4 - 4 * len(axes), 0)) for it in instances)
+    return made.font(sorted([("fvar", fvar[:len(fvar) - cut]), *FURTHER]))
+
+
+TWO_AXES = [(b"wght", -32768, 389.344249, 32767.99999), (b"w\nt\xe9", 0, 0.5, 1 / 65536)]
+
 FONTS = {
     "variable": VARIABLE,
+    "axes": axes_font(TWO_AXES, [(-1 / 65536, 87.5), (650, -1.25)], 14),
+    "axes_only": axes_font([(b"wght", 0, 0.1, 0.12), (b"w\x7ft\x1f", 0.123, 0.1234, 1)], [], 0),
+    "axes_cut_0": axes_font(TWO_AXES, [(1, 2)], 11),
+    "axes_cut_1": axes_font(TWO_AXES, [(1, 2)], cut=1),
+    "axes_cut_2": axes_font(TWO_AXES, [], cut=1),
     "at_650": AT_650,
     "simple": SIMPLE,
     "cff": SID_KEYED,
@@ -257,13 +279,15 @@ ROWS = [
     # coordinates
     Row("at_650 out 0 1,2,3", out=lines((1, 1), (2, 2), (3, 3)), same="at 650"),
     Row("--at wght=650 variable out 0 1,2,3", out=lines((1, 1), (2, 2), (3, 3)), same="at 650"),
-    Row("--at wght=900,wght=649.999999999,wdth=-87.5 variable out 0 1,2,3", out=lines((1, 1), (2, 2), (3, 3)), same="at 650"),
+    Row("--at wght=900,wght=649.999999999,wdth=-87.5 variable out 0 1,2,3", out=lines((1, 1), (2, 2), (3, 3)), same="at 650",
+        err=b"no axis wdth in the font\n"),
     Row("--widths --at wght=650 variable out 0 1,2,3", out=lines((1, 1), (2, 2), (3, 3)) + b"[0 [500 510 500 500]]\n", same="at 650"),
     Row("variable out 0 2,1", out=lines((2, 1), (1, 2)), same="at the default"),
     Row("--at wght=400 variable out 0 2,1", out=lines((2, 1), (1, 2)), same="at the default"),
-    Row("--at slnt=-32767.5 variable out 0 2,1", out=lines((2, 1), (1, 2)), same="at the default"),
-    Row("--at wght=650 simple out 0 2", out=lines((2, 1)), same="simple 2"),
-    Row("--at wght=650 cff out 0 0", out=lines((0, 0)), same="cff 0"),
+    Row("--at slnt=-32767.5 variable out 0 2,1", out=lines((2, 1), (1, 2)), same="at the default", err=b"no axis slnt in the font\n"),
+    Row("--quiet --at wdth=1,wght=650,opsz=1 variable out 0 1,2,3", same="at 650", err=b"no axis wdth in the font\nno axis opsz in the font\n"),
+    Row("--at wght=650 simple out 0 2", out=lines((2, 1)), same="simple 2", err=b"no axis wght in the font\n"),
+    Row("--at wght=650 cff out 0 0", out=lines((0, 0)), same="cff 0", err=b"no axis wght in the font\n"),
     Row("--at wght=650 variable out 0 4", 1, err=b"malformed font\nGID 4: the face has 4 glyphs, from 0 on\n", after=USED),
     Row("--limits 20,64 --at wght=650 variable out 0 2", 1, err=b"overflow occurred\n", after=USED),
     *(Row(f"--at {it} variable out 0 1", 2, err=USAGE, after=USED)
@@ -272,6 +296,25 @@ ROWS = [
     Row("--at wght=-32768 variable out 0 1", out=lines((1, 1)), same="at 100"),
     Row("--at wght=100 variable out 0 1", out=lines((1, 1)), same="at 100"),
     Row("--at wght=1 --at wght=1 variable out 0 1", 2, err=USAGE, after=USED),
+    # the axes
+    Row("--axes variable 0", out=b"axis wght 100 400 900\n"),
+    Row("--axes - 0", out=b"axis wght 100 400 900\n", stdin=VARIABLE),
+    Row("--axes axes 0", out=b"axis wght -32768 389.34425 32767.99998\naxis w?t? 0 0.5 0.00002\n"
+        b"instance wght=-0.00002,w?t?=87.5\ninstance wght=650,w?t?=-1.25\n"),
+    Row("--axes axes_only 0", out=b"axis wght 0 0.1 0.12\naxis w?t? 0.123 0.1234 1\n"),
+    Row("--axes simple 0"),
+    Row("--axes cff 0"),
+    *(Row(f"--axes axes_cut_{k} 0", 1, err=b"malformed font\n") for k in range(3)),
+    Row("--axes woff 0", 1, err=b"unknown font kind\nWOFF: unpack it first\n"),
+    Row("--axes faces 2", 1, err=b"unknown font kind\nINDEX 2: the collection has 2 faces, from 0 on\n"),
+    Row("--axes faces 1"),
+    Row("--axes none 0", 3, err=b"cannot read none\n"),
+    Row("--axes", 2, err=USAGE),
+    Row("--axes variable", 2, err=USAGE),
+    Row("--axes variable 0 1", 2, err=USAGE),
+    Row("--axes variable x", 2, err=USAGE),
+    Row("--axes variable 4294967296", 2, err=USAGE),
+    Row("--quiet --axes variable 0", 2, err=USAGE),
     # JSON and silence
     Row("--json six out 0 2,1", out=b'{"glyphs":[{"old":2,"new":1},{"old":1,"new":2}]}\n', same="six 2,1"),
     Row("--json --widths six out 0 2,1", out=b'{"glyphs":[{"old":2,"new":1},{"old":1,"new":2}],"widths":[0,200,100]}\n',

@@ -8,6 +8,7 @@ pub const VERSION_LINE: &str = "subset_font 0.2.6+1, a port of the Rust crate su
 pub const HELP: &str = "usage: subset_font [OPTIONS] IN OUT INDEX GID[,GID..]
        subset_font [OPTIONS] --gids-file FILE IN OUT INDEX
        subset_font [OPTIONS] --text TEXT IN OUT INDEX
+       subset_font --axes IN INDEX
 
 Writes a font that has glyph 0 and the given glyphs of IN, under new numbers from 1 on,
 and prints a line `old -> new` for each of them.
@@ -34,6 +35,8 @@ Options stand in front of IN, each once, in any order:
   --at TAG=VALUE[,TAG=VALUE..]
                     subset a variable font at these coordinates, as
                     wght=650,wdth=87.5
+  --axes            as the first argument: print the axes of a variable font (tag,
+                    least, default and greatest coordinate) and its named instances
   --json            print one JSON object in place of the lines
   --quiet           print no lines
   --                end the options

@@ -8,8 +8,8 @@ ghost use Rattle.subset_font.specs.Failure.{status_of_end};
 ghost use Rattle.subset_font.specs.declared.failure.Failure.TheVariants.{Error as Refused, Read as CannotRead, Usage};
 ghost use Rattle.subsetter_base.specs.declared.error.Error.TheVariants.{OutOfMemory};
 
-use crate::carried::{carry_out, read_whole};
 use crate::axes::{axes_there, carry_axes, has_axis};
+use crate::carried::{carry_out, read_whole};
 use crate::failure::{Failure, Told, file_of, status_of_run};
 use crate::help::{HELP, VERSION_LINE};
 use crate::hint::find_hint;
