@@ -28,6 +28,7 @@ ALLOWED = {
     ("subset_font", "command"): (2, "passes on that of `read_words`"),
     ("subset_font", "read_list_file"): (2, "passes on that of `read_list`"),
     ("subset_font", "perform"): (1, "`BufWriter::new` takes memory and has no other error"),
+    ("subset_font", "perform_axes"): (1, "`BufWriter::new` takes memory and has no other error"),
 }
 
 WORDS = re.compile(r"\bOutOfMemory\b|\b(?:AllocError|AllocFailed)\b(?!\s*[>,}]|<\w)")

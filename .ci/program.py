@@ -301,7 +301,7 @@ ROWS = [
     Row("--axes - 0", out=b"axis wght 100 400 900\n", stdin=VARIABLE),
     Row("--axes axes 0", out=b"axis wght -32768 389.34425 32767.99998\naxis w?t? 0 0.5 0.00002\n"
         b"instance wght=-0.00002,w?t?=87.5\ninstance wght=650,w?t?=-1.25\n"),
-    Row("--axes axes_only 0", out=b"axis wght 0 0.1 0.12\naxis w?t? 0.123 0.1234 1\n"),
+    Row("--axes axes_only 0", out=b"axis wght 0 0.10001 0.12\naxis w?t? 0.123 0.1234 1\n"),
     Row("--axes simple 0"),
     Row("--axes cff 0"),
     *(Row(f"--axes axes_cut_{k} 0", 1, err=b"malformed font\n") for k in range(3)),

@@ -183,7 +183,11 @@ fn behind_axes(words: &[String]) -> Option<&[String]>
     let [word, behind @ ..] = words else {
         return None;
     };
-    if word.as_str() == "--axes" { Some(behind) } else { None }
+    if word.as_str() == "--axes" {
+        Some(behind)
+    } else {
+        None
+    }
 }
 
 /// What the arguments `FONT INDEX` behind `--axes` ask for.

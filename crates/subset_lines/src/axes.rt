@@ -57,7 +57,12 @@ fn instances_of(
     if count == 0 {
         return Ok(Vec::new(alloc));
     }
-    let (at, axes, axis_size, size) = (at as usize, axes as usize, axis_size as usize, size as usize);
+    let (at, axes, axis_size, size) = (
+        at as usize,
+        axes as usize,
+        axis_size as usize,
+        size as usize,
+    );
     if size < 4 + 4 * axes {
         return Err(Error::MalformedFont);
     }
