@@ -4,7 +4,7 @@ ghost use Rattle.std.specs.Prelude.{◌≡◌, ◌⊎◌, ◌≢◌, IfOk, IfErr
 ghost use Rattle.subsetter_base.specs.declared.error.Error.TheVariants.{OutOfMemory, MalformedFont};
 ghost use Rattle.subsetter_sfnt.specs.Extras.{all_extras};
 ghost use Rattle.subsetter_sfnt.specs.Read.{stored};
-ghost use Rattle.subset_font.specs.Axes.{lines_of_axes, axes_text, IsAxesTold, IsAxesFault, axes_or_none, has_axis};
+ghost use Rattle.subset_font.specs.Axes.{bytes_or_none, lines_of_axes, IsAxesTold, IsAxesFault, axes_or_none, has_axis};
 ghost use Rattle.subset_font.specs.declared.failure.Failure.TheVariants.{Error as Refused, Read as CannotRead, Output, Usage};
 ghost use Rattle.std.specs.Io.KnownBytes.{Appends};
 
@@ -17,18 +17,33 @@ use subset_lines::{read_axes, write_axes};
 use subsetter::{Error, Tag};
 use subsetter_variation::axes::{Axis, axes};
 
-/// Writes the lines of `fvar`.
-fn tell_fvar<L: Write>(alloc: Global, fvar: &[u8], lines: &mut L) -> Result<(), Failure>
-    ensures ok { OnOk result (IfSome (lines_of_axes fvar.now) (λ text. Appends (L.contents lines.old) (L.contents lines.new) text)) }
-    ensures there { OnOk result (lines_of_axes fvar.now ≢ None) }
-    ensures err { IfErr result (λ e. (e ≡ Output) ⊎ ((e ≡ Refused OutOfMemory) ⊎ ((e ≡ Refused MalformedFont) × (lines_of_axes fvar.now ≡ None)))) }
+/// Writes the lines of `fvar`, with the names of `name`.
+fn tell_fvar<L: Write>(
+    alloc: Global,
+    fvar: &[u8],
+    names: &[u8],
+    lines: &mut L,
+) -> Result<(), Failure>
+    ensures ok { OnOk result (IfSome (lines_of_axes names.now fvar.now) (λ text. Appends (L.contents lines.old) (L.contents lines.new) text)) }
+    ensures there { OnOk result (lines_of_axes names.now fvar.now ≢ None) }
+    ensures err { IfErr result (λ e. (e ≡ Output) ⊎ ((e ≡ Refused OutOfMemory) ⊎ ((e ≡ Refused MalformedFont) × (lines_of_axes names.now fvar.now ≡ None)))) }
     ensures kind { IfErr result (λ e. e ≢ Usage) }
 {
-    let all = match read_axes(alloc, fvar) {
+    let all = match read_axes(alloc, fvar, names) {
         Ok(all) => all,
         Err(error) => return Err(Failure::Error(error)),
     };
     write_axes(&all, lines).map_err(|_| Failure::Output)
+}
+
+/// The names of a face, no bytes where it has none.
+fn names_of(font: &[u8], index: u32) -> &[u8]
+    ensures { result.now ≡ bytes_or_none (stored (record { bytes = font.now; index = index; extras = all_extras }) (codes "name")) }
+{
+    match table(font, index, Tag::NAME) {
+        Some(names) => names,
+        None => &[],
+    }
 }
 
 /// Writes the lines of a face: one for each axis and each named instance, none of a face that isn't variable.
@@ -48,7 +63,7 @@ pub fn tell_axes<L: Write>(
         return Err(Failure::Error(Error::UnknownKind));
     }
     match table(font, index, Tag::new(b"fvar")) {
-        Some(fvar) => tell_fvar(alloc, fvar, lines),
+        Some(fvar) => tell_fvar(alloc, fvar, names_of(font, index), lines),
         None => Ok(()),
     }
 }

@@ -1,5 +1,5 @@
 -- Records that are read one after another.
-use Rattle.std.proofs.Common.{◌≡◌, ℕ, suc, ◌+◌, ◌-◌, ◌<◌, List, [], ◌∷◌, ◌++◌, map, Option, Some, None, Result, Err, refl, sym, ap, ◌∙◌, append_assoc, arith}
+use Rattle.std.proofs.Common.{◌≡◌, ℕ, suc, ◌+◌, ◌-◌, ◌<◌, List, [], ◌∷◌, ◌++◌, map, Option, Some, None, Result, Err, true, false, refl, sym, ap, ◌∙◌, append_assoc, arith}
 use Rattle.std.specs.Borrow.{Bor}
 use Rattle.std.proofs.lemmas.List.{map-append}
 use Rattle.std.specs.Option.{ok_or, option_map, option_and_then}
@@ -7,6 +7,8 @@ use Rattle.subsetter_base.specs.Bytes.{range}
 use Rattle.subsetter_base.specs.declared.error.Error.{Error}
 use Rattle.subsetter_base.proofs.Results.{with_front}
 use Rattle.subset_lines.specs.Axes.{records_at}
+use Rattle.subset_lines.specs.Names.{is_name, first_name}
+use Rattle.subset_lines.specs.declared.names.Kind.{Kind}
 
 -- a member that is read moves to the front
 front_more : (front : List (List ℕ)) (x : List ℕ) (o : Option (List (List ℕ))) (e : Error) → with_front front (ok_or (option_map (λ xs. x ∷ xs) o) e) ≡ with_front (front ++ x ∷ []) (ok_or o e)
@@ -28,3 +30,24 @@ pub records_cut : (front : List (List ℕ)) (n i size : ℕ) (fvar : List ℕ) (
 records_cut front n i size fvar at e less h =
     let one : n - i ≡ suc (n - (i + 1)) = omega arith in
     rw (one, h) refl
+
+-- ---- a name
+
+-- one more record to look at
+one_more : (n i : ℕ) → i < n → n - i ≡ suc (n - (i + 1))
+one_more n i less = omega arith
+
+pub name_here : (kind : Kind) (id n i : ℕ) (table : List ℕ) (at : ℕ) (bytes : List ℕ) (total : Option (List ℕ)) → i < n → range table at 12 ≡ Some bytes → is_name kind id bytes ≡ true → first_name kind id (n - i) table at ≡ total → Some bytes ≡ total
+name_here kind id n i table at bytes total less h is t =
+    let first : first_name kind id (suc (n - (i + 1))) table at ≡ Some bytes = rw (h, is) refl in
+    sym first ∙ (ap (λ (k : ℕ). first_name kind id k table at) (sym (one_more n i less)) ∙ t)
+
+pub name_later : (kind : Kind) (id n i : ℕ) (table : List ℕ) (at : ℕ) (bytes : List ℕ) (total : Option (List ℕ)) → i < n → range table at 12 ≡ Some bytes → is_name kind id bytes ≡ false → first_name kind id (n - i) table at ≡ total → first_name kind id (n - (i + 1)) table (at + 12) ≡ total
+name_later kind id n i table at bytes total less h is t =
+    let later : first_name kind id (suc (n - (i + 1))) table at ≡ first_name kind id (n - (i + 1)) table (at + 12) = rw (h, is) refl in
+    sym later ∙ (ap (λ (k : ℕ). first_name kind id k table at) (sym (one_more n i less)) ∙ t)
+
+pub name_cut : (kind : Kind) (id n i : ℕ) (table : List ℕ) (at : ℕ) (total : Option (List ℕ)) → i < n → range table at 12 ≡ None → first_name kind id (n - i) table at ≡ total → None ≡ total
+name_cut kind id n i table at total less h t =
+    let cut : first_name kind id (suc (n - (i + 1))) table at ≡ None = rw h refl in
+    sym cut ∙ (ap (λ (k : ℕ). first_name kind id k table at) (sym (one_more n i less)) ∙ t)

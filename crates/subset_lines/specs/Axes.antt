@@ -5,6 +5,7 @@ use Rattle.std.specs.Option.{option_map, option_and_then}
 use Rattle.subsetter_base.specs.Bytes.{range, number}
 use Rattle.subsetter_variation.specs.declared.axes.Axis.{Axis}
 use Rattle.subset_lines.specs.Fixed.{fixed_text}
+use Rattle.subset_lines.specs.Names.{name_of, behind_instance}
 
 -- ---- axes
 
@@ -53,14 +54,14 @@ abbrev pub settings_text : List ℕ → List Axis → List ℕ → List ℕ
 settings_text before [] bytes = []
 settings_text before (a ∷ axes) bytes = (before ++ map shown a.tag.0 ++ codes "=" ++ coordinate_text (number bytes 0 4)) ++ settings_text (codes ",") axes (drop 4 bytes)
 
--- the coordinates of an instance begin behind its name and its flags
-abbrev pub instance_line : List Axis → List ℕ → List ℕ
-instance_line axes bytes = codes "instance " ++ settings_text [] axes (drop 4 bytes) ++ 10 ∷ []
+-- `instance wght=650,wdth=87.5 Semi Bold`: its coordinates, which begin behind its name's number and its flags, and its name, where the table `name` has it
+abbrev pub instance_line : List Axis → List ℕ → List ℕ → List ℕ
+instance_line axes names bytes = codes "instance " ++ settings_text [] axes (drop 4 bytes) ++ behind_instance (name_of names (number bytes 0 2)) ++ 10 ∷ []
 
-abbrev pub instance_lines : List Axis → List (List ℕ) → List ℕ
-instance_lines axes [] = []
-instance_lines axes (record_bytes ∷ more) = instance_line axes record_bytes ++ instance_lines axes more
+abbrev pub instance_lines : List Axis → List ℕ → List (List ℕ) → List ℕ
+instance_lines axes names [] = []
+instance_lines axes names (record_bytes ∷ more) = instance_line axes names record_bytes ++ instance_lines axes names more
 
 -- a line for each axis, and one for each named instance
-abbrev pub text_of : List Axis → List (List ℕ) → List ℕ
-text_of axes records = axis_lines axes ++ instance_lines axes records
+abbrev pub text_of : List Axis → List ℕ → List (List ℕ) → List ℕ
+text_of axes names records = axis_lines axes ++ instance_lines axes names records

@@ -3,4 +3,5 @@ pub mod Lines
 pub mod Json
 pub mod View
 pub mod Fixed
+pub mod Names
 pub mod Axes

@@ -2,7 +2,8 @@
 
 ghost use Rattle.std.specs.Prelude.{◌≡◌, ◌⊎◌, ◌++◌, [], codes, map, drop, OnOk, IfOk, IfErr, Some, None};
 ghost use Rattle.std.specs.Io.KnownBytes.{Appends};
-ghost use Rattle.std.specs.Option.{ok_or};
+ghost use Rattle.std.specs.Option.{ok_or, option_copied};
+ghost use Rattle.subset_lines.specs.Names.{name_of};
 ghost use Rattle.subsetter_base.specs.Gives.{Gives};
 ghost use Rattle.subsetter_base.specs.declared.error.Error.TheVariants.{MalformedFont, OutOfMemory};
 ghost use Rattle.subsetter_variation.specs.Axes.{axes};
@@ -12,6 +13,7 @@ ghost use Rattle.subsetter_base.specs.Bytes.{number};
 
 use crate::entry::Unwritten;
 use crate::fixed::write_fixed;
+use crate::names::{string_for, write_behind};
 use crate::plain::flush;
 use crate::text::write_text;
 use std::alloc::Global;
@@ -91,22 +93,32 @@ fn instances(alloc: Global, fvar: &[u8]) -> Result<Vec<&[u8]>, Error>
     instances_of(alloc, at, axes, axis_size, count, size, fvar)
 }
 
-/// The axes of a variable font, and the records of its named instances.
+/// The axes of a variable font, the records of its named instances, and its table `name`.
 #[derive(Drop)]
 pub struct FontAxes<'a> {
     pub axes: Vec<Axis>,
     pub instances: Vec<&'a [u8]>,
+    pub names: &'a [u8],
 }
 
-/// The axes and the named instances that `fvar` lists. A cut table is `MalformedFont`.
-pub fn read_axes(alloc: Global, fvar: &[u8]) -> Result<FontAxes<'_>, Error>
+/// The axes and the named instances that `fvar` lists, whose names stand in another table. A cut `fvar` is `MalformedFont`.
+pub fn read_axes<'a>(
+    alloc: Global,
+    fvar: &'a [u8],
+    names: &'a [u8],
+) -> Result<FontAxes<'a>, Error>
     ensures axes { IfOk result (λ a. axes fvar.now ≡ Some a.axes.items) }
     ensures instances { IfOk result (λ a. instances fvar.now ≡ Some (map (λ bytes. bytes.now) a.instances.items)) }
+    ensures names { IfOk result (λ a. a.names.now ≡ names.now) }
     ensures err { IfErr result (λ e. (e ≡ OutOfMemory) ⊎ ((e ≡ MalformedFont) × ((axes fvar.now ≡ None) ⊎ (instances fvar.now ≡ None)))) }
 {
     let axes = axes(alloc, fvar)?;
     let instances = instances(alloc, fvar)?;
-    Ok(FontAxes { axes, instances })
+    Ok(FontAxes {
+        axes,
+        instances,
+        names,
+    })
 }
 
 // ---- writing
@@ -218,13 +230,26 @@ fn write_settings<W: Write>(axes: &[Axis], bytes: &[u8], out: &mut W) -> Result<
     Ok(())
 }
 
+/// The name of a named instance, if there is one.
+fn name_of<'a>(names: &'a [u8], bytes: &[u8]) -> Option<&'a [u8]>
+    ensures { option_copied result ≡ name_of names.now (number bytes.now 0 2) }
+{
+    string_for(names, Reader::new(bytes).read::<u16>()?)
+}
+
 /// Writes the line of a named instance.
 #[tactic(auto, using(crate::proofs::Written::both))]
-fn write_instance<W: Write>(axes: &[Axis], bytes: &[u8], out: &mut W) -> Result<(), Unwritten>
-    ensures { OnOk result (Appends (W.contents out.old) (W.contents out.new) (instance_line axes.now bytes.now)) }
+fn write_instance<W: Write>(
+    axes: &[Axis],
+    names: &[u8],
+    bytes: &[u8],
+    out: &mut W,
+) -> Result<(), Unwritten>
+    ensures { OnOk result (Appends (W.contents out.old) (W.contents out.new) (instance_line axes.now names.now bytes.now)) }
 {
     write_text(b"instance ", out)?;
     write_settings(axes, after_four(bytes), out)?;
+    write_behind(name_of(names, bytes), out)?;
     write_text(b"\n", out)
 }
 
@@ -232,24 +257,25 @@ fn write_instance<W: Write>(axes: &[Axis], bytes: &[u8], out: &mut W) -> Result<
 #[tactic(auto, using(crate::proofs::Written::at_first, crate::proofs::Written::after_part, crate::proofs::Written::at_last))]
 fn write_instance_lines<W: Write>(
     axes: &[Axis],
+    names: &[u8],
     records: &[&[u8]],
     out: &mut W,
 ) -> Result<(), Unwritten>
-    ensures { OnOk result (Appends (W.contents out.old) (W.contents out.new) (instance_lines axes.now (map (λ bytes. bytes.now) records.now))) }
+    ensures { OnOk result (Appends (W.contents out.old) (W.contents out.new) (instance_lines axes.now names.now (map (λ bytes. bytes.now) records.now))) }
 {
     for bytes in records {
-        write_instance(axes, bytes, out)?;
+        write_instance(axes, names, bytes, out)?;
     }
     Ok(())
 }
 
 /// Writes a line for each axis, as `axis wght 100 400 900` (the tag, the least coordinate, the default and the greatest one),
-/// and one for each named instance, as `instance wght=650,wdth=87.5`. Then it passes on what the writer keeps back.
+/// and one for each named instance, as `instance wght=650,wdth=87.5 Semi Bold`. Then it passes on what the writer keeps back.
 #[tactic(auto, using(crate::proofs::Written::both, crate::proofs::Written::flushed))]
 pub fn write_axes<W: Write>(all: &FontAxes<'_>, out: &mut W) -> Result<(), Unwritten>
-    ensures { OnOk result (Appends (W.contents out.old) (W.contents out.new) (text_of all.now.axes.items (map (λ bytes. bytes.now) all.now.instances.items))) }
+    ensures { OnOk result (Appends (W.contents out.old) (W.contents out.new) (text_of all.now.axes.items all.now.names.now (map (λ bytes. bytes.now) all.now.instances.items))) }
 {
     write_axis_lines(&all.axes, out)?;
-    write_instance_lines(&all.axes, &all.instances, out)?;
+    write_instance_lines(&all.axes, all.names, &all.instances, out)?;
     flush(out)
 }

@@ -13,6 +13,7 @@ mod axes;
 mod entry;
 mod fixed;
 mod json;
+mod names;
 mod plain;
 mod text;
 
