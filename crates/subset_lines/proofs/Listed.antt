@@ -2,7 +2,7 @@
 use Rattle.std.proofs.Common.{◌≡◌, ℕ, suc, ◌+◌, ◌-◌, ◌<◌, List, [], ◌∷◌, ◌++◌, map, Option, Some, None, Result, Err, true, false, refl, sym, ap, ◌∙◌, append_assoc, arith}
 use Rattle.std.specs.Borrow.{Bor}
 use Rattle.std.proofs.lemmas.List.{map-append}
-use Rattle.std.specs.Option.{ok_or, option_map, option_and_then}
+use Rattle.std.specs.Option.{ok_or, option_map}
 use Rattle.subsetter_base.specs.Bytes.{range}
 use Rattle.subsetter_base.specs.declared.error.Error.{Error}
 use Rattle.subsetter_base.proofs.Results.{with_front}

@@ -1,5 +1,5 @@
 -- Parts of the text that tells the new numbers.
-use Rattle.std.specs.Prelude.{ℕ, false, true, ◌^◌, ◌-◌, List, [], ◌∷◌, ◌++◌, Option, Some, None, codes, decimal}
+use Rattle.std.specs.Prelude.{ℕ, false, true, ◌^◌, ◌-◌, List, [], ◌∷◌, Option, Some, None}
 use Rattle.std.specs.Fmt.{digits, padded_integral, format_spec}
 
 -- the glyphs that are told, with the characters that they stand for, as far as there are any, and the old numbers in the order of the new ones
