@@ -125,19 +125,45 @@ def fixed(*values):
     return b"".join(round(it * 65536).to_bytes(4, "big", signed=True) for it in values)
 
 
-def axes_font(axes, instances, size=None, cut=0):
-    """A font with these axes (tag, least, default, greatest) and coordinates of named instances, whose records have so many bytes."""
+def axes_font(axes, instances, size=None, cut=0, further=()):
+    """A font with these axes (tag, least, default, greatest) and coordinates of named instances, whose records have so many bytes.
+    Their names are 257, 258 and so on."""
     size = 4 + 4 * len(axes) if size is None else size
     fvar = made.u16s(1, 0, 16, 2, len(axes), 20, len(instances), size)
     fvar += b"".join(tag + fixed(*values) + made.u16s(0, 256) for tag, *values in axes)
-    fvar += b"".join(made.u16s(257, 0) + fixed(*it) + bytes(max(size - 4 - 4 * len(axes), 0)) for it in instances)
-    return made.font(sorted([("fvar", fvar[:len(fvar) - cut]), *FURTHER]))
+    fvar += b"".join(made.u16s(257 + k, 0) + fixed(*it) + bytes(max(size - 4 - 4 * len(axes), 0)) for k, it in enumerate(instances))
+    return made.font(sorted([("fvar", fvar[:len(fvar) - cut]), *FURTHER, *further]))
+
+
+def names(*records, count=None, cut=0):
+    """A table `name` of these (platform, encoding, language, number, text, bytes by which its length is too great)."""
+    storage, heads = b"", b""
+    for platform, encoding, language, number, text, more in records:
+        data = text.encode("utf-16-be", "surrogatepass")
+        heads += made.u16s(platform, encoding, language, number, len(data) + more, len(storage))
+        storage += data
+    table = made.u16s(0, len(records) if count is None else count, 6 + len(heads)) + heads + storage
+    return [("name", table[:len(table) - cut])]
+
+
+ONE_AXIS = [(b"wght", 100, 400, 900)]
+# The names of the instances 257 to 264: American English before what stands earlier; Windows before Unicode; Windows of UTF-32's
+# encoding; Unicode alone; Macintosh alone; of characters that no line has, and half of a pair; a string that ends outside; none.
+INSTANCE_NAMES = names(
+    (0, 3, 0, 257, "Unicode", 0), (3, 1, 0x0407, 257, "Fett", 0), (3, 1, 0x0409, 257, "Semi Bold", 0), (3, 1, 0x0409, 257, "Later", 0),
+    (0, 3, 0, 258, "Unicode", 0), (3, 0, 0x0409, 258, "Symbols", 0), (3, 1, 0x0407, 258, "Fett \u00e9\u6c38", 0),
+    (3, 10, 0x0409, 259, "Ten", 0), (0, 4, 0x0409, 260, "Zero", 0), (1, 0, 0, 261, "Mac", 0),
+    (3, 1, 0x0409, 262, "a\nb\x7f\x9f\ud801~\xa0", 0), (3, 1, 0x0409, 263, "Cut", 100))
 
 
 TWO_AXES = [(b"wght", -32768, 389.344249, 32767.99999), (b"w\nt\xe9", 0, 0.5, 1 / 65536)]
 
 FONTS = {
     "variable": VARIABLE,
+    "axes_named": axes_font(ONE_AXIS, [(k,) for k in range(257, 265)], further=INSTANCE_NAMES),
+    # (the third record is cut, so the first two are all)
+    "axes_few_names": axes_font(ONE_AXIS, [(1,), (2,)], further=[("name", made.u16s(0, 3, 30, 0, 3, 0, 257, 2, 0, 0, 3, 0, 258, 3, 0) + b"\0A\0B")]),
+    "axes_cut_names": axes_font(ONE_AXIS, [(1,)], further=[("name", made.u16s(0, 1) + b"\0")]),
     "axes": axes_font(TWO_AXES, [(-1 / 65536, 87.5), (650, -1.25)], 14),
     "axes_only": axes_font([(b"wght", 0, 0.1, 0.12), (b"w\x7ft\x1f", 0.123, 0.1234, 1)], [], 0),
     "axes_cut_0": axes_font(TWO_AXES, [(1, 2)], 11),
@@ -302,6 +328,11 @@ ROWS = [
     Row("--axes axes 0", out=b"axis wght -32768 389.34425 32767.99998\naxis w?t? 0 0.5 0.00002\n"
         b"instance wght=-0.00002,w?t?=87.5\ninstance wght=650,w?t?=-1.25\n"),
     Row("--axes axes_only 0", out=b"axis wght 0 0.10001 0.12\naxis w?t? 0.123 0.1234 1\n"),
+    Row("--axes axes_named 0", out="axis wght 100 400 900\ninstance wght=257 Semi Bold\ninstance wght=258 Fett \u00e9\u6c38\n"
+        "instance wght=259 Ten\ninstance wght=260 Zero\ninstance wght=261\n"
+        "instance wght=262 a\ufffdb\ufffd\ufffd\ufffd~\xa0\ninstance wght=263\ninstance wght=264\n".encode()),
+    Row("--axes axes_few_names 0", out=b"axis wght 100 400 900\ninstance wght=1 A\ninstance wght=2 A\n"),
+    Row("--axes axes_cut_names 0", out=b"axis wght 100 400 900\ninstance wght=1\n"),
     Row("--axes simple 0"),
     Row("--axes cff 0"),
     *(Row(f"--axes axes_cut_{k} 0", 1, err=b"malformed font\n") for k in range(3)),
