@@ -1,10 +1,12 @@
 -- What is unfolded, and within what bounds.
-use Rattle.std.proofs.Common.{◌≡◌, ◌≤◌, ◌<◌, ◌^◌, ◌+◌, ◌++◌, ℕ, ℤ, List, length, map, unsigned_abs, get_or, drop, pos, w64, to_z, of_z, [], ◌∷◌, append_assoc, sym, subst, arith}
-use Rattle.std.specs.Prelude.{All, zip}
+use Rattle.std.proofs.Common.{◌≡◌, ◌≤◌, ◌<◌, ◌^◌, ◌+◌, ◌++◌, ℕ, ℤ, List, length, map, unsigned_abs, get_or, drop, pos, w64, to_z, of_z, [], ◌∷◌, append_assoc, sym, subst, arith, ◌+ℤ◌, ◌∙◌, true, refl, Bool, IsTrue}
+use Rattle.std.specs.Prelude.{All, nat_le, zip}
+use Rattle.std.proofs.lemmas.Bool.{leb-true}
+use Rattle.std.proofs.lemmas.List.Sums.{AllPass-from_list_all}
 use Rattle.std.proofs.lemmas.Int.{to_z-of_z, fits_signed_from_abs}
-use Rattle.std.proofs.lemmas.List.{append-nil, drop_all, drop_more, length-append}
+use Rattle.std.proofs.lemmas.List.{append-nil, drop_all, drop_more, length-append, length-map}
 use Rattle.std.proofs.lemmas.List.Elements.{All-append, All-cons, All-map, All-nil, All-weaker}
-use Rattle.subsetter_instance.specs.Unfolded.{Unfolded, IsInReach, joined_parts}
+use Rattle.subsetter_instance.specs.Unfolded.{Unfolded, IsInReach, are_near, joined_parts, moved_part, shifted}
 
 wide_47 : (x : ℤ) → unsigned_abs x ≤ 2 ^ 45 → unsigned_abs x ≤ 2 ^ 47
 wide_47 x h = omega arith
@@ -49,3 +51,28 @@ kept z h = to_z-of_z w64 z (fits_signed_from_abs w64 z (omega arith))
 
 pub one_more : (n : ℕ) (xs ys : List ℤ) (z : ℤ) → ys ≡ xs ++ z ∷ [] → unsigned_abs z ≤ n → All (λ x. unsigned_abs x ≤ n) xs → All (λ x. unsigned_abs x ≤ n) ys
 one_more n xs ys z e h a = subst (All (λ x. unsigned_abs x ≤ n)) (sym e) (All-append (λ x. unsigned_abs x ≤ n) xs (z ∷ []) a (All-cons (λ x. unsigned_abs x ≤ n) z [] h (All-nil (λ x. unsigned_abs x ≤ n))))
+
+near_all : (xs : List ℤ) → are_near xs ≡ true → All (λ x. unsigned_abs x ≤ 2 ^ 45) xs
+near_all xs h = All-weaker (λ x. nat_le (unsigned_abs x) (2 ^ 45) ≡ true) (λ x. unsigned_abs x ≤ 2 ^ 45) (λ x k. leb-true (unsigned_abs x) (2 ^ 45) k) xs (AllPass-from_list_all (λ x. nat_le (unsigned_abs x) (2 ^ 45)) xs h)
+
+-- a component that is moved and stays near
+pub moved_reach : (u : Unfolded) (x y : ℤ) (xs ys : List ℤ) → IsInReach u → length xs ≡ length u.on → length ys ≡ length u.on → are_near (shifted x xs) ≡ true → are_near (shifted y ys) ≡ true → IsInReach (moved_part u x y xs ys)
+moved_reach u x y xs ys h m n p q = record {
+  shape = record {
+    xs = length-map xs (λ v. v +ℤ x) ∙ m;
+    ys = length-map ys (λ v. v +ℤ y) ∙ n;
+    ends = h.shape.ends;
+    left = h.shape.left;
+    right = h.shape.right;
+  };
+  xs = near_all (shifted x xs) p;
+  ys = near_all (shifted y ys) q;
+}
+
+abbrev pub unfolded_of : List ℕ → List Bool → List ℤ → List ℤ → ℤ → ℤ → Unfolded
+unfolded_of es on xs ys l r = record { ends = es; on = on; xs = xs; ys = ys; left = l; right = r }
+
+-- records of the same fields are the same
+pub same_unfolded : (es fs : List ℕ) (on un : List Bool) (xs zs ys ws : List ℤ) (l m r q : ℤ) → es ≡ fs → on ≡ un → xs ≡ zs → ys ≡ ws → l ≡ m → r ≡ q
+    → unfolded_of es on xs ys l r ≡ unfolded_of fs un zs ws m q
+same_unfolded es fs on un xs zs ys ws l m r q a b c d e f = rw (a, b, c, d, e, f) refl

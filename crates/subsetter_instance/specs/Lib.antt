@@ -3,6 +3,7 @@ pub mod Components
 pub mod Drawn
 pub mod Fault
 pub mod Instance
+pub mod Kept
 pub mod Laws
 pub mod Optional
 pub mod Plain

@@ -191,6 +191,21 @@ with_part c x y before part steps = do
   near ← near_or_fault p steps
   joined_or_fault before near.0 near.1
 
+-- the points of a component that come out of its matrix, moved
+abbrev pub moved_part : Unfolded → ℤ → ℤ → List ℤ → List ℤ → Unfolded
+moved_part part x y xs ys = record part { xs = shifted x xs; ys = shifted y ys }
+
+-- the same in two parts, for points that come out of the matrix
+unfoldable pub joined_moved : Unfolded → Unfolded → ℤ → ℤ → List ℤ → List ℤ → ℕ → Result (Unfolded × ℕ) Error
+joined_moved before part x y xs ys steps = do
+  near ← near_or_fault (moved_part part x y xs ys) steps
+  joined_or_fault before near.0 near.1
+
+unfoldable pub with_points : Component → ℤ → ℤ → Unfolded → Unfolded → List ℤ → List ℤ → ℕ → Result (Unfolded × ℕ) Error
+with_points c x y before part xs ys steps = do
+  by ← shift_by c.arguments (is_scaled c.flags c.matrix) x y before xs ys
+  joined_moved before part by.0 by.1 xs ys steps
+
 -- ---- a composite glyph
 
 -- of a component's number what it unfolds to, in the steps that are left

@@ -149,12 +149,12 @@ impl Composite {
         k: usize,
         component: Component,
         before: Unfolded,
-        part: Unfolded,
+        part: &Unfolded,
         steps: u32,
     ) -> Result<(Unfolded, u32), Error>
         requires before { IsInReach before }
-        requires part { IsInReach part }
-        ensures value { Gives (λ r. (r.0, r.1)) result (with_part component (slice_index_or self.now.xs k (pos 0)) (slice_index_or self.now.ys k (pos 0)) before part steps) }
+        requires part { IsInReach part.now }
+        ensures value { Gives (λ r. (r.0, r.1)) result (with_part component (slice_index_or self.now.xs k (pos 0)) (slice_index_or self.now.ys k (pos 0)) before part.now steps) }
         ensures bound { IfOk result (λ r. IsInReach r.0) }
     {
         let x = coordinate_at(&self.xs, k);

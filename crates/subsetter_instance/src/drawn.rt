@@ -1,16 +1,18 @@
 //! What a glyph is at a place.
 
-ghost use Rattle.std.specs.Prelude.{◌≡◌, ◌≤◌, ◌^◌, ◌-ℤ◌, All, length, unsigned_abs};
+ghost use Rattle.std.specs.Prelude.{◌≡◌, ◌≤◌, ◌^◌, ◌-ℤ◌, All, IfOk, length, unsigned_abs};
 ghost use Rattle.std.specs.Int.{int_min};
 ghost use Rattle.std.specs.List.{fold};
 ghost use Rattle.std.specs.Option.{option_copied};
 ghost use Rattle.subsetter_base.specs.Gives.{Gives};
 ghost use Rattle.subsetter_points.specs.Simple.{xs_of};
+ghost use Rattle.subsetter_instance.specs.Kept.{AreKept};
 ghost use Rattle.subsetter_instance.specs.Source.{HasAxes};
 ghost use Rattle.subsetter_instance.specs.Drawn.{whole, word_or_fault, point_or_fault, points_or_fault, advance_or_fault, advance, bearing, drawn_if_fit, rounded, drawn};
 ghost use Rattle.subsetter_instance.specs.Plain.{drawn_if, drawn_all};
 ghost use Rattle.subsetter_instance.specs.Unfolded.{IsInReach};
 
+use crate::kept::Kept;
 use crate::source::{Metric, Source};
 use crate::unfolding::{Unfolded, unfold};
 use std::alloc::Global;
@@ -219,7 +221,7 @@ fn rounded(
     drawn_if_fit(outline, advance)
 }
 
-/// What is drawn of a glyph at a place, in so many steps.
+/// What is drawn of a glyph at a place, in so many steps, and the glyphs that are kept.
 #[tactic(auto, unfolding(crate::specs::Drawn::drawn))]
 pub fn draw(
     alloc: Global,
@@ -227,28 +229,35 @@ pub fn draw(
     at: &[i32],
     steps: u32,
     glyph: u16,
-) -> Result<Drawn, Error>
-    requires { HasAxes source.now.gvar (length at.now) }
-    ensures { Gives (λ d. d) result (drawn source.now at.now steps glyph) }
+    kept: Kept,
+) -> Result<(Drawn, Kept), Error>
+    requires axes { HasAxes source.now.gvar (length at.now) }
+    requires kept { AreKept source.now at.now kept }
+    ensures value { Gives (λ r. r.0) result (drawn source.now at.now steps glyph) }
+    ensures kept { IfOk result (λ r. AreKept source.now at.now r.1) }
 {
     let metric = source.metric(glyph).ok_or(Error::MalformedFont)?;
-    let (unfolded, _) = unfold(alloc, source, at, steps, glyph)?;
-    rounded(alloc, source, at, glyph, metric, unfolded)
+    let (unfolded, _, kept) = unfold(alloc, source, at, steps, glyph, kept)?;
+    let drawn = rounded(alloc, source, at, glyph, metric, unfolded)?;
+    Ok((drawn, kept))
 }
 
-/// What is drawn of a glyph that is asked for. `MalformedFont` where it is none of the font's.
+/// What is drawn of a glyph that is asked for, and the glyphs that are kept. `MalformedFont` where it is none of the font's.
 fn drawn_if(
     alloc: Global,
     source: &Source<'_>,
     at: &[i32],
     steps: u32,
     glyph: u16,
-) -> Result<Drawn, Error>
-    requires { HasAxes source.now.gvar (length at.now) }
-    ensures { Gives (λ d. d) result (drawn_if source.now at.now steps glyph) }
+    kept: Kept,
+) -> Result<(Drawn, Kept), Error>
+    requires axes { HasAxes source.now.gvar (length at.now) }
+    requires kept { AreKept source.now at.now kept }
+    ensures value { Gives (λ r. r.0) result (drawn_if source.now at.now steps glyph) }
+    ensures kept { IfOk result (λ r. AreKept source.now at.now r.1) }
 {
     if glyph < source.count() {
-        draw(alloc, source, at, steps, glyph)
+        draw(alloc, source, at, steps, glyph, kept)
     } else {
         Err(Error::MalformedFont)
     }
@@ -267,8 +276,11 @@ pub fn draw_all(
     ensures { Gives (λ v. v.items) result (drawn_all source.now at.now steps mapper.now) }
 {
     let mut all = Vec::with_capacity(alloc, usize::from(mapper.num_gids()))?;
+    let mut kept = Kept::new(alloc);
     for glyph in mapper.remapped_gids() {
-        all.push(drawn_if(alloc, source, at, steps, glyph)?)?;
+        let (drawn, others) = drawn_if(alloc, source, at, steps, glyph, kept)?;
+        all.push(drawn)?;
+        kept = others;
     }
     Ok(all)
 }

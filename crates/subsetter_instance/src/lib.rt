@@ -9,6 +9,7 @@ pub mod file;
 pub mod glyph;
 pub mod headers;
 pub mod instancing;
+pub mod kept;
 pub mod laws;
 pub mod placing;
 pub mod simple;

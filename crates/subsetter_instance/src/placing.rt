@@ -3,10 +3,9 @@
 ghost use Rattle.std.specs.Prelude.{◌≡◌, ◌≤◌, ◌<◌, ◌^◌, ◌+◌, ◌++◌, ◌*ℤ◌, ◌+ℤ◌, ℕ, length, map, zip, slice_get, unsigned_abs, All, IfOk, IfSome};
 ghost use Rattle.subsetter_base.specs.Gives.{Gives};
 ghost use Rattle.subsetter_variation.specs.Nearest.{nearest};
-ghost use Rattle.subsetter_instance.specs.Unfolded.{IsInReach, IsShaped, is_scaled, joined_or_fault, joined_parts, matched, placed, point_at, shift_by, shifted, transformed_x, transformed_xs, transformed_y, transformed_ys, with_part};
+ghost use Rattle.subsetter_instance.specs.Unfolded.{IsInReach, are_near, is_scaled, joined_moved, joined_parts, matched, moved_part, point_at, shift_by, shifted, transformed_x, transformed_y, with_part, with_points};
 
 use crate::components::{Arguments, Component, Matrix, has};
-use crate::simple::near_or_fault;
 use crate::unfolding::Unfolded;
 use std::alloc::{AllocError, Global};
 use subsetter_base::Error;
@@ -97,60 +96,6 @@ fn all_ys(alloc: Global, m: Matrix, xs: &[i64], ys: &[i64]) -> Result<Vec<i64>, 
     Ok(all)
 }
 
-/// The points of a component through its matrix, from left to right.
-fn transformed_xs(
-    alloc: Global,
-    matrix: Option<Matrix>,
-    xs: &[i64],
-    ys: &[i64],
-) -> Result<Vec<i64>, AllocError>
-    requires same { length ys.now ≡ length xs.now }
-    requires xs { All (λ v. unsigned_abs v ≤ 2 ^ 45) xs.now }
-    requires ys { All (λ v. unsigned_abs v ≤ 2 ^ 45) ys.now }
-    ensures len { IfOk result (λ v. length v.items ≡ length xs.now) }
-    ensures value { IfOk result (λ v. v.items ≡ transformed_xs matrix xs.now ys.now) }
-    ensures bound { IfOk result (λ v. All (λ z. unsigned_abs z ≤ 2 ^ 47) v.items) }
-{
-    match matrix {
-        None => Vec::from_slice(alloc, xs),
-        Some(m) => all_xs(alloc, m, xs, ys),
-    }
-}
-
-/// The points of a component through its matrix, from below to above.
-fn transformed_ys(
-    alloc: Global,
-    matrix: Option<Matrix>,
-    xs: &[i64],
-    ys: &[i64],
-) -> Result<Vec<i64>, AllocError>
-    requires same { length ys.now ≡ length xs.now }
-    requires xs { All (λ v. unsigned_abs v ≤ 2 ^ 45) xs.now }
-    requires ys { All (λ v. unsigned_abs v ≤ 2 ^ 45) ys.now }
-    ensures len { IfOk result (λ v. length v.items ≡ length xs.now) }
-    ensures value { IfOk result (λ v. v.items ≡ transformed_ys matrix xs.now ys.now) }
-    ensures bound { IfOk result (λ v. All (λ z. unsigned_abs z ≤ 2 ^ 47) v.items) }
-{
-    match matrix {
-        None => Vec::from_slice(alloc, ys),
-        Some(m) => all_ys(alloc, m, xs, ys),
-    }
-}
-
-/// Coordinates, moved.
-fn shifted(alloc: Global, by: i64, vs: &[i64]) -> Result<Vec<i64>, AllocError>
-    requires by { unsigned_abs by ≤ 2 ^ 57 }
-    requires vs { All (λ v. unsigned_abs v ≤ 2 ^ 47) vs.now }
-    ensures len { IfOk result (λ v. length v.items ≡ length vs.now) }
-    ensures value { IfOk result (λ v. v.items ≡ shifted by vs.now) }
-{
-    let mut moved = Vec::with_capacity(alloc, vs.len())?;
-    for v in vs {
-        moved.push(plus(*v, by))?;
-    }
-    Ok(moved)
-}
-
 /// Whether an offset is to be scaled.
 fn is_scaled(flags: u16, matrix: Option<Matrix>) -> bool
     ensures { result ≡ is_scaled flags matrix }
@@ -220,53 +165,32 @@ fn shift_by(
     }
 }
 
-/// A component's points, through its matrix and moved.
-#[tactic(auto, unfolding(crate::specs::Unfolded::placed), using(crate::proofs::Reach::wider_47))]
-fn placed(
-    alloc: Global,
-    component: Component,
-    x: i64,
-    y: i64,
-    before: &Unfolded,
-    part: Unfolded,
-) -> Result<Unfolded, Error>
-    requires x { unsigned_abs x ≤ 2 ^ 57 }
-    requires y { unsigned_abs y ≤ 2 ^ 57 }
-    requires before { IsInReach before.now }
-    requires part { IsInReach part }
-    ensures value { Gives (λ u. u) result (placed component x y before.now part) }
-    ensures shape { IfOk result (λ u. IsShaped u) }
+/// Whether no coordinate is more than 32768 units from 0 when it is moved.
+fn are_near_moved(by: i64, vs: &[i64]) -> bool
+    requires by { unsigned_abs by ≤ 2 ^ 57 }
+    requires vs { All (λ v. unsigned_abs v ≤ 2 ^ 47) vs.now }
+    ensures { result ≡ are_near (shifted by vs.now) }
 {
-    let Unfolded {
-        ends,
-        on,
-        xs,
-        ys,
-        left,
-        right,
-    } = part;
-    let through_xs = transformed_xs(alloc, component.matrix, &xs, &ys)?;
-    let through_ys = transformed_ys(alloc, component.matrix, &xs, &ys)?;
-    let scaled = is_scaled(component.flags, component.matrix);
-    let (across, up) = shift_by(
-        component.arguments,
-        scaled,
-        x,
-        y,
-        before,
-        &through_xs,
-        &through_ys,
-    )?;
-    let xs = shifted(alloc, across, &through_xs)?;
-    let ys = shifted(alloc, up, &through_ys)?;
-    Ok(Unfolded {
-        ends,
-        on,
-        xs,
-        ys,
-        left,
-        right,
-    })
+    for v in vs {
+        if plus(*v, by).unsigned_abs() > 1 << 45 {
+            return false;
+        }
+    }
+    true
+}
+
+/// Coordinates, and behind them those of a component, moved.
+fn joined_coordinates(before: Vec<i64>, by: i64, vs: &[i64]) -> Result<Vec<i64>, AllocError>
+    requires by { unsigned_abs by ≤ 2 ^ 57 }
+    requires vs { All (λ v. unsigned_abs v ≤ 2 ^ 47) vs.now }
+    ensures { IfOk result (λ v. v.items ≡ before.items ++ shifted by vs.now) }
+{
+    let mut all = before;
+    all.reserve(vs.len())?;
+    for v in vs {
+        all.push(plus(*v, by))?;
+    }
+    Ok(all)
 }
 
 /// The ends of contours, and those of a component of m points behind n points.
@@ -276,34 +200,43 @@ fn joined_ends(ends: Vec<u16>, n: usize, m: usize, part: &[u16]) -> Result<Vec<u
     ensures { IfOk result (λ v. v.items ≡ ends.items ++ map (λ e. e + n) part.now) }
 {
     let mut ends = ends;
+    ends.reserve(part.len())?;
     for end in part {
         ends.push(*end + n as u16)?;
     }
     Ok(ends)
 }
 
-/// A component behind those before it.
-fn joined_parts(before: Unfolded, part: &Unfolded) -> Result<Unfolded, AllocError>
-    requires before { IsInReach before }
-    requires part { IsInReach part.now }
+/// A component, of which these are the points, moved, behind those before it.
+fn joined_parts(
+    before: Unfolded,
+    part: &Unfolded,
+    across: i64,
+    up: i64,
+    xs: &[i64],
+    ys: &[i64],
+) -> Result<Unfolded, AllocError>
+    requires across { unsigned_abs across ≤ 2 ^ 57 }
+    requires up { unsigned_abs up ≤ 2 ^ 57 }
+    requires xs { All (λ v. unsigned_abs v ≤ 2 ^ 47) xs.now }
+    requires ys { All (λ v. unsigned_abs v ≤ 2 ^ 47) ys.now }
+    requires ends { All (λ e. e < length part.now.on) part.now.ends }
     requires few { length before.on + length part.now.on < 65536 }
-    ensures value { IfOk result (λ u. u ≡ joined_parts before part.now) }
+    ensures value { IfOk result (λ u. u ≡ joined_parts before (moved_part part.now across up xs.now ys.now)) }
 {
     let Unfolded {
         ends,
         on,
-        xs,
-        ys,
+        xs: before_xs,
+        ys: before_ys,
         left,
         right,
     } = before;
     let ends = joined_ends(ends, on.len(), part.on.len(), &part.ends)?;
     let mut on = on;
-    let mut xs = xs;
-    let mut ys = ys;
     on.extend_from_slice(&part.on)?;
-    xs.extend_from_slice(&part.xs)?;
-    ys.extend_from_slice(&part.ys)?;
+    let xs = joined_coordinates(before_xs, across, xs)?;
+    let ys = joined_coordinates(before_ys, up, ys)?;
     Ok(Unfolded {
         ends,
         on,
@@ -314,40 +247,90 @@ fn joined_parts(before: Unfolded, part: &Unfolded) -> Result<Unfolded, AllocErro
     })
 }
 
-/// A component behind those before it, and the steps that are left. `OverflowError` where there are more than 65535 points.
-#[tactic(auto, using(crate::proofs::Reach::joined_reach))]
-fn joined_or_fault(before: Unfolded, part: &Unfolded, steps: u32) -> Result<(Unfolded, u32), Error>
+/// A component, of which these are the points, moved, behind those before it, and the steps that are left. `OverflowError` where
+/// one of its coordinates is more than 32768 units from 0, or where there are more than 65535 points.
+#[tactic(auto, unfolding(crate::specs::Unfolded::joined_moved))]
+fn joined_moved(
+    before: Unfolded,
+    part: &Unfolded,
+    across: i64,
+    up: i64,
+    xs: &[i64],
+    ys: &[i64],
+    steps: u32,
+) -> Result<(Unfolded, u32), Error>
+    requires across { unsigned_abs across ≤ 2 ^ 57 }
+    requires up { unsigned_abs up ≤ 2 ^ 57 }
+    requires xs { All (λ v. unsigned_abs v ≤ 2 ^ 47) xs.now }
+    requires ys { All (λ v. unsigned_abs v ≤ 2 ^ 47) ys.now }
     requires before { IsInReach before }
     requires part { IsInReach part.now }
-    ensures value { Gives (λ r. (r.0, r.1)) result (joined_or_fault before part.now steps) }
+    requires many_xs { length xs.now ≡ length part.now.on }
+    requires many_ys { length ys.now ≡ length part.now.on }
+    ensures value { Gives (λ r. (r.0, r.1)) result (joined_moved before part.now across up xs.now ys.now steps) }
     ensures bound { IfOk result (λ r. IsInReach r.0) }
 {
-    if before.on.len() + part.on.len() < 65536 {
-        Ok((joined_parts(before, part)?, steps))
-    } else {
-        Err(Error::OverflowError)
+    if !(are_near_moved(across, xs) && are_near_moved(up, ys)) {
+        return Err(Error::OverflowError);
     }
+    if before.on.len() + part.on.len() >= 65536 {
+        return Err(Error::OverflowError);
+    }
+    Ok((joined_parts(before, part, across, up, xs, ys)?, steps))
+}
+
+/// A component, of which these are the points through its matrix, placed behind those before it, and the steps that are left.
+#[tactic(auto, unfolding(crate::specs::Unfolded::with_points), using(crate::proofs::Reach::wider_47))]
+fn with_points(
+    component: Component,
+    x: i64,
+    y: i64,
+    before: Unfolded,
+    part: &Unfolded,
+    xs: &[i64],
+    ys: &[i64],
+    steps: u32,
+) -> Result<(Unfolded, u32), Error>
+    requires x { unsigned_abs x ≤ 2 ^ 57 }
+    requires y { unsigned_abs y ≤ 2 ^ 57 }
+    requires xs { All (λ v. unsigned_abs v ≤ 2 ^ 47) xs.now }
+    requires ys { All (λ v. unsigned_abs v ≤ 2 ^ 47) ys.now }
+    requires before { IsInReach before }
+    requires part { IsInReach part.now }
+    requires many_xs { length xs.now ≡ length part.now.on }
+    requires many_ys { length ys.now ≡ length part.now.on }
+    ensures value { Gives (λ r. (r.0, r.1)) result (with_points component x y before part.now xs.now ys.now steps) }
+    ensures bound { IfOk result (λ r. IsInReach r.0) }
+{
+    let scaled = is_scaled(component.flags, component.matrix);
+    let (across, up) = shift_by(component.arguments, scaled, x, y, &before, xs, ys)?;
+    joined_moved(before, part, across, up, xs, ys, steps)
 }
 
 /// The components before a component, and itself, and the steps that are left.
-#[tactic(auto, unfolding(crate::specs::Unfolded::with_part))]
+#[tactic(auto, using(crate::proofs::PartLemmas::plain_part, crate::proofs::PartLemmas::turned_part, crate::proofs::Reach::wider_47))]
 pub fn with_part(
     alloc: Global,
     component: Component,
     x: i64,
     y: i64,
     before: Unfolded,
-    part: Unfolded,
+    part: &Unfolded,
     steps: u32,
 ) -> Result<(Unfolded, u32), Error>
     requires x { unsigned_abs x ≤ 2 ^ 57 }
     requires y { unsigned_abs y ≤ 2 ^ 57 }
     requires before { IsInReach before }
-    requires part { IsInReach part }
-    ensures value { Gives (λ r. (r.0, r.1)) result (with_part component x y before part steps) }
+    requires part { IsInReach part.now }
+    ensures value { Gives (λ r. (r.0, r.1)) result (with_part component x y before part.now steps) }
     ensures bound { IfOk result (λ r. IsInReach r.0) }
 {
-    let placed = placed(alloc, component, x, y, &before, part)?;
-    let (near, steps) = near_or_fault(placed, steps)?;
-    joined_or_fault(before, &near, steps)
+    match component.matrix {
+        None => with_points(component, x, y, before, part, &part.xs, &part.ys, steps),
+        Some(m) => {
+            let xs = all_xs(alloc, m, &part.xs, &part.ys)?;
+            let ys = all_ys(alloc, m, &part.xs, &part.ys)?;
+            with_points(component, x, y, before, part, &xs, &ys, steps)
+        }
+    }
 }

@@ -3,11 +3,13 @@
 ghost use Rattle.std.specs.Prelude.{◌≡◌, IfOk, length};
 ghost use Rattle.std.specs.Option.{option_copied};
 ghost use Rattle.subsetter_base.specs.Gives.{Gives};
+ghost use Rattle.subsetter_instance.specs.Kept.{AreKept};
 ghost use Rattle.subsetter_instance.specs.Source.{HasAxes};
 ghost use Rattle.subsetter_instance.specs.Unfolded.{IsInReach, counted_description, is_composite, unfolded};
 ghost use Rattle.subsetter_instance.specs.Drawn.{levels};
 
 use crate::composite::read_composite;
+use crate::kept::Kept;
 use crate::simple::unfold_simple;
 use crate::source::Source;
 use std::alloc::Global;
@@ -39,7 +41,7 @@ impl Model for Unfolded {
 }
 
 /// Whether bytes are the description of a composite glyph.
-fn is_composite(bytes: &[u8]) -> bool
+pub fn is_composite(bytes: &[u8]) -> bool
     ensures { result ≡ is_composite bytes.now }
 {
     let Some(contours) = Reader::new(bytes).read::<u16>() else {
@@ -49,7 +51,7 @@ fn is_composite(bytes: &[u8]) -> bool
 }
 
 /// The description of a glyph that `maxp` counts, if it is there.
-fn counted_description<'a>(source: &Source<'a>, glyph: u16) -> Option<&'a [u8]>
+pub fn counted_description<'a>(source: &Source<'a>, glyph: u16) -> Option<&'a [u8]>
     ensures { option_copied result ≡ counted_description source.now glyph }
 {
     if glyph < source.count() {
@@ -59,7 +61,7 @@ fn counted_description<'a>(source: &Source<'a>, glyph: u16) -> Option<&'a [u8]>
     }
 }
 
-/// A glyph at a place, and the steps that are left. It may lead to components so many levels deep.
+/// A glyph at a place, the steps that are left, and the glyphs that are kept. It may lead to components so many levels deep.
 #[tactic(auto, unfolding(crate::specs::Unfolded::unfolded))]
 fn unfold_within(
     alloc: Global,
@@ -68,10 +70,13 @@ fn unfold_within(
     at: &[i32],
     steps: u32,
     glyph: u16,
-) -> Result<(Unfolded, u32), Error>
-    requires { HasAxes source.now.gvar (length at.now) }
+    kept: Kept,
+) -> Result<(Unfolded, u32, Kept), Error>
+    requires axes { HasAxes source.now.gvar (length at.now) }
+    requires kept { AreKept source.now at.now kept }
     ensures value { Gives (λ r. (r.0, r.1)) result (unfolded depth source.now at.now steps glyph) }
     ensures bound { IfOk result (λ r. IsInReach r.0) }
+    ensures kept { IfOk result (λ r. AreKept source.now at.now r.2) }
 {
     if depth == 0 {
         return Err(Error::MalformedFont);
@@ -79,33 +84,47 @@ fn unfold_within(
     let bytes = counted_description(source, glyph).ok_or(Error::MalformedFont)?;
     let metric = source.metric(glyph).ok_or(Error::MalformedFont)?;
     if !is_composite(bytes) {
-        return unfold_simple(alloc, source, at, steps, glyph, bytes, metric);
+        let (simple, left) = unfold_simple(alloc, source, at, steps, glyph, bytes, metric)?;
+        return Ok((simple, left, kept));
     }
     let composite = read_composite(alloc, source, at, steps, glyph, bytes, metric)?;
     let parts = &composite;
     let mut all = parts.no_points(alloc);
     let mut left = parts.steps();
+    let mut kept = kept;
     for k in 0..parts.count() {
         let component = parts.component(k);
-        let (part, rest) = unfold_within(alloc, depth - 1, source, at, left, component.glyph)?;
-        let (more, rest) = parts.with_component(alloc, k, component, all, part, rest)?;
-        all = more;
-        left = rest;
+        if let Some(found) = kept.find(depth - 1, component.glyph, left) {
+            let rest = left - found.cost;
+            let (more, rest) = parts.with_component(alloc, k, component, all, &found.outline, rest)?;
+            all = more;
+            left = rest;
+        } else {
+            let (part, rest, others) =
+                unfold_within(alloc, depth - 1, source, at, left, component.glyph, kept)?;
+            let (more, next) = parts.with_component(alloc, k, component, all, &part, rest)?;
+            kept = others.with(alloc, source, at, depth - 1, left, component.glyph, part, rest)?;
+            all = more;
+            left = next;
+        }
     }
-    Ok((all, left))
+    Ok((all, left, kept))
 }
 
-/// A glyph at a place, and the steps that are left.
+/// A glyph at a place, the steps that are left, and the glyphs that are kept.
 pub fn unfold(
     alloc: Global,
     source: &Source<'_>,
     at: &[i32],
     steps: u32,
     glyph: u16,
-) -> Result<(Unfolded, u32), Error>
-    requires { HasAxes source.now.gvar (length at.now) }
+    kept: Kept,
+) -> Result<(Unfolded, u32, Kept), Error>
+    requires axes { HasAxes source.now.gvar (length at.now) }
+    requires kept { AreKept source.now at.now kept }
     ensures value { Gives (λ r. (r.0, r.1)) result (unfolded levels source.now at.now steps glyph) }
     ensures bound { IfOk result (λ r. IsInReach r.0) }
+    ensures kept { IfOk result (λ r. AreKept source.now at.now r.2) }
 {
-    unfold_within(alloc, LEVELS, source, at, steps, glyph)
+    unfold_within(alloc, LEVELS, source, at, steps, glyph, kept)
 }
