@@ -14,6 +14,7 @@ pub mod Masters
 pub mod Quotients
 pub mod Regions
 pub mod Runs
+pub mod StepCosts
 pub mod StepLaws
 pub mod Sums
 pub mod Terms
