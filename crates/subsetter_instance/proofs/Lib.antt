@@ -2,6 +2,7 @@ pub mod Chains
 pub mod Ends
 pub mod Glyphs
 pub mod Joins
+pub mod KeptLemmas
 pub mod PartLemmas
 pub mod Points
 pub mod Reach

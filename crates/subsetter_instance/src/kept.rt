@@ -65,7 +65,7 @@ fn no_glyphs(alloc: Global) -> Result<Vec<Option<KeptGlyph>>, AllocError>
     ensures none { IfOk result (λ v. (s : Source) (at : List ℤ) → AreKept s at v.items) }
 {
     let mut places = Vec::with_capacity(alloc, PLACES)?;
-    for _ in 0..PLACES {
+    for place in 0..PLACES {
         places.push(None)?;
     }
     Ok(places)
