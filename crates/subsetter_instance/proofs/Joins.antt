@@ -15,7 +15,7 @@ use Rattle.subsetter_instance.specs.declared.components.Component.{Component}
 use Rattle.subsetter_instance.specs.declared.source.Metric.{Metric}
 use Rattle.subsetter_instance.specs.Components.{offset_x, offset_xs, offset_y, offset_ys}
 use Rattle.subsetter_instance.specs.Source.{Source, metric}
-use Rattle.subsetter_instance.specs.Unfolded.{Child, Composite, Unfolded, composite, counted_description, is_composite, joined, no_points, unfolded, unfolded_composite, with_part, with_phantoms}
+use Rattle.subsetter_instance.specs.Unfolded.{Child, Composite, Unfolded, composite, counted_description, is_composite, joined, no_points, unfolded, unfolded_composite, unfolded_simple, with_part, with_phantoms}
 
 -- ---- offsets
 
@@ -97,3 +97,16 @@ pub composite_fails : (depth : ℕ) (s : Source) (at : List ℤ) (steps g : ℕ)
     → Fails e (unfolded depth s at steps g)
 composite_fails depth s at steps g bytes m e above b h k f =
     fails_on (composite s at steps g bytes m) (λ d. joined (unfolded (depth - 1) s at) d.components 0 d.xs d.ys (no_points d.left d.right, d.steps)) (unfolded depth s at steps g) e (sym (as_composite depth s at steps g bytes m above b h k)) f
+
+-- ---- a simple glyph
+
+met_simple : (d : ℕ) (s : Source) (at : List ℤ) (steps g : ℕ) (bytes : List ℕ) (m : Metric) → counted_description s g ≡ Some bytes → metric s g ≡ Some m → is_composite bytes ≡ false
+    → unfolded (suc d) s at steps g ≡ unfolded_simple s at steps g bytes m
+unfolding unfolded
+met_simple d s at steps g bytes m b h c = rw (b, h, c) refl
+
+pub as_simple : (depth : ℕ) (s : Source) (at : List ℤ) (steps g : ℕ) (bytes : List ℕ) (m : Metric) → 0 < depth → counted_description s g ≡ Some bytes → metric s g ≡ Some m → is_composite bytes ≡ false
+    → unfolded depth s at steps g ≡ unfolded_simple s at steps g bytes m
+as_simple depth s at steps g bytes m above b h c =
+    let one : depth ≡ suc (depth - 1) = omega arith in
+    ap (λ n. unfolded n s at steps g) one ∙ met_simple (depth - 1) s at steps g bytes m b h c
