@@ -14,6 +14,7 @@ pub fn write_xs(out: &mut Vec<u8>, points: &[Point]) -> Result<(), Error>
     ensures ok { OnOk result (out.new.items ≡ out.old.items ++ delta_bytes (pos 0) (xs_of points.now)) }
     ensures err { IfErr result (λ e. e ≡ OutOfMemory) }
 {
+    out.reserve(2 * points.len())?;
     let mut x = 0;
     for point in points {
         write_delta(out, delta_between(x, point.x))?;
@@ -28,6 +29,7 @@ pub fn write_ys(out: &mut Vec<u8>, points: &[Point]) -> Result<(), Error>
     ensures ok { OnOk result (out.new.items ≡ out.old.items ++ delta_bytes (pos 0) (ys_of points.now)) }
     ensures err { IfErr result (λ e. e ≡ OutOfMemory) }
 {
+    out.reserve(2 * points.len())?;
     let mut y = 0;
     for point in points {
         write_delta(out, delta_between(y, point.y))?;

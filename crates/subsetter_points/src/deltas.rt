@@ -1,6 +1,6 @@
 //! The delta from a coordinate to the next, and how it is encoded.
 
-ghost use Rattle.std.specs.Prelude.{◌≡◌, ◌++◌, ◌+ℤ◌, ◌-ℤ◌, IsTrue, OnOk, IfErr};
+ghost use Rattle.std.specs.Prelude.{◌≡◌, ◌<◌, ◌≤◌, ◌+◌, ◌++◌, ◌+ℤ◌, ◌-ℤ◌, vec_len, vec_capacity, IsTrue, OnOk, IfErr};
 ghost use Rattle.std.specs.Option.{option_map};
 ghost use Rattle.subsetter_points.specs.Simple.{has, encoding_of, delta_at, in_16_bits, coordinate, shortest_encoding, encoded_delta, has_16_bits};
 ghost use Rattle.subsetter_base.specs.declared.error.Error.TheVariants.{OutOfMemory};
@@ -93,14 +93,17 @@ pub fn delta_between(before: i16, x: i16) -> i16
     x - before
 }
 
-/// Writes a delta in its shortest encoding.
+/// Writes a delta in its shortest encoding, where there is room for a byte.
 pub fn write_delta(out: &mut Vec<u8>, delta: i16) -> Result<(), Error>
+    requires { vec_len out.old < vec_capacity out.old }
     ensures ok { OnOk result (out.new.items ≡ out.old.items ++ encoded_delta (shortest_encoding delta) delta) }
+    ensures len { vec_len out.new ≤ vec_len out.old + 2 }
+    ensures capacity { vec_capacity out.old ≤ vec_capacity out.new }
     ensures err { IfErr result (λ e. e ≡ OutOfMemory) }
 {
     match shortest_encoding(delta) {
         Encoding::Same => {}
-        Encoding::Positive | Encoding::Negative => out.push(delta.unsigned_abs() as u8)?,
+        Encoding::Positive | Encoding::Negative => out.push_reserved(delta.unsigned_abs() as u8),
         Encoding::Word => out.extend_from_slice(&delta.to_be_bytes())?,
     }
     Ok(())

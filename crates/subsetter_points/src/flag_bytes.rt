@@ -2,41 +2,47 @@
 
 ghost use Rattle.std.specs.Prelude.{◌≡◌, ◌≤◌, ◌++◌, pos, IsTrue, OnOk, IfErr};
 ghost use Rattle.subsetter_base.specs.declared.error.Error.TheVariants.{OutOfMemory};
-ghost use Rattle.subsetter_points.specs.Simple.{encoding_bits, flag_of, flag_bytes, deltas_fit, xs_of, ys_of};
+ghost use Rattle.subsetter_points.specs.Simple.{encoding_bits, shortest_encoding, flag_of, flag_bytes, deltas_fit, xs_of, ys_of};
 
-use crate::deltas::{Encoding, delta_between, shortest_encoding};
+use crate::deltas::delta_between;
 use crate::outline::Point;
 use subsetter_base::Error;
 
-/// The bits of a flag that say how the delta in x is encoded.
-fn x_bits(encoding: Encoding) -> u8
-    ensures value { result ≡ encoding_bits 2 16 encoding }
+/// The bits of a flag that say how a delta in x is encoded, the shortest way.
+fn x_bits(delta: i16) -> u8
+    ensures value { result ≡ encoding_bits 2 16 (shortest_encoding delta) }
     ensures small { result ≤ 18 }
 {
-    match encoding {
-        Encoding::Same => 0x10,
-        Encoding::Positive => 0x12,
-        Encoding::Negative => 0x02,
-        Encoding::Word => 0,
+    if delta == 0 {
+        0x10
+    } else if delta > 0 && delta < 256 {
+        0x12
+    } else if delta < 0 && delta > -256 {
+        0x02
+    } else {
+        0
     }
 }
 
-/// The bits of a flag that say how the delta in y is encoded.
-fn y_bits(encoding: Encoding) -> u8
-    ensures value { result ≡ encoding_bits 4 32 encoding }
+/// The bits of a flag that say how a delta in y is encoded, the shortest way.
+fn y_bits(delta: i16) -> u8
+    ensures value { result ≡ encoding_bits 4 32 (shortest_encoding delta) }
     ensures small { result ≤ 36 }
 {
-    match encoding {
-        Encoding::Same => 0x20,
-        Encoding::Positive => 0x24,
-        Encoding::Negative => 0x04,
-        Encoding::Word => 0,
+    if delta == 0 {
+        0x20
+    } else if delta > 0 && delta < 256 {
+        0x24
+    } else if delta < 0 && delta > -256 {
+        0x04
+    } else {
+        0
     }
 }
 
-/// The flag of a point, by whether it is on the curve and how its two deltas are encoded.
-fn flag_of(on_curve: bool, x: Encoding, y: Encoding) -> u8
-    ensures { result ≡ flag_of on_curve x y }
+/// The flag of a point, by whether it is on the curve and its two deltas.
+fn flag_of(on_curve: bool, x: i16, y: i16) -> u8
+    ensures { result ≡ flag_of on_curve (shortest_encoding x) (shortest_encoding y) }
 {
     u8::from(on_curve) + x_bits(x) + y_bits(y)
 }
@@ -48,12 +54,13 @@ pub fn write_flags(out: &mut Vec<u8>, points: &[Point]) -> Result<(), Error>
     ensures ok { OnOk result (out.new.items ≡ out.old.items ++ flag_bytes (pos 0) (pos 0) points.now) }
     ensures err { IfErr result (λ e. e ≡ OutOfMemory) }
 {
+    out.reserve(points.len())?;
     let mut x = 0;
     let mut y = 0;
     for point in points {
-        let x_encoding = shortest_encoding(delta_between(x, point.x));
-        let y_encoding = shortest_encoding(delta_between(y, point.y));
-        out.push(flag_of(point.on_curve, x_encoding, y_encoding))?;
+        let by_x = delta_between(x, point.x);
+        let by_y = delta_between(y, point.y);
+        out.push_reserved(flag_of(point.on_curve, by_x, by_y));
         x = point.x;
         y = point.y;
     }

@@ -35,6 +35,7 @@ loop-point-preserved c =
     let more = deltas_written c.loop-point.out.items c.write_delta.new.out.items (to_z w16 c.loop-point.x-bits) p.x (xs_of (drop i all)) (xs_of (drop (i + 1) all)) (ap xs_of d) (cc (e, h, c.in_ok-write_delta.ensures.ok, c.delta_between.ensures)) in
     record {
       written = cc (more, e, c.loop-point.invariant.written);
+      room = omega (arith, c.loop-point.invariant.room, c.write_delta.ensures.len, c.write_delta.ensures.capacity);
       fit = cc (next.1, e);
     }
 

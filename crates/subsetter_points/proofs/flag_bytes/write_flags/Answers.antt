@@ -10,8 +10,8 @@ use Rattle.subsetter_points.proofs.flag_bytes.write_flags.Goals as goal
 abbrev none : Point
 none = record { x = pos 0; y = pos 0; on_curve = false }
 
-pub delta_between-requires : goal.delta_between-requires
-delta_between-requires c =
+pub delta_between-by_x-requires : goal.delta_between-by_x-requires
+delta_between-by_x-requires c =
     let all = c.args.points.now in
     let i = c.loop-point.point-index in
     let p = get_or all i none in
@@ -21,8 +21,8 @@ delta_between-requires c =
     let next = deltas_next _ p.x (xs_of (drop i all)) (xs_of (drop (i + 1) all)) (ap xs_of d) c.loop-point.invariant.xs_fit in
     cc (next.0, e)
 
-pub delta_between-requires-in-loop-point : goal.delta_between-requires-in-loop-point
-delta_between-requires-in-loop-point c =
+pub delta_between-by_y-requires : goal.delta_between-by_y-requires
+delta_between-by_y-requires c =
     let all = c.args.points.now in
     let i = c.loop-point.point-index in
     let p = get_or all i none in
@@ -42,15 +42,16 @@ loop-point-preserved c =
     let fy : SFits w16 p.y = search rules in
     let ex = to_z-of_z w16 p.x fx in
     let ey = to_z-of_z w16 p.y fy in
-    let gx : SFits w16 c.delta_between.result = search rules in
-    let gy : SFits w16 c.delta_between-in-loop-point.result = search rules in
-    let hx = to_z-of_z w16 c.delta_between.result gx in
-    let hy = to_z-of_z w16 c.delta_between-in-loop-point.result gy in
+    let gx : SFits w16 c.delta_between-by_x.result = search rules in
+    let gy : SFits w16 c.delta_between-by_y.result = search rules in
+    let hx = to_z-of_z w16 c.delta_between-by_x.result gx in
+    let hy = to_z-of_z w16 c.delta_between-by_y.result gy in
     let nx = deltas_next _ p.x (xs_of (drop i all)) (xs_of (drop (i + 1) all)) (ap xs_of d) c.loop-point.invariant.xs_fit in
     let ny = deltas_next _ p.y (ys_of (drop i all)) (ys_of (drop (i + 1) all)) (ap ys_of d) c.loop-point.invariant.ys_fit in
-    let more = flags_written c.loop-point.out.items c.push.new.self.items (to_z w16 c.loop-point.x-bits) (to_z w16 c.loop-point.y-bits) (drop i all) (drop (i + 1) all) p d (cc (ex, ey, hx, hy, c.in_ok-push.ensures.items, c.flag_of.ensures, c.shortest_encoding-x_encoding.ensures, c.shortest_encoding-y_encoding.ensures, c.delta_between.ensures, c.delta_between-in-loop-point.ensures)) in
+    let more = flags_written c.loop-point.out.items c.push_reserved.new.self.items (to_z w16 c.loop-point.x-bits) (to_z w16 c.loop-point.y-bits) (drop i all) (drop (i + 1) all) p d (cc (ex, ey, hx, hy, c.push_reserved.ensures.items, c.flag_of.ensures, c.delta_between-by_x.ensures, c.delta_between-by_y.ensures)) in
     record {
       written = cc (more, ex, ey, c.loop-point.invariant.written);
+      room = omega (arith, c.loop-point.invariant.room, c.push_reserved.ensures.len, c.push_reserved.ensures.capacity);
       xs_fit = cc (nx.1, ex);
       ys_fit = cc (ny.1, ey);
     }
