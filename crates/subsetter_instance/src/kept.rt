@@ -14,7 +14,7 @@ use std::alloc::{AllocError, Global};
 use std::marker::Model;
 
 /// How many places there are.
-const PLACES: usize = 512;
+const PLACES: usize = 128;
 /// The most points of a glyph that is kept.
 const MOST_POINTS: usize = 256;
 
@@ -61,7 +61,7 @@ fn is_simple(source: &FontSource<'_>, glyph: u16) -> bool
 
 /// Places without glyphs.
 fn no_glyphs(alloc: Global) -> Result<Vec<Option<KeptGlyph>>, AllocError>
-    ensures count { IfOk result (λ v. length v.items ≡ 512) }
+    ensures count { IfOk result (λ v. length v.items ≡ 128) }
     ensures none { IfOk result (λ v. (s : Source) (at : List ℤ) → AreKept s at v.items) }
 {
     let mut places = Vec::with_capacity(alloc, PLACES)?;
@@ -76,7 +76,7 @@ fn all_places(
     alloc: Global,
     places: Vec<Option<KeptGlyph>>,
 ) -> Result<Vec<Option<KeptGlyph>>, AllocError>
-    ensures count { IfOk result (λ v. length v.items ≡ 512) }
+    ensures count { IfOk result (λ v. length v.items ≡ 128) }
     ensures kept { (s : Source) (at : List ℤ) → AreKept s at places.items → IfOk result (λ v. AreKept s at v.items) }
 {
     if places.len() == PLACES {

@@ -8,17 +8,16 @@ use crate::deltas::delta_between;
 use crate::outline::Point;
 use subsetter_base::Error;
 
-/// The bits of a flag that say how a delta in x is encoded, the shortest way.
+/// The bits of a flag that say how a delta in x is encoded, the shortest way. Each is chosen by itself, as deltas come in no
+/// order that a processor could guess.
 fn x_bits(delta: i16) -> u8
     ensures value { result ≡ encoding_bits 2 16 (shortest_encoding delta) }
     ensures small { result ≤ 18 }
 {
-    if delta == 0 {
-        0x10
-    } else if delta > 0 && delta < 256 {
-        0x12
-    } else if delta < 0 && delta > -256 {
-        0x02
+    let same_or_positive = if delta >= 0 { 0x10 } else { 0 };
+    let byte = if delta != 0 { 0x02 } else { 0 };
+    if delta > -256 && delta < 256 {
+        same_or_positive + byte
     } else {
         0
     }
@@ -29,12 +28,10 @@ fn y_bits(delta: i16) -> u8
     ensures value { result ≡ encoding_bits 4 32 (shortest_encoding delta) }
     ensures small { result ≤ 36 }
 {
-    if delta == 0 {
-        0x20
-    } else if delta > 0 && delta < 256 {
-        0x24
-    } else if delta < 0 && delta > -256 {
-        0x04
+    let same_or_positive = if delta >= 0 { 0x20 } else { 0 };
+    let byte = if delta != 0 { 0x04 } else { 0 };
+    if delta > -256 && delta < 256 {
+        same_or_positive + byte
     } else {
         0
     }
