@@ -6,6 +6,7 @@ pub mod KeptLemmas
 pub mod PartLemmas
 pub mod Points
 pub mod Reach
+pub mod Wholes
 mod WriteLemmas
 pub mod FileLaws
 pub mod SameLaws

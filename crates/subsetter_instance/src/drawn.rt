@@ -20,10 +20,15 @@ use std::marker::Model;
 use subsetter_base::{Error, GlyphRemapper};
 use subsetter_points::{Outline, Point, fits};
 use subsetter_variation::item_variations::advance_delta;
-use subsetter_variation::rounding::nearest;
 
 /// The unit of unfolded coordinates.
 const UNIT: u64 = 1 << 30;
+/// Half of it.
+const HALF: i64 = 1 << 29;
+/// So many of it that a sum with any coordinate is above 0.
+const ABOVE_UNITS: i64 = 1 << 31;
+/// The same in parts.
+const ABOVE: i64 = 1 << 61;
 
 /// What is drawn of a glyph: its outline, and its horizontal metric.
 #[derive(Drop)]
@@ -49,12 +54,14 @@ impl Model for Drawn {
     ghost invariant = { λ d. IsTrue (parts_fit d.outline.ends.items d.outline.points.items) };
 }
 
-/// Parts of 2^30 as a whole number, halves up.
+/// Parts of 2^30 as a whole number, halves up. What is divided is above 0, so that no sign has to be looked at.
+#[tactic(auto, using(crate::proofs::Wholes::whole_is))]
 fn whole(value: i64) -> i64
-    requires { unsigned_abs value ≤ 2 ^ 62 }
+    requires { unsigned_abs value ≤ 2 ^ 60 }
     ensures { result ≡ whole value }
 {
-    nearest(value, UNIT)
+    let above = (value + ABOVE + HALF).unsigned_abs();
+    (above / UNIT) as i64 - ABOVE_UNITS
 }
 
 /// A coordinate, `OverflowError` where it has no 16 bits.
