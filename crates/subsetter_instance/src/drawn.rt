@@ -119,7 +119,7 @@ fn points_or_fault(
 {
     let mut points = Vec::with_capacity(alloc, on.len())?;
     for i in 0..on.len() {
-        points.push(point_or_fault(left, on[i], xs[i], ys[i])?)?;
+        points.push_reserved(point_or_fault(left, on[i], xs[i], ys[i])?);
     }
     Ok(points)
 }

@@ -24,7 +24,10 @@ loop-i-preserved c =
     let e = ap (λ l. point_or_fault l o (to_z w64 (of_z w64 x)) (to_z w64 (of_z w64 y))) kl ∙ ap (λ z. point_or_fault c.args.left o z (to_z w64 (of_z w64 y))) kx ∙ ap (λ z. point_or_fault c.args.left o x z) ky in
     let h : point_or_fault c.args.left o x y ≡ Ok c.in_ok-point_or_fault.field-0 = sym e ∙ sym c.point_or_fault.ensures ∙ c.in_ok-point_or_fault.was in
     let step = points_step c.args.left c.args.on.now c.args.xs.now c.args.ys.now i c.loop-i.points.items o x y c.in_ok-point_or_fault.field-0 less c.requires.many_xs c.requires.many_ys refl refl refl h in
-    cc (step, kl, c.loop-i.invariant, c.in_ok-push.ensures.items)
+    record {
+      value = cc (step, kl, c.loop-i.invariant.value, c.push_reserved.ensures.items);
+      room = omega (arith, c.loop-i.invariant.room, c.push_reserved.ensures.len, c.push_reserved.ensures.capacity);
+    }
 
 pub returns-in_err-point_or_fault : goal.returns-in_err-point_or_fault
 returns-in_err-point_or_fault c =
@@ -40,4 +43,4 @@ returns-in_err-point_or_fault c =
     let h : point_or_fault c.args.left o x y ≡ Err c.in_err-point_or_fault.field-0.0 = sym e ∙ sym c.point_or_fault.ensures ∙ c.in_err-point_or_fault.was in
     let p = err_from_is_err_and c.from_residual-in_err-point_or_fault.result c.from_residual-in_err-point_or_fault.ensures.1 in
     let cut = points_cut c.args.left c.args.on.now c.args.xs.now c.args.ys.now i c.loop-i.points.items o x y c.in_err-point_or_fault.field-0.0 less c.requires.many_xs c.requires.many_ys refl refl refl h in
-    rw (p.1, p.2) (fails _ (points_or_fault c.args.left c.args.on.now c.args.xs.now c.args.ys.now) (cc (cut, kl, c.loop-i.invariant)))
+    rw (p.1, p.2) (fails _ (points_or_fault c.args.left c.args.on.now c.args.xs.now c.args.ys.now) (cc (cut, kl, c.loop-i.invariant.value)))
