@@ -1,6 +1,6 @@
 -- A glyph that was unfolded is kept.
-use Rattle.std.proofs.Common.{◌≡◌, ◌≤◌, ◌+◌, ◌-◌, ◌<◌, ℕ, zero, suc, List, ℤ, Some, None, Option, Ok, true, false, length, arith, sym, ap, ◌∙◌}
-use Rattle.std.specs.Prelude.{All, Bool, IfSome, IsTrue, slice_set}
+use Rattle.std.proofs.Common.{◌≡◌, ◌≤◌, ◌+◌, ◌-◌, ◌<◌, ℕ, zero, suc, List, ℤ, Some, Option, Ok, false, arith, sym, ap, ◌∙◌}
+use Rattle.std.specs.Prelude.{IfSome, slice_set}
 use Rattle.std.proofs.lemmas.List.Elements.{All-set}
 use Rattle.subsetter_instance.specs.Kept.{AreKept, IsKept, KeptGlyph}
 use Rattle.subsetter_instance.specs.Source.{Source}

@@ -1,5 +1,5 @@
 -- A component that is placed, in two parts.
-use Rattle.std.proofs.Common.{◌≡◌, ℕ, List, ℤ, Option, Some, None, Result, Ok, Err, map, length, refl, ap, ◌∙◌, pos}
+use Rattle.std.proofs.Common.{◌≡◌, ℕ, List, ℤ, Some, None, Result, Ok, Err, map, refl, ap, ◌∙◌}
 use Rattle.std.specs.Prelude.{zip}
 use Rattle.subsetter_base.specs.Bytes.{◌>>=◌}
 use Rattle.subsetter_base.specs.declared.error.Error.{Error}

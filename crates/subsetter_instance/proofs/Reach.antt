@@ -1,5 +1,5 @@
 -- What is unfolded, and within what bounds.
-use Rattle.std.proofs.Common.{◌≡◌, ◌≤◌, ◌<◌, ◌^◌, ◌+◌, ◌++◌, ℕ, ℤ, List, length, map, unsigned_abs, get_or, drop, pos, w64, to_z, of_z, [], ◌∷◌, append_assoc, sym, subst, arith, ◌+ℤ◌, ◌∙◌, true, refl, Bool, IsTrue}
+use Rattle.std.proofs.Common.{◌≡◌, ◌≤◌, ◌<◌, ◌^◌, ◌+◌, ◌++◌, ℕ, ℤ, List, length, map, unsigned_abs, get_or, drop, pos, w64, to_z, of_z, [], ◌∷◌, append_assoc, sym, subst, arith, ◌+ℤ◌, ◌∙◌, true, refl, Bool}
 use Rattle.std.specs.Prelude.{All, nat_le, zip}
 use Rattle.std.proofs.lemmas.Bool.{leb-true}
 use Rattle.std.proofs.lemmas.List.Sums.{AllPass-from_list_all}

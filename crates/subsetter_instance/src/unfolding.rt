@@ -96,14 +96,37 @@ fn unfold_within(
         let component = parts.component(k);
         if let Some(found) = kept.find(depth - 1, component.glyph, left) {
             let rest = left - found.cost;
-            let (more, rest) = parts.with_component(alloc, k, component, all, &found.outline, rest)?;
+            let (more, rest) = parts.with_component(
+                alloc,
+                k,
+                component,
+                all,
+                &found.outline,
+                rest,
+            )?;
             all = more;
             left = rest;
         } else {
-            let (part, rest, others) =
-                unfold_within(alloc, depth - 1, source, at, left, component.glyph, kept)?;
+            let (part, rest, others) = unfold_within(
+                alloc,
+                depth - 1,
+                source,
+                at,
+                left,
+                component.glyph,
+                kept,
+            )?;
             let (more, next) = parts.with_component(alloc, k, component, all, &part, rest)?;
-            kept = others.with(alloc, source, at, depth - 1, left, component.glyph, part, rest)?;
+            kept = others.with(
+                alloc,
+                source,
+                at,
+                depth - 1,
+                left,
+                component.glyph,
+                part,
+                rest,
+            )?;
             all = more;
             left = next;
         }

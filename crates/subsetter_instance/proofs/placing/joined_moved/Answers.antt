@@ -1,6 +1,5 @@
-use Rattle.std.proofs.Common.{◌≡◌, FitsSigned, w64, subst, sym, rules}
+use Rattle.std.proofs.Common.{FitsSigned, w64, rules}
 use Rattle.std.proofs.lemmas.Int.{to_z-of_z}
-use Rattle.subsetter_instance.specs.Unfolded.{IsInReach, joined_parts, moved_part}
 use Rattle.subsetter_instance.proofs.Reach.{joined_reach, moved_reach}
 use Rattle.subsetter_instance.proofs.placing.joined_moved.Goals as goal
 

@@ -1,6 +1,5 @@
-use Rattle.std.proofs.Common.{◌≡◌, FitsSigned, w64, sym, ap, ◌∙◌, refl, rules}
+use Rattle.std.proofs.Common.{FitsSigned, w64, rules}
 use Rattle.std.proofs.lemmas.Int.{to_z-of_z}
-use Rattle.subsetter_instance.specs.Unfolded.{Unfolded, shifted}
 use Rattle.subsetter_instance.proofs.Reach.{same_unfolded}
 use Rattle.subsetter_instance.proofs.placing.joined_parts.Goals as goal
 

@@ -1,6 +1,4 @@
-use Rattle.std.proofs.Common.{◌≡◌, FitsSigned, w64, subst, sym, ap, ◌∙◌, rules}
-use Rattle.std.proofs.lemmas.Int.{to_z-of_z}
-use Rattle.subsetter_base.specs.Gives.{Gives}
+use Rattle.std.proofs.Common.{sym, ap, ◌∙◌, rules}
 use Rattle.subsetter_instance.specs.Unfolded.{Unfolded}
 use Rattle.subsetter_instance.proofs.PartLemmas.{plain_part, turned_part}
 use Rattle.subsetter_instance.proofs.placing.with_part.Goals as goal

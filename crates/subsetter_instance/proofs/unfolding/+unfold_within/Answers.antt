@@ -78,21 +78,21 @@ loop-k-preserved t c =
     let child = unfolded (c.args.depth - 1) c.args.source.now c.args.at.now in
     elim c.match-find.branch [
       | in-Some+in_ok-more w ↦
-        let is = subst (IsKept c.args.source.now c.args.at.now) (sym w.found.view_is) (w.in-Some.ensures.kept c.args.source.now c.args.at.now c.loop-k.invariant.kept) in
-        let number = ap (λ (k : KeptGlyph). k.glyph) w.found.view_is ∙ w.in-Some.ensures.number in
-        let enough = subst (λ (k : KeptGlyph). k.cost ≤ c.loop-k.left) (sym w.found.view_is) w.in-Some.ensures.cost in
-        let here = found_is c.args.source.now c.args.at.now _ (c.args.depth - 1) c.loop-k.left c.component-component.result.glyph is w.in-Some.ensures.deep number enough in
-        record {
-          value = rw (w.all-is, w.left-is) (sym (joined_step child (drop c.loop-k.k q.components) (drop (c.loop-k.k + 1) q.components) c.component-component.result c.loop-k.k q.xs q.ys c.loop-k.all w.in_ok-more.more c.loop-k.left (c.loop-k.left - w.found.inside.cost) w.in_ok-more.rest w.found.inside.outline c.component-component.ensures here w.in_ok-more.ensures.value) ∙ c.loop-k.invariant.value);
-          bound = subst IsInReach (sym w.all-is) w.in_ok-more.ensures.bound;
-          kept = subst (AreKept c.args.source.now c.args.at.now) (sym w.kept-is) c.loop-k.invariant.kept;
-        }
+          let is = subst (IsKept c.args.source.now c.args.at.now) (sym w.found.view_is) (w.in-Some.ensures.kept c.args.source.now c.args.at.now c.loop-k.invariant.kept) in
+          let number = ap (λ (k : KeptGlyph). k.glyph) w.found.view_is ∙ w.in-Some.ensures.number in
+          let enough = subst (λ (k : KeptGlyph). k.cost ≤ c.loop-k.left) (sym w.found.view_is) w.in-Some.ensures.cost in
+          let here = found_is c.args.source.now c.args.at.now _ (c.args.depth - 1) c.loop-k.left c.component-component.result.glyph is w.in-Some.ensures.deep number enough in
+          record {
+            value = rw (w.all-is, w.left-is) (sym (joined_step child (drop c.loop-k.k q.components) (drop (c.loop-k.k + 1) q.components) c.component-component.result c.loop-k.k q.xs q.ys c.loop-k.all w.in_ok-more.more c.loop-k.left (c.loop-k.left - w.found.inside.cost) w.in_ok-more.rest w.found.inside.outline c.component-component.ensures here w.in_ok-more.ensures.value) ∙ c.loop-k.invariant.value);
+            bound = subst IsInReach (sym w.all-is) w.in_ok-more.ensures.bound;
+            kept = subst (AreKept c.args.source.now c.args.at.now) (sym w.kept-is) c.loop-k.invariant.kept;
+          }
       | in_default+in_ok-part+in_ok-more-2+in_ok-kept w ↦
-        record {
-          value = rw (w.all-is, w.left-is) (sym (joined_step child (drop c.loop-k.k q.components) (drop (c.loop-k.k + 1) q.components) c.component-component.result c.loop-k.k q.xs q.ys c.loop-k.all w.in_ok-more-2.more c.loop-k.left w.in_ok-part.rest w.in_ok-more-2.next w.in_ok-part.part c.component-component.ensures w.in_ok-part.ensures.value w.in_ok-more-2.ensures.value) ∙ c.loop-k.invariant.value);
-          bound = subst IsInReach (sym w.all-is) w.in_ok-more-2.ensures.bound;
-          kept = subst (AreKept c.args.source.now c.args.at.now) (sym w.kept-is) w.in_ok-kept.ensures;
-        }
+          record {
+            value = rw (w.all-is, w.left-is) (sym (joined_step child (drop c.loop-k.k q.components) (drop (c.loop-k.k + 1) q.components) c.component-component.result c.loop-k.k q.xs q.ys c.loop-k.all w.in_ok-more-2.more c.loop-k.left w.in_ok-part.rest w.in_ok-more-2.next w.in_ok-part.part c.component-component.ensures w.in_ok-part.ensures.value w.in_ok-more-2.ensures.value) ∙ c.loop-k.invariant.value);
+            bound = subst IsInReach (sym w.all-is) w.in_ok-more-2.ensures.bound;
+            kept = subst (AreKept c.args.source.now c.args.at.now) (sym w.kept-is) w.in_ok-kept.ensures;
+          }
     ]
 
 pub returns-clause-value : goal.returns-clause-value

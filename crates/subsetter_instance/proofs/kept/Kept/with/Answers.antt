@@ -1,4 +1,4 @@
-use Rattle.std.proofs.Common.{rules, ◌≡◌, ◌<◌, ◌≤◌, Some, true}
+use Rattle.std.proofs.Common.{rules}
 use Rattle.subsetter_instance.proofs.KeptLemmas.{takes_steps, with_glyph}
 use Rattle.subsetter_instance.proofs.kept.Kept.with.Goals as goal
 
