@@ -1,7 +1,7 @@
 //! Simple glyphs that composites lead to. They are kept, so that a letter is unfolded once for all its accents.
 //!
-//! A glyph has a place by its number, and leaves it to the next one that has the same. So many places, and only glyphs of so few
-//! points, take less than 3 MB whatever the font.
+//! A glyph has a place by its number, and leaves it to the next one that has the same. With so few places, and only for glyphs of
+//! few points, they hold less than 1 MB whatever the font.
 
 ghost use Rattle.std.specs.Prelude.{◌≡◌, ◌<◌, ◌≤◌, List, ℕ, ℤ, Some, Ok, false, IsTrue, IfOk, IfSome, length};
 ghost use Rattle.subsetter_instance.specs.Kept.{AreKept, IsKept};
