@@ -188,7 +188,7 @@ fn joined_coordinates(before: Vec<i64>, by: i64, vs: &[i64]) -> Result<Vec<i64>,
     let mut all = before;
     all.reserve(vs.len())?;
     for v in vs {
-        all.push(plus(*v, by))?;
+        all.push_reserved(plus(*v, by));
     }
     Ok(all)
 }
@@ -202,7 +202,7 @@ fn joined_ends(ends: Vec<u16>, n: usize, m: usize, part: &[u16]) -> Result<Vec<u
     let mut ends = ends;
     ends.reserve(part.len())?;
     for end in part {
-        ends.push(*end + n as u16)?;
+        ends.push_reserved(*end + n as u16);
     }
     Ok(ends)
 }

@@ -149,7 +149,7 @@ fn ends_with_phantoms(alloc: Global, ends: &[u16], n: usize) -> Result<Vec<usize
 {
     let mut all = Vec::with_capacity(alloc, ends.len().saturating_add(4))?;
     for end in ends {
-        all.push(*end as usize)?;
+        all.push_reserved(*end as usize);
     }
     all.extend_from_slice(&[n, n + 1, n + 2, n + 3])?;
     Ok(all)
@@ -161,7 +161,7 @@ fn on_curve(alloc: Global, flags: &[u8]) -> Result<Vec<bool>, AllocError>
 {
     let mut on = Vec::with_capacity(alloc, flags.len())?;
     for flag in flags {
-        on.push(*flag & 1 != 0)?;
+        on.push_reserved(*flag & 1 != 0);
     }
     Ok(on)
 }

@@ -32,7 +32,7 @@ pub fn by_glyph<'a>(
 {
     let mut all = Vec::with_capacity(alloc, usize::from(count))?;
     for glyph in 0..count {
-        all.push(glyph_among(mapper, drawn, glyph))?;
+        all.push_reserved(glyph_among(mapper, drawn, glyph));
     }
     Ok(all)
 }

@@ -31,7 +31,7 @@ pub fn read_coordinates<'a>(
         let Some((x, after)) = read_coordinate(short, same, before, *flag, rest) else {
             return Ok(None);
         };
-        coordinates.push(x)?;
+        coordinates.push_reserved(x);
         before = x;
         rest = after;
     }

@@ -75,7 +75,7 @@ pub fn read_flags(
         let Some((taken, after)) = read_next(run, rest) else {
             return Ok(None);
         };
-        flags.push(taken.flag)?;
+        flags.push_reserved(taken.flag);
         run = taken;
         rest = after;
     }

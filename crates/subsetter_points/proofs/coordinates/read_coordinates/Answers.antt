@@ -23,8 +23,9 @@ loop-flag-preserved c =
     let same = to_z-of_z w16 c.in-Some.x f in
     let more = coordinates_more c.loop-flag.coordinates.items c.args.short c.args.same (get_or all i 0) _ (drop i all) (drop (i + 1) all) c.loop-flag.rest.now (c.in-Some.x, c.in-Some.after.now) d (sym c.in-Some.ensures) in
     record {
-      read = cc (more, same, c.loop-flag.invariant.read, c.in_ok-push.ensures.items);
-      len = omega (arith, c.in_ok-push.ensures.len, c.loop-flag.invariant.len);
+      read = cc (more, same, c.loop-flag.invariant.read, c.push_reserved.ensures.items);
+      len = omega (arith, c.push_reserved.ensures.len, c.loop-flag.invariant.len);
+      room = omega (arith, c.loop-flag.invariant.room, c.push_reserved.ensures.capacity);
     }
 
 -- src/coordinates.rt:13:1
