@@ -13,8 +13,6 @@ mod digits;
 mod failure;
 mod row;
 mod running;
-#[cfg(test)]
-mod tests;
 
 use std::process::ExitCode;
 
