@@ -1,6 +1,6 @@
 -- What is unfolded, and within what bounds.
-use Rattle.std.proofs.Common.{◌≡◌, ◌≤◌, ◌<◌, ◌^◌, ◌+◌, ◌++◌, ℕ, ℤ, List, length, map, unsigned_abs, get_or, drop, pos, w64, to_z, of_z, [], ◌∷◌, append_assoc, sym, subst, arith, ◌+ℤ◌, ◌∙◌, true, refl, Bool}
-use Rattle.std.specs.Prelude.{All, nat_le, zip}
+use Rattle.std.proofs.Common.{◌≡◌, ◌≤◌, ◌<◌, ◌^◌, ◌+◌, ◌++◌, ℕ, ℤ, List, length, map, unsigned_abs, get_or, drop, pos, w64, ap, false, to_z, of_z, [], ◌∷◌, append_assoc, sym, subst, arith, ◌+ℤ◌, ◌∙◌, true, refl, Bool}
+use Rattle.std.specs.Prelude.{All, nat_le, zip, ◌&&◌}
 use Rattle.std.proofs.lemmas.Bool.{leb-true}
 use Rattle.std.proofs.lemmas.List.Sums.{AllPass-from_list_all}
 use Rattle.std.proofs.lemmas.Int.{to_z-of_z, fits_signed_from_abs}
@@ -76,3 +76,21 @@ unfolded_of es on xs ys l r = record { ends = es; on = on; xs = xs; ys = ys; lef
 pub same_unfolded : (es fs : List ℕ) (on un : List Bool) (xs zs ys ws : List ℤ) (l m r q : ℤ) → es ≡ fs → on ≡ un → xs ≡ zs → ys ≡ ws → l ≡ m → r ≡ q
     → unfolded_of es on xs ys l r ≡ unfolded_of fs un zs ws m q
 same_unfolded es fs on un xs zs ys ws l m r q a b c d e f = rw (a, b, c, d, e, f) refl
+
+both_more : (a b c : Bool) → (a && (b && c)) ≡ ((a && b) && c)
+both_more true b c = refl
+both_more false b c = refl
+
+both_true : (a : Bool) → (a && true) ≡ a
+both_true true = refl
+both_true false = refl
+
+-- one coordinate more is looked at
+pub near_step : (near : Bool) (by : ℤ) (vs : List ℤ) (i : ℕ) (v : ℤ) → i < length vs → v ≡ get_or vs i (pos 0)
+    → (near && are_near (shifted by (drop i vs))) ≡ ((near && nat_le (unsigned_abs (v +ℤ by)) (2 ^ 45)) && are_near (shifted by (drop (i + 1) vs)))
+near_step near by vs i v less h =
+    let d : drop i vs ≡ v ∷ drop (i + 1) vs = drop_more vs i (pos 0) less ∙ ap (λ z. z ∷ drop (i + 1) vs) (sym h) in
+    ap (λ (l : List ℤ). near && are_near (shifted by l)) d ∙ both_more near (nat_le (unsigned_abs (v +ℤ by)) (2 ^ 45)) (are_near (shifted by (drop (i + 1) vs)))
+
+pub near_end : (near : Bool) (by : ℤ) (vs : List ℤ) (i : ℕ) → length vs ≤ i → (near && are_near (shifted by (drop i vs))) ≡ near
+near_end near by vs i past = ap (λ (l : List ℤ). near && are_near (shifted by l)) (drop_all i vs past) ∙ both_true near

@@ -15,12 +15,15 @@ use crate::placing::with_part;
 use crate::simple::{coordinate_at, left_point, moved, right_point};
 use crate::source::{Metric, Source};
 use crate::unfolding::Unfolded;
-use std::alloc::Global;
+use std::alloc::{AllocError, Global};
 use std::marker::Model;
 use subsetter_base::Error;
 use subsetter_base::read::Reader;
 use subsetter_variation::movement::{Outline as DefaultOutline, spent};
 use subsetter_variation::tuples::Gvar;
+
+/// Most glyphs have fewer points.
+const MANY_POINTS: usize = 128;
 
 /// The components of a glyph, their varied offsets, the phantom points, and the steps that are left. All coordinates are in parts of 2^30.
 #[derive(Drop)]
@@ -127,19 +130,19 @@ impl Composite {
         self.components[k]
     }
 
-    /// No points yet.
-    pub fn no_points(&self, alloc: Global) -> Unfolded
-        ensures value { result ≡ no_points self.now.left self.now.right }
-        ensures bound { IsInReach result }
+    /// No points yet, with room for those of most glyphs.
+    pub fn no_points(&self, alloc: Global) -> Result<Unfolded, AllocError>
+        ensures value { IfOk result (λ u. u ≡ no_points self.now.left self.now.right) }
+        ensures bound { IfOk result (λ u. IsInReach u) }
     {
-        Unfolded {
+        Ok(Unfolded {
             ends: Vec::new(alloc),
-            on: Vec::new(alloc),
-            xs: Vec::new(alloc),
-            ys: Vec::new(alloc),
+            on: Vec::with_capacity(alloc, MANY_POINTS)?,
+            xs: Vec::with_capacity(alloc, MANY_POINTS)?,
+            ys: Vec::with_capacity(alloc, MANY_POINTS)?,
             left: self.left,
             right: self.right,
-        }
+        })
     }
 
     /// The components before component k with itself, and the steps that are left.

@@ -1,6 +1,6 @@
 //! A component of a composite glyph: through its matrix, moved, and behind the components before it.
 
-ghost use Rattle.std.specs.Prelude.{◌≡◌, ◌≤◌, ◌<◌, ◌^◌, ◌+◌, ◌++◌, ◌*ℤ◌, ◌+ℤ◌, ℕ, length, map, zip, slice_get, unsigned_abs, All, IfOk, IfSome};
+ghost use Rattle.std.specs.Prelude.{◌≡◌, ◌≤◌, ◌<◌, ◌^◌, ◌+◌, ◌++◌, ◌*ℤ◌, ◌+ℤ◌, ◌&&◌, ℕ, nat_le, length, map, zip, slice_get, unsigned_abs, All, IfOk, IfSome};
 ghost use Rattle.subsetter_base.specs.Gives.{Gives};
 ghost use Rattle.subsetter_variation.specs.Nearest.{nearest};
 ghost use Rattle.subsetter_instance.specs.Unfolded.{IsInReach, are_near, is_scaled, joined_moved, joined_parts, matched, moved_part, point_at, shift_by, shifted, transformed_x, transformed_y, with_part, with_points};
@@ -165,18 +165,26 @@ fn shift_by(
     }
 }
 
-/// Whether no coordinate is more than 32768 units from 0 when it is moved.
+/// Whether it held so far, and a coordinate isn't more than 32768 units from 0.
+fn is_near_too(near: bool, v: i64) -> bool
+    ensures { result ≡ (near && nat_le (unsigned_abs v) (2 ^ 45)) }
+{
+    near && v.unsigned_abs() <= 1 << 45
+}
+
+/// Whether no coordinate is more than 32768 units from 0 when it is moved. All are looked at, as a loop with one way out is the
+/// faster.
+#[tactic(auto, using(crate::proofs::Reach::near_step, crate::proofs::Reach::near_end))]
 fn are_near_moved(by: i64, vs: &[i64]) -> bool
     requires by { unsigned_abs by ≤ 2 ^ 57 }
     requires vs { All (λ v. unsigned_abs v ≤ 2 ^ 47) vs.now }
     ensures { result ≡ are_near (shifted by vs.now) }
 {
+    let mut near = true;
     for v in vs {
-        if plus(*v, by).unsigned_abs() > 1 << 45 {
-            return false;
-        }
+        near = is_near_too(near, plus(*v, by));
     }
-    true
+    near
 }
 
 /// Coordinates, and behind them those of a component, moved.

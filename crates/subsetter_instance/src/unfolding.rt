@@ -89,7 +89,7 @@ fn unfold_within(
     }
     let composite = read_composite(alloc, source, at, steps, glyph, bytes, metric)?;
     let parts = &composite;
-    let mut all = parts.no_points(alloc);
+    let mut all = parts.no_points(alloc)?;
     let mut left = parts.steps();
     let mut kept = kept;
     for k in 0..parts.count() {

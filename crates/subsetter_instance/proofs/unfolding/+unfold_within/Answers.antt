@@ -29,10 +29,10 @@ loop-k-init t c =
     let start = composite_begins c.args.depth c.args.source.now c.args.at.now c.args.steps c.args.glyph c.in_ok-bytes.bytes.now c.in_ok-metric.metric q above d m i c.in_ok-composite.ensures in
     record {
       value =
-          ap (λ (u : Unfolded). joined (unfolded (c.args.depth - 1) c.args.source.now c.args.at.now) q.components 0 q.xs q.ys (u, c.steps-left.result)) c.no_points-all.ensures.value
+          ap (λ (u : Unfolded). joined (unfolded (c.args.depth - 1) c.args.source.now c.args.at.now) q.components 0 q.xs q.ys (u, c.steps-left.result)) c.in_ok-all.ensures.value
           ∙ ap (λ (n : ℕ). joined (unfolded (c.args.depth - 1) c.args.source.now c.args.at.now) q.components 0 q.xs q.ys (no_points q.left q.right, n)) c.steps-left.ensures
           ∙ start;
-      bound = c.no_points-all.ensures.bound;
+      bound = c.in_ok-all.ensures.bound;
       kept = c.requires.kept;
     }
 

@@ -7,7 +7,7 @@ use Rattle.subsetter_instance.proofs.writing.by_glyph.Goals as goal
 pub loop-glyph-preserved : goal.loop-glyph-preserved
 loop-glyph-preserved c = record {
   written =
-    ap (map option_copied) c.push_reserved.ensures.items
-    ∙ mapped_more option_copied (glyph_among c.args.mapper.now c.args.drawn.now) c.loop-glyph.all.items c.loop-glyph.glyph _ c.loop-glyph.invariant.written c.glyph_among.ensures;
+      ap (map option_copied) c.push_reserved.ensures.items
+      ∙ mapped_more option_copied (glyph_among c.args.mapper.now c.args.drawn.now) c.loop-glyph.all.items c.loop-glyph.glyph _ c.loop-glyph.invariant.written c.glyph_among.ensures;
   room = omega (arith, c.loop-glyph.invariant.room, c.push_reserved.ensures.len, c.push_reserved.ensures.capacity);
 }
