@@ -5,7 +5,8 @@
 
 It needs what instance.py needs, libharfbuzz-dev, and subset_bench. Of Inter, and of Roboto Flex and Source Serif where a FOLDER
 has them, it takes 3, 80 and 2,000 spread glyphs (or all), at a random place. The port and HarfBuzz take turns, one call each,
-N times (12), and the medians are compared; fontTools makes its instance of the whole font once, without a file. Memory is the
+N times (12); the ratio is the median of those of the turns, whose two calls follow one another. Each turn goes through all rows,
+so that a slow second of the machine falls on no row alone. fontTools makes its instance of the whole font once, without a file. Memory is the
 bytes that subset_bench asks for at most (peak.c), less those of a run that a font of no bytes ends.
 
 The status is 1 where the port takes more than 1.5 of HarfBuzz's time from 80 glyphs on, more than 0.01 of fontTools', or more
@@ -67,7 +68,8 @@ def place_inside(axes, rng):
     return [(tag, rng.randint(round(low * 65536), round(high * 65536))) for tag, low, _, high in axes]
 
 
-def rows_of(path, words, room):
+def tasks_of(path, words, room):
+    """For each number of glyphs the words that start the port and HarfBuzz, and what fontTools takes for the whole font."""
     source, rng = instance.Source(path), random.Random(os.path.basename(path))
     place = place_inside(source.axes, rng)
     with open(path, "rb") as file:
@@ -77,12 +79,22 @@ def rows_of(path, words, room):
     for count in COUNTS:
         count = min(count, len(source.names))
         glyphs = fonts.spread(len(source.names), count)
-        out = os.path.join(room, "out")
-        port = [build.BENCH, *instances.words_of(path, glyphs.split(","), out, place)]
+        port = [build.BENCH, *instances.words_of(path, glyphs.split(","), os.path.join(room, "out"), place)]
         draw = [os.path.join(build.BUILD, "harfbuzz_draw"), path, glyphs, "1", *map(str, at)]
-        ours, theirs = zip(*((said(port)[0], said(draw)[0]) for _ in range(words.turns)))
-        length = said(port)[1]
-        yield os.path.basename(path), count, statistics.median(ours), statistics.median(theirs), whole, memory(port, room), length, len(data)
+        yield count, port, draw, whole
+
+
+def rows_of(paths, words, room):
+    """A row for each font and number of glyphs. All take their turns one after the other."""
+    tasks = [(path, *task) for path in paths for task in tasks_of(path, words, room)]
+    ours, theirs = [[] for _ in tasks], [[] for _ in tasks]
+    for _ in range(words.turns):
+        for k, (_, _, port, draw, _) in enumerate(tasks):
+            ours[k].append(said(port)[0])
+            theirs[k].append(said(draw)[0])
+    for k, (path, count, port, _, whole) in enumerate(tasks):
+        ratio = statistics.median(one / other for one, other in zip(ours[k], theirs[k]))
+        yield os.path.basename(path), count, statistics.median(ours[k]), statistics.median(theirs[k]), ratio, whole, memory(port, room), said(port)[1], os.path.getsize(path)
 
 
 def main():
@@ -103,14 +115,14 @@ def main():
     print("|", " | ".join(head), "|\n|" + "---|" * len(head))
     lines, missed = [], 0
     with tempfile.TemporaryDirectory(prefix="times-") as room:
-        for path in instance.font_paths(words.folders, ""):
-            for name, count, ours, theirs, whole, held, length, size in rows_of(path, words, room) if os.path.basename(path) in NAMES else []:
-                most = size + 2 * length + MORE
-                slow = (count >= 80 and ours > BESIDE_HARFBUZZ * theirs) or (whole and ours > BESIDE_FONTTOOLS * whole)
-                missed += bool(slow or held > most)
-                lines.append([name, count, round(ours / 1000), round(theirs / 1000), f"{ours / theirs:.2f}", round(whole / 1e6) if whole else "",
-                              f"{ours / whole:.5f}" if whole else "", held, most])
-                print("|", " | ".join(map(str, lines[-1])), "|" + " missed" * bool(slow or held > most), flush=True)
+        paths = [it for it in instance.font_paths(words.folders, "") if os.path.basename(it) in NAMES]
+        for name, count, ours, theirs, ratio, whole, held, length, size in rows_of(paths, words, room):
+            most = size + 2 * length + MORE
+            slow = (count >= 80 and ratio > BESIDE_HARFBUZZ) or (whole and ours > BESIDE_FONTTOOLS * whole)
+            missed += bool(slow or held > most)
+            lines.append([name, count, round(ours / 1000), round(theirs / 1000), f"{ratio:.2f}", round(whole / 1e6) if whole else "",
+                          f"{ours / whole:.5f}" if whole else "", held, most])
+            print("|", " | ".join(map(str, lines[-1])), "|" + " missed" * bool(slow or held > most), flush=True)
     print(f"\n{len(lines)} rows, {missed} past their bound.")
     if words.results:
         with open(os.path.join(words.results, "instance_times.csv"), "w") as file:
