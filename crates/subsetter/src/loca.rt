@@ -45,7 +45,7 @@ pub fn subset(alloc: Global, outlines: &OutlineList<'_>, long: bool) -> Result<V
     let mut offset: usize = 0;
     for outline in outlines.iter() {
         write_offset(&mut w, long, offset)?;
-        offset += outline.padded_len(long);
+        offset = offset.saturating_add(outline.padded_len(long));
     }
     write_offset(&mut w, long, offset)?;
     Ok(w.finish())

@@ -5,15 +5,17 @@
 //! an index for each new glyph, and for each name of the font's own a string. A table of another version is copied.
 //!
 //! The names stand one after another, so the place of every eighth is kept in 32 bits, up to the greatest that is asked
-//! for; past what 32 bits reach a name is found from the first on. More than 65,278 names of the font's own are said by
+//! for, and of every one where these are at most four for each kept glyph; past what 32 bits reach a name is found from
+//! the first on. More than 65,278 names of the font's own are said by
 //! a list of distinct reached glyphs with such names that is longer than that.
 
-ghost use Rattle.std.specs.Prelude.{◌≡◌, ◌≤◌, ◌<◌, ◌+◌, ◌++◌, ℕ, [], length, drop, slice_index, get_or, flat_map, OnOk, IfOk, IfErr, IfSome};
+ghost use Rattle.std.specs.Prelude.{◌≡◌, ◌≤◌, ◌<◌, ◌+◌, ◌*◌, ◌++◌, ℕ, [], length, drop, slice_index, get_or, flat_map, OnOk, IfOk, IfErr, IfSome};
 ghost use Rattle.std.specs.Option.{option_copied, option_map};
 ghost use Rattle.std.specs.Cow.{cow_slice_items};
 ghost use Rattle.std.specs.Iterator.{YieldsFirstRef, item_count};
 ghost use Rattle.subsetter_base.specs.Gives.{Gives};
 ghost use Rattle.subsetter_base.specs.declared.error.Error.TheVariants.{OutOfMemory};
+ghost use Rattle.subsetter.specs.Post.Marks.{step_of};
 ghost use Rattle.subsetter.specs.Post.Read.{names_in, post_table, pascal_bytes};
 ghost use Rattle.subsetter_sfnt.specs.Extras.{without_glyph_names};
 ghost use Rattle.subsetter.specs.Post.Plain.{seen_post, indexes_of, custom_count, new_indexes, entry_of, post_of_indexes, subset_glyph_names, new_post};
@@ -33,6 +35,9 @@ const FIRST_CUSTOM: usize = STANDARD_NAMES as usize;
 const CUSTOM_MAX: usize = 65_278;
 /// From how many glyphs on the room of their names is counted before they are written, and not grown.
 const MANY_GLYPHS: usize = 4096;
+
+/// Up to how many names for each kept glyph the place of each is kept, and not of every eighth.
+const DENSE: usize = 4;
 
 /// Names, each behind its length byte. An empty name is a name; a cut one ends them.
 #[derive(Drop)]
@@ -150,13 +155,12 @@ fn pass(bytes: &[u8], start: usize, count: usize) -> usize
     at
 }
 
-/// How many bytes so many of eight names have, where the eight have one length, so that one look at each length byte finds it out.
-fn alike_len(bytes: &[u8], count: usize) -> Option<usize>
+/// How many bytes so many of eight names have, where the eight have this length, so that one look at each length byte finds it out.
+fn alike_len(bytes: &[u8], count: usize, len: u8) -> Option<usize>
     requires { count ≤ 8 }
     ensures names { IfSome result (λ n. names_in (drop n bytes.now) ≡ drop count (names_in bytes.now)) }
     ensures within { IfSome result (λ n. n ≤ length bytes.now) }
 {
-    let len = *bytes.first()?;
     let step = usize::from(len) + 1;
     if bytes.len() < 8 * step {
         return None;
@@ -169,18 +173,71 @@ fn alike_len(bytes: &[u8], count: usize) -> Option<usize>
     Some(count * step)
 }
 
+/// The length byte at a place, 0 behind the last one.
+fn length_at(bytes: &[u8], at: usize) -> u8 {
+    match bytes.get(at) {
+        Some(len) => *len,
+        None => 0,
+    }
+}
+
 /// The place behind so many names from a place on, found soon where eight names are alike.
 fn skip(bytes: &[u8], at: usize, count: usize) -> usize
     requires { at ≤ length bytes.now }
     ensures names { names_in (drop result bytes.now) ≡ drop count (names_in (drop at bytes.now)) }
     ensures within { result ≤ length bytes.now }
 {
+    if count == 0 {
+        return at;
+    }
     if count > 8 {
         return pass(bytes, at, count);
     }
-    match alike_len(&bytes[at..], count) {
+    match alike_len(&bytes[at..], count, length_at(bytes, at)) {
         Some(len) => at + len,
         None => pass(bytes, at, count),
+    }
+}
+
+/// The place behind eight names from a place on, and a guess of the length of those that follow.
+///
+/// Names in a row often have one length. It is taken from the names before and not read here, so that the place of the
+/// next names waits for no byte.
+fn skip_eight(bytes: &[u8], at: usize, len: u8) -> (usize, u8)
+    requires { at ≤ length bytes.now }
+    ensures names { names_in (drop result.0 bytes.now) ≡ drop 8 (names_in (drop at bytes.now)) }
+    ensures within { result.0 ≤ length bytes.now }
+{
+    match alike_len(&bytes[at..], 8, len) {
+        Some(size) => (at + size, len),
+        None => {
+            let end = skip(bytes, at, 8);
+            (end, length_at(bytes, end))
+        }
+    }
+}
+
+/// The place behind one name from a place on, or behind eight, and a guess of the length of those that follow.
+fn skip_step(bytes: &[u8], at: usize, len: u8, is_dense: bool) -> (usize, u8)
+    requires { at ≤ length bytes.now }
+    ensures names { names_in (drop result.0 bytes.now) ≡ drop (step_of is_dense) (names_in (drop at bytes.now)) }
+    ensures within { result.0 ≤ length bytes.now }
+{
+    if is_dense {
+        (behind_name(bytes, at), len)
+    } else {
+        skip_eight(bytes, at, len)
+    }
+}
+
+/// Which mark a name is found from, and how many names are passed over from there.
+fn mark_of(is_dense: bool, number: usize) -> (usize, usize)
+    ensures { step_of is_dense * result.0 + result.1 ≡ number }
+{
+    if is_dense {
+        (number, 0)
+    } else {
+        (number / 8, number % 8)
     }
 }
 
@@ -203,49 +260,59 @@ struct Mark<'a> {
 #[derive(Drop)]
 struct NameList<'a> {
     all: &'a [u8],
-    /// Where every eighth name begins, up to some number.
+    /// Where every name begins, or else every eighth, up to some number.
     marks: Vec<u32>,
+    /// Whether there is a mark for every name.
+    is_dense: bool,
 }
 
 impl<'a> Model for NameList<'a> {
     ghost use Rattle.std.specs.Prelude.{ℕ, List};
     ghost use Rattle.subsetter.specs.Post.Read.{names_in};
-    ghost use Rattle.subsetter.specs.Post.Marks.{AreMarks};
+    ghost use Rattle.subsetter.specs.Post.Marks.{AreMarks, step_of};
 
     ghost Value = { List (List ℕ) };
 
     ghost view = { λ l. names_in l.all.now };
 
-    ghost invariant = { λ l. AreMarks l.all.now (names_in l.all.now) l.marks.items };
+    ghost invariant = { λ l. AreMarks (step_of l.is_dense) l.all.now (names_in l.all.now) l.marks.items };
 }
 
 impl<'a> NameList<'a> {
     /// The names of some bytes, of which those below a number are found soon.
-    fn new(alloc: Global, all: &'a [u8], limit: usize) -> Result<Self, Error>
+    fn new(alloc: Global, all: &'a [u8], limit: usize, is_dense: bool) -> Result<Self, Error>
         ensures ok { IfOk result (λ list. list ≡ names_in all.now) }
         ensures err { IfErr result (λ e. e ≡ OutOfMemory) }
     {
-        let count = limit / 8 + 1;
+        let count = if is_dense { limit } else { limit / 8 }.saturating_add(1);
         let mut marks = Vec::with_capacity(alloc, count)?;
         let mut at: usize = 0;
+        let mut len = length_at(all, 0);
         for _ in 0..count {
             if at > 0xffff_ffff {
                 break;
             }
             marks.push(at as u32)?;
-            at = skip(all, at, 8);
+            let (next, next_len) = skip_step(all, at, len, is_dense);
+            at = next;
+            len = next_len;
         }
-        Ok(Self { all, marks })
+        Ok(Self {
+            all,
+            marks,
+            is_dense,
+        })
     }
 
     /// The mark from which the name with a number is found.
     fn from_mark(&self, number: usize) -> Mark<'a>
         ensures { drop result.count (names_in result.bytes.now) ≡ drop number self.now }
     {
-        match self.marks.get(number / 8) {
+        let (place, count) = mark_of(self.is_dense, number);
+        match self.marks.get(place) {
             Some(mark) => Mark {
                 bytes: from_place(self.all, *mark as usize),
-                count: number % 8,
+                count,
             },
             None => Mark {
                 bytes: self.all,
@@ -401,7 +468,9 @@ pub fn subset<'a>(
     }
     let table = Version2Table::parse(bytes).ok_or(Error::MalformedFont)?;
     let indexes = table.indexes(alloc, mapper)?;
-    let names = NameList::new(alloc, table.names_data, custom_limit(&indexes))?;
+    let limit = custom_limit(&indexes);
+    let is_dense = limit / DENSE <= indexes.len();
+    let names = NameList::new(alloc, table.names_data, limit, is_dense)?;
     let new = write_table(alloc, &table, mapper.num_gids(), &indexes, &names)?;
     Ok(Some(CowSlice::Owned(new)))
 }

@@ -68,7 +68,7 @@ pub fn put_number(size: u8, n: usize, w: &mut Writer) -> Result<(), Error>
     ensures ok { OnOk result (w.new ≡ w.old ++ bytes_high_first size n) }
     ensures err { IfErr result (λ e. e ≡ OutOfMemory) }
 {
-    let bytes = n.to_be_bytes();
+    let bytes = (n as u64).to_be_bytes();
     w.extend(&bytes[8 - size as usize..])
 }
 
@@ -127,7 +127,7 @@ fn index_room(counts: &Counts) -> usize
     ensures { result ≡ 3 + offset_size counts.now.total * (counts.now.items + 1) + counts.now.total }
 {
     let width = usize::from(size_of_offset(counts.total));
-    3 + width * (usize::from(counts.items) + 1) + counts.total as usize
+    (3 + width * (usize::from(counts.items) + 1)).saturating_add(counts.total as usize)
 }
 
 /// Writes the offset behind each item.

@@ -68,8 +68,8 @@ pub fn maxp(alloc: Global, count: u16, drawn: &[Drawn]) -> Result<Vec<u8>, Alloc
     let mut maxp = Vec::with_capacity(alloc, 32)?;
     maxp.extend_from_slice(&[0, 1, 0, 0])?;
     maxp.extend_from_slice(&count.to_be_bytes())?;
-    let [_, _, _, _, _, _, a, b] = most_points(drawn).to_be_bytes();
-    let [_, _, _, _, _, _, c, d] = most_contours(drawn).to_be_bytes();
+    let [_, _, _, _, _, _, a, b] = (most_points(drawn) as u64).to_be_bytes();
+    let [_, _, _, _, _, _, c, d] = (most_contours(drawn) as u64).to_be_bytes();
     maxp.extend_from_slice(&[a, b, c, d, 0, 0, 0, 0, 0, 1])?;
     maxp.extend_from_slice(&[0, 0, 0, 0, 0, 0, 0, 0, 0, 0, 0, 0, 0, 0, 0, 1])?;
     Ok(maxp)

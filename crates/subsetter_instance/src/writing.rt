@@ -84,10 +84,10 @@ fn write_offset(loca: &mut Vec<u8>, long: bool, offset: usize) -> Result<(), Err
     ensures err { IfErr result (λ e. e ≡ OutOfMemory) }
 {
     if long {
-        let [_, _, _, _, a, b, c, d] = offset.to_be_bytes();
+        let [_, _, _, _, a, b, c, d] = (offset as u64).to_be_bytes();
         loca.extend_from_slice(&[a, b, c, d])?;
     } else {
-        let [_, _, _, _, _, _, a, b] = (offset / 2).to_be_bytes();
+        let [_, _, _, _, _, _, a, b] = ((offset / 2) as u64).to_be_bytes();
         loca.extend_from_slice(&[a, b])?;
     }
     Ok(())

@@ -36,7 +36,7 @@ fn measured<T: TableBytes>(tables: &[NewTable<T>]) -> Result<usize, Error>
         if len > 0xffff_ffff {
             return Err(Error::OverflowError);
         }
-        at += aligned_len(len);
+        at = at.saturating_add(aligned_len(len));
     }
     Ok(at)
 }

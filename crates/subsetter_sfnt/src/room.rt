@@ -18,7 +18,7 @@ pub fn aligned_len(len: usize) -> usize
     requires { len + 3 < 2 ^ 64 }
     ensures { result ≡ (len + 3) / 4 * 4 }
 {
-    (len + 3) / 4 * 4
+    len.saturating_add(3) / 4 * 4
 }
 
 /// Writes zeros up to a multiple of four.

@@ -104,7 +104,7 @@ pub fn item_store(bytes: &[u8]) -> Option<Store<'_>>
     let at = offset_at(bytes, 2)? as usize;
     let axis_count = Reader::new_at(bytes, at).read::<u16>()?;
     let region_count = Reader::new_at(bytes, at + 2).read::<u16>()?;
-    let size = region_count as usize * (axis_count as usize * 6);
+    let size = (region_count as usize).saturating_mul(axis_count as usize * 6);
     let regions = Reader::new_at(bytes, at + 4).read_bytes(size)?;
     if format == 1 {
         Some(Store {
@@ -177,7 +177,7 @@ fn row_at(
 {
     let size = (count as usize + words as usize) * (if long { 2 } else { 1 });
     let indexes = Reader::new_at(bytes, at + 6).read_bytes(count as usize * 2)?;
-    let from = at + 6 + count as usize * 2 + inner as usize * size;
+    let from = (at + 6 + count as usize * 2).saturating_add((inner as usize).saturating_mul(size));
     let deltas = Reader::new_at(bytes, from).read_bytes(size)?;
     Some(Row {
         count,

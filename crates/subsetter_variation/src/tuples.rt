@@ -79,7 +79,7 @@ fn parts(gvar: &[u8], axis_count: u16, glyph_count: u16, long: bool) -> Option<G
     let shared_count = Reader::new_at(gvar, 6).read::<u16>()?;
     let shared_at = Reader::new_at(gvar, 8).read::<u32>()?;
     let from = Reader::new_at(gvar, 16).read::<u32>()?;
-    let size = shared_count as usize * (axis_count as usize * 2);
+    let size = (shared_count as usize).saturating_mul(axis_count as usize * 2);
     let shared = Reader::new_at(gvar, shared_at as usize).read_bytes(size)?;
     let entry = if long { 4 } else { 2 };
     let offsets = Reader::new_at(gvar, 20).read_bytes((glyph_count as usize + 1) * entry)?;

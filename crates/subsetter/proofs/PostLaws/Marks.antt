@@ -1,4 +1,4 @@
--- Names of `post` that are found from the marks of every eighth.
+-- Names of `post` that are found from marks.
 use Rattle.std.proofs.Common.{◌≡◌, ◌<◌, ◌≤◌, ℕ, zero, suc, ◌+◌, ◌*◌, ◌/◌, ◌%◌, List, [], ◌∷◌, ◌++◌, cond, length, take, drop, Option, Some, None, refl, sym, ap, ◌∙◌, arith}
 use Rattle.std.specs.Prelude.{slice_get, get_or}
 use Rattle.std.proofs.lemmas.Bool.{lt-leb}
@@ -7,22 +7,32 @@ use Rattle.subsetter.specs.Post.Read.{names_in, pascal_strings}
 use Rattle.subsetter.specs.Post.Marks.{AreMarks}
 use Rattle.subsetter.proofs.PostLaws.Steps.{first_gone}
 
-pub marks_push : (all : List ℕ) (names : List (List ℕ)) (marks : List ℕ) (m : ℕ) → AreMarks all names marks → names_in (drop m all) ≡ drop (8 * length marks) names → m ≤ length all → AreMarks all names (marks ++ m ∷ [])
-marks_push all names [] m h e le = (e, (le, tt))
-marks_push all names (x ∷ marks) m h e le = (h.0, (h.1.0, marks_push all (drop 8 names) marks m h.1.1 (e ∙ ap (λ n. drop n names) (omega arith) ∙ sym (drop-drop (8 * length marks) 8 names)) le))
+-- a step more
+one_step : (step n : ℕ) → step * n + step ≡ step * suc n
+one_step step n = omega arith
+
+no_step : (step : ℕ) → step * 0 ≡ 0
+no_step step = omega arith
+
+steps_more : (step n : ℕ) → step + step * n ≡ step * suc n
+steps_more step n = omega arith
+
+pub marks_push : (step : ℕ) (all : List ℕ) (names : List (List ℕ)) (marks : List ℕ) (m : ℕ) → AreMarks step all names marks → names_in (drop m all) ≡ drop (step * length marks) names → m ≤ length all → AreMarks step all names (marks ++ m ∷ [])
+marks_push step all names [] m h e le = (e ∙ ap (λ n. drop n names) (no_step step), (le, tt))
+marks_push step all names (x ∷ marks) m h e le = (h.0, (h.1.0, marks_push step all (drop step names) marks m h.1.1 (e ∙ ap (λ n. drop n names) (sym (steps_more step (length marks))) ∙ sym (drop-drop (step * length marks) step names)) le))
 
 -- the same of the code's marks
-pub mark_last : (all : List ℕ) (names : List (List ℕ)) (marks after : List ℕ) (m : ℕ) → after ≡ marks ++ m ∷ [] → AreMarks all names marks → names_in (drop m all) ≡ drop (8 * length marks) names → m ≤ length all → AreMarks all names after
-mark_last all names marks after m is h e le = rw is (marks_push all names marks m h e le)
+pub mark_last : (step : ℕ) (all : List ℕ) (names : List (List ℕ)) (marks after : List ℕ) (m : ℕ) → after ≡ marks ++ m ∷ [] → AreMarks step all names marks → names_in (drop m all) ≡ drop (step * length marks) names → m ≤ length all → AreMarks step all names after
+mark_last step all names marks after m is h e le = rw is (marks_push step all names marks m h e le)
 
-pub mark_is : (all : List ℕ) (names : List (List ℕ)) (marks : List ℕ) (j m : ℕ) → AreMarks all names marks → slice_get marks j ≡ Some m → (names_in (drop m all) ≡ drop (8 * j) names) × (m ≤ length all)
-mark_is all names [] j m h e = absurd cc
-mark_is all names (x ∷ marks) zero m h e =
+pub mark_is : (step : ℕ) (all : List ℕ) (names : List (List ℕ)) (marks : List ℕ) (j m : ℕ) → AreMarks step all names marks → slice_get marks j ≡ Some m → (names_in (drop m all) ≡ drop (step * j) names) × (m ≤ length all)
+mark_is step all names [] j m h e = absurd cc
+mark_is step all names (x ∷ marks) zero m h e =
     let same : m ≡ x = ap (λ (o : Option ℕ). elim o as (λ _. ℕ) [ None ↦ m | Some b ↦ b ]) (sym e) in
-    (ap (λ (n : ℕ). names_in (drop n all)) same ∙ h.0, omega (arith, same, h.1.0))
-mark_is all names (x ∷ marks) (suc j) m h e =
-    let later = mark_is all (drop 8 names) marks j m h.1.1 e in
-    (later.0 ∙ drop-drop (8 * j) 8 names ∙ ap (λ n. drop n names) (omega arith), later.1)
+    (ap (λ (n : ℕ). names_in (drop n all)) same ∙ h.0 ∙ ap (λ n. drop n names) (sym (no_step step)), omega (arith, same, h.1.0))
+mark_is step all names (x ∷ marks) (suc j) m h e =
+    let later = mark_is step all (drop step names) marks j m h.1.1 e in
+    (later.0 ∙ drop-drop (step * j) step names ∙ ap (λ n. drop n names) (steps_more step j), later.1)
 
 -- the member at a place is the first behind the place
 pub first_behind : (names : List (List ℕ)) (i : ℕ) (x : List ℕ) (rest : List (List ℕ)) → drop i names ≡ x ∷ rest → get_or names i [] ≡ x
@@ -63,12 +73,12 @@ behind_end bytes at le =
 pub passed : (bytes : List ℕ) (start at next n : ℕ) → names_in (drop at bytes) ≡ drop n (names_in (drop start bytes)) → names_in (drop next bytes) ≡ drop 1 (names_in (drop at bytes)) → names_in (drop next bytes) ≡ drop (n + 1) (names_in (drop start bytes))
 passed bytes start at next n e h = h ∙ ap (drop 1) e ∙ drop-drop 1 n (names_in (drop start bytes))
 
--- eight names further
-pub mark_more : (all : List ℕ) (names : List (List ℕ)) (marks after : List ℕ) (m at next : ℕ) → after ≡ marks ++ m ∷ [] → names_in (drop at all) ≡ drop (8 * length marks) names → names_in (drop next all) ≡ drop 8 (names_in (drop at all)) → names_in (drop next all) ≡ drop (8 * length after) names
-mark_more all names marks after m at next is here eight =
-    let len : length after ≡ length marks + 1 = ap length is ∙ length-append marks (m ∷ []) in
-    eight ∙ ap (drop 8) here ∙ drop-drop 8 (8 * length marks) names ∙ ap (λ n. drop n names) (omega (arith, len))
+-- a step further
+pub mark_more : (step : ℕ) (all : List ℕ) (names : List (List ℕ)) (marks after : List ℕ) (m at next : ℕ) → after ≡ marks ++ m ∷ [] → names_in (drop at all) ≡ drop (step * length marks) names → names_in (drop next all) ≡ drop step (names_in (drop at all)) → names_in (drop next all) ≡ drop (step * length after) names
+mark_more step all names marks after m at next is here further =
+    let len : length after ≡ suc (length marks) = ap length is ∙ length-append marks (m ∷ []) ∙ omega arith in
+    further ∙ ap (drop step) here ∙ drop-drop step (step * length marks) names ∙ ap (λ n. drop n names) (one_step step (length marks) ∙ ap (λ n. step * n) (sym len))
 
 -- found from a mark
-pub from_mark : (all : List ℕ) (marks : List ℕ) (i m : ℕ) → AreMarks all (names_in all) marks → slice_get marks (i / 8) ≡ Some m → drop (i % 8) (names_in (drop m all)) ≡ drop i (names_in all)
-from_mark all marks i m h e = ap (drop (i % 8)) (mark_is all (names_in all) marks (i / 8) m h e).0 ∙ drop-drop (i % 8) (8 * (i / 8)) (names_in all) ∙ ap (λ n. drop n (names_in all)) (omega arith)
+pub from_mark : (step : ℕ) (all : List ℕ) (marks : List ℕ) (i j k m : ℕ) → step * j + k ≡ i → AreMarks step all (names_in all) marks → slice_get marks j ≡ Some m → drop k (names_in (drop m all)) ≡ drop i (names_in all)
+from_mark step all marks i j k m is h e = ap (drop k) (mark_is step all (names_in all) marks j m h e).0 ∙ drop-drop k (step * j) (names_in all) ∙ ap (λ n. drop n (names_in all)) is

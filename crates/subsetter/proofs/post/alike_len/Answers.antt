@@ -3,4 +3,4 @@ use Rattle.subsetter.proofs.PostLaws.Steps.{one_more_upto}
 use Rattle.subsetter.proofs.post.alike_len.Goals as goal
 
 pub loop-place-preserved : goal.loop-place-preserved
-loop-place-preserved c = one_more_upto c.args.bytes.now c.in_ok-len.field-0.now (c.from-step.result + 1) c.args.count c.loop-place.place (omega (arith, c.from-step.ensures)) c.if-bytes-step.false c.loop-place-test.true c.if-bytes-place.false c.loop-place.invariant
+loop-place-preserved c = one_more_upto c.args.bytes.now c.args.len (c.from-step.result + 1) c.args.count c.loop-place.place (omega (arith, c.from-step.ensures)) c.if-bytes-step.false c.loop-place-test.true c.if-bytes-place.false c.loop-place.invariant

@@ -1,3 +1,4 @@
+use Rattle.subsetter.specs.Post.Marks.{step_of}
 use Rattle.subsetter.specs.Post.Read.{names_in}
 use Rattle.subsetter.proofs.PostLaws.Marks.{mark_last, mark_more}
 use Rattle.subsetter.proofs.post.NameList.new.Goals as goal
@@ -6,7 +7,7 @@ pub loop-preserved : goal.loop-preserved
 loop-preserved c =
     let all = c.args.all.now in
     record {
-      at = mark_more all (names_in all) c.loop.marks.items c.push.new.self.items c.loop.at c.loop.at c.skip-at.result c.in_ok-push.ensures.items c.loop.invariant.at c.skip-at.ensures.names;
-      within = c.skip-at.ensures.within;
-      marks = mark_last all (names_in all) c.loop.marks.items c.push.new.self.items c.loop.at c.in_ok-push.ensures.items c.loop.invariant.marks c.loop.invariant.at c.loop.invariant.within;
+      at = mark_more (step_of c.args.is_dense) all (names_in all) c.loop.marks.items c.push.new.self.items c.loop.at c.loop.at c.skip_step-next.result.0 c.in_ok-push.ensures.items c.loop.invariant.at c.skip_step-next.ensures.names;
+      within = c.skip_step-next.ensures.within;
+      marks = mark_last (step_of c.args.is_dense) all (names_in all) c.loop.marks.items c.push.new.self.items c.loop.at c.in_ok-push.ensures.items c.loop.invariant.marks c.loop.invariant.at c.loop.invariant.within;
     }
