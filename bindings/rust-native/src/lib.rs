@@ -1,0 +1,292 @@
+//! Fonts cut down to some of their glyphs, for embedding in PDF: the calls of the crate `subsetter`, version 0.2.6, over a
+//! library of which each function is proved.
+//!
+//! A program that uses the crate, or that depends on something which does, takes this one in its place by two lines of
+//! its `Cargo.toml`:
+//!
+//! ```toml
+//! [patch.crates-io]
+//! subsetter = { path = "bindings/rust" }
+//! ```
+//!
+//! The feature `variable-fonts` adds `subset_with_variations`, as in the crate; CFF2 is refused with it, too. What the crate
+//! doesn't have: [`embed`], and by that feature `embed_with_variations`, answers the CIDs and the widths too, which a PDF
+//! needs; [`Limits`] bound what a hostile font can cost, and [`Options`] leave out what a PDF doesn't need.
+//!
+//! ```
+//! use subsetter::{subset, GlyphRemapper};
+//!
+//! # fn main() -> Result<(), subsetter::Error> {
+//! # let data: &[u8] = b"\0\x01\0\0\0\x03\0\x20\0\x01\0\x10glyf\0\0\0\0\0\0\0\x3c\0\0\0\0head\0\0\0\0\0\0\0\x3c\0\0\0\x36\
+//! #     loca\0\0\0\0\0\0\0\x72\0\0\0\x90";
+//! # let data = &[data, &[0; 198]].concat();
+//! let mut mapper = GlyphRemapper::new();
+//! let new_number = mapper.remap(36);
+//! let font = subset(data, 0, &mapper)?;
+//! assert_eq!(new_number, 1);
+//! # assert!(font.len() < data.len());
+//! # Ok(())
+//! # }
+//! ```
+
+#![warn(missing_docs)]
+
+mod error;
+mod library;
+mod options;
+mod remapper;
+mod tag;
+#[cfg(feature = "variable-fonts")]
+mod variations;
+
+pub use error::Error;
+pub use options::{Limits, Options};
+pub use remapper::GlyphRemapper;
+pub use tag::Tag;
+
+/// Subsets a font to the glyphs of a mapper.
+///
+/// `data` is a whole file, OpenType or a collection; `index` is the face of a collection, from 0. The new font has the
+/// mapper's glyphs in order, and then each further glyph that these need as components.
+///
+/// # Errors
+///
+/// A fault of the font, by its name. Where memory runs out the process ends, as it does with any `Vec`.
+pub fn subset(data: &[u8], index: u32, mapper: &GlyphRemapper) -> Result<Vec<u8>, Error> {
+    subset_with_options(data, index, mapper, &Options::new())
+}
+
+/// [`subset`] with limits on the charstring of each glyph, for fonts that nobody vouches for.
+///
+/// ```
+/// use subsetter::{subset_with_limits, Error, GlyphRemapper, Limits};
+///
+/// # let data = b"OTTO\0\x01\0\x10\0\0\0\0CFF \0\0\0\0\0\0\0\x1c\0\0\0\x1c\x01\0\x04\x01\0\x01\x01\x01\x02A\0\x01\x01\x01\
+/// #     \x03\xa0\x11\0\0\0\0\0\x01\x01\x01\x03\x8b\x0e";
+/// // A font whose glyph 0 has a charstring of two tokens.
+/// let within = Limits::new(2, 1).unwrap();
+/// assert!(subset_with_limits(data, 0, &GlyphRemapper::new(), &within).is_ok());
+/// let passed = Limits::new(1, 1).unwrap();
+/// let refused = subset_with_limits(data, 0, &GlyphRemapper::new(), &passed);
+/// assert_eq!(refused, Err(Error::CFFError));
+/// ```
+///
+/// # Errors
+///
+/// Those of [`subset`]; a charstring that passes a limit is a [`Error::CFFError`].
+pub fn subset_with_limits(
+    data: &[u8],
+    index: u32,
+    mapper: &GlyphRemapper,
+    limits: &Limits,
+) -> Result<Vec<u8>, Error> {
+    subset_with_options(data, index, mapper, &Options::new().limits(*limits))
+}
+
+/// [`subset`] with all choices: the limits, and what the new font keeps.
+///
+/// ```
+/// use subsetter::{subset, subset_with_options, GlyphRemapper, Options};
+///
+/// # fn main() -> Result<(), subsetter::Error> {
+/// # let data: &[u8] = b"\0\x01\0\0\0\x04\0\x40\0\x02\0\0cvt \0\0\0\0\0\0\0\x4c\0\0\0\x02glyf\0\0\0\0\0\0\0\x4c\0\0\0\0\
+/// #     head\0\0\0\0\0\0\0\x4c\0\0\0\x36loca\0\0\0\0\0\0\0\x82\0\0\0\x04";
+/// # let data = &[data, &[0; 58]].concat();
+/// let mapper = GlyphRemapper::new();
+/// let whole = subset(data, 0, &mapper)?;
+/// let lean = Options::new().hinting(false).names(false).glyph_names(false);
+/// let small = subset_with_options(data, 0, &mapper, &lean)?;
+/// assert!(small.len() < whole.len());
+/// # Ok(())
+/// # }
+/// ```
+///
+/// # Errors
+///
+/// Those of [`subset_with_limits`]. A table that is left out isn't looked at, so a fault in it is none.
+pub fn subset_with_options(
+    data: &[u8],
+    index: u32,
+    mapper: &GlyphRemapper,
+    options: &Options,
+) -> Result<Vec<u8>, Error> {
+    library::subset(data, index, mapper.glyphs(), options)
+}
+
+/// [`subset`] of a font as it is at coordinates on its axes, each the tag of an axis and a value in what the axis counts.
+///
+/// An axis without a value stays at its default, of several values for an axis the last counts, one past an axis's end is
+/// that end, and a tag that the font doesn't have is passed over. A value is taken as the nearest number of 65536ths, a half
+/// rounded up: `floor(value * 65536 + 1/2)`; one past 32 bits is the nearest one within.
+///
+/// Where the font stands at its default, has no axes or has its outlines in `CFF `, it is subset as it is, with its hints.
+/// Else the new font is a static one: each glyph is a simple outline without instructions, as the font draws it there, with
+/// the advance that it has there.
+///
+/// ```
+/// use subsetter::{subset_with_variations, GlyphRemapper, Tag};
+///
+/// # fn main() -> Result<(), subsetter::Error> {
+/// # let data: &[u8] = b"\0\x01\0\0\0\x03\0\x20\0\x01\0\x10glyf\0\0\0\0\0\0\0\x3c\0\0\0\0head\0\0\0\0\0\0\0\x3c\0\0\0\x36\
+/// #     loca\0\0\0\0\0\0\0\x72\0\0\0\x90";
+/// # let data = &[data, &[0; 198]].concat();
+/// let mapper = GlyphRemapper::new_from_glyphs(&[36]);
+/// let bold = [(Tag::new(b"wght"), 700.0), (Tag::new(b"wdth"), 87.5)];
+/// let font = subset_with_variations(data, 0, &bold, &mapper)?;
+/// # assert!(font.len() < data.len());
+/// # Ok(())
+/// # }
+/// ```
+///
+/// # Errors
+///
+/// Those of [`subset`]; besides, where there are outlines in `glyf`:
+///
+/// - [`Error::MalformedFont`]: what says how the font varies (`fvar`, `avar`, `gvar`, `HVAR`) is cut.
+/// - [`Error::Unimplemented`]: `avar` has another version than 1, or a glyph is put together in a way that isn't taken.
+/// - [`Error::OverflowError`]: a glyph takes more than 1,000,000 steps, or a coordinate or an advance doesn't fit its 16
+///   bits.
+///
+/// # Panics
+///
+/// A value is NaN.
+#[cfg(feature = "variable-fonts")]
+pub fn subset_with_variations(
+    data: &[u8],
+    index: u32,
+    variation_coordinates: &[(Tag, f32)],
+    mapper: &GlyphRemapper,
+) -> Result<Vec<u8>, Error> {
+    let options = Options::new();
+    subset_with_variations_and_options(data, index, variation_coordinates, mapper, &options)
+}
+
+/// [`subset_with_variations`] with all choices: the limits, and what the new font keeps. Elsewhere than at its default a
+/// glyph may take as many steps as the limits have tokens: one for each glyph that it leads to, each point, each tuple, and
+/// each point again of a tuple that counts.
+///
+/// # Errors
+///
+/// Those of [`subset_with_variations`] and of [`subset_with_options`].
+///
+/// # Panics
+///
+/// A value is NaN.
+#[cfg(feature = "variable-fonts")]
+pub fn subset_with_variations_and_options(
+    data: &[u8],
+    index: u32,
+    variation_coordinates: &[(Tag, f32)],
+    mapper: &GlyphRemapper,
+    options: &Options,
+) -> Result<Vec<u8>, Error> {
+    let coordinates = variations::coordinates(variation_coordinates);
+    library::subset_at(data, index, &coordinates, mapper.glyphs(), options)
+}
+
+/// A font for a PDF.
+#[derive(Debug, Clone, Eq, PartialEq, Hash)]
+pub struct Embedded {
+    /// The subset of the font.
+    pub font: Vec<u8>,
+    /// The CID of each given glyph, in the order given.
+    pub cids: Vec<u16>,
+    /// The width of each CID, from 0 on, in thousandths of the em.
+    pub widths: Vec<u32>,
+}
+
+/// Subsets a font to glyph 0 and the given glyphs, and answers the CID of each and the widths.
+///
+/// `glyphs` are glyph numbers of the font, in any order, with repeats if need be. The new font has glyph 0, then the given
+/// glyphs in order, each once, and then each further glyph that these need as components.
+///
+/// ```
+/// # fn main() -> Result<(), subsetter::Error> {
+/// # let data: &[u8] = b"\0\x01\0\0\0\x05\0\x40\0\x02\0\x10glyf\0\0\0\0\0\0\0\x5c\0\0\0\0head\0\0\0\0\0\0\0\x5c\0\0\0\x36\
+/// #     hhea\0\0\0\0\0\0\0\x92\0\0\0\x24hmtx\0\0\0\0\0\0\0\xb6\0\0\0\x0cloca\0\0\0\0\0\0\0\xc2\0\0\0\x08";
+/// # let mut data = data.to_vec();
+/// # data.extend([0; 18].iter().chain(&[3, 232]).chain(&[0; 34]).chain(&[0; 35]).chain(&[3]));
+/// # data.extend([1, 244, 0, 0, 2, 88, 0, 0, 0, 250, 0, 0].iter().chain(&[0; 8]));
+/// // A font of three glyphs with the advances 500, 600 and 250, at 1000 units per em.
+/// let embedded = subsetter::embed(&data, 0, &[2, 1, 2])?;
+/// assert_eq!(embedded.cids, [1, 2, 1]);
+/// assert_eq!(embedded.widths, [500, 250, 600]);
+/// # Ok(())
+/// # }
+/// ```
+///
+/// # Errors
+///
+/// Those of [`subset`]; besides, [`Error::MalformedFont`] where the font has no `hmtx` or no `head`, or 0 units per em.
+pub fn embed(data: &[u8], index: u32, glyphs: &[u16]) -> Result<Embedded, Error> {
+    embed_with_options(data, index, glyphs, &Options::new())
+}
+
+/// [`embed`] with limits on the charstring of each glyph, for fonts that nobody vouches for.
+///
+/// # Errors
+///
+/// Those of [`embed`]; a charstring that passes a limit is a [`Error::CFFError`].
+pub fn embed_with_limits(
+    data: &[u8],
+    index: u32,
+    glyphs: &[u16],
+    limits: &Limits,
+) -> Result<Embedded, Error> {
+    embed_with_options(data, index, glyphs, &Options::new().limits(*limits))
+}
+
+/// [`embed`] with all choices: the limits, and what the new font keeps.
+///
+/// # Errors
+///
+/// Those of [`embed_with_limits`]. A table that is left out isn't looked at, so a fault in it is none.
+pub fn embed_with_options(
+    data: &[u8],
+    index: u32,
+    glyphs: &[u16],
+    options: &Options,
+) -> Result<Embedded, Error> {
+    library::embed(data, index, glyphs, options)
+}
+
+/// [`embed`] of a font as it is at coordinates on its axes, which are as for [`subset_with_variations`]: the font is the one
+/// that that call answers, and a width is the advance that its glyph has there.
+///
+/// # Errors
+///
+/// Those of [`embed`] and of [`subset_with_variations`].
+///
+/// # Panics
+///
+/// A value is NaN.
+#[cfg(feature = "variable-fonts")]
+pub fn embed_with_variations(
+    data: &[u8],
+    index: u32,
+    variation_coordinates: &[(Tag, f32)],
+    glyphs: &[u16],
+) -> Result<Embedded, Error> {
+    embed_with_variations_and_options(data, index, variation_coordinates, glyphs, &Options::new())
+}
+
+/// [`embed_with_variations`] with all choices, as [`subset_with_variations_and_options`].
+///
+/// # Errors
+///
+/// Those of [`embed_with_variations`] and of [`embed_with_options`].
+///
+/// # Panics
+///
+/// A value is NaN.
+#[cfg(feature = "variable-fonts")]
+pub fn embed_with_variations_and_options(
+    data: &[u8],
+    index: u32,
+    variation_coordinates: &[(Tag, f32)],
+    glyphs: &[u16],
+    options: &Options,
+) -> Result<Embedded, Error> {
+    let coordinates = variations::coordinates(variation_coordinates);
+    library::embed_at(data, index, &coordinates, glyphs, options)
+}

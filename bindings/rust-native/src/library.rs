@@ -1,0 +1,399 @@
+//! The calls of the library, as `../c/subsetter.h` declares them.
+
+use crate::{Embedded, Error, Options};
+use std::alloc::{handle_alloc_error, Layout};
+use std::ptr;
+
+/// What the library hands over, until it is given back.
+#[repr(C)]
+struct Made {
+    font: *const u8,
+    font_size: usize,
+    cids: *const u16,
+    cid_count: usize,
+    widths: *const u32,
+    width_count: usize,
+}
+
+/// A value on an axis of a variable font.
+#[cfg(feature = "variable-fonts")]
+#[derive(Copy, Clone, Debug, Eq, PartialEq)]
+#[repr(C)]
+pub(crate) struct Coordinate {
+    /// The tag of the axis: its four bytes, the first in the highest bits.
+    pub(crate) tag: u32,
+    /// The value in 65536ths.
+    pub(crate) value: i32,
+}
+
+/// The type of the two calls that make a subset.
+type Make = unsafe extern "C" fn(
+    font: *const u8,
+    font_size: usize,
+    index: u32,
+    glyphs: *const u16,
+    glyph_count: usize,
+    options: *const u32,
+    option_count: usize,
+    made: *mut Made,
+) -> u32;
+
+/// The type of the two calls that make one at coordinates.
+#[cfg(feature = "variable-fonts")]
+type MakeAt = unsafe extern "C" fn(
+    font: *const u8,
+    font_size: usize,
+    index: u32,
+    coordinates: *const Coordinate,
+    coordinate_count: usize,
+    glyphs: *const u16,
+    glyph_count: usize,
+    options: *const u32,
+    option_count: usize,
+    made: *mut Made,
+) -> u32;
+
+extern "C" {
+    fn subsetter_make_subset_by_words(
+        font: *const u8,
+        font_size: usize,
+        index: u32,
+        glyphs: *const u16,
+        glyph_count: usize,
+        options: *const u32,
+        option_count: usize,
+        made: *mut Made,
+    ) -> u32;
+    fn subsetter_make_embedded_by_words(
+        font: *const u8,
+        font_size: usize,
+        index: u32,
+        glyphs: *const u16,
+        glyph_count: usize,
+        options: *const u32,
+        option_count: usize,
+        made: *mut Made,
+    ) -> u32;
+    #[cfg(feature = "variable-fonts")]
+    fn subsetter_make_subset_at_by_words(
+        font: *const u8,
+        font_size: usize,
+        index: u32,
+        coordinates: *const Coordinate,
+        coordinate_count: usize,
+        glyphs: *const u16,
+        glyph_count: usize,
+        options: *const u32,
+        option_count: usize,
+        made: *mut Made,
+    ) -> u32;
+    #[cfg(feature = "variable-fonts")]
+    fn subsetter_make_embedded_at_by_words(
+        font: *const u8,
+        font_size: usize,
+        index: u32,
+        coordinates: *const Coordinate,
+        coordinate_count: usize,
+        glyphs: *const u16,
+        glyph_count: usize,
+        options: *const u32,
+        option_count: usize,
+        made: *mut Made,
+    ) -> u32;
+    fn subsetter_free(made: *mut Made);
+}
+
+/// The status of a call that did all, and that of one that lacked memory.
+const DONE: u32 = 0;
+const OUT_OF_MEMORY: u32 = 7;
+/// What is left out.
+const DROP_HINTING: u32 = 1;
+const DROP_NAMES: u32 = 2;
+const DROP_GLYPH_NAMES: u32 = 4;
+
+/// The options as the library takes them: their size in bytes, the limits of a charstring, what is left out, and the most
+/// bytes of the font. (Later ones go behind these.)
+fn words(options: &Options) -> [u32; 5] {
+    let drop = [
+        (options.hinting, DROP_HINTING),
+        (options.names, DROP_NAMES),
+        (options.glyph_names, DROP_GLYPH_NAMES),
+    ];
+    [
+        20,
+        options.limits.tokens(),
+        u32::from(options.limits.depth()),
+        drop.iter()
+            .filter(|(kept, _)| !kept)
+            .map(|(_, bit)| bit)
+            .sum(),
+        // 0 stands for no bound; no font has 1 byte.
+        options.limits.bytes().map_or(0, |bytes| bytes.max(1)),
+    ]
+}
+
+impl Made {
+    /// What a call makes of a font.
+    fn by(
+        make: Make,
+        data: &[u8],
+        index: u32,
+        glyphs: &[u16],
+        options: &Options,
+    ) -> Result<Self, Error> {
+        let words = words(options);
+        let mut made = Self::nothing();
+        #[cfg(test)]
+        tests::CALLS.with(|calls| calls.set(calls.get() + 1));
+        // SAFETY: each pointer is that of a slice, with its count, or of `made`, which is borrowed for writing alone. The
+        // library keeps none of them.
+        let status = unsafe {
+            make(
+                data.as_ptr(),
+                data.len(),
+                index,
+                glyphs.as_ptr(),
+                glyphs.len(),
+                words.as_ptr(),
+                words.len(),
+                &mut made,
+            )
+        };
+        made.answered(status)
+    }
+
+    /// What a call with coordinates makes of a font.
+    #[cfg(feature = "variable-fonts")]
+    fn at(
+        make: MakeAt,
+        data: &[u8],
+        index: u32,
+        coordinates: &[Coordinate],
+        glyphs: &[u16],
+        options: &Options,
+    ) -> Result<Self, Error> {
+        let (font, font_size) = (data.as_ptr(), data.len());
+        let (list, count) = (glyphs.as_ptr(), glyphs.len());
+        let words = words(options);
+        let mut made = Self::nothing();
+        #[cfg(test)]
+        tests::CALLS.with(|calls| calls.set(calls.get() + 1));
+        // SAFETY: as in `by`.
+        let status = unsafe {
+            make(
+                font,
+                font_size,
+                index,
+                coordinates.as_ptr(),
+                coordinates.len(),
+                list,
+                count,
+                words.as_ptr(),
+                words.len(),
+                &mut made,
+            )
+        };
+        made.answered(status)
+    }
+
+    fn nothing() -> Self {
+        Self {
+            font: ptr::null(),
+            font_size: 0,
+            cids: ptr::null(),
+            cid_count: 0,
+            widths: ptr::null(),
+            width_count: 0,
+        }
+    }
+
+    /// What was handed over by a call of this status.
+    fn answered(self, status: u32) -> Result<Self, Error> {
+        match status {
+            DONE => Ok(self),
+            OUT_OF_MEMORY => handle_alloc_error(Layout::new::<u8>()),
+            _ => Err(Error::of_status(status)),
+        }
+    }
+
+    /// The items of a list that was handed over.
+    ///
+    /// # Safety
+    ///
+    /// The list has so many items, and they stay as they are while the answer is used; or the count is 0.
+    unsafe fn list<'a, T: Copy>(items: *const T, count: usize) -> &'a [T] {
+        if count == 0 {
+            return &[];
+        }
+        std::slice::from_raw_parts(items, count)
+    }
+
+    fn font(&self) -> &[u8] {
+        // SAFETY: the library handed the list over with its size, and it stands until `self` is dropped.
+        unsafe { Self::list(self.font, self.font_size) }
+    }
+
+    fn cids(&self) -> &[u16] {
+        // SAFETY: as for the font.
+        unsafe { Self::list(self.cids, self.cid_count) }
+    }
+
+    fn widths(&self) -> &[u32] {
+        // SAFETY: as for the font.
+        unsafe { Self::list(self.widths, self.width_count) }
+    }
+
+    /// Copies of all lists.
+    fn embedded(&self) -> Embedded {
+        Embedded {
+            font: self.font().to_vec(),
+            cids: self.cids().to_vec(),
+            widths: self.widths().to_vec(),
+        }
+    }
+}
+
+impl Drop for Made {
+    fn drop(&mut self) {
+        // SAFETY: a call of the library wrote `self`, or its sizes are 0; and it is given back once.
+        unsafe { subsetter_free(self) }
+    }
+}
+
+/// The subset of a font.
+pub(crate) fn subset(
+    data: &[u8],
+    index: u32,
+    glyphs: &[u16],
+    options: &Options,
+) -> Result<Vec<u8>, Error> {
+    let make = subsetter_make_subset_by_words;
+    Ok(Made::by(make, data, index, glyphs, options)?
+        .font()
+        .to_vec())
+}
+
+/// The subset of a font at coordinates.
+#[cfg(feature = "variable-fonts")]
+pub(crate) fn subset_at(
+    data: &[u8],
+    index: u32,
+    coordinates: &[Coordinate],
+    glyphs: &[u16],
+    options: &Options,
+) -> Result<Vec<u8>, Error> {
+    let make = subsetter_make_subset_at_by_words;
+    let made = Made::at(make, data, index, coordinates, glyphs, options)?;
+    Ok(made.font().to_vec())
+}
+
+/// The subset of a font with CIDs and widths.
+pub(crate) fn embed(
+    data: &[u8],
+    index: u32,
+    glyphs: &[u16],
+    options: &Options,
+) -> Result<Embedded, Error> {
+    let make = subsetter_make_embedded_by_words;
+    Ok(Made::by(make, data, index, glyphs, options)?.embedded())
+}
+
+/// The subset of a font with CIDs and widths, at coordinates.
+#[cfg(feature = "variable-fonts")]
+pub(crate) fn embed_at(
+    data: &[u8],
+    index: u32,
+    coordinates: &[Coordinate],
+    glyphs: &[u16],
+    options: &Options,
+) -> Result<Embedded, Error> {
+    let make = subsetter_make_embedded_at_by_words;
+    Ok(Made::at(make, data, index, coordinates, glyphs, options)?.embedded())
+}
+
+#[cfg(test)]
+mod tests {
+    use crate::{embed, embed_with_limits, embed_with_options};
+    use crate::{subset, subset_with_limits, subset_with_options};
+    use crate::{GlyphRemapper, Limits, Options};
+    use std::cell::Cell;
+
+    thread_local! {
+        /// How often this thread has let the library make a subset.
+        pub(super) static CALLS: Cell<usize> = const { Cell::new(0) };
+    }
+
+    extern "C" {
+        fn subsetter_version() -> u32;
+    }
+
+    /// A font of the worked rows.
+    fn font(name: &str) -> Vec<u8> {
+        let rows = include_str!(concat!(env!("CARGO_MANIFEST_DIR"), "/../../crates/subset_rows/data/rows.txt"));
+        let row = rows
+            .lines()
+            .find_map(|line| line.strip_prefix(&format!("font {name} ")));
+        let digits = row.unwrap();
+        (0..digits.len() / 2)
+            .map(|at| u8::from_str_radix(&digits[2 * at..][..2], 16).unwrap())
+            .collect()
+    }
+
+    fn calls<T>(of: impl FnOnce() -> T) -> usize {
+        CALLS.with(|calls| calls.set(0));
+        of();
+        CALLS.with(Cell::get)
+    }
+
+    #[test]
+    fn one_subset_is_made_for_one_answer() {
+        // The answers are larger than the font.
+        let data = font("one_call_with_metrics");
+        let (mapper, options, limits) = (GlyphRemapper::new(), Options::new(), Limits::default());
+        assert!(subset(&data, 0, &mapper).unwrap().len() > data.len());
+        assert!(embed(&data, 0, &[]).unwrap().font.len() > data.len());
+        assert_eq!(calls(|| subset(&data, 0, &mapper)), 1);
+        assert_eq!(calls(|| subset_with_limits(&data, 0, &mapper, &limits)), 1);
+        assert_eq!(
+            calls(|| subset_with_options(&data, 0, &mapper, &options)),
+            1
+        );
+        assert_eq!(calls(|| embed(&data, 0, &[])), 1);
+        assert_eq!(calls(|| embed_with_limits(&data, 0, &[], &limits)), 1);
+        assert_eq!(calls(|| embed_with_options(&data, 0, &[], &options)), 1);
+        assert_eq!(calls(|| subset(&[], 0, &mapper)), 1);
+        #[cfg(feature = "variable-fonts")]
+        {
+            use crate::{embed_with_variations, subset_with_variations};
+            assert!(subset_with_variations(&data, 0, &[], &mapper).is_ok());
+            assert!(embed_with_variations(&data, 0, &[], &[]).is_ok());
+            let at = || subset_with_variations(&data, 0, &[], &mapper);
+            assert_eq!(calls(at), 1);
+            assert_eq!(calls(|| embed_with_variations(&data, 0, &[], &[])), 1);
+        }
+    }
+
+    #[test]
+    fn the_library_is_of_this_version() {
+        // SAFETY: the call takes nothing and answers a number.
+        let [major, minor, patch, n] = unsafe { subsetter_version() }.to_be_bytes();
+        let version = format!("{major}.{minor}.{patch}+{n}");
+        assert_eq!(version, env!("CARGO_PKG_VERSION"));
+        let whole = include_str!(concat!(env!("CARGO_MANIFEST_DIR"), "/../../VERSION"));
+        assert_eq!(version, whole.trim());
+    }
+
+    #[test]
+    fn options_are_words() {
+        assert_eq!(super::words(&Options::new()), [20, 1_000_000, 64, 0, 0]);
+        let limits = Limits::new(5, 6).unwrap();
+        let words = |options: Options| super::words(&options.limits(limits));
+        assert_eq!(words(Options::new().hinting(false)), [20, 5, 6, 1, 0]);
+        assert_eq!(words(Options::new().names(false)), [20, 5, 6, 2, 0]);
+        assert_eq!(words(Options::new().glyph_names(false)), [20, 5, 6, 4, 0]);
+        let bytes = |bytes| super::words(&Options::new().limits(limits.with_bytes(bytes)));
+        assert_eq!(bytes(7), [20, 5, 6, 0, 7]);
+        assert_eq!(bytes(0), [20, 5, 6, 0, 1]);
+        assert_eq!(bytes(u32::MAX), [20, 5, 6, 0, u32::MAX]);
+    }
+}

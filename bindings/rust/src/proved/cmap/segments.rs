@@ -1,0 +1,72 @@
+// Made by strip.py of crates/cmap/src/segments.rt in the proved sources: change those.
+//! Tables of format 4.
+
+use crate::proved::subsetter_base::read::Reader;
+
+/// The number of 16 bits at a place.
+fn number_at(table: &[u8], at: usize) -> Option<u16> {
+    Reader::new_at(table, at).read::<u16>()
+}
+
+/// A glyph and a delta, modulo 65536.
+fn shifted(glyph: u16, delta: u16) -> u16 {
+    glyph.wrapping_add(delta)
+}
+
+/// The glyph of a number in the list of glyphs, where 0 stands for none.
+fn listed(glyph: u16, delta: u16) -> Option<u16> {
+    if glyph == 0 {
+        return None;
+    }
+    Some(shifted(glyph, delta))
+}
+
+/// Where the number stands that a segment's offset leads to, from the offset's own place on.
+fn place_of(place: usize, offset: u16, distance: u16) -> usize {
+    place + usize::from(offset) + 2 * usize::from(distance)
+}
+
+/// The glyph of a character, from the numbers of its segment.
+fn glyph_at(
+    table: &[u8],
+    place: usize,
+    offset: u16,
+    delta: u16,
+    character: u16,
+    start: u16,
+) -> Option<u16> {
+    if offset == 0 {
+        return Some(shifted(character, delta));
+    }
+    let glyph = number_at(table, place_of(place, offset, character - start))?;
+    listed(glyph, delta)
+}
+
+/// The glyph of a character in a segment, whose end isn't below it.
+fn in_segment(table: &[u8], count: usize, segment: usize, character: u16) -> Option<u16> {
+    let start = number_at(table, 16 + 2 * count + 2 * segment)?;
+    let delta = number_at(table, 16 + 4 * count + 2 * segment)?;
+    let place = 16 + 6 * count + 2 * segment;
+    let offset = number_at(table, place)?;
+    if start > character {
+        return None;
+    }
+    glyph_at(table, place, offset, delta, character, start)
+}
+
+/// The glyph of a character, by that many segments.
+fn find_glyph(table: &[u8], count: usize, character: u16) -> Option<u16> {
+    for segment in 0..count {
+        let end = number_at(table, 14 + 2 * segment)?;
+        if character <= end {
+            return in_segment(table, count, segment, character);
+        }
+    }
+    None
+}
+
+/// The glyph of a character, by a table of format 4.
+pub fn glyph_by_segments(table: &[u8], character: u16) -> Option<u16> {
+    let twice = number_at(table, 6)?;
+    find_glyph(table, usize::from(twice / 2), character)
+}

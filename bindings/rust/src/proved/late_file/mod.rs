@@ -1,0 +1,16 @@
+// Made by strip.py of crates/late_file/src/lib.rt in the proved sources: change those.
+//! A file that is made by its first write, and bears its name when it is whole.
+//!
+//! [`LateFile`] is a writer. Its first write makes a file under another name beside its own, and `flush` renames that.
+//! Where none can be made it writes in place. Files have no contract, so what it does to them is tested and not proved.
+//!
+//! ```text
+//! let mut out = LateFile::new(rt, alloc, "subset.ttf");
+//! out.write_all(&font)?;
+//! out.flush()?;
+//! ```
+
+mod late;
+mod temporary;
+
+pub use late::LateFile;

@@ -1,0 +1,287 @@
+// Made by strip.py of crates/subset_args/src/options.rt in the proved sources: change those.
+//! The options in front of IN.
+
+use crate::rattle::prelude::*;
+
+use crate::proved::subset_args::limits::RunLimits;
+use crate::proved::subsetter_words::{u32_of, u8_of};
+
+/// An option without a value.
+#[derive(Clone, Copy, Debug)]
+pub enum Switch {
+    /// `--widths`
+    Widths,
+    /// `--no-hinting`
+    NoHinting,
+    /// `--no-names`
+    NoNames,
+    /// `--no-glyph-names`
+    NoGlyphNames,
+    /// `--json`
+    Json,
+    /// `--quiet`
+    Quiet,
+}
+
+/// An option that a value follows.
+#[derive(Clone, Copy, Debug)]
+pub enum Setting {
+    /// `--limits TOKENS,DEPTH[,BYTES]`
+    Limits,
+    /// `--gids-file FILE`
+    GidsFile,
+    /// `--text TEXT`
+    Text,
+    /// `--at TAG=VALUE[,TAG=VALUE..]`
+    At,
+}
+
+/// Where the glyphs are found that no argument lists.
+#[derive(Clone, Copy, Debug)]
+pub enum Source<'a> {
+    /// In the list that the file of this name holds.
+    File(&'a str),
+    /// By the characters of this text.
+    Text(&'a str),
+}
+
+/// What an argument in front of IN is.
+#[derive(Clone, Copy, Debug)]
+pub enum Kind {
+    Switch(Switch),
+    Setting(Setting),
+    /// `--help` or `-h`
+    Help,
+    /// `--version`
+    Version,
+    /// `--`, which ends the options
+    End,
+    /// No option: IN.
+    Place,
+}
+
+/// The options without a value that were given.
+#[derive(Clone, Copy, PartialEq, Eq, Debug)]
+pub struct Switches {
+    pub widths: bool,
+    pub no_hinting: bool,
+    pub no_names: bool,
+    pub no_glyph_names: bool,
+    pub json: bool,
+    pub quiet: bool,
+}
+
+impl Switches {
+    /// None of them.
+    pub const NONE: Switches = Switches {
+        widths: false,
+        no_hinting: false,
+        no_names: false,
+        no_glyph_names: false,
+        json: false,
+        quiet: false,
+    };
+
+    /// Whether an option was given.
+    fn is_on(&self, switch: Switch) -> bool {
+        match switch {
+            Switch::Widths => self.widths,
+            Switch::NoHinting => self.no_hinting,
+            Switch::NoNames => self.no_names,
+            Switch::NoGlyphNames => self.no_glyph_names,
+            Switch::Json => self.json,
+            Switch::Quiet => self.quiet,
+        }
+    }
+
+    /// With an option that is given.
+    fn switched_on(self, switch: Switch) -> Switches {
+        let mut all = self;
+        match switch {
+            Switch::Widths => all.widths = true,
+            Switch::NoHinting => all.no_hinting = true,
+            Switch::NoNames => all.no_names = true,
+            Switch::NoGlyphNames => all.no_glyph_names = true,
+            Switch::Json => all.json = true,
+            Switch::Quiet => all.quiet = true,
+        }
+        all
+    }
+}
+
+/// What the options in front of IN choose.
+#[derive(Clone, Copy, Debug)]
+pub struct Chosen<'a> {
+    /// The options without a value.
+    pub switches: Switches,
+    /// How far the charstring of a glyph may run, where it is said.
+    pub limits: Option<RunLimits>,
+    /// Where the glyphs are found, where that is said.
+    pub source: Option<Source<'a>>,
+    /// The user coordinates, where they are said.
+    pub at: Option<&'a str>,
+}
+
+impl<'a> Chosen<'a> {
+    /// Nothing is chosen.
+    pub const NOTHING: Chosen<'static> = Chosen {
+        switches: Switches::NONE,
+        limits: None,
+        source: None,
+        at: None,
+    };
+
+    /// With an option without a value, which is given once.
+    fn with_switch(self, switch: Switch) -> Option<Chosen<'a>> {
+        if self.switches.is_on(switch) {
+            return None;
+        }
+        Some(Chosen {
+            switches: self.switches.switched_on(switch),
+            limits: self.limits,
+            source: self.source,
+            at: self.at,
+        })
+    }
+
+    /// With an option and its value, which is given once.
+    fn with_setting(self, setting: Setting, value: &'a str) -> Option<Chosen<'a>> {
+        match setting {
+            Setting::Limits => self.with_limits(value),
+            Setting::GidsFile => self.with_source(Source::File(value)),
+            Setting::Text => self.with_source(Source::Text(value)),
+            Setting::At => self.with_at(value),
+        }
+    }
+
+    /// With limits.
+    fn with_limits(self, value: &str) -> Option<Chosen<'a>> {
+        if self.limits.is_some() {
+            return None;
+        }
+        Some(Chosen {
+            switches: self.switches,
+            limits: Some(limits_of(value)?),
+            source: self.source,
+            at: self.at,
+        })
+    }
+
+    /// With a place where the glyphs are found.
+    fn with_source(self, source: Source<'a>) -> Option<Chosen<'a>> {
+        if self.source.is_some() {
+            return None;
+        }
+        Some(Chosen {
+            switches: self.switches,
+            limits: self.limits,
+            source: Some(source),
+            at: self.at,
+        })
+    }
+
+    /// With user coordinates.
+    fn with_at(self, value: &'a str) -> Option<Chosen<'a>> {
+        if self.at.is_some() {
+            return None;
+        }
+        Some(Chosen {
+            switches: self.switches,
+            limits: self.limits,
+            source: self.source,
+            at: Some(value),
+        })
+    }
+}
+
+/// The limits that the parts of an argument write.
+fn limits_from(tokens: &str, depth: &str, bytes: Option<u32>) -> Option<RunLimits> {
+    RunLimits::new(u32_of(tokens)?, u8_of(depth)?, bytes)
+}
+
+/// The limits that an argument `TOKENS,DEPTH[,BYTES]` writes.
+fn limits_of(word: &str) -> Option<RunLimits> {
+    let (tokens, rest) = word.split_once(',')?;
+    match rest.split_once(',') {
+        Some((depth, bytes)) => limits_from(tokens, depth, Some(u32_of(bytes)?)),
+        None => limits_from(tokens, rest, None),
+    }
+}
+
+/// The option without a value that an argument is.
+fn switch_of(word: &str) -> Option<Switch> {
+    match word {
+        "--widths" => Some(Switch::Widths),
+        "--no-hinting" => Some(Switch::NoHinting),
+        "--no-names" => Some(Switch::NoNames),
+        "--no-glyph-names" => Some(Switch::NoGlyphNames),
+        "--json" => Some(Switch::Json),
+        "--quiet" => Some(Switch::Quiet),
+        _ => None,
+    }
+}
+
+/// The option that a value follows, which an argument is.
+fn setting_of(word: &str) -> Option<Setting> {
+    match word {
+        "--limits" => Some(Setting::Limits),
+        "--gids-file" => Some(Setting::GidsFile),
+        "--text" => Some(Setting::Text),
+        "--at" => Some(Setting::At),
+        _ => None,
+    }
+}
+
+/// What an argument in front of IN is.
+fn kind_of(word: &str) -> Kind {
+    if let Some(switch) = switch_of(word) {
+        return Kind::Switch(switch);
+    }
+    if let Some(setting) = setting_of(word) {
+        return Kind::Setting(setting);
+    }
+    match word {
+        "--help" => Kind::Help,
+        "-h" => Kind::Help,
+        "--version" => Kind::Version,
+        "--" => Kind::End,
+        _ => Kind::Place,
+    }
+}
+
+/// What the options say.
+pub enum Parsed<'a> {
+    /// The help is wanted.
+    Help,
+    /// The version is wanted.
+    Version,
+    /// What is chosen, and the arguments behind the options.
+    Chosen(Chosen<'a>, &'a [String]),
+}
+
+/// What the options in front of IN say, besides what is chosen already. None where one is given twice, or its value is
+/// missing or isn't as it should be.
+pub fn parse_options<'a>(chosen: Chosen<'a>, words: &'a [String]) -> Option<Parsed<'a>> {
+    let (word, behind) = match words {
+        [word, behind @ ..] => (word, behind),
+        _ => {
+            return Some(Parsed::Chosen(chosen, words));
+        }
+    };
+    match kind_of(word) {
+        Kind::Switch(switch) => parse_options(chosen.with_switch(switch)?, behind),
+        Kind::Setting(setting) => {
+            let (value, rest) = match behind {
+                [value, rest @ ..] => (value, rest),
+                _ => {
+                    return None;
+                }
+            };
+            parse_options(chosen.with_setting(setting, value)?, rest)
+        }
+        Kind::Help => Some(Parsed::Help),
+        Kind::Version => Some(Parsed::Version),
+        Kind::End => Some(Parsed::Chosen(chosen, behind)),
+        Kind::Place => Some(Parsed::Chosen(chosen, words)),
+    }
+}

@@ -1,0 +1,117 @@
+// Made by strip.py of crates/subset_font/src/streams.rt in the proved sources: change those.
+//! The files and the standard streams that a run reads and writes.
+
+use crate::rattle::prelude::*;
+
+use crate::proved::late_file::LateFile;
+use crate::proved::subset_args::is_stream;
+use crate::rattle::io::{ErrorKind, Read, Write};
+use crate::rattle::os::unix::fs::MetadataExt;
+use crate::rattle::rt::Files;
+use crate::rattle::{fs, io};
+
+/// What the font or a list of glyphs is read from.
+pub enum Source<F: Read + Drop, S: Read + Drop> {
+    /// A file.
+    File(F),
+    /// Standard input.
+    Standard(S),
+}
+
+impl<F: Read + Drop, S: Read + Drop> Read for Source<F, S> {
+    fn read(&mut self, buf: &mut [u8]) -> io::Result<usize> {
+        match self {
+            Source::File(file) => file.read(buf),
+            Source::Standard(stream) => stream.read(buf),
+        }
+    }
+}
+
+/// Opens what is read.
+pub fn open_source<R: Files + Input>(rt: &R, name: &str) -> io::Result<Source<R::File, R::Reader>> {
+    if is_stream(name) {
+        return Ok(Source::Standard(rt.reader()));
+    }
+    Ok(Source::File(fs::open(rt, name)?))
+}
+
+/// What the font is written to.
+pub enum Target<'a, R: Files + Print> {
+    /// A file, which is made by the first write.
+    File(LateFile<'a, R>),
+    /// Standard output.
+    Standard(&'a R),
+}
+
+impl<'a, R: Files + Print + AllocGlobal> Target<'a, R> {
+    /// What the argument OUT names. No file is made yet.
+    pub fn new(rt: &'a R, name: &'a str) -> Self {
+        if is_stream(name) {
+            return Target::Standard(rt);
+        }
+        Target::File(LateFile::new(rt, rt.alloc(), name))
+    }
+}
+
+impl<R: Files + Print> Write for Target<'_, R> {
+    fn write(&mut self, buf: &[u8]) -> io::Result<usize> {
+        match self {
+            Target::File(file) => file.write(buf),
+            Target::Standard(rt) => io::writer(*rt).write(buf),
+        }
+    }
+
+    fn flush(&mut self) -> io::Result<()> {
+        match self {
+            Target::File(file) => file.flush(),
+            Target::Standard(_) => Ok(()),
+        }
+    }
+}
+
+/// What the new numbers are told to.
+pub enum Lines<'a, R: Print + Eprint> {
+    /// Standard output.
+    Output(&'a R),
+    /// Standard error.
+    Error(&'a R),
+}
+
+impl<R: Print + Eprint> Write for Lines<'_, R> {
+    fn write(&mut self, buf: &[u8]) -> io::Result<usize> {
+        match self {
+            Lines::Output(rt) => io::writer(*rt).write(buf),
+            Lines::Error(rt) => {
+                // The lines are ASCII.
+                let text = match core::str::from_utf8(buf) {
+                    Ok(text) => text,
+                    _ => {
+                        return Err(io::Error::from(ErrorKind::InvalidData));
+                    }
+                };
+                rt.eprint(text)?;
+                Ok(buf.len())
+            }
+        }
+    }
+
+    fn flush(&mut self) -> io::Result<()> {
+        Ok(())
+    }
+}
+
+/// Whether a name is that of the file that standard output is.
+fn is_standard_output<R: Files>(rt: &R, name: &str) -> bool {
+    match (fs::metadata(rt, name), fs::metadata(rt, "/dev/stdout")) {
+        (Ok(one), Ok(other)) => one.dev() == other.dev() && one.ino() == other.ino(),
+        _ => false,
+    }
+}
+
+/// What the lines go to: standard output, or if the font goes there, standard error.
+pub fn lines_beside<'a, R: Files + Print + Eprint>(rt: &'a R, output: &str) -> Lines<'a, R> {
+    if is_stream(output) || is_standard_output(rt, output) {
+        return Lines::Error(rt);
+    }
+    Lines::Output(rt)
+}

@@ -1,0 +1,94 @@
+// Made by strip.py of crates/subset_font/src/task.rt in the proved sources: change those.
+//! What is made of the font that is read.
+
+use crate::rattle::prelude::*;
+
+use crate::proved::subset_args::{RunLimits, Switches};
+use crate::proved::subsetter::{Extras, Limits, Options, Tag};
+
+/// Which glyphs are kept.
+#[derive(Clone, Copy)]
+pub enum Asked<'a> {
+    /// Those of these old numbers, in the order asked for.
+    These(&'a [u16]),
+    /// Every glyph of the face.
+    Every,
+    /// Those of the characters of this text.
+    ByText(&'a str),
+}
+
+/// How the new numbers are told.
+#[derive(Clone, Copy)]
+pub enum Form {
+    /// By a line for each glyph.
+    Lines,
+    /// By one JSON object.
+    Json,
+    /// Not at all.
+    Silence,
+}
+
+/// What is made of the font that is read.
+#[derive(Clone, Copy)]
+pub struct Task<'a> {
+    /// The glyphs to keep.
+    pub asked: Asked<'a>,
+    /// The font of a collection, from 0.
+    pub index: u32,
+    /// How far a charstring may run, and what is kept besides outlines and metrics.
+    pub options: Options,
+    /// Whether the widths of the glyphs are told.
+    pub widths: bool,
+    /// How the new numbers are told.
+    pub form: Form,
+    /// The user coordinates on the axes of a variable font, in 65536ths, where they are said.
+    pub at: Option<&'a [(Tag, i32)]>,
+}
+
+/// With a bound on the bytes of the font, if there is one.
+fn bounded(limits: Limits, bytes: Option<u32>) -> Limits {
+    match bytes {
+        Some(most) => limits.with_bytes(most),
+        None => limits,
+    }
+}
+
+/// The limits that are said, else the default ones.
+pub fn limits_of(limits: Option<RunLimits>) -> Limits {
+    match limits {
+        Some(said) => {
+            let limits = Limits::new(said.tokens, said.depth).unwrap_or(Limits::default());
+            bounded(limits, said.bytes)
+        }
+        None => Limits::default(),
+    }
+}
+
+/// What is kept besides outlines and metrics: all that isn't declined.
+pub fn extras_of(switches: Switches) -> Extras {
+    Extras {
+        hinting: !switches.no_hinting,
+        names: !switches.no_names,
+        glyph_names: !switches.no_glyph_names,
+    }
+}
+
+/// The user coordinates, where they are said.
+pub fn at_of(coordinates: &Option<Vec<(Tag, i32)>>) -> Option<&[(Tag, i32)]> {
+    match coordinates {
+        Some(coordinates) => Some(coordinates.as_slice()),
+        None => None,
+    }
+}
+
+/// How the new numbers are told: with `--quiet` not at all, with `--json` as JSON.
+pub fn form_of(switches: Switches) -> Form {
+    if switches.quiet {
+        return Form::Silence;
+    }
+    if switches.json {
+        Form::Json
+    } else {
+        Form::Lines
+    }
+}

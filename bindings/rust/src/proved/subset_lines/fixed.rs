@@ -1,0 +1,52 @@
+// Made by strip.py of crates/subset_lines/src/fixed.rt in the proved sources: change those.
+//! A coordinate as a decimal number.
+
+use crate::proved::subset_lines::entry::Unwritten;
+use crate::proved::subset_lines::text::write_text;
+use crate::rattle::io::Write;
+
+/// Writes 100000ths, with as many digits as they need.
+fn write_fraction<W: Write>(n: u32, out: &mut W) -> Result<(), Unwritten> {
+    if n == 0 {
+        return Ok(());
+    }
+    let ended = if n % 10_000 == 0 {
+        write!(out, ".{:01}", n / 10_000)
+    } else if n % 1_000 == 0 {
+        write!(out, ".{:02}", n / 1_000)
+    } else if n % 100 == 0 {
+        write!(out, ".{:03}", n / 100)
+    } else if n % 10 == 0 {
+        write!(out, ".{:04}", n / 10)
+    } else {
+        write!(out, ".{n:05}")
+    };
+    ended.map_err(|_| Unwritten)
+}
+
+/// What is left of a unit, in 100000ths.
+fn hundred_thousandths(n: u32) -> u32 {
+    ((u64::from(n % 65_536) * 100_000 + 32_768) / 65_536) as u32
+}
+
+/// Writes a number of 65536ths.
+fn write_size<W: Write>(n: u32, out: &mut W) -> Result<(), Unwritten> {
+    if write!(out, "{}", n / 65_536).is_err() {
+        return Err(Unwritten);
+    }
+    write_fraction(hundred_thousandths(n), out)
+}
+
+/// Writes the minus of a number below 0.
+fn write_sign<W: Write>(value: i32, out: &mut W) -> Result<(), Unwritten> {
+    if value < 0 {
+        return write_text(b"-", out);
+    }
+    Ok(())
+}
+
+/// Writes a coordinate of 65536ths.
+pub fn write_fixed<W: Write>(value: i32, out: &mut W) -> Result<(), Unwritten> {
+    write_sign(value, out)?;
+    write_size(value.unsigned_abs(), out)
+}

@@ -1,0 +1,218 @@
+// Made by strip.py of crates/subsetter/src/glyf/component.rt in the proved sources: change those.
+//! The components of a composite glyph (OpenType, "glyf": composite glyph description).
+//!
+//! The definition `chain_at n bytes` reads at most n components. The count of the bytes is always enough, as a
+//! component has six at least. A component that is missing from the order would count as number 0 in the layout; a law
+//! shows that none is.
+
+use crate::rattle::prelude::*;
+
+use crate::proved::subsetter_base::read::u16_at;
+use crate::proved::subsetter_base::{Error, GlyphRemapper};
+
+/// Two words of arguments follow, and not two bytes.
+const ARG_1_AND_2_ARE_WORDS: u16 = 0x0001;
+/// A scale follows.
+const WE_HAVE_A_SCALE: u16 = 0x0008;
+/// Another component follows.
+const MORE_COMPONENTS: u16 = 0x0020;
+/// Two scales follow.
+const WE_HAVE_AN_X_AND_Y_SCALE: u16 = 0x0040;
+/// A matrix of four numbers follows.
+const WE_HAVE_A_TWO_BY_TWO: u16 = 0x0080;
+/// Instructions follow the last component.
+const WE_HAVE_INSTRUCTIONS: u16 = 0x0100;
+
+/// A component: its flags, its glyph, and the bytes of its arguments and its transform.
+#[derive(Clone, Copy)]
+pub struct Component<'a> {
+    pub flags: u16,
+    pub glyph: u16,
+    pub rest: &'a [u8],
+}
+
+/// How many bytes the arguments and the transform take.
+fn rest_size(flags: u16) -> usize {
+    let arguments = if flags & ARG_1_AND_2_ARE_WORDS != 0 {
+        4
+    } else {
+        2
+    };
+    let transform = if flags & WE_HAVE_A_SCALE != 0 {
+        2
+    } else if flags & WE_HAVE_AN_X_AND_Y_SCALE != 0 {
+        4
+    } else if flags & WE_HAVE_A_TWO_BY_TWO != 0 {
+        8
+    } else {
+        0
+    };
+    arguments + transform
+}
+
+/// Whether another component follows.
+fn has_more(flags: u16) -> bool {
+    flags & MORE_COMPONENTS != 0
+}
+
+/// Whether instructions follow the last component.
+fn has_instructions(flags: u16) -> bool {
+    flags & WE_HAVE_INSTRUCTIONS != 0
+}
+
+/// The component at the front, if it is whole.
+fn read_component(bytes: &[u8]) -> Option<Component<'_>> {
+    if bytes.len() < 4 {
+        return None;
+    }
+    let flags = u16_at(bytes, 0);
+    let glyph = u16_at(bytes, 2);
+    let rest = bytes.get(4..4 + rest_size(flags))?;
+    Some(Component { flags, glyph, rest })
+}
+
+/// Whether an outline is a composite, by the first byte of its number of contours, which is below 0 for one.
+pub fn is_composite(first: u8) -> bool {
+    first >= 128
+}
+
+/// What stands behind a component at the front.
+fn rest_after<'a>(bytes: &'a [u8], component: Component<'_>) -> &'a [u8] {
+    &bytes[4 + component.rest.len()..]
+}
+
+/// How many of the bytes behind the last component, which has these flags, are its instructions, if they are asked for.
+fn kept_len(flags: u16, behind: &[u8], hinting: bool) -> usize {
+    if hinting && has_instructions(flags) {
+        behind.len()
+    } else {
+        0
+    }
+}
+
+/// Puts a glyph that is not in the order behind those that wait.
+fn push_new(order: &GlyphRemapper, waiting: &mut Vec<u16>, glyph: u16) -> Result<(), Error> {
+    if order.get(glyph).is_none() {
+        waiting.push(glyph)?;
+    }
+    Ok(())
+}
+
+/// Puts the component at the front, which is cut, behind those that wait, if its flags and its number are there and it is
+/// not in the order.
+fn push_cut(bytes: &[u8], order: &GlyphRemapper, waiting: &mut Vec<u16>) -> Result<(), Error> {
+    if bytes.len() < 4 {
+        return Ok(());
+    }
+    push_new(order, waiting, u16_at(bytes, 2))?;
+    Ok(())
+}
+
+/// What is counted of an outline that is followed.
+#[derive(Clone, Copy)]
+pub struct Count {
+    /// Its bytes in the new `glyf`, or all of its bytes where it is cut.
+    pub bytes: usize,
+    pub cut: bool,
+}
+
+/// Puts the components of a composite that are not in the order behind those that wait, and counts its bytes.
+/// `MalformedFont` where it has fewer than ten. Another cut composite is refused later, as it is written.
+pub fn push_components(
+    outline: &[u8],
+    order: &GlyphRemapper,
+    waiting: &mut Vec<u16>,
+    hinting: bool,
+) -> Result<Count, Error> {
+    if outline.len() < 10 {
+        return Err(Error::MalformedFont);
+    }
+    let mut rest = &outline[10..];
+    loop {
+        let component = match read_component(rest) {
+            Some(component) => component,
+            _ => {
+                push_cut(rest, order, waiting)?;
+                return Ok(Count {
+                    bytes: outline.len(),
+                    cut: true,
+                });
+            }
+        };
+        push_new(order, waiting, component.glyph)?;
+        rest = rest_after(rest, component);
+        if !has_more(component.flags) {
+            let kept = kept_len(component.flags, rest, hinting);
+            return Ok(Count {
+                bytes: outline.len() - rest.len() + kept,
+                cut: false,
+            });
+        }
+    }
+}
+
+/// Puts a number in the place of two bytes.
+fn put_number(out: &mut Vec<u8>, at: usize, number: u16) {
+    out[at..at + 2].copy_from_slice(&number.to_be_bytes());
+}
+
+/// The flags of a component, without that of instructions where these are not asked for.
+fn flags_asked(hinting: bool, flags: u16) -> u16 {
+    if hinting {
+        flags
+    } else {
+        flags & 0xFEFF
+    }
+}
+
+/// Puts a component's flags and the new number of its glyph in the place of four bytes.
+fn renumber(
+    out: &mut Vec<u8>,
+    at: usize,
+    order: &GlyphRemapper,
+    component: Component<'_>,
+    hinting: bool,
+) {
+    let number = order.get(component.glyph).unwrap_or(0);
+    put_number(out, at, flags_asked(hinting, component.flags));
+    put_number(out, at + 2, number);
+}
+
+/// Leaves out as many bytes behind the last component, unless these are its instructions, and asked for.
+fn cut_tail(out: &mut Vec<u8>, flags: u16, size: usize, hinting: bool) {
+    if !(hinting && has_instructions(flags)) {
+        out.truncate(out.len() - size);
+    }
+}
+
+/// Writes a composite with its components under their new numbers behind other bytes, and its instructions if they are asked for. `MalformedFont` where it is cut.
+/// It is copied as it is, and then each component gets its new number in its place. Where that fails, nothing is written.
+pub fn rewrite_composite(
+    out: &mut Vec<u8>,
+    outline: &[u8],
+    order: &GlyphRemapper,
+    hinting: bool,
+) -> Result<(), Error> {
+    if outline.len() < 10 {
+        return Err(Error::MalformedFont);
+    }
+    let start = out.len();
+    out.extend_from_slice(outline)?;
+    let mut rest = &outline[10..];
+    loop {
+        let component = match read_component(rest) {
+            Some(component) => component,
+            _ => {
+                out.truncate(start);
+                return Err(Error::MalformedFont);
+            }
+        };
+        let at = out.len() - rest.len();
+        renumber(out, at, order, component, hinting);
+        rest = rest_after(rest, component);
+        if !has_more(component.flags) {
+            cut_tail(out, component.flags, rest.len(), hinting);
+            return Ok(());
+        }
+    }
+}

@@ -1,0 +1,76 @@
+// Made by strip.py of crates/subsetter/src/glyf/pieces.rt in the proved sources: change those.
+//! An outline as it is written: whole, or without its instructions in two pieces (OpenType, "glyf": simple glyph
+//! description).
+
+use crate::proved::subsetter_base::read::u16_at;
+
+/// A simple outline without its instructions: what stands before their length, and what stands behind them. A length of
+/// 0 stands between the two.
+#[derive(Clone, Copy)]
+pub struct Bare<'a> {
+    pub front: &'a [u8],
+    pub behind: &'a [u8],
+}
+
+/// An outline as it is written.
+#[derive(Clone, Copy)]
+pub enum Outline<'a> {
+    /// As one piece.
+    Whole(&'a [u8]),
+    /// A simple one without its instructions.
+    InPieces(Bare<'a>),
+}
+
+/// The pieces of a simple outline that has instructions, all of which are there.
+fn bare_pieces(outline: &[u8]) -> Option<Bare<'_>> {
+    if outline.len() < 2 {
+        return None;
+    }
+    let at = 10 + 2 * usize::from(u16_at(outline, 0));
+    if outline.len() < at + 2 {
+        return None;
+    }
+    let size = usize::from(u16_at(outline, at));
+    if size == 0 {
+        return None;
+    }
+    let end = at + 2 + size;
+    if outline.len() < end {
+        return None;
+    }
+    Some(Bare {
+        front: &outline[..at],
+        behind: &outline[end..],
+    })
+}
+
+impl<'a> Outline<'a> {
+    /// A simple outline of the source, with its instructions if they are asked for.
+    pub fn simple(outline: &'a [u8], hinting: bool) -> Self {
+        if hinting {
+            return Outline::Whole(outline);
+        }
+        match bare_pieces(outline) {
+            Some(bare) => Outline::InPieces(bare),
+            None => Outline::Whole(outline),
+        }
+    }
+
+    /// How many bytes it has.
+    pub fn len(self) -> usize {
+        match self {
+            Outline::Whole(bytes) => bytes.len(),
+            Outline::InPieces(bare) => bare.front.len() + 2 + bare.behind.len(),
+        }
+    }
+
+    /// How many bytes it takes: in the short format of `loca` an even number.
+    pub fn padded_len(self, long: bool) -> usize {
+        let len = self.len();
+        if long {
+            len
+        } else {
+            len + len % 2
+        }
+    }
+}

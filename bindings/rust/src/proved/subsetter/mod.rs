@@ -1,0 +1,32 @@
+// Made by strip.py of crates/subsetter/src/lib.rt in the proved sources: change those.
+//! A subsetter for OpenType fonts, for embedding in PDF: it keeps some glyphs of a font under new consecutive numbers,
+//! and drops the rest.
+//!
+//! [`subset`] answers a font with exactly the mapper's glyphs, in order, and each further glyph that a composite needs;
+//! each draws as in the source. `subset_with_options` leaves out hinting or names, and takes limits on the work;
+//! `check_opening` looks at what needs no memory.
+//!
+//! ```text
+//! let mapper = GlyphRemapper::new_from_glyphs(alloc, &[36, 68])?;
+//! let font = subset(alloc, data, 0, &mapper)?;
+//! ```
+
+mod cff;
+mod choice;
+mod glyf;
+mod head;
+mod hmtx;
+mod loca;
+mod maxp;
+mod name;
+mod post;
+mod shared;
+mod subsetting;
+mod tables;
+mod truetype;
+
+pub use crate::proved::subsetter_base::{Error, GlyphRemapper, RemappedGids, Tag, TagLengthError};
+pub use crate::proved::subsetter_sfnt::extras::Extras;
+pub use crate::proved::subsetter_type2::limits::Limits;
+pub use choice::Options;
+pub use subsetting::{check_opening, subset, subset_with_limits, subset_with_options};

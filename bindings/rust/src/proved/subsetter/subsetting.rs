@@ -1,0 +1,183 @@
+// Made by strip.py of crates/subsetter/src/subsetting.rt in the proved sources: change those.
+//! Subsetting a font.
+
+use crate::rattle::prelude::*;
+
+use crate::proved::subsetter::cff::{self, CffTables};
+use crate::proved::subsetter::choice::Options;
+use crate::proved::subsetter::glyf::{self, GlyfTables, GlyphClosure};
+use crate::proved::subsetter::truetype::{self, TrueTypeTables};
+use crate::proved::subsetter_base::{Error, GlyphRemapper, Tag};
+use crate::proved::subsetter_sfnt::construct::finish;
+use crate::proved::subsetter_sfnt::extras::Extras;
+use crate::proved::subsetter_sfnt::face::Face;
+use crate::proved::subsetter_sfnt::flavor::{flavor, FontFlavor};
+use crate::proved::subsetter_sfnt::parse::parse;
+use crate::proved::subsetter_sfnt::tables::in_order;
+use crate::proved::subsetter_type2::limits::Limits;
+use crate::rattle::alloc::Global;
+
+/// A subset of a TrueType font that has at most so many bytes.
+fn subset_truetype(
+    alloc: Global,
+    face: &Face<'_>,
+    bytes: Option<u32>,
+    mapper: &GlyphRemapper,
+) -> Result<Vec<u8>, Error> {
+    let table = GlyfTables::new(face)?;
+    let reached = glyf::closure(alloc, &table, mapper, bytes.unwrap_or(u32::MAX))?;
+    let GlyphClosure { order, outlines } = reached;
+    // What `num_gids` says of the order, that it has fewer than 65536 glyphs, is a premise of the proof.
+    let _count = order.num_gids();
+    let made = TrueTypeTables::build(alloc, face, &table, outlines, &order)?;
+    // Its memory is free before room for the output is taken.
+    drop(order);
+    let list = in_order(alloc, truetype::font_tables(face, &made))?;
+    finish(alloc, FontFlavor::TrueType, &list, bytes)
+}
+
+/// A subset of a font with a CFF table.
+fn subset_cff(
+    alloc: Global,
+    face: &Face<'_>,
+    limits: Limits,
+    mapper: &GlyphRemapper,
+) -> Result<Vec<u8>, Error> {
+    let source = face.table(Tag::CFF).ok_or(Error::MalformedFont)?;
+    let made = CffTables::build(alloc, face, source, limits, mapper)?;
+    let list = in_order(alloc, cff::font_tables(&made))?;
+    finish(alloc, FontFlavor::Cff, &list, limits.bytes())
+}
+
+/// A font that holds the glyphs of the mapper under their new numbers, then each further glyph that these reach through components, once.
+///
+/// `data` is a font file or a collection, of which `index` names a face (it is ignored for a single font).
+/// The new font has no `cmap`: use it as a CID font, with the new number of a glyph as its CID.
+///
+/// # Errors
+///
+/// Each names what stands in the source (`HasFault`); a font in which nothing stands is refused only when out of memory.
+/// Where several faults stand, any of their names may come. The *reached* glyphs are the mapper's and those that they
+/// lead to through components; a charstring leads to no other glyph. What is said of `CFF ` counts where there is no
+/// `glyf`, and what is said of `loca` where there is one.
+///
+/// - `UnknownKind`: the file doesn't begin with a known kind of font, or has none of `glyf`, `CFF ` and `CFF2`.
+/// - `MalformedFont`:
+///   - the collection has no entry for `index`, or that entry doesn't lead to the header of a single font;
+///   - the header or a record of the directory is cut;
+///   - there is `glyf`, but `loca` or `head` is missing; or `head` has fewer than 52 bytes;
+///   - a reached glyph has no range in `loca`, its range isn't inside `glyf`, or it has one byte or is a composite that is
+///     cut;
+///   - `CFF ` has fewer than 3 bytes, its Name INDEX, Top DICT INDEX, String INDEX or Global Subr INDEX can't be read, or
+///     there is no top dict;
+///   - an entry of the top dict or of a font dict, the last of its operator or an earlier one, has other operands than its
+///     operator demands;
+///   - the charstrings are missing, are none, or their INDEX can't be read;
+///   - a CID-keyed font has no FDArray or FDSelect that can be read, or a font dict with a private dict that isn't inside
+///     `CFF ` or whose local subroutines can't be read;
+///   - a glyph of the mapper has no charstring, or in a CID-keyed font no font dict;
+///   - `hmtx` is there, but `hhea` is missing or has fewer than 36 bytes, or the last advance or the metric of a reached
+///     glyph isn't inside `hmtx`;
+///   - `maxp` has fewer than 6 bytes;
+///   - `name` has fewer than 2 bytes, or has version 0 and its header or a record is cut or its storage begins past its
+///     end;
+///   - `post` has fewer than 4 bytes, or has version 2 and its header or its indexes are cut or it has no index for a
+///     reached glyph.
+/// - `CFFError`: the major version of `CFF ` isn't 1, or the charstring of a glyph of the mapper can't be run. Then it has
+///   an unknown operator; a number, an operator or a mask that is cut; a 49th operand; a call without an operand, with a
+///   fraction, or of a subroutine that isn't there or can't be read; more than 65535 stems; a call from depth 64, its own
+///   charstring being at depth 1; or more than 1000000 tokens (a number, or an operator with its mask).
+/// - `Unimplemented`: the outlines are those of `CFF2`, or the charstring of a glyph of the mapper comes to `endchar` with
+///   four operands or more, which put two glyphs together as an accented character.
+/// - `SubsetError`:
+///   - in a `name` of version 0 the string of a kept record isn't inside the storage, more than 5460 records are kept, or
+///     a kept string would begin past 65535 in the new storage;
+///   - Copyright, Notice or FontName of the top dict, or FontName of a font dict that a glyph of the mapper has, is a
+///     string that isn't in the String INDEX or can't be read.
+/// - `OverflowError`:
+///   - all 65536 glyph numbers are reached;
+///   - `hmtx` is there and `hhea` counts no metrics;
+///   - in a `post` of version 2 more than 65278 reached glyphs have names of the font's own;
+///   - the new `glyf`, a table's place or its length would pass 4294967295 bytes;
+///   - the glyphs of the mapper have 256 font dicts;
+///   - a real in a matrix, in FontBBox or in a private dict that is written has a text of more than 64 characters;
+///   - in the new `CFF ` the data of an INDEX would have more than 4294967294 bytes, or an offset or the length of a
+///     private dict would pass 2147483647.
+/// - `OutOfMemory`: a request for memory was refused. None is made before the kind, the collection, the directory and the
+///   kind of outlines are found sound.
+///
+/// A refusal changes nothing.
+pub fn subset(
+    alloc: Global,
+    data: &[u8],
+    index: u32,
+    mapper: &GlyphRemapper,
+) -> Result<Vec<u8>, Error> {
+    subset_with_limits(alloc, data, index, mapper, &Limits::default())
+}
+
+/// As `subset`, where the charstring of a glyph may run for other limits than 1,000,000 tokens and depth 64, and where the
+/// new font may have a bound on its bytes.
+///
+/// The outlines of `glyf` know no tokens and no depth, but the bound holds for every font.
+///
+/// # Errors
+///
+/// Those of `subset`, with the chosen limits in place of the default ones: `CFFError` where the charstring of a glyph of
+/// the mapper comes to a call from the depth `limits.depth()`, its own charstring being at depth 1, or to a token past
+/// `limits.tokens()`. `OverflowError` also where the new font would have more than `limits.bytes()` bytes: the reached
+/// composites and the charstrings are counted while they are read, all else before a byte of the font is written.
+pub fn subset_with_limits(
+    alloc: Global,
+    data: &[u8],
+    index: u32,
+    mapper: &GlyphRemapper,
+    limits: &Limits,
+) -> Result<Vec<u8>, Error> {
+    let options = Options::keeping_all(*limits);
+    subset_with_options(alloc, data, index, mapper, &options)
+}
+
+/// As `subset_with_limits`, where the new font has only those of its extras that are asked for.
+///
+/// - Without `hinting` it has no `cvt `, `fpgm` and `prep`, and no outline in `glyf` has instructions. An outline whose
+///   instructions are cut stays as it is. `maxp` stays but for the count of the glyphs, and the hints of charstrings stay.
+///   A font whose instructions draw, as some old fonts for Chinese do, comes to wrong shapes without them.
+/// - Without `names` it has no `name`.
+/// - Without `glyph_names` its `post` has version 3.0, which names no glyph.
+///
+/// # Errors
+///
+/// Those of `subset_with_limits`, but for what is said of a table that isn't asked for: of `name` without `names`, and of
+/// what stands behind the header of 32 bytes in `post` without `glyph_names`.
+pub fn subset_with_options(
+    alloc: Global,
+    data: &[u8],
+    index: u32,
+    mapper: &GlyphRemapper,
+    options: &Options,
+) -> Result<Vec<u8>, Error> {
+    // What `num_gids` says of the mapper, that glyph 0 comes first, is a premise of the proof.
+    let _count = mapper.num_gids();
+    // So is what `depth` says of the limits, that a glyph's own charstring is within them.
+    let _depth = options.limits.depth();
+    let face = parse(data, index, options.extras)?;
+    match flavor(&face)? {
+        FontFlavor::TrueType => subset_truetype(alloc, &face, options.limits.bytes(), mapper),
+        FontFlavor::Cff => subset_cff(alloc, &face, options.limits, mapper),
+    }
+}
+
+/// Whether a font can be opened: what `subset` looks at before it takes memory. This takes none.
+///
+/// # Errors
+///
+/// - `UnknownKind`: the file doesn't begin with a known kind of font, or has none of `glyf`, `CFF ` and `CFF2`.
+/// - `MalformedFont`: the collection has no entry for `index`, that entry doesn't lead to the header of a single font, or
+///   the header or a record of the directory is cut.
+/// - `Unimplemented`: the outlines are those of `CFF2`.
+pub fn check_opening(data: &[u8], index: u32, extras: Extras) -> Result<(), Error> {
+    let face = parse(data, index, extras)?;
+    flavor(&face)?;
+    Ok(())
+}

@@ -1,0 +1,72 @@
+// Made by strip.py of crates/subsetter_cff/src/write/top_dict.rt in the proved sources: change those.
+//! The top dict of a new table (Technical Note 5176, section 9 "Top DICT Data").
+
+use crate::proved::subsetter_base::error::Error;
+use crate::proved::subsetter_base::write::Writer;
+use crate::proved::subsetter_cff::write::entries::{
+    write_integer, write_numbers, write_offset, write_string,
+};
+use crate::proved::subsetter_cffdata::dict::operators::{
+    CHARSET, CHAR_STRINGS, CID_COUNT, COPYRIGHT, FD_ARRAY, FD_SELECT, FONT_BBOX, FONT_MATRIX,
+    FONT_NAME, NOTICE, ROS,
+};
+use crate::proved::subsetter_cffdata::number::{IntegerNumber, Number, StringId};
+
+/// What a new top dict says, beside where the parts stand.
+pub struct TopDict<'a> {
+    /// The number of the copyright's string.
+    pub copyright: Option<StringId>,
+    /// The number of the notice's string.
+    pub notice: Option<StringId>,
+    /// The number of the font name's string.
+    pub font_name: Option<StringId>,
+    /// FontMatrix.
+    pub matrix: &'a [Number; 6],
+    /// FontBBox.
+    pub font_box: &'a [Number; 4],
+}
+
+/// Where the parts stand that a new top dict names.
+#[derive(Clone, Copy)]
+pub struct Offsets {
+    /// The charset.
+    pub charset: u32,
+    /// The INDEX of the charstrings.
+    pub char_strings: u32,
+    /// FDArray.
+    pub font_dicts: u32,
+    /// FDSelect.
+    pub select: u32,
+}
+
+/// Adobe, Identity, 0: the first two strings, and no supplement.
+fn write_registry(w: &mut Writer) -> Result<(), Error> {
+    w.write(&IntegerNumber(i32::from(StringId::STANDARD_STRING_LEN)))?;
+    w.write(&IntegerNumber(i32::from(StringId::STANDARD_STRING_LEN + 1)))?;
+    w.write(&IntegerNumber(0))?;
+    w.write(&ROS)
+}
+
+/// How many bytes the entries with offsets have, whatever the offsets are.
+pub const OFFSETS_SIZE: usize = 33;
+
+/// Writes the entries with offsets.
+pub fn write_offsets(offsets: &Offsets, w: &mut Writer) -> Result<(), Error> {
+    write_offset(offsets.charset, CHARSET, w)?;
+    write_offset(offsets.char_strings, CHAR_STRINGS, w)?;
+    write_integer(65535, CID_COUNT, w)?;
+    write_offset(offsets.font_dicts, FD_ARRAY, w)?;
+    write_offset(offsets.select, FD_SELECT, w)
+}
+
+/// Writes the entries without offsets, which stand in front. A real that is too long is `OverflowError`.
+pub fn write_named(top: &TopDict<'_>, w: &mut Writer) -> Result<(), Error> {
+    let matrix = top.matrix;
+    let font_box = top.font_box;
+    write_registry(w)?;
+    write_string(top.copyright, COPYRIGHT, w)?;
+    write_string(top.notice, NOTICE, w)?;
+    write_string(top.font_name, FONT_NAME, w)?;
+    write_numbers(matrix, FONT_MATRIX, w)?;
+    write_numbers(font_box, FONT_BBOX, w)
+}

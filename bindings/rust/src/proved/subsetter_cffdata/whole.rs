@@ -1,0 +1,44 @@
+// Made by strip.py of crates/subsetter_cffdata/src/whole.rt in the proved sources: change those.
+//! Digits and zeros as a whole number of at most 32 bits.
+
+/// The greatest size of a signed number of 32 bits.
+const LIMIT: u64 = 2147483648;
+
+/// The number that digits are, up to the limit.
+pub fn number_of_digits(ds: &[u8]) -> Option<u32> {
+    let mut n: u64 = 0;
+    for d in ds {
+        n = n * 10 + u64::from(*d);
+        if n > LIMIT {
+            return None;
+        }
+    }
+    Some(n as u32)
+}
+
+/// The number with zeros behind it, up to the limit.
+pub fn with_zeros(n: u32, count: u32) -> Option<u32> {
+    let mut size = u64::from(n);
+    for _ in 0..count {
+        size *= 10;
+        if size > LIMIT {
+            return None;
+        }
+    }
+    Some(size as u32)
+}
+
+/// The size with its sign, where it fits.
+pub fn with_sign(negative: bool, size: u32) -> Option<i32> {
+    if negative {
+        return Some((-i64::from(size)) as i32);
+    }
+    i32::try_from(size).ok()
+}
+
+/// The digits with zeros behind them and a sign, where they fit.
+pub fn whole_of(negative: bool, ds: &[u8], zeros: u32) -> Option<i32> {
+    let size = number_of_digits(ds)?;
+    let size = with_zeros(size, zeros)?;
+    with_sign(negative, size)
+}

@@ -1,0 +1,36 @@
+// Made by strip.py of crates/subsetter_points/src/lib.rt in the proved sources: change those.
+//! Simple glyph descriptions of a `glyf` table as points, both ways: what an instance of a variable font needs, which moves the
+//! points of an outline and writes it anew.
+//!
+//! - [`read_simple`] reads the [`Outline`] of a simple glyph: its points, and the last point of each contour.
+//! - [`read_columns`] reads the same as [`Columns`]: the flags and the coordinates, not joined.
+//! - [`fits`] says whether an outline can be written, and [`write_simple`] appends its bytes.
+//! - [`laws`] says that what is written is read again.
+//!
+//! ```text
+//! let Some(mut outline) = read_simple(alloc, glyph)? else { return Err(Error::MalformedFont) };
+//! outline.points[0].x = 20;
+//! if !fits(&outline) { return Err(Error::OverflowError) }
+//! write_simple(&mut out, &outline)?;
+//! ```
+
+mod bounds;
+mod coordinates;
+mod delta_bytes;
+mod deltas;
+mod end_bytes;
+mod ends;
+mod fitting;
+mod flag_bytes;
+mod flags;
+mod front;
+pub mod laws;
+mod outline;
+mod points;
+mod reading;
+mod writing;
+
+pub use fitting::fits;
+pub use outline::{Columns, Outline, Point};
+pub use reading::{read_columns, read_simple};
+pub use writing::write_simple;

@@ -1,0 +1,20 @@
+// Made by strip.py of crates/subsetter_sfnt/src/lib.rt in the proved sources: change those.
+//! The font file: its directory and its tables, read and laid out (OpenType, "Organization of an OpenType Font").
+//!
+//! `parse` finds the directory of a face, `Face::table` a table of it. A new file is made of tables by their tags:
+//! `in_order` puts those that are there in order, and `finish` lays them out. What a table's bytes are written from is
+//! the caller's type, by the trait `TableBytes`.
+//!
+//! ```ignore
+//! let face = parse(data, index, Extras::ALL)?;
+//! let head = face.table(Tag::HEAD);
+//! ```
+
+pub mod checksum;
+pub mod construct;
+pub mod extras;
+pub mod face;
+pub mod flavor;
+pub mod parse;
+pub mod room;
+pub mod tables;

@@ -1,0 +1,69 @@
+// Made by strip.py of crates/subsetter_type2/src/limits.rt in the proved sources: change those.
+//! How far a charstring may run, and how many bytes may be written.
+
+/// How many tokens a run may take, how deep it may go, and how many bytes may be written.
+#[derive(Clone, Copy, PartialEq, Eq, Debug)]
+pub struct Limits {
+    pub(crate) tokens: u32,
+    pub(crate) depth: u8,
+    pub(crate) bytes: Option<u32>,
+}
+
+impl Limits {
+    /// None for a depth of 0, since the glyph's own charstring is at depth 1. The bytes have no bound.
+    pub fn new(tokens: u32, depth: u8) -> Option<Self> {
+        if depth == 0 {
+            return None;
+        }
+        Some(Limits {
+            tokens,
+            depth,
+            bytes: None,
+        })
+    }
+
+    /// The same limits, where at most so many bytes may be written.
+    pub fn with_bytes(self, bytes: u32) -> Self {
+        Limits {
+            tokens: self.tokens,
+            depth: self.depth,
+            bytes: Some(bytes),
+        }
+    }
+
+    /// The most tokens of a run: each number is one, and so is each operator together with its mask, be it a call or a
+    /// return.
+    pub fn tokens(&self) -> u32 {
+        self.tokens
+    }
+
+    /// The greatest depth, where the glyph's own charstring is at 1, and a subroutine one deeper than its caller.
+    pub fn depth(&self) -> u8 {
+        self.depth
+    }
+
+    /// The most bytes that may be written, if they have a bound.
+    pub fn bytes(&self) -> Option<u32> {
+        self.bytes
+    }
+
+    /// Whether so many bytes are too many.
+    #[inline(always)]
+    pub fn is_past(&self, len: usize) -> bool {
+        match self.bytes {
+            None => false,
+            Some(most) => len > most as usize,
+        }
+    }
+}
+
+/// 1,000,000 tokens and depth 64; the bytes have no bound.
+impl Default for Limits {
+    fn default() -> Self {
+        Limits {
+            tokens: 1_000_000,
+            depth: 64,
+            bytes: None,
+        }
+    }
+}

@@ -1,0 +1,30 @@
+// Made by strip.py of crates/subsetter_type2/src/lib.rt in the proved sources: change those.
+//! Type 2 charstrings (Technical Note 5177): flattening, which inlines the subroutines that a charstring calls,
+//! and the machine that it agrees with.
+//!
+//! [`charstring::Decompiler::flatten`] answers the charstring without subroutines that says the same, within a number
+//! of tokens and a depth; `decompile` answers its instructions. [`laws`] has what the definitions come to.
+//!
+//! ```text
+//! let decompiler = Decompiler::new(global.get_handler(), local.get_handler());
+//! let flat = decompiler.flatten(alloc, charstring)?;
+//! ```
+
+pub mod argstack;
+pub mod charstring;
+mod fixed_stack;
+mod flattening;
+mod last_number;
+pub mod laws;
+pub mod limits;
+mod machine;
+pub mod operators;
+mod output;
+mod plain;
+mod program;
+mod recursion;
+mod scanning;
+mod sink;
+mod stretch;
+pub mod subroutines;
+mod token;

@@ -1,0 +1,74 @@
+// Made by strip.py of crates/subsetter_type2/src/stretch.rt in the proved sources: change those.
+//! How far a stretch of a charstring goes.
+
+/// How far a stretch goes.
+#[derive(Clone, Copy)]
+pub struct Stretch {
+    /// How many bytes it has.
+    pub len: usize,
+    /// How many tokens it has.
+    pub tokens: usize,
+    /// Where the last of its operators ends; 0 where it has none.
+    pub settled: usize,
+    /// How many operands are on the stack behind it.
+    pub count: usize,
+    /// Where the last of its tokens begins, if that is a number.
+    pub last: usize,
+}
+
+/// One of two numbers, without a branch.
+#[inline(always)]
+fn choose(first: bool, one: usize, other: usize) -> usize {
+    if first {
+        one
+    } else {
+        other
+    }
+}
+
+impl Stretch {
+    /// Where the operands begin behind this stretch, which stands behind so many bytes.
+    #[inline(always)]
+    pub fn settled_after(&self, settled: usize, before: usize) -> usize {
+        if self.settled == 0 {
+            return settled;
+        }
+        before + self.settled
+    }
+
+    /// With a number more, which ends here.
+    #[inline(always)]
+    pub fn with_number(self, len: usize) -> Stretch {
+        Stretch {
+            len,
+            tokens: self.tokens + 1,
+            settled: self.settled,
+            count: self.count + 1,
+            last: self.len,
+        }
+    }
+
+    /// With a token more, which ends here: an operator that takes all operands, or a number.
+    #[inline(always)]
+    pub fn with_token(self, len: usize, draws: bool) -> Stretch {
+        Stretch {
+            len,
+            tokens: self.tokens + 1,
+            settled: choose(draws, len, self.settled),
+            count: choose(draws, 0, self.count + 1),
+            last: self.len,
+        }
+    }
+
+    /// With an operator more, which ends here and takes all operands.
+    #[inline(always)]
+    pub fn with_operator(self, len: usize) -> Stretch {
+        Stretch {
+            len,
+            tokens: self.tokens + 1,
+            settled: len,
+            count: 0,
+            last: self.last,
+        }
+    }
+}

@@ -1,0 +1,22 @@
+// Made by strip.py of crates/subsetter_variable/src/lib.rt in the proved sources: change those.
+//! Subsets of variable fonts: a font with some glyphs of a font, as they are at user coordinates on its axes.
+//!
+//! [`subset_with_variations`] answers what `subset` answers for a font that stands at its default, with its hints. Where it
+//! stands elsewhere, it makes the static font that `instance` answers, and subsets that. [`static_font`] answers that font
+//! itself, for whatever takes one, as `embed` of `cid_embed`.
+//!
+//! ```text
+//! let mapper = GlyphRemapper::new_from_glyphs(alloc, &[36, 68])?;
+//! let coordinates = [(Tag::new(b"wght"), 650 * 65536)];
+//! let font = subset_with_variations(alloc, data, 0, &coordinates, &mapper)?;
+//! ```
+
+pub mod laws;
+mod standing;
+mod subsetting;
+
+pub use crate::proved::subsetter::{Error, Extras, GlyphRemapper, Limits, Options, Tag};
+pub use standing::static_font;
+pub use subsetting::{
+    subset_with_variations, subset_with_variations_and_limits, subset_with_variations_and_options,
+};

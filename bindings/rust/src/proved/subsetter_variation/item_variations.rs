@@ -1,0 +1,321 @@
+// Made by strip.py of crates/subsetter_variation/src/item_variations.rt in the proved sources: change those.
+//! Item variation stores, and the advances of `HVAR` (OpenType, "Item Variation Store" and "HVAR").
+//!
+//! An item, a region or item variation data that aren't there have no reading, nor has a map of indexes without entries
+//! (FreeType and HarfBuzz take 0 there). The indexes 0xFFFF, 0xFFFF are 0, as OpenType says; an offset of 0 is no
+//! table. The sum of an item's deltas is taken in 128 bits, as 65,535 long words don't fit 64; where an advance changes
+//! by 2^32 units or more the answer is `OverflowError`. The version of the store has to be 1, that of `HVAR` isn't
+//! looked at.
+
+use crate::rattle::prelude::*;
+
+use crate::proved::subsetter_base::read::{u16_at, LazyArray16, Readable, Reader};
+use crate::proved::subsetter_base::Error;
+use crate::proved::subsetter_variation::region::{counted, RegionAxis};
+use crate::proved::subsetter_variation::rounding::{nearest, scaled, wide_plus};
+use crate::proved::subsetter_variation::tuples::tail;
+
+/// An offset of 32 bits, unless it is 0, which stands for no table.
+fn offset_at(bytes: &[u8], at: usize) -> Option<u32> {
+    let offset = Reader::new_at(bytes, at).read::<u32>()?;
+    if offset == 0 {
+        None
+    } else {
+        Some(offset)
+    }
+}
+
+/// An item variation store.
+pub struct Store<'a> {
+    axis_count: u16,
+    region_count: u16,
+    regions: &'a [u8],
+    bytes: &'a [u8],
+}
+
+/// A row of deltas in a store.
+struct Row<'a> {
+    count: u16,
+    words: u16,
+    long: bool,
+    indexes: &'a [u8],
+    deltas: &'a [u8],
+}
+
+/// The signed number of two bytes.
+fn signed_at(bytes: &[u8], at: usize) -> i16 {
+    u16_at(bytes, at).cast_signed()
+}
+
+/// A region on one axis.
+fn region_axis_in(bytes: &[u8]) -> RegionAxis {
+    RegionAxis {
+        start: signed_at(bytes, 0),
+        peak: signed_at(bytes, 2),
+        end: signed_at(bytes, 4),
+    }
+}
+
+impl Readable<'_> for RegionAxis {
+    const SIZE: usize = 6;
+
+    fn read(r: &mut Reader<'_>) -> Option<Self> {
+        Some(region_axis_in(r.read_bytes(6)?))
+    }
+}
+
+/// The store that these bytes begin, unless it is cut.
+pub fn item_store(bytes: &[u8]) -> Option<Store<'_>> {
+    let format = Reader::new(bytes).read::<u16>()?;
+    let at = offset_at(bytes, 2)? as usize;
+    let axis_count = Reader::new_at(bytes, at).read::<u16>()?;
+    let region_count = Reader::new_at(bytes, at + 2).read::<u16>()?;
+    let size = (region_count as usize).saturating_mul(axis_count as usize * 6);
+    let regions = Reader::new_at(bytes, at + 4).read_bytes(size)?;
+    if format == 1 {
+        Some(Store {
+            axis_count,
+            region_count,
+            regions,
+            bytes,
+        })
+    } else {
+        None
+    }
+}
+
+/// A region of the list.
+fn region_items<'a>(s: &Store<'a>, index: u16) -> Option<LazyArray16<'a, RegionAxis>> {
+    if index >= s.region_count {
+        return None;
+    }
+    let size = s.axis_count as usize * 6;
+    Reader::new_at(s.regions, index as usize * size).read_array16(s.axis_count)
+}
+
+/// The coordinate on the first axis, and those on the others.
+fn coordinate_in(at: &[i32]) -> Option<(i32, &[i32])> {
+    match at {
+        [first, others @ ..] => Some((*first, others)),
+        [] => None,
+    }
+}
+
+/// The scalar of a region at a place, in parts of 2^30. The axes behind one that makes it 0 aren't read.
+fn region_scalar(region: LazyArray16<'_, RegionAxis>, at: &[i32]) -> i64 {
+    let mut whole = 1073741824;
+    let mut rest = at;
+    for axis in region.iter() {
+        let (first, others) = match coordinate_in(rest) {
+            Some((first, others)) => (first, others),
+            _ => {
+                return whole;
+            }
+        };
+        whole = counted(axis, first, whole);
+        if whole == 0 {
+            return 0;
+        }
+        rest = others;
+    }
+    whole
+}
+
+/// The row of an item, for the counts of its data's header.
+fn row_at(
+    bytes: &[u8],
+    at: usize,
+    inner: u32,
+    count: u16,
+    words: u16,
+    long: bool,
+) -> Option<Row<'_>> {
+    let size = (count as usize + words as usize) * (if long { 2 } else { 1 });
+    let indexes = Reader::new_at(bytes, at + 6).read_bytes(count as usize * 2)?;
+    let from = (at + 6 + count as usize * 2).saturating_add((inner as usize).saturating_mul(size));
+    let deltas = Reader::new_at(bytes, from).read_bytes(size)?;
+    Some(Row {
+        count,
+        words,
+        long,
+        indexes,
+        deltas,
+    })
+}
+
+/// The row of an item, by the place of its data.
+fn row_in(bytes: &[u8], at: usize, inner: u32) -> Option<Row<'_>> {
+    let items = Reader::new_at(bytes, at).read::<u16>()?;
+    let words = Reader::new_at(bytes, at + 2).read::<u16>()?;
+    let count = Reader::new_at(bytes, at + 4).read::<u16>()?;
+    if inner < u32::from(items) && words % 32768 <= count {
+        row_at(bytes, at, inner, count, words % 32768, words >= 32768)
+    } else {
+        None
+    }
+}
+
+/// The row of an item.
+fn item_row<'a>(s: &Store<'a>, outer: u32, inner: u32) -> Option<Row<'a>> {
+    let data_count = Reader::new_at(s.bytes, 6).read::<u16>()?;
+    if outer >= u32::from(data_count) {
+        return None;
+    }
+    let at = offset_at(s.bytes, 8 + outer as usize * 4)?;
+    row_in(s.bytes, at as usize, inner)
+}
+
+/// A delta that is a word.
+fn word_delta(r: &Row<'_>, k: u16) -> Option<i32> {
+    if r.long {
+        let word = Reader::new_at(r.deltas, k as usize * 4).read::<u32>()?;
+        Some(word.cast_signed())
+    } else {
+        let word = Reader::new_at(r.deltas, k as usize * 2).read::<u16>()?;
+        Some(i32::from(word.cast_signed()))
+    }
+}
+
+/// A delta behind the words.
+fn byte_delta(r: &Row<'_>, k: u16) -> Option<i32> {
+    let place = r.words as usize + k as usize;
+    if r.long {
+        let word = Reader::new_at(r.deltas, place * 2).read::<u16>()?;
+        Some(i32::from(word.cast_signed()))
+    } else {
+        let byte = Reader::new_at(r.deltas, place).read::<u8>()?;
+        Some(i32::from(byte.cast_signed()))
+    }
+}
+
+/// The delta for one of a row's regions.
+fn delta(r: &Row<'_>, k: u16) -> Option<i32> {
+    if k < r.words {
+        word_delta(r, k)
+    } else {
+        byte_delta(r, k)
+    }
+}
+
+/// The scalar of one of a row's regions, times its delta.
+fn term(s: &Store<'_>, at: &[i32], r: &Row<'_>, k: u16) -> Option<i64> {
+    let index = Reader::new_at(r.indexes, k as usize * 2).read::<u16>()?;
+    let region = region_items(s, index)?;
+    let d = delta(r, k)?;
+    Some(scaled(region_scalar(region, at), i64::from(d)))
+}
+
+impl<'a> Row<'a> {
+    /// How many regions it is for.
+    fn count(&self) -> u16 {
+        self.count
+    }
+}
+
+/// The sum of a row's terms.
+fn terms(s: &Store<'_>, at: &[i32], r: &Row<'_>) -> Option<i128> {
+    let mut sum: i128 = 0;
+    let count = r.count();
+    for k in 0..count {
+        let more = term(s, at, r, k)?;
+        sum = wide_plus(sum, more);
+    }
+    Some(sum)
+}
+
+/// What an item varies by at a place, in parts of 2^30.
+pub fn item_delta(s: &Store<'_>, at: &[i32], outer: u32, inner: u32) -> Option<i128> {
+    if outer == 65535 && inner == 65535 {
+        return Some(0);
+    }
+    terms(s, at, &item_row(s, outer, inner)?)
+}
+
+/// How many entries a map of indexes has, and where they stand.
+fn map_head(map: &[u8]) -> Option<(u32, usize)> {
+    match Reader::new(map).read::<u8>()? {
+        0 => Some((u32::from(Reader::new_at(map, 2).read::<u16>()?), 4)),
+        1 => Some((Reader::new_at(map, 2).read::<u32>()?, 6)),
+        _ => None,
+    }
+}
+
+/// The number of up to four bytes.
+fn be(bytes: &[u8]) -> u32 {
+    match bytes {
+        [] => 0,
+        [a] => u32::from(*a),
+        [a, b] => u32::from_be_bytes([0, 0, *a, *b]),
+        [a, b, c] => u32::from_be_bytes([0, *a, *b, *c]),
+        [a, b, c, d, ..] => u32::from_be_bytes([*a, *b, *c, *d]),
+    }
+}
+
+/// An entry's outer and inner index.
+fn split_index(bits: u8, entry: u32) -> (u32, u32) {
+    (entry >> bits, entry % (1 << bits))
+}
+
+/// The entry of a glyph, past the end the last one.
+fn entry_place(count: u32, glyph: u16) -> u32 {
+    if u32::from(glyph) < count {
+        u32::from(glyph)
+    } else {
+        count - 1
+    }
+}
+
+/// The indexes of a glyph by a map, past the end the last ones.
+fn mapped_index(map: &[u8], glyph: u16) -> Option<(u32, u32)> {
+    let (count, from) = map_head(map)?;
+    let form = Reader::new_at(map, 1).read::<u8>()?;
+    if count == 0 {
+        return None;
+    }
+    let size = (form / 16 % 4 + 1) as usize;
+    let place = entry_place(count, glyph);
+    let bytes = Reader::new_at(map, from + place as usize * size).read_bytes(size)?;
+    Some(split_index(form % 16 + 1, be(bytes)))
+}
+
+/// The indexes of a glyph's advance.
+fn advance_index(hvar: &[u8], glyph: u16) -> Option<(u32, u32)> {
+    let at = Reader::new_at(hvar, 8).read::<u32>()?;
+    if at == 0 {
+        return Some((0, u32::from(glyph)));
+    }
+    mapped_index(tail(hvar, at as usize)?, glyph)
+}
+
+/// The store of `HVAR`, if its regions have as many axes as the font.
+fn store_of(hvar: &[u8], axis_count: usize) -> Option<Store<'_>> {
+    let at = offset_at(hvar, 4)?;
+    let s = item_store(tail(hvar, at as usize)?)?;
+    if s.axis_count as usize == axis_count {
+        Some(s)
+    } else {
+        None
+    }
+}
+
+/// What the advance of a glyph varies by at a place, in parts of 2^30.
+fn varied_advance(hvar: &[u8], at: &[i32], glyph: u16) -> Option<i128> {
+    let s = store_of(hvar, at.len())?;
+    let (outer, inner) = advance_index(hvar, glyph)?;
+    item_delta(&s, at, outer, inner)
+}
+
+/// Parts of 2^30 as whole units, unless there are too many.
+fn in_whole_units(d: i128) -> Result<i64, Error> {
+    if d.unsigned_abs() < 1 << 62 {
+        Ok(nearest(d as i64, 1 << 30))
+    } else {
+        Err(Error::OverflowError)
+    }
+}
+
+/// What the advance of a glyph varies by at a place, in whole units. A table that is cut, or has no item for the glyph, is
+/// `MalformedFont`, 2^32 units or more `OverflowError`.
+pub fn advance_delta(hvar: &[u8], at: &[i32], glyph: u16) -> Result<i64, Error> {
+    in_whole_units(varied_advance(hvar, at, glyph).ok_or(Error::MalformedFont)?)
+}

@@ -1,0 +1,34 @@
+// Made by strip.py of crates/subsetter_variation/src/lib.rt in the proved sources: change those.
+//! What varies in a variable font: the coordinates of an instance on the font's axes, how far a tuple counts there, and where the
+//! points of a glyph and its advance go. Tables are byte slices here, and there are no fonts. All numbers are whole: scalars and moved
+//! points are in parts of 2^30, and whoever writes an outline rounds each coordinate once, by `rounding::nearest`.
+//!
+//! - `coordinates::coordinates` turns user coordinates into normalized ones, by `fvar` and `avar`.
+//! - `tuples::gvar_table` opens `gvar`, and `movement::moved_points` says where the points of a glyph go, in a number of steps.
+//! - `item_variations::advance_delta` says what `HVAR` adds to an advance.
+//! - `laws` has what the definitions come to.
+//!
+//! ```text
+//! let at = coordinates(alloc, fvar, avar, &[(Tag::new(b"wght"), 650 * 65536)])?;
+//! let table = gvar_table(gvar).ok_or(Error::MalformedFont)?;
+//! let outline = Outline { xs: &xs, ys: &ys, ends: &ends };
+//! let (moved_xs, moved_ys, left) = moved_points(alloc, &table, glyph, &outline, &at, 1_000_000)?;
+//! let x = nearest(moved_xs[0], 1 << 30);
+//! ```
+
+pub mod axes;
+pub mod contour;
+pub mod coordinates;
+pub mod glyph;
+pub mod inference;
+pub mod item_variations;
+pub mod laws;
+pub mod movement;
+pub mod packed;
+pub mod packed_sums;
+pub mod region;
+pub mod rounding;
+pub mod segments;
+pub mod tuple_region;
+pub mod tuples;
+pub mod varied;
