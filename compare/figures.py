@@ -109,6 +109,7 @@ def refresh():
 # ---- blocks: each function takes nothing and answers a text; `](results:PAGE)` is a link to a page
 
 def source_of(*names):
+    """Where the figures of these comparisons come from."""
     return lambda: "; ".join(map(results_of.source, names)) + "."
 
 
@@ -154,7 +155,7 @@ def as_table(name):
 def amount(number):
     """A number of bytes, in a short form."""
     number = int(number)
-    return f"{number / 1e6:,.1f} MB" if number >= 1e6 else f"{number / 1e3:,.0f} KB" if number >= 1e4 else f"{number:,} bytes"
+    return f"{number // 10**6} MB" if number % 10**6 == 0 else f"{number / 1e6:,.1f} MB" if number >= 1e6 else f"{number / 1e3:,.0f} KB" if number >= 1e4 else f"{number:,} bytes"
 
 
 def under_bounds():
@@ -170,7 +171,8 @@ def under_bounds():
         for bound in bounds:
             it = rows[bound]
             size = it["Answer"].replace("a font of ", "").replace(" bytes", "")
-            small = f" ({it['Glyphs']} glyphs of {amount(it['Bytes of the file'])})" if it["Bytes of the file"] != rows["1000000"]["Bytes of the file"] else ""
+            other = it["Bytes of the file"] != rows["1000000"]["Bytes of the file"]
+            small = f" (a file of {amount(it['Bytes of the file'])}, {it['Glyphs']} asked)" if other else ""
             cells.append(f"{amount(size) if size.isdigit() else 'refused'}, {float(it['Process, ms']):,.0f}, {amount(it['Held, bytes'])}{small}")
         lines.append(f"| {family} | {int(rows['1000000']['Glyphs']):,} | {amount(rows['1000000']['Bytes of the file'])} | " + " | ".join(cells) + " |")
     return "\n".join(lines)
@@ -203,8 +205,6 @@ BLOCKS = {
     "source of times": (source_of("times"), ["times"]),
     "hostile": (as_table("hostile"), ["hostile"]),
     "source of hostile": (source_of("hostile"), ["hostile"]),
-    "hostile, instructions": (as_table("hostile, instructions"), ["hostile, instructions"]),
-    "source of hostile, instructions": (source_of("hostile, instructions"), ["hostile, instructions"]),
     "under bounds": (under_bounds, ["hostile, families"]),
     "held under bounds": (held_under_bounds, ["hostile, families"]),
     "slowest under bounds": (slowest_under_bounds, ["hostile, families"]),
