@@ -48,8 +48,8 @@ def damage():
     said = f"Of {copies} copies the answers differ on {differ}, of which {unexplained} are not explained"
     if said not in found.answer:
         raise repository.Trouble(f"damage.jsonl says: {said}; its page: {found.answer}")
-    return (f"Of {copies:,} damaged fonts this answers {differ:,} otherwise than the Rust crate; a [documented rule](docs/DIFFERENCES.md) explains all but "
-            f"{unexplained} ([commit](results:{comparisons.page_of(found.name)}) {results_of.mark(found)}).")
+    return (f"Of {copies:,} damaged fonts {differ:,} are answered otherwise than by the Rust crate. Differences that no [documented rule](docs/DIFFERENCES.md) "
+            f"explains: **{unexplained}** ([commit](results:{comparisons.page_of(found.name)}) {results_of.mark(found)}).")
 
 
 def gate():
