@@ -57,7 +57,7 @@ def gate():
     found = results_of.result("gate")
     minutes = re.search(r"^(\d+) minutes$", "\n".join(found.body), re.M)[1]
     return (f"The last whole gate seen to pass was of commit {results_of.mark(found)}, on {found.date}: {minutes} minutes on "
-            f"{found.machine.partition(',')[0]} ([result](results:{comparisons.page_of('gate')})).")
+            f"{re.split('[,;]', found.machine)[0]} ([result](results:{comparisons.page_of('gate')})).")
 
 
 BLOCKS = {
