@@ -1,11 +1,11 @@
 #!/usr/bin/env python3
 """Runs the whole gate, and records that it passed: compare/results/gate.md, and the README's line.
 
-    compare/gate.py [WORD..]                     runs `make test WORD..`, of the commit that is checked out
-    compare/gate.py --from LOG --minutes N       takes what such a run printed, with the minutes that it took
+    compare/gate.py [SKIP=NAME,..]                           runs `make test`, of the commit that is checked out
+    compare/gate.py --from LOG --minutes N [SKIP=NAME,..]    takes what such a run of this commit printed, and its minutes
 
-Only a whole gate that passed is recorded: the last line of what it printed says `N passed, 0 failed`, no part failed, and
-nothing was skipped but what a WORD `SKIP=NAME,..` named, which the record says.
+Only a gate that passed is recorded: the last line of what it printed is `N passed, 0 failed`, and no part failed or was left
+out. What was skipped has to be named, and the record names it.
 """
 import argparse
 import os
@@ -37,15 +37,17 @@ def run(words):
     return text, round((time.monotonic() - start) / 60)
 
 
-def kept(text):
+def kept(text, words):
     """The lines of a gate that passed which are kept: what its parts took, what was skipped, and the sum."""
     lines = [line.strip() for line in text.strip().split("\n")]
     if not re.fullmatch(r"[1-9]\d* passed, 0 failed", lines[-1]):
         sys.exit(f"gate: the last line is {lines[-1]!r}, and no gate that passed")
-    failed = [line for line in lines if re.search(r"\bFAILED\b|not run, as", line)]
+    failed = [line for line in lines if re.search(r"\): FAILED after \d+ s$|: not run, as not all is proved$", line)]
     if failed:
         sys.exit(f"gate: {failed[0]}")
-    return [line for line in lines if re.search(r": (passed|skipped)\b", line)] + lines[-1:]
+    if not words and any(line.endswith("skipped, as was asked for") for line in lines):
+        sys.exit("gate: parts were skipped: name them, as in SKIP=NAME,..")
+    return [line for line in lines if re.search(r"\): passed in \d+ s$|skipped, as was asked for$", line)] + lines[-1:]
 
 
 def record(lines, minutes, command):
@@ -60,7 +62,7 @@ def record(lines, minutes, command):
 
 def main():
     parser = argparse.ArgumentParser(description=__doc__, formatter_class=argparse.RawDescriptionHelpFormatter)
-    parser.add_argument("words", nargs="*", metavar="WORD")
+    parser.add_argument("words", nargs="*", metavar="SKIP=NAME,..")
     parser.add_argument("--from", dest="log")
     parser.add_argument("--minutes", type=int)
     given = parser.parse_args()
@@ -72,7 +74,7 @@ def main():
             text, minutes = file.read(), given.minutes
     else:
         text, minutes = run(given.words)
-    record(kept(text), minutes, " ".join(["make test", *given.words]))
+    record(kept(text, given.words), minutes, " ".join(["make test", *given.words]))
 
 
 if __name__ == "__main__":

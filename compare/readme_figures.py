@@ -25,14 +25,15 @@ def microseconds(row, column):
 
 def sizes_and_times():
     """The table of three fonts, and what holds of all that were timed."""
-    timed = {**by_case("truetype.csv"), **by_case("cff.csv")}
+    timed, sizes, times = {**by_case("truetype.csv"), **by_case("cff.csv")}, results_of.result("bytes"), results_of.result("times")
+    if sizes.tables != [results_of.rows("bytes.csv")]:
+        raise repository.Trouble("bytes.csv isn't what its page says")
     lines = ["| 80 glyphs of | Source, bytes | Subset, bytes | Bare, bytes | This, µs | HarfBuzz, µs | Rust crate, µs |", "|---|--:|--:|--:|--:|--:|--:|"]
     for case, row in by_case("bytes.csv").items():
         sizes = [f"{int(row[it]):,}" for it in ("Bytes of the file", "Bytes of the subset", "Bytes without hinting and names")]
         times = [microseconds(timed[case], it) for it in ("port ns", "harfbuzz ns", "crate ns")]
         lines.append(f"| {' | '.join([SHOWN[case[0]], *sizes, *times])} |")
     crate, harfbuzz = (max(int(it["port ns"]) / int(it[other]) for it in timed.values()) for other in ("crate ns", "harfbuzz ns"))
-    sizes, times = results_of.result("bytes"), results_of.result("times")
     return "\n".join([*lines, "", f"*Bare*: without hinting and names. Times are of the build that is proved; in all {len(timed)} cases timed "
                       f"they are at most {crate:.2f} of the Rust crate's and {harfbuzz:.2f} of HarfBuzz's ([commits](results:{comparisons.page_of('times')}) "
                       f"{results_of.mark(sizes)} for bytes, {results_of.mark(times)} for times)."])
@@ -56,7 +57,7 @@ def gate():
     """The last whole gate that was seen to pass."""
     found = results_of.result("gate")
     minutes = re.search(r"^(\d+) minutes$", "\n".join(found.body), re.M)[1]
-    return (f"The last whole gate seen to pass was of commit {results_of.mark(found)}, on {found.date}: {minutes} minutes on "
+    return (f"The last whole `{found.command}` seen to pass was of commit {results_of.mark(found)}, on {found.date}: {minutes} minutes on "
             f"{re.split('[,;]', found.machine)[0]} ([result](results:{comparisons.page_of('gate')})).")
 
 
