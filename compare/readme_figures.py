@@ -23,16 +23,21 @@ def microseconds(row, column):
     return f"{int(row[column]) / 1000:,.0f}"
 
 
+def size_and_time(case, row, timed):
+    """A row of the table."""
+    sizes = [f"{int(row[it]):,}" for it in ("Bytes of the file", "Bytes of the subset", "Bytes without hinting and names")]
+    times = [microseconds(timed[case], it) for it in ("port ns", "harfbuzz ns", "crate ns")]
+    return f"| {' | '.join([SHOWN[case[0]], *sizes, *times])} |"
+
+
 def sizes_and_times():
     """The table of three fonts, and what holds of all that were timed."""
-    timed, sizes, times = {**by_case("truetype.csv"), **by_case("cff.csv")}, results_of.result("bytes"), results_of.result("times")
+    sizes, times = results_of.result("bytes"), results_of.result("times")
     if sizes.tables != [results_of.rows("bytes.csv")]:
         raise repository.Trouble("bytes.csv isn't what its page says")
+    timed = {**by_case("truetype.csv"), **by_case("cff.csv")}
     lines = ["| 80 glyphs of | Source, bytes | Subset, bytes | Bare, bytes | This, µs | HarfBuzz, µs | Rust crate, µs |", "|---|--:|--:|--:|--:|--:|--:|"]
-    for case, row in by_case("bytes.csv").items():
-        sizes = [f"{int(row[it]):,}" for it in ("Bytes of the file", "Bytes of the subset", "Bytes without hinting and names")]
-        times = [microseconds(timed[case], it) for it in ("port ns", "harfbuzz ns", "crate ns")]
-        lines.append(f"| {' | '.join([SHOWN[case[0]], *sizes, *times])} |")
+    lines += [size_and_time(case, row, timed) for case, row in by_case("bytes.csv").items()]
     crate, harfbuzz = (max(int(it["port ns"]) / int(it[other]) for it in timed.values()) for other in ("crate ns", "harfbuzz ns"))
     return "\n".join([*lines, "", f"*Bare*: without hinting and names. Times are of the build that is proved; in all {len(timed)} cases timed "
                       f"they are at most {crate:.2f} of the Rust crate's and {harfbuzz:.2f} of HarfBuzz's ([commits](results:{comparisons.page_of('times')}) "
