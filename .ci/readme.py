@@ -44,7 +44,8 @@ def main():
     wrong = [f"{count} words, and at most {WORDS_AT_MOST} are wanted"] * (count > WORDS_AT_MOST)
     try:
         repository.ready(history=True)
-        wrong += [*wrong_results(), *wrong_figures(text)]
+        for found in (wrong_results(), wrong_figures(text)):
+            wrong.extend(found)
     except (repository.Trouble, LookupError, ValueError) as trouble:
         wrong.append(str(trouble) or repr(trouble))
     for line in wrong:
