@@ -116,6 +116,7 @@ def main():
     for path in result_files():
         if path not in documents:
             faults += faults_of_commits(path)
+    faults += figures.MORE_FAULTS()
     print("\n".join([*dict.fromkeys(faults), f"{len(faults)} faults in {len(documents)} documents and {len(result_files())} files of results"]))
     return not faults
 

@@ -218,8 +218,9 @@ BLOCKS = {
     "javascript, times": (as_table("javascript, times"), ["javascript, times"]),
     "source of javascript, times": (source_of("javascript, times"), ["javascript, times"]),
 }
-try:
+# (the README's blocks, and what else has to hold of it)
+MORE_FAULTS = list
+if os.path.exists(os.path.join(results_of.HERE, "readme_figures.py")):
     import readme_figures
     BLOCKS.update(readme_figures.BLOCKS)
-except ModuleNotFoundError:
-    pass
+    MORE_FAULTS = getattr(readme_figures, "faults", list)
