@@ -1,5 +1,5 @@
 #!/usr/bin/env python3
-"""Plants bugs in the README and in the results of its figures, one at a time, in a clone: .ci/readme.py has to fail over each.
+"""Plants bugs in the README and in the results of its figures, one at a time, in a clone: .ci/evidence.py has to fail over each.
 
     .ci/readme_test.py [NAME..]    all of them, or those whose names begin so
 
@@ -8,12 +8,14 @@ status is 1 where a bug gets through, or where the clone fails as it is.
 """
 import os
 import re
-import shutil
 import subprocess
 import sys
-import tempfile
 
-ROOT = os.path.dirname(os.path.dirname(os.path.realpath(__file__)))
+sys.dont_write_bytecode = True
+sys.path.insert(0, os.path.dirname(os.path.realpath(__file__)))
+
+import planted  # noqa: E402
+
 RESULTS = "compare/results/"
 
 
@@ -21,28 +23,28 @@ RESULTS = "compare/results/"
 
 # A name; what the check has to say; and edits, each a file, a pattern that stands there once, and what is put in its place.
 PLANTS = [
-    ("a number of bytes by hand", "figures of", [("README.md", r"27,552", "26,552")]),
-    ("a time by hand", "figures of", [("README.md", r"\| 93 \| 278 \|", "| 39 | 278 |")]),
-    ("the times of another font", "figures of", [("README.md", r"\| 93 \| 278 \| 369 \|", "| 120 | 517 | 1,553 |")]),
-    ("the bound of another program", "figures of", [("README.md", r"at most 0\.\d\d of the Rust crate's", "at most 0.25 of the Rust crate's")]),
-    ("damaged fonts of another result", "figures of", [("README.md", r"1,000,000 damaged fonts 7,570", "100,000 damaged fonts 752")]),
-    ("fewer differences by hand", "figures of", [("README.md", r"7,570", "757")]),
-    ("another commit", "figures of", [("README.md", r"damage-kinds\.md\) `[0-9a-f]{7}`", "damage-kinds.md) `1fba716`")]),
-    ("no word of changed code", "figures of", [("README.md", r"`1fba716`, code changed since", "`1fba716`")]),
-    ("minutes of the gate by hand", "figures of", [("README.md", r"\d+ minutes on", "5 minutes on")]),
-    ("a block that names another result", "figures of", [("README.md", r"from compare/results/damage-kinds\.md: readme", "from compare/results/damage-library.md: readme")]),
-    ("a block of another figure", "blocks are called", [("README.md", r": readme: damage -->", ": sizes -->")]),
-    ("a figure without its block", "blocks are called", [("README.md", r"<!-- from \S+: readme: damage -->\n(.*\n)<!-- end -->", r"\1")]),
+    ("a number of bytes by hand", "README.md isn't what compare/results gives", [("README.md", r"27,552", "26,552")]),
+    ("a time by hand", "README.md isn't what compare/results gives", [("README.md", r"\| 93 \| 278 \|", "| 39 | 278 |")]),
+    ("the times of another font", "README.md isn't what compare/results gives", [("README.md", r"\| 93 \| 278 \| 369 \|", "| 120 | 517 | 1,553 |")]),
+    ("the bound of another program", "README.md isn't what compare/results gives", [("README.md", r"at most 0\.\d\d of the Rust crate's", "at most 0.25 of the Rust crate's")]),
+    ("damaged fonts of another result", "README.md isn't what compare/results gives", [("README.md", r"1,000,000 damaged fonts 7,570", "100,000 damaged fonts 752")]),
+    ("fewer differences by hand", "README.md isn't what compare/results gives", [("README.md", r"7,570", "757")]),
+    ("another commit", "README.md isn't what compare/results gives", [("README.md", r"damage-kinds\.md\) `[0-9a-f]{7}`", "damage-kinds.md) `1fba716`")]),
+    ("no word of changed code", "README.md isn't what compare/results gives", [("README.md", r"`1fba716`, code changed since", "`1fba716`")]),
+    ("minutes of the gate by hand", "README.md isn't what compare/results gives", [("README.md", r"\d+ minutes on", "5 minutes on")]),
+    ("a block that names another result", "README.md isn't what compare/results gives", [("README.md", r"from compare/results/damage-kinds\.md: readme", "from compare/results/damage-library.md: readme")]),
+    ("a block of another figure", "blocks 'readme: ", [("README.md", r": readme: damage -->", ": sizes -->")]),
+    ("a figure without its block", "blocks 'readme: ", [("README.md", r"<!-- from \S+: readme: damage -->\n(.*\n)<!-- end -->", r"\1")]),
     ("a block without its end", "has no `end`", [("README.md", r"(explains: .*\n)<!-- end -->", r"\1")]),
-    ("a block in a comment of its own", "blocks are called", [("README.md", r"(<!-- from \S+: readme: gate -->\n.*\n<!-- end -->)", r"```\n\1\n```")]),
+    ("a block in a comment of its own", "blocks 'readme: ", [("README.md", r"(<!-- from \S+: readme: gate -->\n.*\n<!-- end -->)", r"```\n\1\n```")]),
     ("too many words", "words, and at most", [("README.md", r"\Z", "word " * 1400)]),
     ("a few words too many", "words, and at most", [("README.md", r"\Z", "MANY")]),
     ("the source of a size by hand", "isn't what its page says", [(RESULTS + "bytes.csv", r",27552,", ",26552,"), ("README.md", r"27,552", "26,552")]),
-    ("a size by hand, in its page too", "edited by hand", [(RESULTS + "bytes.csv", r",27552,", ",26552,"), (RESULTS + "bytes.md", r"\| 27552 \|", "| 26552 |"), ("README.md", r"27,552", "26,552")]),
-    ("a time by hand in its result", "edited by hand", [(RESULTS + "cff.csv", r"LinLibertine_R\.otf,80 low,369046,92618", "LinLibertine_R.otf,80 low,369046,12618"), ("README.md", r"\| 93 \| 278 \|", "| 13 | 278 |")]),
+    ("a size by hand, in its page too", "aren't what a run wrote", [(RESULTS + "bytes.csv", r",27552,", ",26552,"), (RESULTS + "bytes.md", r"\| 27552 \|", "| 26552 |"), ("README.md", r"27,552", "26,552")]),
+    ("a time by hand in its result", "aren't what a run wrote", [(RESULTS + "cff.csv", r"LinLibertine_R\.otf,80 low,369046,92618", "LinLibertine_R.otf,80 low,369046,12618"), ("README.md", r"\| 93 \| 278 \|", "| 13 | 278 |")]),
     ("a damaged font by hand in its result", "says: Of", [(RESULTS + "damage.jsonl", r'(\A.*?"copies": )100000', r"\g<1>200000")]),
-    ("minutes by hand in their result", "edited by hand", [(RESULTS + "gate.md", r"(?m)^\d+ minutes$", "5 minutes"), ("README.md", r"\d+ minutes on", "5 minutes on")]),
-    ("a result of another history", "no commit behind this one", [(RESULTS + "gate.md", r"Commit: `[0-9a-f]{7}`", "Commit: `3ff537e`")]),
+    ("minutes by hand in their result", "aren't what a run wrote", [(RESULTS + "gate.md", r"(?m)^\d+ minutes$", "5 minutes"), ("README.md", r"\d+ minutes on", "5 minutes on")]),
+    ("a result of another history", "isn't behind HEAD", [(RESULTS + "gate.md", r"Commit: `[0-9a-f]{7}`", "Commit: `3ff537e`")]),
     ("no result", "isn't there", [(RESULTS + "bytes.md", None, "")]),
     ("a result without its commit", "doesn't say its commit", [(RESULTS + "times.md", r"- Commit: .*\n", "")]),
 ]
@@ -62,18 +64,8 @@ LOGS = [
 
 def run(folder, *words):
     """The status of a command, and what it prints."""
-    ran = subprocess.run(words, cwd=folder, stdout=subprocess.PIPE, stderr=subprocess.STDOUT, text=True)
+    ran = subprocess.run(words, cwd=folder, env=planted.ENVIRONMENT, stdout=subprocess.PIPE, stderr=subprocess.STDOUT, text=True)
     return ran.returncode, ran.stdout
-
-
-def clone(folder):
-    """The repository with its history, and the files of this check as they stand here."""
-    status, said = run(ROOT, "git", "clone", "-q", "--shared", ROOT, folder)
-    if status:
-        sys.exit(f"readme_test: {said}")
-    for name in (".ci", "compare"):
-        shutil.copytree(os.path.join(ROOT, name), os.path.join(folder, name), dirs_exist_ok=True, ignore=shutil.ignore_patterns("build", "target", "__pycache__"))
-    shutil.copy(os.path.join(ROOT, "README.md"), folder)
 
 
 def plant(folder, edits):
@@ -111,9 +103,9 @@ def try_plants(folder, names):
         if names and name != "nothing" and not name.startswith(tuple(names)):
             continue
         before = plant(folder, edits)
-        status, said = run(folder, ".ci/readme.py")
+        status, said = run(folder, sys.executable, ".ci/evidence.py")
         restore(before)
-        is_well = status == 0 if name == "nothing" else status == 1 and any("FAILED" in line and wanted in line for line in said.split("\n"))
+        is_well = status == 0 if name == "nothing" else status == 1 and wanted in said and "Traceback" not in said
         tried, missed = tried + 1, missed + (not is_well)
         print(f"{'caught' if status else 'passed'}{'' if is_well else ', WRONGLY'}: {name}: {said.strip().splitlines()[0][:150]}")
     return tried, missed
@@ -122,8 +114,7 @@ def try_plants(folder, names):
 def try_logs(folder):
     """The same for the logs of gates."""
     page, readme = (os.path.join(folder, it) for it in (RESULTS + "gate.md", "README.md"))
-    run(folder, "git", "add", "-A")
-    run(folder, "git", "-c", "user.name=test", "-c", "user.email=test@example.com", "commit", "-qam", "as it stands")
+    run(folder, "git", "commit", "-qam", "as it stands")
     missed = 0
     for name, is_kept, words, text in LOGS:
         log = os.path.join(folder, "out.log")
@@ -141,9 +132,7 @@ def try_logs(folder):
 
 
 def main():
-    with tempfile.TemporaryDirectory(prefix="readme-") as room:
-        folder = os.path.join(room, "clone")
-        clone(folder)
+    with planted.copy() as folder:
         tried, missed = try_plants(folder, sys.argv[1:])
         logs, wrong = (0, 0) if sys.argv[1:] else try_logs(folder)
     print(f"readme_test: {tried - 1} bugs and {logs} logs, {missed + wrong} results are wrong")

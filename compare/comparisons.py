@@ -1,5 +1,6 @@
 """The comparisons: what each asks, how it is run, how its answer is read from what it prints, and the paths that it speaks of."""
 import collections
+import math
 import os
 import re
 
@@ -23,6 +24,12 @@ BINDINGS = C + ("bindings/python/**", "bindings/rust-native/**", "bindings/plant
 JAVASCRIPT = C + ("bindings/js/*.mjs", "bindings/js/Makefile", "bindings/js/module/**")
 
 
+def at_most(number, digits=2):
+    """A bound as text, rounded up."""
+    scale = 10 ** digits
+    return f"{math.ceil(number * scale - 1e-9) / scale:,.{digits}f}"
+
+
 # ---- answers: each takes a result (results_of.Result) and answers one line
 
 def lines_like(pattern):
@@ -34,7 +41,7 @@ def lines_like(pattern):
 
 def slowest(result):
     row = max(result.tables[0], key=lambda it: float(it["Call, ms"]))
-    return f"at most {float(row['Call, ms']):,.0f} ms for {row['Glyphs']} glyphs, of a file of {int(row['Bytes of the file']):,} bytes ({row['Font']})"
+    return f"at most {at_most(float(row['Call, ms']), 0)} ms for {row['Glyphs']} glyphs, of a file of {int(row['Bytes of the file']):,} bytes ({row['Font']})"
 
 
 def widths_wrong(result):
@@ -45,14 +52,14 @@ def widths_wrong(result):
 def cost_of_binding(result):
     rows = result.tables[0]
     most = max(int(row["binding, ns"]) / int(row["port, ns"]) for row in rows)
-    return f"at most {most:.2f} times the program's time; {sum(row['Bytes'] == 'same' for row in rows)} of {len(rows)} cases give the same bytes"
+    return f"at most {at_most(most)} times the program's time; {sum(row['Bytes'] == 'same' for row in rows)} of {len(rows)} cases give the same bytes"
 
 
 def parts_of_time(result):
     """The times of truetype.csv and cff.csv, beside the Rust crate's and HarfBuzz's."""
     rows = [row for name in ("truetype.csv", "cff.csv") for row in result.data(name)]
     crate, harfbuzz = (max(int(row["port ns"]) / int(row[other]) for row in rows) for other in ("crate ns", "harfbuzz ns"))
-    return f"{len(rows)} cases: at most {crate:.2f} of the Rust crate's time, at most {harfbuzz:.2f} of HarfBuzz's"
+    return f"{len(rows)} cases: at most {at_most(crate)} of the Rust crate's time, at most {at_most(harfbuzz)} of HarfBuzz's"
 
 
 Comparison = collections.namedtuple("Comparison", "name asks command answer paths short original data timed by_hand",
@@ -112,7 +119,7 @@ COMPARISONS = [
                lines_like(r"^\d+ (real fonts|damaged copies): \d+ done"), SUBSET + INSTANCE + JAVASCRIPT,
                "node bindings/js/tests/compare.mjs --fonts 300 --copies 2000"),
     Comparison("javascript, times", "What does a call take in JavaScript, beside the native library?", "node bindings/js/tests/compare.mjs --times",
-               lambda result: f"at most {max(float(row['Opened : native']) for row in result.tables[0]):.1f} times the native library's time",
+               lambda result: f"at most {at_most(max(float(row['Opened : native']) for row in result.tables[0]), 1)} times the native library's time",
                SUBSET + JAVASCRIPT, timed=True),
     Comparison("plants", "Does each planted bug in the bindings fail a test?", "bindings/plants", lines_like(r"\d+ bugs planted.*"), BINDINGS, data=("plants.txt",)),
     Comparison("binding", "What does the Rust binding cost beside the program and the Rust crate?", f"{DEBIAN} compare/binding.py", cost_of_binding,
@@ -134,11 +141,10 @@ COMPARISONS = [
                SUBSET + BENCH, original=True, timed=True),
     Comparison("times", "What do calls take beside the Rust crate and HarfBuzz?", "compare/run.py --all --seconds 0.03 --copies 0 --results compare/results",
                parts_of_time, SUBSET + BENCH, original=True, data=("truetype.csv", "cff.csv"), timed=True),
-    Comparison("bytes", "How many bytes do subsets of three fonts have?", "compare/bytes.py --results compare/results",
-               lambda result: f"{len(result.tables[0])} fonts, of {result.tables[0][0]['Bytes of the subset']} bytes and others", ("bindings/rust/src/**",),
-               data=("bytes.csv",)),
-    Comparison("gate", "Does everything pass, proved from nothing?", "make test", lines_like(r"^\d+ passed, \d+ failed"),
-               ("crates/**", "crates.txt", "bindings/**", "dist/**", ".ci/**", "compare/**.py", "Makefile"), by_hand=True),
+    Comparison("bytes", "How many bytes has a subset, of how many of the source?", "compare/bytes.py --results compare/results",
+               lambda result: f"{len(result.data('bytes.csv'))} subsets", ("bindings/rust/src/**",), data=("bytes.csv",)),
+    Comparison("gate", "Does the whole gate pass, and how long does it take?", "make test", lines_like(r"^\d+ passed, \d+ failed"),
+               ("crates/*/*/**", "bindings/**", "dist/*", ".ci/*", "Makefile"), by_hand=True, timed=True),
     Comparison("processors", "What does a build for any x86-64 cost?", "compare/cpu.py --rounds 30 --seconds 0.02",
                lambda result: "; ".join(re.findall(r"sums .*?ratio [\d.]+|geometric mean of the ratios [\d.]+", " ".join(result.body))),
                SUBSET + C, data=("cpu.csv",), timed=True),

@@ -10,6 +10,7 @@ import re
 import comparisons
 import repository
 import results_of
+from comparisons import at_most
 
 EVIDENCE = "docs/EVIDENCE.md"
 BLOCK = re.compile(r"<!-- from ([^:>]*): ([^>]*?) -->(.*?)<!-- end -->", re.S)
@@ -127,9 +128,9 @@ def summary_of_times():
     lines = ["| | " + " | ".join(f"{kind}, {len(rows)} rows" for kind, rows in kinds.items()) + " |", "|---|---|---|"]
     for title, other in (("the Rust crate's", "crate ns"), ("HarfBuzz's", "harfbuzz ns")):
         cells = [[share(it, other) for it in rows] for rows in kinds.values()]
-        lines.append(f"| time, as a part of {title} | " + " | ".join(f"at most {max(it):.2f}, half of the rows at most {middle(it):.2f}" for it in cells) + " |")
+        lines.append(f"| time, as a part of {title} | " + " | ".join(f"at most {at_most(max(it))}, half of the rows at most {at_most(middle(it))}" for it in cells) + " |")
     above = [max(float(it["port held KiB"]) - float(it["source and twice the output KiB"]) for it in rows) for rows in kinds.values()]
-    return "\n".join(lines + ["| memory above the source and twice the output | " + " | ".join(f"at most {it:.0f} KiB" for it in above) + " |"])
+    return "\n".join(lines + ["| memory above the source and twice the output | " + " | ".join(f"at most {at_most(it, 0)} KiB" for it in above) + " |"])
 
 
 def greatest_ratios():
@@ -180,12 +181,12 @@ def under_bounds():
 
 def held_under_bounds():
     rows = [it for it in results_of.result("hostile, families").tables[0] if it["Bound"] != "none"]
-    return f"{max(float(it['Part of what it may hold']) for it in rows):.2f}"
+    return at_most(max(float(it["Part of what it may hold"]) for it in rows))
 
 
 def slowest_under_bounds():
     rows = [it for it in results_of.result("hostile, families").tables[0] if it["Bound"] != "none"]
-    return f"{max(float(it['ns of each byte and token']) for it in rows):.0f}"
+    return at_most(max(float(it["ns of each byte and token"]) for it in rows), 0)
 
 
 def ratios_of_instances():
@@ -195,7 +196,7 @@ def ratios_of_instances():
 
 def parts_of_fonttools():
     ratios = [float(it["Ratio to fontTools"]) for it in results_of.rows("instance_times.csv") if it["Ratio to fontTools"]]
-    return f"{max(ratios):.4f}"
+    return at_most(max(ratios), 4)
 
 
 BLOCKS = {
@@ -217,8 +218,9 @@ BLOCKS = {
     "javascript, times": (as_table("javascript, times"), ["javascript, times"]),
     "source of javascript, times": (source_of("javascript, times"), ["javascript, times"]),
 }
-try:
+# (the README's blocks, and what else has to hold of it)
+MORE_FAULTS = list
+if os.path.exists(os.path.join(results_of.HERE, "readme_figures.py")):
     import readme_figures
     BLOCKS.update(readme_figures.BLOCKS)
-except ModuleNotFoundError:
-    pass
+    MORE_FAULTS = getattr(readme_figures, "faults", list)

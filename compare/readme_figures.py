@@ -1,4 +1,5 @@
-"""The figures of the README, from compare/results. figures.py takes BLOCKS in, and writes them."""
+"""The figures of the README, from compare/results: figures.py takes BLOCKS in, and writes them. `faults` says what else has to
+hold of the README; .ci/evidence.py asks it."""
 import json
 import re
 
@@ -6,6 +7,7 @@ import comparisons
 import repository
 import results_of
 
+WORDS_AT_MOST = 1400
 # What the first table shows: the font as the README calls it, and as bytes.csv does.
 SHOWN = {
     "DejaVuSans.ttf": "DejaVu Sans (TrueType)",
@@ -38,9 +40,9 @@ def sizes_and_times():
     timed = {**by_case("truetype.csv"), **by_case("cff.csv")}
     lines = ["| 80 glyphs of | Source, bytes | Subset, bytes | Bare, bytes | This, µs | HarfBuzz, µs | Rust crate, µs |", "|---|--:|--:|--:|--:|--:|--:|"]
     lines += [size_and_time(case, row, timed) for case, row in by_case("bytes.csv").items()]
-    crate, harfbuzz = (max(int(it["port ns"]) / int(it[other]) for it in timed.values()) for other in ("crate ns", "harfbuzz ns"))
+    crate, harfbuzz = (comparisons.at_most(max(int(it["port ns"]) / int(it[other]) for it in timed.values())) for other in ("crate ns", "harfbuzz ns"))
     return "\n".join([*lines, "", f"*Bare*: without hinting and names. Times are of the build that is proved; in all {len(timed)} cases timed "
-                      f"they are at most {crate:.2f} of the Rust crate's and {harfbuzz:.2f} of HarfBuzz's ([commits](results:{comparisons.page_of('times')}) "
+                      f"they are at most {crate} of the Rust crate's and {harfbuzz} of HarfBuzz's ([commits](results:{comparisons.page_of('times')}) "
                       f"{results_of.mark(sizes)} for bytes, {results_of.mark(times)} for times)."])
 
 
@@ -71,3 +73,13 @@ BLOCKS = {
     "readme: damage": (damage, ["damage, kinds"]),
     "readme: gate": (gate, ["gate"]),
 }
+
+
+def faults():
+    """What is wrong with the README's size, counted as `wc -w` does, and which figures it lacks."""
+    import figures  # (which imports this module)
+
+    text = repository.read("README.md")
+    count, keys = len(text.split()), [it[2] for it in figures.blocks(text)]
+    found = [f"README.md has {count} words, and at most {WORDS_AT_MOST} are wanted"] * (count > WORDS_AT_MOST)
+    return found + [f"README.md has {keys.count(it)} blocks {it!r}, and not one" for it in BLOCKS if keys.count(it) != 1]

@@ -71,8 +71,10 @@ def pathspecs(paths):
 
 @functools.lru_cache(maxsize=None)
 def differs(commit, paths):
-    """Whether the files at these paths (a tuple of patterns, `**` for folders) differ between a commit and HEAD, or and the files
+    """Whether the files at these paths (a tuple of patterns, `**` for folders) differ between a commit and HEAD, or the commit and the files
     that stand here, so that a change is seen before it is committed."""
+    if not is_ancestor(commit):
+        raise Trouble(f"the commit {commit} isn't behind HEAD")
     for to in (["HEAD"], []):
         done = ask("diff", "--quiet", commit, *to, "--", *pathspecs(paths))
         if done.returncode not in (0, 1):
