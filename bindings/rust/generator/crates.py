@@ -1,9 +1,9 @@
 """The crates that are written, their files, and the crate's own files that call them."""
-import re
 from pathlib import Path
 
 from .items import FEATURES, items
 from .names import Module, Reach
+from .reviewed import Reviewed
 from .source import Source
 from .tokens import Refused, Tokens
 
@@ -66,7 +66,8 @@ class Crates:
         self.repository, self.package, self.crates = repository, package, crates
         self.roots = {name: self.load_crate(name) for name in crates}
         self.plain = self.load_plain()
-        reach = Reach(self.roots, self.plain, self.host_traits())
+        self.reviewed = Reviewed(package / "generator" / "reviewed.txt")
+        reach = Reach(self.roots, self.plain, self.host_traits(), self.reviewed)
         for level in (0, *FEATURES):
             reach.run(level)
         for root in self.roots.values():
@@ -146,8 +147,9 @@ class Crates:
             for module in self.below(root):
                 path = Path(name, *module.path.split("::")[1:])
                 path = path / "mod.rs" if module is root else path.with_suffix(".rs")
-                module.tokens.strip(module)
+                module.tokens.strip(module, self.reviewed)
                 found[path] = MARK.format(module.tokens.name) + module.tokens.layout()
+        self.reviewed.check()
         found[Path("mod.rs")] = MARK.format("crates") + HEAD + modules
         return found
 

@@ -5,8 +5,7 @@ call by `.name(..)` means is not looked up: it reaches each method of that name,
 """
 from collections import defaultdict
 
-from .items import Item, path_words, read_use
-from .tokens import Refused
+from .items import FEATURES, Item, path_words, read_use
 
 FOREIGN = ("std", "core", "alloc", "::")
 KEYWORDS = set(
@@ -29,7 +28,7 @@ class Module:
     def __init__(self, name, tokens, parent, item=None):
         self.name, self.tokens, self.parent, self.item = name, tokens, parent, item
         self.root = parent.root if parent else self
-        self.names, self.items, self.inner, self.called = defaultdict(list), [], [], set()
+        self.names, self.items, self.inner, self.called, self.tests = defaultdict(list), [], [], set(), set()
         self.path = f"{parent.path}::{name}" if parent else name
         self.reached = None
 
@@ -37,6 +36,7 @@ class Module:
         """Takes items up, and the modules that stand in them."""
         for item in items:
             if item.is_test:
+                self.tests.add(item.name)
                 continue
             item.module = self
             self.items.append(item)
@@ -62,8 +62,8 @@ class Module:
 class Reach:
     """Follows the names from the items that are reached."""
 
-    def __init__(self, crates, plain, traits):
-        self.crates, self.plain = crates, plain
+    def __init__(self, crates, plain, traits, reviewed):
+        self.crates, self.plain, self.reviewed = crates, plain, reviewed
         proved = Module("proved", None, plain)
         plain.names["proved"].append(proved)
         for name, root in crates.items():
@@ -185,7 +185,15 @@ class Reach:
             if not self.changed and not self.queue:
                 return
 
+    def held_back(self, item):
+        """Whether the reviewed list says that a member isn't reached, or not at this level."""
+        name = f"{item.parent.self_type.name}::{item.name}" if item.parent and getattr(item.parent, "self_type", None) else item.name
+        levels = [(None, "unused"), *((level, feature) for level, feature in FEATURES.items() if level > self.level)]
+        return any(self.reviewed.reason(kind, item.file.name, name) for _, kind in levels)
+
     def mark(self, thing):
+        if thing.reached is None and isinstance(thing, Item) and thing.module.root is not self.plain and self.held_back(thing):
+            return
         if thing.reached is None:
             thing.reached = self.level
             self.changed = True
@@ -321,6 +329,8 @@ class Reach:
                     self.member(of, words[1][0])
             return
         if not self.start(module, words) and head not in FOREIGN:
+            if head in module.tests:
+                module.tokens.fail(words[0][1], f"{head} is used, but is for tests alone")
             if len(words) > 1:
                 self.want("any", words[-1][0])
             return

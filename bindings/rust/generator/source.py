@@ -2,7 +2,8 @@
 import re
 
 from .items import FEATURES, behind_generics, items
-from .tokens import COMMENTS, Tokens
+from .comments import plain
+from .tokens import CLOSING, COMMENTS, Tokens
 
 ROOT = "crate::proved"
 SHIM = "crate::rattle"
@@ -65,8 +66,9 @@ class Source(Tokens):
 
     # The rules.
 
-    def strip(self, module):
+    def strip(self, module, reviewed):
         """Writes the items of a module that are reached."""
+        self.reviewed = reviewed
         self.cut_contracts()
         self.write_items(self.items, module.level)
         for i, text in enumerate(self.texts):
@@ -123,6 +125,10 @@ class Source(Tokens):
                 self.written[item.first] = f'#[cfg(feature = "{FEATURES[item.level]}")]\n' + self.written[item.first]
             if item.kind == "fn":
                 self.unused_parameters(item)
+                self.unused_counts(item)
+                self.reasons(item)
+            elif item.kind in ("struct", "enum") and item.body:
+                self.unread(item)
             elif item.kind == "impl" and item.trait and item.trait[-1] == "Drop":
                 self.drop_impl(item)
             self.write_items(item.children, item.level)
@@ -191,6 +197,45 @@ class Source(Tokens):
             depth += (self.text(i) == "<") - (self.text(i) == ">")
             i = self.next(self.close(i))
         return i
+
+    def unused_counts(self, item):
+        """A `for` whose variable its body doesn't name counts by _."""
+        for i in self.code(item.body, item.last) if item.body else ():
+            name = self.next(i)
+            if self.text(i) == "for" and self.text(self.next(name)) == "in":
+                body = self.find(name, "{")
+                words = {self.texts[j] for j in self.code(body, self.close(body))}
+                if self.text(name) not in words and not any("{" + self.text(name) in word for word in words):
+                    self.written[name] = "_"
+
+    def reasons(self, item):
+        """Above each statement that unwraps stands why that can't fail."""
+        for i in self.code(item.body, item.last) if item.body else ():
+            if self.kinds[i] != "word" or self.text(i) not in ("unwrap", "expect", "unreachable"):
+                continue
+            name = self.full_name(item)
+            reason = self.reviewed.reason("unwrap", self.name, name)
+            if reason is None:
+                self.fail(i, f"{name} unwraps, and reviewed.txt has no reason: add 'unwrap {self.name} {name}: REASON'")
+            start = i
+            while self.text(self.before(start)) not in (";", "{", "}"):
+                start = self.before(self.partner[self.before(start)]) if self.text(self.before(start)) in CLOSING else self.before(start)
+            self.written[start] = f"// ({reason})\n" + self.written[start]
+
+    def full_name(self, item):
+        of = getattr(item.parent, "self_type", None) if item.parent else None
+        return f"{of.name}::{item.name}" if of else item.name
+
+    def unread(self, item):
+        """Fields and variants that stay for the definitions alone are allowed to, with the reason."""
+        for i in self.code(self.next(item.body), self.before(item.last)):
+            if self.text(self.before(i)) in ("{", ",", "pub", ")", "]") and self.kinds[i] == "word":
+                reason = self.reviewed.reason("unread", self.name, f"{item.name}::{self.text(i)}")
+                if reason is not None:
+                    start = i
+                    while self.text(self.before(start)) not in ("{", ","):
+                        start = self.before(start)
+                    self.written[start] = f"#[allow(dead_code)] // ({reason})\n" + self.written[start]
 
     def drop_impl(self, item):
         """impl Drop for .. { fn drop(self) .. }"""
@@ -324,6 +369,7 @@ class Source(Tokens):
     def layout(self):
         """The text of the file."""
         self.check()
+        self.plain_comments()
         lines = []
         for line in "".join(self.written).split("\n"):
             kept = line.replace(CUT, "").rstrip()
@@ -336,6 +382,24 @@ class Source(Tokens):
                 head += 1
             lines[head:head] = ["", *imports]
         return "\n".join(lines).strip() + "\n"
+
+    def plain_comments(self):
+        """Takes out of the comments what they say of proofs."""
+        i = 0
+        while i < len(self.texts):
+            if self.kinds[i] not in COMMENTS or self.written[i] == CUT:
+                i += 1
+                continue
+            run = [i]
+            while self.kinds[run[-1] + 1:run[-1] + 3] == ["space", self.kinds[i]] and self.texts[run[-1] + 1].count("\n") == 1:
+                run.append(run[-1] + 2)
+            indent = len(self.texts[i - 1].rpartition("\n")[2]) if i else 0
+            lines = plain([self.texts[k] for k in run], indent)
+            if lines != [self.texts[k] for k in run]:
+                self.cut(run[0], run[-1])
+                if lines:
+                    self.written[run[0]] = ("\n" + " " * indent).join(lines)
+            i = run[-1] + 1
 
     def prelude(self):
         """What the stand-in's prelude has to give."""

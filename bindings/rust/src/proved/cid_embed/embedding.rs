@@ -24,6 +24,7 @@ pub struct Embedded {
 fn cids(alloc: Global, mapper: &GlyphRemapper, glyphs: &[u16]) -> Result<Vec<u16>, Error> {
     let mut cids = Vec::with_capacity(alloc, glyphs.len())?;
     for glyph in glyphs {
+        // (the mapper was made of these glyphs)
         cids.push(mapper.get(*glyph).unwrap())?;
     }
     Ok(cids)

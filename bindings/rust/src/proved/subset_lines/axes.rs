@@ -26,7 +26,7 @@ fn records_at(
 ) -> Result<Vec<&[u8]>, Error> {
     let mut r = Reader::new_at(fvar, at);
     let mut records = Vec::new(alloc);
-    for i in 0..count {
+    for _ in 0..count {
         let bytes = r.read_bytes(size).ok_or(Error::MalformedFont)?;
         records.push(bytes)?;
     }

@@ -39,7 +39,7 @@ fn is_name(kind: Kind, id: u16, bytes: &[u8]) -> bool {
 /// The first of so many records that has a name of a kind.
 fn first_name(kind: Kind, id: u16, count: u16, table: &[u8]) -> Option<&[u8]> {
     let mut r = Reader::new_at(table, 6);
-    for i in 0..count {
+    for _ in 0..count {
         let bytes = r.read_bytes(12)?;
         if is_name(kind, id, bytes) {
             return Some(bytes);

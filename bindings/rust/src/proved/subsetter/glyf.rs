@@ -34,6 +34,7 @@ use crate::rattle::alloc::Global;
 pub struct GlyfTables<'a> {
     pub loca: &'a [u8],
     pub glyf: &'a [u8],
+    #[allow(dead_code)] // (the definitions read it)
     pub head: &'a [u8],
     pub long: bool,
     /// Whether instructions are asked for.

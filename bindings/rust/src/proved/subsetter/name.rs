@@ -145,6 +145,7 @@ impl<'a> Strings<'a> {
     fn add(&mut self, string: &'a [u8], place: u16) -> Result<(), Error> {
         self.strings.reserve(1)?;
         remember_hashed(&mut self.hashed, self.strings.len(), string, place)?;
+        // (room for one more was asked for above)
         self.strings.push(string).unwrap();
         self.size += string.len();
         Ok(())
@@ -202,7 +203,7 @@ impl<'a> Table<'a> {
 /// The low 16 bits of how many records a table has.
 fn count_records(table: &Table<'_>) -> u16 {
     let mut count: u16 = 0;
-    for _record in table.records.iter() {
+    for _ in table.records.iter() {
         count = count.wrapping_add(1);
     }
     count

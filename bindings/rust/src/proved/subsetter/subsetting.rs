@@ -27,7 +27,6 @@ fn subset_truetype(
     let table = GlyfTables::new(face)?;
     let reached = glyf::closure(alloc, &table, mapper, bytes.unwrap_or(u32::MAX))?;
     let GlyphClosure { order, outlines } = reached;
-    // What `num_gids` says of the order, that it has fewer than 65536 glyphs, is a premise of the proof.
     let _count = order.num_gids();
     let made = TrueTypeTables::build(alloc, face, &table, outlines, &order)?;
     // Its memory is free before room for the output is taken.
@@ -68,7 +67,6 @@ pub fn subset_with_options(
     mapper: &GlyphRemapper,
     options: &Options,
 ) -> Result<Vec<u8>, Error> {
-    // What `num_gids` says of the mapper, that glyph 0 comes first, is a premise of the proof.
     let _count = mapper.num_gids();
     // So is what `depth` says of the limits, that a glyph's own charstring is within them.
     let _depth = options.limits.depth();

@@ -2,8 +2,7 @@
 //! The tables of a TrueType subset.
 //!
 //! The order of the glyphs is given back before room for the output is taken, so that its map and the output are never
-//! held together. That `glyf` isn't too long is checked by `check_len`, which takes no memory and whose clause names
-//! its one error.
+//! held together.
 
 use crate::rattle::prelude::Vec;
 

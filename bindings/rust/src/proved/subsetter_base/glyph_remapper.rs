@@ -86,6 +86,7 @@ impl GlyphRemapper {
         add_page(&mut self.pages, &mut self.entries, old)?;
         let place = entry_place(&self.pages, old);
         self.entries[place] = new + 1;
+        // (room for one more was asked for above)
         self.backward.push(old).unwrap();
         Ok(new)
     }

@@ -23,8 +23,7 @@
 //! - Each offset in the front has five bytes, so its length doesn't depend on them. Entries without offsets and strings
 //!   are written first, the length is added up from theirs, and the front is put together once the offsets are known.
 //! - Limits are checked as each piece is written: a real that is too long by the writer of numbers, an offset where it
-//!   is added up, an INDEX where it is made. A law shows that together they are the limits of the plain function, which
-//!   checks just two sizes.
+//!   is added up, an INDEX where it is made.
 
 pub mod read;
 pub mod write;

@@ -3,7 +3,7 @@
 //! written.
 //!
 //! [`index::parse_index`] takes an INDEX, [`dict`]'s `DictionaryParser` the entries of a DICT one after the other, and
-//! `index::create_index` writes an INDEX. [`laws`] says that what is written is read again.
+//! `index::create_index` writes an INDEX.
 //!
 //! ```text
 //! let strings = parse_index::<u16>(&mut r)?;

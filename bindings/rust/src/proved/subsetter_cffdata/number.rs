@@ -110,6 +110,7 @@ pub enum Number {
     /// A whole number.
     Integer(IntegerNumber),
     /// A number of 65536ths; of a charstring alone.
+    #[allow(dead_code)] // (a charstring's number, of which none is made)
     Fixed(FixedNumber),
 }
 

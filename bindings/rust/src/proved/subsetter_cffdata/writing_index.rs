@@ -13,6 +13,7 @@ pub struct OwnedIndex {
     /// The whole INDEX.
     pub data: Vec<u8>,
     /// How many bytes stand before the first item.
+    #[allow(dead_code)] // (the definitions read it)
     pub header_size: usize,
 }
 

@@ -38,7 +38,7 @@ fn is_simple(source: &FontSource<'_>, glyph: u16) -> bool {
 /// Places without glyphs.
 fn no_glyphs(alloc: Global) -> Result<Vec<Option<KeptGlyph>>, AllocError> {
     let mut places = Vec::with_capacity(alloc, PLACES)?;
-    for place in 0..PLACES {
+    for _ in 0..PLACES {
         places.push(None)?;
     }
     Ok(places)

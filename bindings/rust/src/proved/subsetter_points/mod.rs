@@ -5,7 +5,6 @@
 //! - [`read_simple`] reads the [`Outline`] of a simple glyph: its points, and the last point of each contour.
 //! - [`read_columns`] reads the same as [`Columns`]: the flags and the coordinates, not joined.
 //! - [`fits`] says whether an outline can be written, and [`write_simple`] appends its bytes.
-//! - [`laws`] says that what is written is read again.
 //!
 //! ```text
 //! let Some(mut outline) = read_simple(alloc, glyph)? else { return Err(Error::MalformedFont) };

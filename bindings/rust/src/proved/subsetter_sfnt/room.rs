@@ -5,6 +5,7 @@ use crate::rattle::prelude::Vec;
 
 /// Writes bytes.
 pub fn put(out: &mut Vec<u8>, bytes: &[u8]) {
+    // (each caller asks for the room of all that it writes first)
     out.extend_from_slice(bytes).unwrap();
 }
 

@@ -58,6 +58,7 @@ pub struct NewTable<T> {
 /// Puts a table last, if it is there, in room that was reserved before.
 fn push<T: TableBytes>(list: &mut Vec<NewTable<T>>, tag: Tag, data: Option<T>) {
     if let Some(data) = data {
+        // (each caller asks for the room of all its tables first)
         list.push(NewTable { tag, data }).unwrap();
     }
 }

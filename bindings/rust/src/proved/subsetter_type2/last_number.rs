@@ -18,6 +18,7 @@ fn skip_numbers(bytes: &[u8], count: usize) -> Option<&[u8]> {
 #[derive(Clone, Copy, Debug)]
 pub struct LastNumber {
     /// The number.
+    #[allow(dead_code)] // (the definitions read it)
     pub number: CharStringNumber,
     /// How many bytes stand before it.
     pub before: usize,

@@ -3,7 +3,7 @@
 //! and the machine that it agrees with.
 //!
 //! [`charstring::Decompiler::flatten`] answers the charstring without subroutines that says the same, within a number
-//! of tokens and a depth; `decompile` answers its instructions. [`laws`] has what the definitions come to.
+//! of tokens and a depth; `decompile` answers its instructions.
 //!
 //! ```text
 //! let decompiler = Decompiler::new(global.get_handler(), local.get_handler());

@@ -45,7 +45,7 @@ fn axes_at(
 ) -> Result<Vec<Axis>, Error> {
     let mut r = Reader::new_at(fvar, at);
     let mut axes = Vec::new(alloc);
-    for i in 0..count {
+    for _ in 0..count {
         let bytes = r.read_bytes(size).ok_or(Error::MalformedFont)?;
         axes.push(axis_of(bytes))?;
     }

@@ -6,7 +6,6 @@
 //! - `coordinates::coordinates` turns user coordinates into normalized ones, by `fvar` and `avar`.
 //! - `tuples::gvar_table` opens `gvar`, and `movement::moved_points` says where the points of a glyph go, in a number of steps.
 //! - `item_variations::advance_delta` says what `HVAR` adds to an advance.
-//! - `laws` has what the definitions come to.
 //!
 //! ```text
 //! let at = coordinates(alloc, fvar, avar, &[(Tag::new(b"wght"), 650 * 65536)])?;

@@ -2,10 +2,8 @@
 //! The points of a glyph, moved by its tuples one after the other (OpenType, "gvar"), in a number of steps.
 //!
 //! It takes a step for each tuple, and one for each point (phantom points too) of a tuple whose scalar isn't 0, before
-//! what it is for is read. Where the steps end the answer is `OverflowError`. They decide whether points move and not
-//! where to (`laws::is_same_at_any_steps`). The axes of a region aren't counted: a tuple costs its axes besides, so
-//! that whoever opens the font should bound their number. The phantom points are handed over at 0: each is a contour of
-//! its own, and what moves it doesn't depend on where it lies (`laws::is_free_of_place`).
+//! what it is for is read. Where the steps end the answer is `OverflowError`. The axes of a region aren't counted: a
+//! tuple costs its axes besides, so that whoever opens the font should bound their number.
 
 use crate::rattle::prelude::Vec;
 
@@ -187,7 +185,7 @@ fn walk_all<'a>(
 ) -> Result<Walk<'a>, Error> {
     let count = w.left();
     let mut w = w;
-    for i in 0..count {
+    for _ in 0..count {
         w = next_walk(alloc, t, o, shared, at, w)?;
     }
     Ok(w)

@@ -140,7 +140,7 @@ fn ended<'a>(r: Run<'a>) -> Option<&'a [u8]> {
 pub fn deltas(alloc: Global, n: usize, bytes: &[u8]) -> Result<(Vec<i16>, &[u8]), Error> {
     let mut list = Vec::with_capacity(alloc, n)?;
     let mut run = runs(bytes);
-    for i in 0..n {
+    for _ in 0..n {
         let (delta, next) = next_delta(run).ok_or(Error::MalformedFont)?;
         list.push(delta)?;
         run = next;
@@ -166,7 +166,7 @@ fn points_from(
     let mut run = runs(bytes);
     let mut before = 0;
     let mut least = 0;
-    for i in 0..count {
+    for _ in 0..count {
         let (number, next) = next_point(limit, before, least, run).ok_or(Error::MalformedFont)?;
         list.push(number)?;
         run = next;

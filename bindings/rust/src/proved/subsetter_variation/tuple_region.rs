@@ -5,6 +5,7 @@ use crate::proved::subsetter_variation::region::{counted, RegionAxis};
 
 /// Where a tuple counts: of each axis the two bytes of its peak, and those of its start and its end where the header has them.
 pub struct TupleRegion<'a> {
+    #[allow(dead_code)] // (the definitions read it)
     axes: u16,
     inner: bool,
     peaks: &'a [u8],

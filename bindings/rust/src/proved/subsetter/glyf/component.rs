@@ -2,8 +2,7 @@
 //! The components of a composite glyph (OpenType, "glyf": composite glyph description).
 //!
 //! The definition `chain_at n bytes` reads at most n components. The count of the bytes is always enough, as a
-//! component has six at least. A component that is missing from the order would count as number 0 in the layout; a law
-//! shows that none is.
+//! component has six at least.
 
 use crate::rattle::prelude::Vec;
 

@@ -58,7 +58,11 @@ impl<'a> OutlineList<'a> {
         rewrite_composite(&mut self.made, outline, order, self.hinting)?;
         let written = Outline::Whole(&self.made[start..]);
         let (long_len, short_len) = (written.padded_len(true), written.padded_len(false));
+        // (room for one more was asked for above)
+        // (room for one more was asked for above)
         self.kept.push(&[]).unwrap();
+        // (room for one more was asked for above)
+        // (room for one more was asked for above)
         self.sizes.push(long_len).unwrap();
         self.size = self.size.saturating_add(long_len);
         self.even_size = self.even_size.saturating_add(short_len);
@@ -87,6 +91,8 @@ impl<'a> OutlineList<'a> {
     fn push_empty(&mut self) -> Result<(), Error> {
         self.kept.reserve(1)?;
         self.sizes.push(0)?;
+        // (room for one more was asked for above)
+        // (room for one more was asked for above)
         self.kept.push(&[]).unwrap();
         Ok(())
     }

@@ -13,6 +13,8 @@ pub struct FontDictData {
     /// Its name.
     pub font_name: Option<StringId>,
     /// The range of its private dict.
+    #[allow(dead_code)] // (the definitions read it)
+    #[allow(dead_code)] // (the definitions read it)
     pub private: Option<Range<usize>>,
 }
 

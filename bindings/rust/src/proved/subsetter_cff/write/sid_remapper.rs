@@ -10,6 +10,8 @@ use crate::rattle::alloc::Global;
 /// The strings that have a new number, from 391 on, in the order in which they came; and the old numbers of some.
 pub struct SidRemapper<'a> {
     strings: Vec<&'a [u8]>,
+    #[allow(dead_code)] // (the definitions read it)
+    #[allow(dead_code)] // (the definitions read it)
     known: Vec<(u16, u16)>,
 }
 

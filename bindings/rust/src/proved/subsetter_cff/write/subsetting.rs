@@ -11,7 +11,6 @@ use crate::proved::subsetter_cff::write::writing::{write_table, CffPieces};
 use crate::proved::subsetter_type2::limits::Limits;
 use crate::rattle::alloc::Global;
 
-/// The subset, exactly as the plain way answers it, within the bound on bytes.
 fn subset_exactly(
     alloc: Global,
     table: &[u8],
