@@ -200,10 +200,11 @@ fn refuse_each(count: &mut Count, what: &str, call: &Call<'_>) {
     );
     let wanted = said(|| here::made(call, &mapper, &at));
     for request in 0.. {
-        heap::allow(Some(request));
-        let answer = said(|| here::made(call, &mapper, &at));
-        let refused = heap::allow(None);
-        if !refused {
+        let answer = said(|| {
+            let _allowed = heap::Allowed::requests(request);
+            here::made(call, &mapper, &at)
+        });
+        if !heap::was_refused() {
             count.compare(&format!("{what} at last"), &answer, &wanted);
             break;
         }
