@@ -887,8 +887,9 @@ def check_refused_names(table, room):
         if by_std and by_std > LONG_NAME and got.names == ["out", "out.part0"]:
             left += 1
             os.unlink(os.path.join(room, folder, "out.part0"))
-        holds = got.out == OLD if by_std else is_whole_run(got, base) or is_refused_run(got, base)
-        table.demand(holds, f"a long name, refusal {number}", got)
+        unwritten = got.answer == (3, b"", f"cannot write {words[1]}\n".encode()) and got.names == base.names
+        is_refused = got.out == OLD and (by_std or unwritten or is_refused_run(got, base))
+        table.demand(is_refused or is_whole_run(got, base), f"a long name, refusal {number}", got)
     table.demand((left > 0) == table.is_cargo, "a long name: files that are left", left)
     table.otherwise += left
 
