@@ -1,0 +1,81 @@
+"""A copy of this repository to plant faults in: the tests of the checks of documents run a check there, and want it to fail
+with a message that names the fault."""
+import contextlib
+import os
+import re
+import shutil
+import subprocess
+import sys
+import tempfile
+
+ROOT = os.path.dirname(os.path.dirname(os.path.realpath(__file__)))
+# (of the caller's configuration nothing counts, but that the repositories are trusted)
+ENVIRONMENT = {**os.environ, "GIT_CONFIG_NOSYSTEM": "1", "GIT_CONFIG_GLOBAL": "/dev/null", "GIT_AUTHOR_NAME": "test", "GIT_AUTHOR_EMAIL": "test@example.org",
+               "GIT_COMMITTER_NAME": "test", "GIT_COMMITTER_EMAIL": "test@example.org"}
+
+
+def git(folder, *words):
+    return subprocess.run(["git", "-C", folder, *words], env=ENVIRONMENT, check=True, capture_output=True, text=True).stdout
+
+
+@contextlib.contextmanager
+def copy():
+    """A clone with the files as they stand here, in a folder of its own."""
+    with tempfile.TemporaryDirectory(prefix="planted-") as top:
+        room = os.path.join(top, "room")
+        subprocess.run(["git", "clone", "-q", "--shared", ROOT, room], check=True)
+        changed = git(ROOT, "diff", "--name-only", "-z", "--no-renames", "HEAD") + git(ROOT, "ls-files", "-z", "--others", "--exclude-standard")
+        for path in filter(None, changed.split("\0")):
+            source, target = os.path.join(ROOT, path), os.path.join(room, path)
+            if os.path.lexists(source):
+                os.makedirs(os.path.dirname(target), exist_ok=True)
+                shutil.copy2(source, target, follow_symlinks=False)
+            elif os.path.lexists(target):
+                os.unlink(target)
+        git(room, "add", "-A")
+        yield room
+
+
+def run(room, check, environment=None):
+    """The status of a check in a copy, and what it prints."""
+    done = subprocess.run([sys.executable, os.path.join(room, check)], env=environment or ENVIRONMENT, capture_output=True, text=True, timeout=120)
+    return done.returncode, done.stdout + done.stderr
+
+
+def faults_of_run(name, ran, wanted):
+    """What is wrong where a check should have failed with this message (a pattern)."""
+    status, said = ran
+    if status == 0:
+        return [f"{name}: GOT THROUGH"]
+    if "Traceback" in said:
+        return [f"{name}: a traceback:\n{said}"]
+    return [] if re.search(wanted, said) else [f"{name}: fails, but doesn't say {wanted!r}:\n{said}"]
+
+
+def edit(room, name, path, old, new):
+    """Plants a text in the place of `old`, or at the end of the file where that is None; with `new` None the file goes."""
+    full = os.path.join(room, path)
+    with open(full, encoding="utf-8") as file:
+        text = file.read()
+    if old is not None and old not in text:
+        raise SystemExit(f"{name}: {path} hasn't the text to change: {old!r}")
+    if new is None:
+        os.unlink(full)
+        return
+    with open(full, "w", encoding="utf-8") as file:
+        file.write(text + new if old is None else text.replace(old, new, 1))
+
+
+def plant(room, check, name, path, old, new, wanted):
+    """Plants an edit, runs the check, and takes the edit back. Answers what is wrong."""
+    edit(room, name, path, old, new)
+    try:
+        return faults_of_run(name, run(room, check), wanted)
+    finally:
+        git(room, "checkout", "-q", "--", path)
+
+
+def tell(faults, count):
+    """Prints the outcome, and answers the status."""
+    print("\n".join([*faults, f"{count} planted, {len(faults)} got through or were misread"]))
+    return 1 if faults else 0

@@ -1,0 +1,226 @@
+"""What documents take from compare/results. A document has
+
+    <!-- from compare/results/NAME.md: KEY -->..<!-- end -->
+
+around a figure, a sentence or a table; `refreshed` writes what stands between by the function of KEY in BLOCKS. On lines of
+their own the two comments hold lines, in a line they hold a part of it. In code they mean nothing."""
+import os
+import re
+
+import comparisons
+import repository
+import results_of
+from comparisons import at_most
+
+EVIDENCE = "docs/EVIDENCE.md"
+BLOCK = re.compile(r"<!-- from ([^:>]*): ([^>]*?) -->(.*?)<!-- end -->", re.S)
+CODE = re.compile(r"^(```+|~~~+).*?^\1[^\n]*$|(`+)[^`].*?(?<!`)\2(?!`)", re.S | re.M)
+MOST = 200  # characters of a cell
+
+EVIDENCE_HEAD = """# Evidence
+
+What each comparison answered when it was run last. Its page in [compare/results](../compare/results) has the whole output, with the machine and the command; [compare/README.md](../compare/README.md) says what each compares. A row speaks of its commit alone: "code changed since" stands where the code that the comparison runs has changed. `compare/all` writes this page.
+
+| Comparison | What it asks | Answer | Commit | Date | Whole |
+|---|---|---|---|---|---|
+"""
+
+
+# ---- EVIDENCE
+
+def row(comparison):
+    """The row of a comparison in EVIDENCE."""
+    if not results_of.is_run(comparison.name):
+        return f"| {comparison.name} | {comparison.asks} | not run | – | – | – |"
+    one = results_of.result(comparison.name)
+    page = comparisons.page_of(comparison.name)
+    cells = [one.name, comparison.asks, one.answer, results_of.mark(one), one.date, f"[{page[:-3]}](../compare/results/{page})"]
+    return "| " + " | ".join(cut(it) for it in cells) + " |"
+
+
+def cut(cell):
+    cell = cell.replace("|", "/")
+    return cell if len(cell) <= MOST else cell[:MOST - 3] + "..."
+
+
+def evidence():
+    return EVIDENCE_HEAD + "\n".join(map(row, comparisons.COMPARISONS)) + "\n"
+
+
+# ---- the parts of a document that are written here
+
+def in_code(text):
+    """The stretches of a document that are code."""
+    return [found.span() for found in CODE.finditer(text)]
+
+
+def blocks(text):
+    """The blocks of a document, as matches; Trouble where a comment has no other."""
+    code = in_code(text)
+    found = [it for it in BLOCK.finditer(text) if not any(start <= it.start() < end for start, end in code)]
+    marks = [it for it in re.finditer(r"<!-- (from [^>]*|end) -->", text) if not any(start <= it.start() < end for start, end in code)]
+    if len(marks) != 2 * len(found):
+        raise repository.Trouble("a comment `from ..` has no `end`, or the other way round")
+    return found
+
+
+def written(path, found):
+    """What a block of a document says by the results."""
+    key = found[2]
+    if key not in BLOCKS:
+        raise repository.Trouble(f"no figure is called {key!r}; compare/figures.py has {', '.join(sorted(BLOCKS))}")
+    function, names = BLOCKS[key]
+    for name in names:
+        results_of.result(name)
+    to_results = os.path.relpath("compare/results", os.path.dirname(path) or ".")
+    text = function().replace("](results:", f"]({to_results}/")
+    text = f"\n{text}\n" if found[3].startswith("\n") else text
+    files = ", ".join(f"compare/results/{comparisons.page_of(name)}" for name in names)
+    return f"<!-- from {files}: {key} -->{text}<!-- end -->"
+
+
+def refreshed(path):
+    """A document with its blocks written anew."""
+    if path == EVIDENCE:
+        return evidence()
+    text = repository.read(path)
+    try:
+        for found in reversed(blocks(text)):
+            text = text[:found.start()] + written(path, found) + text[found.end():]
+    except repository.Trouble as trouble:
+        raise repository.Trouble(f"{path}: {trouble}") from None
+    return text
+
+
+def refresh():
+    """Writes EVIDENCE, the pages' fronts and all blocks; answers the documents that changed."""
+    changed = []
+    for comparison in comparisons.COMPARISONS:
+        if results_of.is_run(comparison.name):
+            results_of.write(results_of.result(comparison.name))
+    for path in sorted({EVIDENCE, *repository.documents()}):
+        text = refreshed(path)
+        if not os.path.exists(os.path.join(repository.ROOT, path)) or text != repository.read(path):
+            with open(os.path.join(repository.ROOT, path), "w", encoding="utf-8") as file:
+                file.write(text)
+            changed.append(path)
+    return changed
+
+
+# ---- blocks: each function takes nothing and answers a text; `](results:PAGE)` is a link to a page
+
+def source_of(*names):
+    """Where the figures of these comparisons come from."""
+    return lambda: "; ".join(map(results_of.source, names)) + "."
+
+
+def middle(values):
+    return sorted(values)[(len(values) - 1) // 2]
+
+
+def share(row, other):
+    return int(row["port ns"]) / int(row[other])
+
+
+def summary_of_times():
+    """The table of PERFORMANCE's summary."""
+    kinds = {kind: results_of.rows(f"{kind.lower()}.csv") for kind in ("TrueType", "CFF")}
+    lines = ["| | " + " | ".join(f"{kind}, {len(rows)} rows" for kind, rows in kinds.items()) + " |", "|---|---|---|"]
+    for title, other in (("the Rust crate's", "crate ns"), ("HarfBuzz's", "harfbuzz ns")):
+        cells = [[share(it, other) for it in rows] for rows in kinds.values()]
+        lines.append(f"| time, as a part of {title} | " + " | ".join(f"at most {at_most(max(it))}, half of the rows at most {at_most(middle(it))}" for it in cells) + " |")
+    above = [max(float(it["port held KiB"]) - float(it["source and twice the output KiB"]) for it in rows) for rows in kinds.values()]
+    return "\n".join(lines + ["| memory above the source and twice the output | " + " | ".join(f"at most {at_most(it, 0)} KiB" for it in above) + " |"])
+
+
+def greatest_ratios():
+    """The cases that take the greatest part of the Rust crate's time."""
+    found = sorted((it for name in ("truetype", "cff") for it in results_of.rows(f"{name}.csv")), key=lambda it: -share(it, "crate ns"))[:5]
+    return "; ".join(f"{it['font']}, {it['glyphs kept']}: {share(it, 'crate ns'):.2f}" for it in found)
+
+
+def number_of_times():
+    return str(sum(len(results_of.rows(f"{name}.csv")) for name in ("truetype", "cff")))
+
+
+def as_table(name):
+    """The first table of a comparison, as its run printed it."""
+    def lines():
+        found = results_of.result(name).body
+        first = next(k for k, line in enumerate(found) if line.startswith("|"))
+        last = next((k for k, line in enumerate(found[first:], first) if not line.startswith("|")), len(found))
+        return "\n".join(found[first:last])
+    return lines
+
+
+def amount(number):
+    """A number of bytes, in a short form."""
+    number = int(number)
+    return f"{number // 10**6} MB" if number % 10**6 == 0 else f"{number / 1e6:,.1f} MB" if number >= 1e6 else f"{number / 1e3:,.0f} KB" if number >= 1e4 else f"{number:,} bytes"
+
+
+def under_bounds():
+    """What each hostile family takes without a bound and under two."""
+    families = {}
+    for it in results_of.result("hostile, families").tables[0]:
+        families.setdefault(it["Family"], {})[it["Bound"]] = it
+    bounds = ["none", "1000000", "64000000"]
+    lines = ["| Family | Glyphs | File | " + " | ".join(f"{'No bound' if it == 'none' else amount(it)}: the font, ms, held" for it in bounds) + " |",
+             "|---|---|---|---|---|---|"]
+    for family, rows in families.items():
+        cells = []
+        for bound in bounds:
+            it = rows[bound]
+            size = it["Answer"].replace("a font of ", "").replace(" bytes", "")
+            other = it["Bytes of the file"] != rows["1000000"]["Bytes of the file"]
+            small = f" (a file of {amount(it['Bytes of the file'])}, {it['Glyphs']} asked)" if other else ""
+            cells.append(f"{amount(size) if size.isdigit() else 'refused'}, {float(it['Process, ms']):,.0f}, {amount(it['Held, bytes'])}{small}")
+        lines.append(f"| {family} | {int(rows['1000000']['Glyphs']):,} | {amount(rows['1000000']['Bytes of the file'])} | " + " | ".join(cells) + " |")
+    return "\n".join(lines)
+
+
+def held_under_bounds():
+    rows = [it for it in results_of.result("hostile, families").tables[0] if it["Bound"] != "none"]
+    return at_most(max(float(it["Part of what it may hold"]) for it in rows))
+
+
+def slowest_under_bounds():
+    rows = [it for it in results_of.result("hostile, families").tables[0] if it["Bound"] != "none"]
+    return at_most(max(float(it["ns of each byte and token"]) for it in rows), 0)
+
+
+def ratios_of_instances():
+    ratios = [float(it["Ratio to HarfBuzz"]) for it in results_of.rows("instance_times.csv") if int(it["Glyphs"]) >= 80]
+    return f"{min(ratios):.2f} to {max(ratios):.2f}"
+
+
+def parts_of_fonttools():
+    ratios = [float(it["Ratio to fontTools"]) for it in results_of.rows("instance_times.csv") if it["Ratio to fontTools"]]
+    return at_most(max(ratios), 4)
+
+
+BLOCKS = {
+    "number of times": (number_of_times, ["times"]),
+    "summary of times": (summary_of_times, ["times"]),
+    "greatest ratios": (greatest_ratios, ["times"]),
+    "source of times": (source_of("times"), ["times"]),
+    "hostile": (as_table("hostile"), ["hostile"]),
+    "source of hostile": (source_of("hostile"), ["hostile"]),
+    "under bounds": (under_bounds, ["hostile, families"]),
+    "held under bounds": (held_under_bounds, ["hostile, families"]),
+    "slowest under bounds": (slowest_under_bounds, ["hostile, families"]),
+    "source of hostile, families": (source_of("hostile, families"), ["hostile, families"]),
+    "ratios of instances": (ratios_of_instances, ["instances, times"]),
+    "parts of fontTools' time": (parts_of_fonttools, ["instances, times"]),
+    "source of instances, times": (source_of("instances, times"), ["instances, times"]),
+    "sizes": (as_table("sizes"), ["sizes"]),
+    "source of sizes": (source_of("sizes"), ["sizes"]),
+    "javascript, times": (as_table("javascript, times"), ["javascript, times"]),
+    "source of javascript, times": (source_of("javascript, times"), ["javascript, times"]),
+}
+# (the README's blocks, and what else has to hold of it)
+MORE_FAULTS = list
+if os.path.exists(os.path.join(results_of.HERE, "readme_figures.py")):
+    import readme_figures
+    BLOCKS.update(readme_figures.BLOCKS)
+    MORE_FAULTS = getattr(readme_figures, "faults", list)
