@@ -90,7 +90,10 @@ def first_difference(have, wanted):
 
 def faults_of_document(path):
     """What is wrong in a document."""
-    text = repository.read(path)
+    try:
+        text = repository.read(path)
+    except repository.Trouble as trouble:
+        return [str(trouble)]
     faults = missing_pages(path, text) + faults_of_commits(path)
     if path.startswith("compare/results/"):
         return faults

@@ -2,6 +2,7 @@
 folder has no repository or isn't trusted, or the clone is shallow."""
 import functools
 import os
+import re
 import subprocess
 
 ROOT = os.path.dirname(os.path.dirname(os.path.realpath(__file__)))
@@ -65,29 +66,37 @@ def is_ancestor(commit):
     return ask("merge-base", "--is-ancestor", commit, "HEAD").returncode == 0
 
 
-def pathspecs(paths):
-    return [f":(glob){it}" for it in paths]
+@functools.lru_cache(maxsize=None)
+def pattern(path):
+    """A path as a regular expression: `**` is any number of folders, `*` any part of a name."""
+    parts = {"**/": "(?:.*/)?", "**": ".*", "*": "[^/]*"}
+    return re.compile("".join(parts.get(it) or re.escape(it) for it in re.split(r"(\*\*/|\*\*|\*)", path)) + "$")
 
 
 @functools.lru_cache(maxsize=None)
-def differs(commit, paths):
-    """Whether the files at these paths (a tuple of patterns, `**` for folders) differ between a commit and HEAD, or the commit and the files
-    that stand here, so that a change is seen before it is committed."""
+def kept():
+    """The files that git keeps."""
+    return git("ls-files", "-z").split("\0")
+
+
+@functools.lru_cache(maxsize=None)
+def changed_since(commit):
+    """The files that differ between a commit and HEAD, or the commit and what stands here, so that a change is seen before it is
+    committed."""
     if not is_ancestor(commit):
         raise Trouble(f"the commit {commit} isn't behind HEAD")
-    for to in (["HEAD"], []):
-        done = ask("diff", "--quiet", commit, *to, "--", *pathspecs(paths))
-        if done.returncode not in (0, 1):
-            raise Trouble(f"git diff failed: {' '.join(done.stderr.split())}")
-        if done.returncode == 1:
-            return True
-    return False
+    return {it for to in (["HEAD"], []) for it in git("diff", "--name-only", "--no-renames", "-z", commit, *to).split("\0")}
 
 
 @functools.lru_cache(maxsize=None)
 def is_there(path):
-    """Whether HEAD or the index has a file at this pattern."""
-    return bool(git("ls-files", "--", *pathspecs([path])).strip())
+    """Whether git keeps a file at this pattern."""
+    return any(pattern(path).match(it) for it in kept())
+
+
+def differs(commit, paths):
+    """Whether files at these paths have changed since a commit."""
+    return any(pattern(path).match(it) for path in paths for it in changed_since(commit))
 
 
 def head(*paths):

@@ -178,7 +178,7 @@ pub fn table() -> Table {
     table
 }
 
-/// The rows of a font of this machine, made by the program; none where the font's tests are skipped by name.
+/// The rows of a font of this machine, made by the program; none where they are skipped by name.
 pub fn font_rows() -> Vec<Row> {
     let mut table = Table {
         fonts: HashMap::new(),
@@ -191,7 +191,7 @@ pub fn font_rows() -> Vec<Row> {
             assert!(table.rows.len() > 4);
         }
         Err(_) if env::var("SUBSETTER_SKIP").as_deref() == Ok("font") => {
-            println!("the font of this machine is skipped, as was asked for")
+            println!("the font of this machine is skipped, as requested")
         }
         Err(_) => panic!("no SUBSETTER_FONT_ROWS: run bindings/test"),
     }

@@ -1,0 +1,164 @@
+#!/usr/bin/env python3
+"""Plants faults in a copy of this repository, one at a time: evidence.py has to fail with each, and to say which. Then it goes
+through a result's life: of the code of today, after a change of the code, after one of documents alone."""
+import os
+import re
+import shutil
+import subprocess
+import sys
+
+sys.dont_write_bytecode = True
+
+import planted  # noqa: E402
+
+CHECK = ".ci/evidence.py"
+ALL = "compare/all"
+RESULTS = "compare/results"
+# Name, file, the text in whose place the plant stands (None: the end), the plant (None: the file goes), what is said.
+PLANTS = [
+    ("a figure in a table", "docs/PERFORMANCE.md", "| calls | 324 | 1 | 32.81 |", "| calls | 324 | 1 | 3.81 |", r"docs/PERFORMANCE\.md isn't what compare/results gives.*line \d+"),
+    ("a figure in a line", "docs/PERFORMANCE.md", "<!-- end --> times what HarfBuzz takes", "1<!-- end --> times what HarfBuzz takes", r"docs/PERFORMANCE\.md isn't what compare/results gives"),
+    ("a figure of PDF.md", "docs/PDF.md", "| DejaVu Sans | 25,932 |", "| DejaVu Sans | 25,832 |", r"docs/PDF\.md isn't what compare/results gives"),
+    ("a figure of the JavaScript README", "bindings/js/README.md", "| 33.6 |", "| 3.6 |", r"bindings/js/README\.md isn't what"),
+    ("an answer of EVIDENCE", "docs/EVIDENCE.md", "0 are not explained", "1 are not explained", r"docs/EVIDENCE\.md isn't what"),
+    ("a row of EVIDENCE that goes", "docs/EVIDENCE.md", "| widths |", "| breadths |", r"docs/EVIDENCE\.md isn't what"),
+    ("a commit that isn't there", "docs/PDF.md", None, "\nMeasured at commit 3ff537e.\n", r"docs/PDF\.md names the commit 3ff537e, which isn't behind HEAD"),
+    ("a commit in code", "README.md", None, "\nMeasured at `e0a8a3f`.\n", r"README\.md names the commit e0a8a3f, which"),
+    ("a commit by at", "docs/PDF.md", None, "\n(`compare/options.py --sizes` at d07850c)\n", r"docs/PDF\.md names the commit d07850c, which"),
+    ("a commit of a page", f"{RESULTS}/hostile.md", "- Commit: `61e5ea3`", "- Commit: `3ff537e`", r"results/hostile\.md names the commit 3ff537e, which"),
+    ("a commit of a data file", f"{RESULTS}/damage.jsonl", '"commit": "61e5ea3"', '"commit": "e0a8a3f"', r"damage\.jsonl names the commit e0a8a3f, which"),
+    ("a changed tree", f"{RESULTS}/instance.csv", "commit 077cb95a26", "commit 077cb95a26, changed", r"instance\.csv rests on 077cb95a26 with changes"),
+    ("a changed tree in a document", "docs/PERFORMANCE.md", None, "\nOf commit `077cb95` with changes.\n", r"PERFORMANCE\.md rests on 077cb95 with changes"),
+    ("no mark in EVIDENCE", "docs/EVIDENCE.md", "`61e5ea3`, code changed since", "`61e5ea3`", r"docs/EVIDENCE\.md isn't what.*code changed since"),
+    ("no mark in PERFORMANCE", "docs/PERFORMANCE.md", "`1fba716`, code changed since", "`1fba716`", r"docs/PERFORMANCE\.md isn't what.*code changed since"),
+    ("a page that goes", f"{RESULTS}/widths.md", None, None, r"docs/EVIDENCE\.md names compare/results/widths\.md, which isn't there"),
+    ("a page of a block that goes", f"{RESULTS}/times.md", None, None, r"docs/PERFORMANCE\.md: compare/results/times\.md isn't there"),
+    ("a data file that goes", f"{RESULTS}/cff.csv", None, None, r"results/times\.md: its data file cff\.csv isn't there"),
+    ("a page's answer", f"{RESULTS}/faces.md", "- Answer: 2872 faces", "- Answer: 2873 faces", r"results/faces\.md isn't as compare/all writes it"),
+    ("what a run printed", f"{RESULTS}/binding.md", "| 2321 | 3073 |", "| 2321 | 2073 |", r"results/binding\.md or its data files aren't what a run wrote"),
+    ("a page's date", f"{RESULTS}/binding.md", "- Date: 2026-11-23", "- Date: 2026-11-25", r"results/binding\.md or its data files aren't what a run wrote"),
+    ("a figure of a data file", f"{RESULTS}/truetype.csv", "37366,2399,", "37366,1399,", r"results/times\.md or its data files aren't what a run wrote"),
+    ("a page without a machine", f"{RESULTS}/faces.md", "- Machine: ", "- Where: ", r"results/faces\.md doesn't say its machine"),
+    ("a file of no comparison", f"{RESULTS}/instance.csv", None, None, r"its data file instance\.csv isn't there"),
+    ("an unknown figure", "docs/PDF.md", ": sizes -->", ": lengths -->", r"docs/PDF\.md: no figure is called 'lengths'"),
+    ("a comment without an end", "docs/PDF.md", "<!-- end -->", "", r"docs/PDF\.md: a comment"),
+    ("paths where nothing is", "compare/comparisons.py", '"bindings/c/*"', '"bindings/cobol/*"', r"speaks of bindings/cobol/\*, where no file is"),
+]
+
+
+def strange_file(room):
+    """A file of results that no comparison has."""
+    path = os.path.join(room, RESULTS, "strange.csv")
+    with open(path, "w", encoding="utf-8") as file:
+        file.write("# compare/strange.py\n")
+    ran = planted.run(room, CHECK)
+    os.unlink(path)
+    return planted.faults_of_run("a strange file", ran, r"results/strange\.csv: no comparison has this file")
+
+
+def without_history(room):
+    """evidence.py where git can't answer, or has only a part of the history."""
+    shallow = room + "-shallow"
+    subprocess.run(["git", "clone", "-q", "--depth", "1", f"file://{room}", shallow], check=True, env=planted.ENVIRONMENT)
+    faults = planted.faults_of_run("a shallow clone", planted.run(shallow, CHECK), r"^evidence: this clone is shallow: git fetch --unshallow$")
+    hostile = {**planted.ENVIRONMENT, "GIT_TEST_ASSUME_DIFFERENT_OWNER": "1"}
+    faults += planted.faults_of_run("another owner", planted.run(room, CHECK, hostile), r"^evidence: git doesn't trust the owner of this folder: git config")
+    faults += planted.faults_of_run("no git", planted.run(room, CHECK, {**planted.ENVIRONMENT, "PATH": "/nowhere"}), r"^evidence: git isn't installed")
+    planted.git(room, "rm", "-q", "--cached", "*.md")
+    faults += planted.faults_of_run("no documents", planted.run(room, CHECK), r"^evidence: git keeps no documents here")
+    shutil.move(os.path.join(room, ".git"), os.path.join(room, ".gone"))
+    faults += planted.faults_of_run("no repository", planted.run(room, CHECK), r"^evidence: .* isn't a clone that git can read")
+    return faults, 5
+
+
+# ---- the life of a result
+
+def row(room, name):
+    with open(os.path.join(room, "docs/EVIDENCE.md"), encoding="utf-8") as file:
+        return next(line for line in file if line.startswith(f"| {name} |"))
+
+
+def commit(room, path, text):
+    """Commits a file with a further line."""
+    with open(os.path.join(room, path), "a", encoding="utf-8") as file:
+        file.write(text)
+    planted.git(room, "add", "-A")
+    planted.git(room, "commit", "-q", "-m", "further")
+
+
+def measured(room, name, text):
+    """Takes a result of the commit that is checked out, as if a comparison had said it."""
+    said = os.path.join(room, "..", "said")
+    with open(said, "w", encoding="utf-8") as file:
+        file.write(f"commit {planted.git(room, 'rev-parse', '--short', 'HEAD').strip()}, machine: a test\n{text}\n")
+    done = subprocess.run([sys.executable, os.path.join(room, ALL), name, "--from", said], env=planted.ENVIRONMENT, capture_output=True, text=True)
+    if done.returncode != 0:
+        sys.exit(f"evidence_test: {ALL} {name} --from fails:\n{done.stdout}{done.stderr}")
+
+
+def refresh(room):
+    subprocess.run([sys.executable, os.path.join(room, ALL), "--refresh"], env=planted.ENVIRONMENT, check=True, capture_output=True)
+
+
+class Life:
+    """The steps of a result's life, each with what has to hold after it."""
+
+    def __init__(self, room):
+        self.room, self.faults, self.steps = room, [], 0
+
+    def holds(self, name, holds):
+        self.steps += 1
+        self.faults += [] if holds else [f"{name}: it isn't so: {row(self.room, 'widths')}"]
+
+    def passes(self, name):
+        status, said = planted.run(self.room, CHECK)
+        self.steps += 1
+        self.faults += [f"{name}: evidence.py fails:\n{said}"] if status else []
+
+    def fails(self, name, wanted):
+        self.steps += 1
+        self.faults += planted.faults_of_run(name, planted.run(self.room, CHECK), wanted)
+
+
+def life(room):
+    """A result of today has no mark; a change of its code asks for one, which then stays; other changes ask for nothing."""
+    step = Life(room)
+    planted.git(room, "commit", "-q", "-m", "as it is", "--allow-empty")
+    measured(room, "widths", "font 0: 201 widths of 2048 units an em, 0 wrong")
+    step.holds("a new result", re.search(r"201 widths of 1 faces, 0 wrong \| `[0-9a-f]{7,}` \|", row(room, "widths")))
+    step.passes("a new result")
+    commit(room, "docs/PDF.md", "\nA further line.\n")
+    step.passes("a document changed")
+    commit(room, "crates/subsetter_c/src/status.rt", "// further\n")
+    refresh(room)
+    step.holds("other code changed", "code changed since" not in row(room, "widths"))
+    with open(os.path.join(room, "crates/subset_font/src/help.rt"), "a", encoding="utf-8") as file:
+        file.write("// further\n")
+    step.fails("code changed, not committed", r"docs/EVIDENCE\.md isn't what.*code changed since")
+    commit(room, "crates/subset_font/src/help.rt", "// and further\n")
+    step.fails("code changed", r"docs/EVIDENCE\.md isn't what.*code changed since")
+    refresh(room)
+    step.holds("the mark", "`, code changed since |" in row(room, "widths"))
+    step.passes("the mark, not committed")
+    commit(room, "docs/PDF.md", "\nAnd a further one.\n")
+    step.passes("the mark, committed")
+    measured(room, "widths", "font 0: 201 widths of 2048 units an em, 0 wrong")
+    step.holds("measured anew", "code changed since" not in row(room, "widths"))
+    step.passes("measured anew")
+    return step.faults, step.steps
+
+
+def main():
+    with planted.copy() as room:
+        status, said = planted.run(room, CHECK)
+        if status != 0:
+            sys.exit(f"evidence_test: evidence.py fails as it is:\n{said}")
+        faults = [fault for it in PLANTS for fault in planted.plant(room, CHECK, *it)]
+        faults += strange_file(room)
+        for more, count in (life(room), without_history(room)):
+            faults, number = faults + more, count
+    return planted.tell(faults, len(PLANTS) + 1 + 11 + number)
+
+
+if __name__ == "__main__":
+    sys.exit(main())
