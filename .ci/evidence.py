@@ -47,10 +47,9 @@ def faults_of_page(comparison):
         if not os.path.exists(os.path.join(results_of.RESULTS, name)):
             return [f"{path}: its data file {name} isn't there"]
     one = results_of.result(comparison.name)
-    text, wanted = repository.read(path), results_of.page(one)
-    if SUMS.findall(text) != SUMS.findall(wanted):
-        return [f"{path} or its data files aren't what a run wrote (the sum is another): run compare/all {comparison.name!r}"]
-    return [] if text == wanted else [f"{path} isn't as compare/all writes it: {REFRESH}"]
+    if not results_of.is_whole(one):
+        return [figures.edited_by_hand(comparison)]
+    return [] if repository.read(path) == results_of.page(one) else [f"{path} isn't as compare/all writes it: {REFRESH}"]
 
 
 def faults_of_results():

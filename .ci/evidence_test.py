@@ -56,6 +56,14 @@ def strange_file(room):
     return planted.faults_of_run("a strange file", ran, r"results/strange\.csv: no comparison has this file")
 
 
+def refreshed_by_hand(room):
+    """A result that was edited isn't made whole by --refresh."""
+    planted.edit(room, "an edited result", f"{RESULTS}/cff.csv", "66639,6336,", "66639,5336,")
+    ran = planted.run(room, ALL, words=["--refresh"])
+    planted.git(room, "checkout", "-q", "--", ".")
+    return planted.faults_of_run("an edited result, refreshed", ran, r"results/times\.md or its data files aren't what a run wrote")
+
+
 def without_history(room):
     """evidence.py where git can't answer, or has only a part of the history."""
     shallow = room + "-shallow"
@@ -91,13 +99,15 @@ def measured(room, name, text):
     said = os.path.join(room, "..", "said")
     with open(said, "w", encoding="utf-8") as file:
         file.write(f"commit {planted.git(room, 'rev-parse', '--short', 'HEAD').strip()}, machine: a test\n{text}\n")
-    done = subprocess.run([sys.executable, os.path.join(room, ALL), name, "--from", said], env=planted.ENVIRONMENT, capture_output=True, text=True)
-    if done.returncode != 0:
-        sys.exit(f"evidence_test: {ALL} {name} --from fails:\n{done.stdout}{done.stderr}")
+    status, told = planted.run(room, ALL, words=[name, "--from", said])
+    if status != 0:
+        sys.exit(f"evidence_test: {ALL} {name} --from fails:\n{told}")
 
 
 def refresh(room):
-    subprocess.run([sys.executable, os.path.join(room, ALL), "--refresh"], env=planted.ENVIRONMENT, check=True, capture_output=True)
+    status, said = planted.run(room, ALL, words=["--refresh"])
+    if status != 0:
+        sys.exit(f"evidence_test: {ALL} --refresh fails:\n{said}")
 
 
 class Life:
@@ -154,10 +164,11 @@ def main():
         if status != 0:
             sys.exit(f"evidence_test: evidence.py fails as it is:\n{said}")
         faults = [fault for it in PLANTS for fault in planted.plant(room, CHECK, *it)]
-        faults += strange_file(room)
-        for more, count in (life(room), without_history(room)):
-            faults, number = faults + more, count
-    return planted.tell(faults, len(PLANTS) + 1 + 11 + number)
+        faults += strange_file(room) + refreshed_by_hand(room)
+        parts = [life(room), without_history(room)]
+        faults += [fault for more, _ in parts for fault in more]
+        count = sum(number for _, number in parts)
+    return planted.tell(faults, len(PLANTS) + 2 + count)
 
 
 if __name__ == "__main__":

@@ -36,9 +36,9 @@ def copy():
         yield room
 
 
-def run(room, check, environment=None):
-    """The status of a check in a copy, and what it prints."""
-    done = subprocess.run([sys.executable, os.path.join(room, check)], env=environment or ENVIRONMENT, capture_output=True, text=True, timeout=120)
+def run(room, check, environment=None, words=()):
+    """The status of a check (or another script) in a copy, and what it prints."""
+    done = subprocess.run([sys.executable, os.path.join(room, check), *words], env=environment or ENVIRONMENT, capture_output=True, text=True, timeout=120)
     return done.returncode, done.stdout + done.stderr
 
 

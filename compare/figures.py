@@ -92,12 +92,19 @@ def refreshed(path):
     return text
 
 
+def edited_by_hand(comparison):
+    return f"compare/results/{comparisons.page_of(comparison.name)} or its data files aren't what a run wrote (the sum is another): run compare/all {comparison.name!r}"
+
+
 def refresh():
-    """Writes EVIDENCE, the pages' fronts and all blocks; answers the documents that changed."""
+    """Writes EVIDENCE, the pages' fronts and all blocks; answers the documents that changed. Trouble where a result was edited."""
     changed = []
     for comparison in comparisons.COMPARISONS:
         if results_of.is_run(comparison.name):
-            results_of.write(results_of.result(comparison.name))
+            one = results_of.result(comparison.name)
+            if not results_of.is_whole(one):
+                raise repository.Trouble(edited_by_hand(comparison))
+            results_of.write(one)
     for path in sorted({EVIDENCE, *repository.documents()}):
         text = refreshed(path)
         if not os.path.exists(os.path.join(repository.ROOT, path)) or text != repository.read(path):

@@ -98,6 +98,11 @@ def sum_of(one):
     return whole.hexdigest()[:16]
 
 
+def is_whole(one):
+    """Whether a page and its data files are those that a run wrote, by the sum in the page."""
+    return f"\n- Sum: `{sum_of(one)}`\n" in repository.read(f"compare/results/{comparisons.page_of(one.name)}")
+
+
 def page(one):
     """The page of a result, as text."""
     fields = {"Asks": one.comparison.asks, "Answer": one.answer, **{it: one.fields[it] for it in FIELDS if it in one.fields}}
