@@ -142,7 +142,7 @@ COMPARISONS = [
     Comparison("times", "What do calls take beside the Rust crate and HarfBuzz?", "compare/run.py --all --seconds 0.03 --copies 0 --results compare/results",
                parts_of_time, SUBSET + BENCH, original=True, data=("truetype.csv", "cff.csv"), timed=True),
     Comparison("bytes", "How many bytes has a subset, of how many of the source?", "compare/bytes.py --results compare/results",
-               lambda result: f"{len(result.data('bytes.csv'))} subsets", SUBSET + PROGRAM, data=("bytes.csv",)),
+               lambda result: f"{len(result.data('bytes.csv'))} subsets", ("bindings/rust/src/**",), data=("bytes.csv",)),
     Comparison("gate", "Does the whole gate pass, and how long does it take?", "make test", lines_like(r"^\d+ passed, \d+ failed"),
                ("crates/*/*/**", "bindings/**", "dist/*", ".ci/*", "Makefile"), by_hand=True, timed=True),
     Comparison("processors", "What does a build for any x86-64 cost?", "compare/cpu.py --rounds 30 --seconds 0.02",
