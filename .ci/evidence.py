@@ -73,7 +73,8 @@ def faults_of_commits(path):
 def missing_pages(path, text):
     """Pages of results that a document names and that aren't there."""
     names = re.findall(r"compare/results/([\w.-]+\.\w+)", text)
-    return [f"{path} names compare/results/{it}, which isn't there" for it in dict.fromkeys(names) if not os.path.exists(os.path.join(results_of.RESULTS, it))]
+    gone = [it for it in dict.fromkeys(names) if it != "NAME.md" and not os.path.exists(os.path.join(results_of.RESULTS, it))]
+    return [f"{path} names compare/results/{it}, which isn't there" for it in gone]
 
 
 def first_difference(have, wanted):

@@ -161,8 +161,10 @@ def mark(one):
     return f"`{one.commit}`" + (f", {CHANGED}" if one.changed else "")
 
 
-def source(name):
-    """Where the figures of a comparison come from, as a sentence's part. (figures.py makes a link of `results:`.)"""
-    one = result(name)
+def source(name, is_linked=True):
+    """Where the figures of a comparison come from, as a sentence's part. (figures.py makes a link of `results:`.) Without a link it
+    stands in documents that are handed on by themselves."""
+    one, path = result(name), comparisons.page_of(name)
+    where = f"[{one.name}](results:{path})" if is_linked else f"`compare/results/{path}` of the project"
     commit = f"commit {mark(one)}" if one.commit else f"a commit {NOT_RUN}"
-    return f"[{one.name}](results:{comparisons.page_of(name)}): {commit}; {one.date}; machine: {one.machine}; `{one.command}`"
+    return f"{where}: {commit}; {one.date}; machine: {one.machine}; `{one.command}`"
