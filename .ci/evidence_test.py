@@ -40,6 +40,8 @@ PLANTS = [
     ("a figure of a data file", f"{RESULTS}/truetype.csv", "37366,2399,", "37366,1399,", r"results/times\.md or its data files aren't what a run wrote"),
     ("a page without a machine", f"{RESULTS}/faces.md", "- Machine: ", "- Where: ", r"results/faces\.md doesn't say its machine"),
     ("a file of no comparison", f"{RESULTS}/instance.csv", None, None, r"its data file instance\.csv isn't there"),
+    ("a figure that no script wrote", "docs/PERFORMANCE.md", None, "\nIt takes 3.5 ms.\n", r"docs/PERFORMANCE\.md: '3\.5 ms' is a figure"),
+    ("a size that no script wrote", "README.md", None, "\nIt has 12 MB.\n", r"README\.md: '12 MB' is a figure"),
     ("an unknown figure", "docs/PDF.md", ": sizes -->", ": lengths -->", r"docs/PDF\.md: no figure is called 'lengths'"),
     ("a comment without an end", "docs/PDF.md", "<!-- end -->", "", r"docs/PDF\.md: a comment"),
     ("paths where nothing is", "compare/comparisons.py", '"bindings/c/*"', '"bindings/cobol/*"', r"speaks of bindings/cobol/\*, where no file is"),

@@ -208,6 +208,13 @@ def parts_of_fonttools():
     return at_most(max(ratios), 4)
 
 
+def memory_of_instances():
+    """What a call at coordinates holds above the source and twice the answer."""
+    rows = results_of.rows("instance_times.csv")
+    above = max(int(it["Memory (bytes)"]) - (int(it["Source + 2 × answer + 8 MB"]) - 8 * 2 ** 20) for it in rows)
+    return f"{at_most(above / 2 ** 10, 0)} KiB"
+
+
 def mean_ratio(kind):
     """The geometric mean of what the rows of a kind of outlines cost in a build for any x86-64."""
     fonts = {it["font"] for it in results_of.rows(f"{kind}.csv")}
@@ -238,6 +245,7 @@ BLOCKS = {
     "source of hostile, families": (source_of("hostile, families"), ["hostile, families"]),
     "ratios of instances": (ratios_of_instances, ["instances, times"]),
     "parts of fontTools' time": (parts_of_fonttools, ["instances, times"]),
+    "memory of instances": (memory_of_instances, ["instances, times"]),
     "source of instances, times": (source_of("instances, times"), ["instances, times"]),
     "sizes": (as_table("sizes"), ["sizes"]),
     "source of sizes": (source_of("sizes"), ["sizes"]),
