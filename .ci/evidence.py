@@ -52,6 +52,8 @@ def faults_of_page(comparison):
     one = results_of.result(comparison.name)
     if not results_of.is_whole(one):
         return [figures.edited_by_hand(comparison)]
+    if results_of.other_commits(one):
+        return [f"{path}: its data files are of {', '.join(results_of.other_commits(one))}"]
     return [] if repository.read(path) == results_of.page(one) else [f"{path} isn't as compare/all writes it: {REFRESH}"]
 
 

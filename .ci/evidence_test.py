@@ -58,6 +58,22 @@ def strange_file(room):
     return planted.faults_of_run("a strange file", ran, r"results/strange\.csv: no comparison has this file")
 
 
+def side_commit(room):
+    """A commit that is in the repository, but not behind HEAD."""
+    side = planted.git(room, "commit-tree", "HEAD^{tree}", "-m", "beside").strip()[:12]
+    return planted.plant(room, CHECK, "a commit beside", "docs/PDF.md", None, f"\nMeasured at commit {side}.\n", f"names the commit {side}, which isn't behind HEAD")
+
+
+def data_of_another(room):
+    """A page whose data file is another commit's, with a sum that is right."""
+    planted.edit(room, "another's data", f"{RESULTS}/cff.csv", "commit 1fba716", "commit c307797")
+    text = "import sys; sys.path.insert(0, 'compare'); import results_of; results_of.write(results_of.result('times'))"
+    subprocess.run([sys.executable, "-c", text], cwd=room, env=planted.ENVIRONMENT, check=True)
+    ran = planted.run(room, CHECK)
+    planted.git(room, "checkout", "-q", "--", ".")
+    return planted.faults_of_run("another's data", ran, r"results/times\.md: its data files are of c307797")
+
+
 def refreshed_by_hand(room):
     """A result that was edited isn't made whole by --refresh."""
     planted.edit(room, "an edited result", f"{RESULTS}/cff.csv", "66639,6336,", "66639,5336,")
@@ -166,11 +182,11 @@ def main():
         if status != 0:
             sys.exit(f"evidence_test: evidence.py fails as it is:\n{said}")
         faults = [fault for it in PLANTS for fault in planted.plant(room, CHECK, *it)]
-        faults += strange_file(room) + refreshed_by_hand(room)
+        faults += strange_file(room) + refreshed_by_hand(room) + side_commit(room) + data_of_another(room)
         parts = [life(room), without_history(room)]
         faults += [fault for more, _ in parts for fault in more]
         count = sum(number for _, number in parts)
-    return planted.tell(faults, len(PLANTS) + 2 + count)
+    return planted.tell(faults, len(PLANTS) + 4 + count)
 
 
 if __name__ == "__main__":

@@ -98,6 +98,15 @@ def sum_of(one):
     return whole.hexdigest()[:16]
 
 
+def other_commits(one):
+    """Commits that the data files of a result name in their first lines, or in a line each, and that aren't the result's."""
+    named = set()
+    for name in one.comparison.data:
+        text = repository.read(f"compare/results/{name}")
+        named |= set(re.findall(r"^#.*?\bcommit ([0-9a-f]{7,40})", text.split("\n")[0])) | set(re.findall(r"\"commit\": \"([0-9a-f]{7,40})", text))
+    return sorted(it for it in named if one.commit and not (it.startswith(one.commit) or one.commit.startswith(it)))
+
+
 def is_whole(one):
     """Whether a page and its data files are those that a run wrote, by the sum in the page."""
     return f"\n- Sum: `{sum_of(one)}`\n" in repository.read(f"compare/results/{comparisons.page_of(one.name)}")
