@@ -168,12 +168,81 @@ def life(room):
     refresh(room)
     step.holds("the mark", "`, code changed since |" in row(room, "widths"))
     step.passes("the mark, not committed")
+    help_there = os.path.join(room, "crates/subset_font/src/help.rt")
+    with open(help_there, encoding="utf-8") as file:
+        text = file.read()
+    with open(help_there, "w", encoding="utf-8") as file:
+        file.write(text.replace("// further\n// and further\n", ""))
+    step.passes("code taken back, not committed")
+    with open(help_there, "w", encoding="utf-8") as file:
+        file.write(text)
     commit(room, "docs/PDF.md", "\nAnd a further one.\n")
     step.passes("the mark, committed")
     measured(room, "widths", "font 0: 201 widths of 2048 units an em, 0 wrong")
     step.holds("measured anew", "code changed since" not in row(room, "widths"))
     step.passes("measured anew")
     return step.faults, step.steps
+
+
+# ---- compare/all
+
+WIDTHS = """#!/usr/bin/env python3
+import sys
+print("font 0: 201 widths of 2048 units an em, %d wrong")
+sys.exit(%d)
+"""
+DAMAGE = """#!/usr/bin/env python3
+import subprocess, sys
+commit = subprocess.run(["git", "rev-parse", "--short", "HEAD"], capture_output=True, text=True).stdout.strip()
+with open(sys.argv[sys.argv.index("--pieces") + 1], "a") as file:
+    file.write('{"seed": "kinds", "commit": "%s", "different": []}\\n' % commit)
+print("Of 1000000 copies the answers differ on 7570, of which 0 are not explained.")
+"""
+
+
+def put(room, path, text):
+    """Commits a file."""
+    with open(os.path.join(room, path), "w", encoding="utf-8") as file:
+        file.write(text)
+    planted.git(room, "add", "-A")
+    planted.git(room, "commit", "-q", "-m", "put")
+
+
+def runs(room):
+    """compare/all runs what it has to, and refuses what it can't keep."""
+    faults, names = [], []
+
+    def expect(name, words, wanted_status, wanted, where=None, environment=None):
+        names.append(name)
+        status, said = planted.run(room, ALL, environment, words)
+        said = where() if where else said
+        if status != wanted_status or not re.search(wanted, said):
+            faults.append(f"{name}: status {status}, and not {wanted_status} and {wanted!r}:\n{said}")
+
+    put(room, "compare/widths.py", WIDTHS % (0, 0))
+    expect("a run", ["widths"], 0, r"201 widths of 1 faces, 0 wrong \| `[0-9a-f]{7,}` \|", lambda: row(room, "widths"))
+    put(room, "compare/widths.py", WIDTHS % (3, 1))
+    expect("a run that fails", ["widths"], 1, r"\| failed: 201 widths of 1 faces, 3 wrong \| `", lambda: row(room, "widths"))
+    planted.git(room, "commit", "-q", "-a", "-m", "a run that failed")
+    planted.edit(room, "code", "crates/cmap/src/lib.rt", None, "// further\n")
+    expect("code that no commit holds", ["widths"], 1, r"has changes that no commit holds")
+    planted.git(room, "checkout", "-q", "--", ".")
+    expect("no such comparison", ["breadths"], 1, r"no comparison 'breadths'")
+    said = os.path.join(room, "..", "said")
+    for name, line, wanted in [("no commit", "font 0: 201 widths", r"isn't `commit HASH`"), ("a commit from elsewhere", "commit 3ff537e", r"3ff537e isn't behind HEAD"),
+                               ("a commit with changes", f"commit {planted.git(room, 'rev-parse', 'HEAD').strip()} with changes", r"isn't `commit HASH`")]:
+        with open(said, "w", encoding="utf-8") as file:
+            file.write(f"{line}\nfont 0: 201 widths of 2048 units an em, 0 wrong\n")
+        expect(name, ["widths", "--from", said], 1, wanted)
+    put(room, "compare/damage.py", DAMAGE)
+    expect("without the Rust crate", ["damage, library"], 0, r"not run, as ORIGINAL isn't set", environment=without("ORIGINAL"))
+    expect("older pieces", ["damage, library"], 0, r"^[^\n]*\n$", lambda: open(os.path.join(room, RESULTS, "library.jsonl"), encoding="utf-8").read(),
+           {**planted.ENVIRONMENT, "ORIGINAL": "/nowhere"})
+    return faults, len(names)
+
+
+def without(name):
+    return {key: value for key, value in planted.ENVIRONMENT.items() if key != name}
 
 
 def main():
@@ -183,7 +252,7 @@ def main():
             sys.exit(f"evidence_test: evidence.py fails as it is:\n{said}")
         faults = [fault for it in PLANTS for fault in planted.plant(room, CHECK, *it)]
         faults += strange_file(room) + refreshed_by_hand(room) + side_commit(room) + data_of_another(room)
-        parts = [life(room), without_history(room)]
+        parts = [life(room), runs(room), without_history(room)]
         faults += [fault for more, _ in parts for fault in more]
         count = sum(number for _, number in parts)
     return planted.tell(faults, len(PLANTS) + 4 + count)

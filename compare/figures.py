@@ -75,7 +75,10 @@ def written(path, found):
     for name in names:
         results_of.result(name)
     to_results = os.path.relpath("compare/results", os.path.dirname(path) or ".")
-    text = function().replace("](results:", f"]({to_results}/")
+    try:
+        text = function().replace("](results:", f"]({to_results}/")
+    except (LookupError, TypeError, ValueError, ZeroDivisionError) as error:
+        raise repository.Trouble(f"{key!r} can't be made of {' and '.join(names)}: {error!r}") from None
     text = f"\n{text}\n" if found[3].startswith("\n") else text
     files = ", ".join(f"compare/results/{comparisons.page_of(name)}" for name in names)
     return f"<!-- from {files}: {key} -->{text}<!-- end -->"
