@@ -160,6 +160,8 @@ COMPARISONS = [
                SUBSET + BENCH, original=True, timed=True),
     Comparison("times", "What do calls take beside the Rust crate and HarfBuzz?", "compare/run.py --all --seconds 0.03 --copies 0 --results compare/results",
                parts_of_time, SUBSET + BENCH, original=True, data=("truetype.csv", "cff.csv"), timed=True),
+    Comparison("growth", "How do times grow with the number of kept glyphs?", "compare/run.py --growth docs/growth.svg",
+               lambda result: "a picture of four fonts", SUBSET + BENCH, original=True, data=("../../docs/growth.svg",), timed=True),
     Comparison("bytes", "How many bytes has a subset, of how many of the source?", "compare/bytes.py --results compare/results",
                bytes_of_source, ("bindings/rust/src/**",), data=("bytes.csv",)),
     Comparison("gate", "Does the whole gate pass, and how long does it take?", "make test", lines_like(r"^\d+ passed, \d+ failed|^\d+ minutes$"),

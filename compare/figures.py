@@ -241,6 +241,7 @@ BLOCKS = {
     "greatest ratios": (greatest_ratios, ["times"]),
     "source of times": (source_of("times"), ["times"]),
     "hostile": (as_table("hostile"), ["hostile"]),
+    "source of growth": (source_of("growth"), ["growth"]),
     "source of hostile": (source_of("hostile"), ["hostile"]),
     "under bounds": (under_bounds, ["hostile, families"]),
     "held under bounds": (held_under_bounds, ["hostile, families"]),
