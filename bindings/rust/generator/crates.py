@@ -61,12 +61,12 @@ def declared(module):
 
 
 def load_declared(module, item, folder, suffix, open_file):
+    if module.tokens.is_plain and module.parent is None and item.name in ("proved", "rattle"):
+        return
     found = [path for path in (folder / f"{item.name}{suffix}", folder / item.name / f"mod{suffix}") if path.is_file()]
     if not found:
         item.file.fail(item.first, f"mod {item.name} has no file")
     tokens = open_file(found[0])
-    if tokens is None:
-        return
     for one in tokens.items if tokens.is_plain else ():
         one.level = max(one.level, item.level)
     inner = Module(item.name, tokens, module, item)
@@ -124,11 +124,7 @@ class Crates:
     def load_plain(self):
         """The crate's own files, from lib.rs on; the generated ones and the stand-in aside."""
         source = self.package / "src"
-        aside = (source / "proved", source / "rattle")
-
         def open_file(path):
-            if path.parent in aside:
-                return None
             tokens = Plain(path, str(path.relative_to(self.repository)))
             self.words.update(text for i, text in enumerate(tokens.texts) if tokens.kinds[i] == "word")
             return tokens

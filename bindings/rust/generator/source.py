@@ -421,8 +421,8 @@ class Source(Tokens):
 
     def check(self):
         """What is left over of Rattle is an error, and so is what the rules have no business to cut."""
-        for i, text in enumerate(self.written):
-            if text == CUT or self.kinds[i] in ("space",) + COMMENTS:
+        for i, text in enumerate(self.texts):
+            if self.written[i] == CUT or self.kinds[i] in ("space",) + COMMENTS:
                 continue
             if self.gone[i]:
                 self.fail(i, "a contract is left over")
