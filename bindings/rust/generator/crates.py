@@ -77,6 +77,13 @@ def load_declared(module, item, folder, suffix, open_file):
     load(inner, found[0], open_file)
 
 
+def everything(module):
+    """A module and all in it."""
+    yield module
+    for inner in module.inner:
+        yield from everything(inner)
+
+
 class Crates:
     """All that is read, and what of it is reached."""
 
@@ -172,6 +179,7 @@ class Crates:
         """The files that are written, by their paths, before rustfmt."""
         modules = ""
         found = {}
+        absent = self.absent()
         for name, root in self.roots.items():
             if root.level is None:
                 continue
@@ -180,11 +188,21 @@ class Crates:
             for module in self.below(root):
                 path = Path(name, *module.path.split("::")[1:])
                 path = path / "mod.rs" if module is root else path.with_suffix(".rs")
-                module.tokens.strip(module, self.reviewed)
+                module.tokens.strip(module, self.reviewed, absent)
                 found[path] = MARK.format(module.tokens.name) + module.tokens.layout()
         self.reviewed.check()
         found[Path("mod.rs")] = MARK.format("crates") + HEAD + modules
         return found
+
+    def absent(self):
+        """The names of items that aren't written, under which none is."""
+        there, gone = set(), set()
+        for root in self.roots.values():
+            for module in everything(root):
+                for item in module.items:
+                    for one in [item, *item.children]:
+                        (gone if one.level is None else there).add(one.name)
+        return gone - there
 
     def below(self, module):
         """The modules of a crate that have files and are reached."""

@@ -452,7 +452,7 @@ mod program {
         );
         steps.write_all(&bytes(100)).unwrap();
         assert_eq!(steps.1, bytes(100));
-        write!(steps, "{}-{}", 1, 'x').unwrap();
+        write!(steps, "{}-x", 1).unwrap();
         assert_eq!(steps.1[100..], *b"1-x");
         for (step, kind) in [
             (Ok(0), ErrorKind::Other),
