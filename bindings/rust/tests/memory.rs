@@ -1,5 +1,5 @@
 //! Memory: each request of each call is refused in turn. A call that answers a `Result` then answers `OutOfMemory`, keeps
-//! nothing and changes nothing; a call of 0.2.6 without a `Result` ends the process.
+//! nothing and changes nothing, or it does without the memory; a call of 0.2.6 without a `Result` ends the process.
 
 mod table;
 
@@ -91,14 +91,18 @@ fn refuse_each<T: PartialEq + std::fmt::Debug>(
     FOR_GOOD.with(|for_good| for_good.set(false));
     let requests = refuse_in_turn(&call, last);
     FOR_GOOD.with(|for_good| for_good.set(true));
-    assert_eq!(refuse_in_turn(&call, last), requests);
+    assert!(refuse_in_turn(&call, last) <= requests);
     requests
 }
+
+/// How many requests of a call may be refused without an error: those for a smaller room, as the larger one is kept then.
+const MOST_KEPT: usize = 2;
 
 fn refuse_in_turn<T: PartialEq + std::fmt::Debug>(
     call: &impl Fn() -> Result<T, Error>,
     last: &Result<T, Error>,
 ) -> usize {
+    let mut kept = 0;
     for request in 0.. {
         let before = HELD.with(Cell::get);
         let (answer, refused) = with_a_refusal(request, call);
@@ -106,7 +110,11 @@ fn refuse_in_turn<T: PartialEq + std::fmt::Debug>(
             assert_eq!(answer, *last);
             return request;
         }
-        assert_eq!(answer, Err(Error::OutOfMemory), "request {request}");
+        if answer != Err(Error::OutOfMemory) {
+            assert_eq!(answer, *last, "request {request}");
+            kept += 1;
+            assert!(kept <= MOST_KEPT, "request {request}");
+        }
         drop(answer);
         assert_eq!(HELD.with(Cell::get), before, "request {request}");
     }
