@@ -5,7 +5,9 @@ mod table;
 
 use std::alloc::{GlobalAlloc, Layout, System};
 use std::cell::Cell;
-use subsetter::{embed, embed_with_limits, embed_with_options, Error, GlyphRemapper, Limits, Options};
+use subsetter::{
+    embed, embed_with_limits, embed_with_options, Error, GlyphRemapper, Limits, Options,
+};
 use subsetter::{subset, subset_with_limits, subset_with_options};
 use table::table;
 
@@ -225,7 +227,10 @@ fn a_mapper_stays_as_it_was_where_memory_is_refused() {
             refusals += 1;
         }
         // A known glyph takes no memory.
-        assert_eq!(with_a_refusal(0, || mapper.try_remap(glyph)).0, Ok(before.num_gids()));
+        assert_eq!(
+            with_a_refusal(0, || mapper.try_remap(glyph)).0,
+            Ok(before.num_gids())
+        );
     }
     assert!(refusals > 10, "{refusals}");
 }
@@ -291,9 +296,22 @@ fn remap_without_memory() {
 fn without_memory_the_mappers_of_0_2_6_end_the_process() {
     use std::os::unix::process::ExitStatusExt;
     use std::{env, process::Command};
-    for call in ["new", "default", "new_from_glyphs", "new_from_glyphs_sorted", "clone", "remap"] {
+    for call in [
+        "new",
+        "default",
+        "new_from_glyphs",
+        "new_from_glyphs_sorted",
+        "clone",
+        "remap",
+    ] {
         let child = format!("{call}_without_memory");
-        let words = ["--exact", &child, "--ignored", "--nocapture", "--test-threads=1"];
+        let words = [
+            "--exact",
+            &child,
+            "--ignored",
+            "--nocapture",
+            "--test-threads=1",
+        ];
         let mut command = Command::new(env::current_exe().unwrap());
         let output = command.args(words).output().unwrap();
         let printed = String::from_utf8(output.stdout).unwrap();
