@@ -28,7 +28,7 @@ PLANTS = [
     ("a shorter run of deltas", "proved/subsetter_variation/packed_sums.rs", "at + usize::from(control % 64) + 1", "at + usize::from(control % 63) + 1"),
     ("a composite of few bytes refused", "proved/subsetter/glyf/component.rs", "    if outline.len() < 10 {\n        return Err(Error::MalformedFont);\n    }\n    let mut rest", "    if outline.len() < 20 {\n        return Err(Error::MalformedFont);\n    }\n    let mut rest"),
     ("an even outline is padded", "proved/subsetter/glyf/pieces.rs", "len + len % 2", "len + 2 - len % 2"),
-    ("a panic at 100,000 bytes", "proved/subsetter_cff/write/dicts.rs", "if end >= 2147483648 {", "assert!(end < 100_000);\n    if end >= 2147483648 {"),
+    ("a panic at 2,000 bytes", "proved/subsetter_cff/write/dicts.rs", "if end >= 2147483648 {", "assert!(end < 2_000);\n    if end >= 2147483648 {"),
     ("a request that can't be refused", "rattle/vec.rs", "list.try_reserve_exact(count).map_err(|_| AllocError)?;", "list.reserve_exact(count);"),
 ]
 
