@@ -40,6 +40,8 @@ PLANTS = [
     ("a figure of a data file", f"{RESULTS}/truetype.csv", "37366,2399,", "37366,1399,", r"results/times\.md or its data files aren't what a run wrote"),
     ("a page without a machine", f"{RESULTS}/faces.md", "- Machine: ", "- Where: ", r"results/faces\.md doesn't say its machine"),
     ("a file of no comparison", f"{RESULTS}/instance.csv", None, None, r"its data file instance\.csv isn't there"),
+    ("a figure that no script wrote", "docs/PERFORMANCE.md", None, "\nIt takes 3.5 ms.\n", r"docs/PERFORMANCE\.md: '3\.5 ms' is a figure"),
+    ("a size that no script wrote", "README.md", None, "\nIt has 12 MB.\n", r"README\.md: '12 MB' is a figure"),
     ("an unknown figure", "docs/PDF.md", ": sizes -->", ": lengths -->", r"docs/PDF\.md: no figure is called 'lengths'"),
     ("a comment without an end", "docs/PDF.md", "<!-- end -->", "", r"docs/PDF\.md: a comment"),
     ("paths where nothing is", "compare/comparisons.py", '"bindings/c/*"', '"bindings/cobol/*"', r"speaks of bindings/cobol/\*, where no file is"),
@@ -54,6 +56,30 @@ def strange_file(room):
     ran = planted.run(room, CHECK)
     os.unlink(path)
     return planted.faults_of_run("a strange file", ran, r"results/strange\.csv: no comparison has this file")
+
+
+def side_commit(room):
+    """A commit that is in the repository, but not behind HEAD."""
+    side = planted.git(room, "commit-tree", "HEAD^{tree}", "-m", "beside").strip()[:12]
+    return planted.plant(room, CHECK, "a commit beside", "docs/PDF.md", None, f"\nMeasured at commit {side}.\n", f"names the commit {side}, which isn't behind HEAD")
+
+
+def data_of_another(room):
+    """A page whose data file is another commit's, with a sum that is right."""
+    planted.edit(room, "another's data", f"{RESULTS}/cff.csv", "commit 1fba716", "commit c307797")
+    text = "import sys; sys.path.insert(0, 'compare'); import results_of; results_of.write(results_of.result('times'))"
+    subprocess.run([sys.executable, "-c", text], cwd=room, env=planted.ENVIRONMENT, check=True)
+    ran = planted.run(room, CHECK)
+    planted.git(room, "checkout", "-q", "--", ".")
+    return planted.faults_of_run("another's data", ran, r"results/times\.md: its data files are of c307797")
+
+
+def refreshed_by_hand(room):
+    """A result that was edited isn't made whole by --refresh."""
+    planted.edit(room, "an edited result", f"{RESULTS}/cff.csv", "66639,6336,", "66639,5336,")
+    ran = planted.run(room, ALL, words=["--refresh"])
+    planted.git(room, "checkout", "-q", "--", ".")
+    return planted.faults_of_run("an edited result, refreshed", ran, r"results/times\.md or its data files aren't what a run wrote")
 
 
 def without_history(room):
@@ -91,13 +117,15 @@ def measured(room, name, text):
     said = os.path.join(room, "..", "said")
     with open(said, "w", encoding="utf-8") as file:
         file.write(f"commit {planted.git(room, 'rev-parse', '--short', 'HEAD').strip()}, machine: a test\n{text}\n")
-    done = subprocess.run([sys.executable, os.path.join(room, ALL), name, "--from", said], env=planted.ENVIRONMENT, capture_output=True, text=True)
-    if done.returncode != 0:
-        sys.exit(f"evidence_test: {ALL} {name} --from fails:\n{done.stdout}{done.stderr}")
+    status, told = planted.run(room, ALL, words=[name, "--from", said])
+    if status != 0:
+        sys.exit(f"evidence_test: {ALL} {name} --from fails:\n{told}")
 
 
 def refresh(room):
-    subprocess.run([sys.executable, os.path.join(room, ALL), "--refresh"], env=planted.ENVIRONMENT, check=True, capture_output=True)
+    status, said = planted.run(room, ALL, words=["--refresh"])
+    if status != 0:
+        sys.exit(f"evidence_test: {ALL} --refresh fails:\n{said}")
 
 
 class Life:
@@ -140,6 +168,14 @@ def life(room):
     refresh(room)
     step.holds("the mark", "`, code changed since |" in row(room, "widths"))
     step.passes("the mark, not committed")
+    help_there = os.path.join(room, "crates/subset_font/src/help.rt")
+    with open(help_there, encoding="utf-8") as file:
+        text = file.read()
+    with open(help_there, "w", encoding="utf-8") as file:
+        file.write(text.replace("// further\n// and further\n", ""))
+    step.passes("code taken back, not committed")
+    with open(help_there, "w", encoding="utf-8") as file:
+        file.write(text)
     commit(room, "docs/PDF.md", "\nAnd a further one.\n")
     step.passes("the mark, committed")
     measured(room, "widths", "font 0: 201 widths of 2048 units an em, 0 wrong")
@@ -148,16 +184,78 @@ def life(room):
     return step.faults, step.steps
 
 
+# ---- compare/all
+
+WIDTHS = """#!/usr/bin/env python3
+import sys
+print("font 0: 201 widths of 2048 units an em, %d wrong")
+sys.exit(%d)
+"""
+DAMAGE = """#!/usr/bin/env python3
+import subprocess, sys
+commit = subprocess.run(["git", "rev-parse", "--short", "HEAD"], capture_output=True, text=True).stdout.strip()
+with open(sys.argv[sys.argv.index("--pieces") + 1], "a") as file:
+    file.write('{"seed": "kinds", "commit": "%s", "different": []}\\n' % commit)
+print("Of 1000000 copies the answers differ on 7570, of which 0 are not explained.")
+"""
+
+
+def put(room, path, text):
+    """Commits a file."""
+    with open(os.path.join(room, path), "w", encoding="utf-8") as file:
+        file.write(text)
+    planted.git(room, "add", "-A")
+    planted.git(room, "commit", "-q", "-m", "put")
+
+
+def runs(room):
+    """compare/all runs what it has to, and refuses what it can't keep."""
+    faults, names = [], []
+
+    def expect(name, words, wanted_status, wanted, where=None, environment=None):
+        names.append(name)
+        status, said = planted.run(room, ALL, environment, words)
+        said = where() if where else said
+        if status != wanted_status or not re.search(wanted, said):
+            faults.append(f"{name}: status {status}, and not {wanted_status} and {wanted!r}:\n{said}")
+
+    put(room, "compare/widths.py", WIDTHS % (0, 0))
+    expect("a run", ["widths"], 0, r"201 widths of 1 faces, 0 wrong \| `[0-9a-f]{7,}` \|", lambda: row(room, "widths"))
+    put(room, "compare/widths.py", WIDTHS % (3, 1))
+    expect("a run that fails", ["widths"], 1, r"\| failed: 201 widths of 1 faces, 3 wrong \| `", lambda: row(room, "widths"))
+    planted.git(room, "commit", "-q", "-a", "-m", "a run that failed")
+    planted.edit(room, "code", "crates/cmap/src/lib.rt", None, "// further\n")
+    expect("code that no commit holds", ["widths"], 1, r"has changes that no commit holds")
+    planted.git(room, "checkout", "-q", "--", ".")
+    expect("no such comparison", ["breadths"], 1, r"no comparison 'breadths'")
+    said = os.path.join(room, "..", "said")
+    for name, line, wanted in [("no commit", "font 0: 201 widths", r"isn't `commit HASH`"), ("a commit from elsewhere", "commit 3ff537e", r"3ff537e isn't behind HEAD"),
+                               ("a commit with changes", f"commit {planted.git(room, 'rev-parse', 'HEAD').strip()} with changes", r"isn't `commit HASH`")]:
+        with open(said, "w", encoding="utf-8") as file:
+            file.write(f"{line}\nfont 0: 201 widths of 2048 units an em, 0 wrong\n")
+        expect(name, ["widths", "--from", said], 1, wanted)
+    put(room, "compare/damage.py", DAMAGE)
+    expect("without the Rust crate", ["damage, library"], 0, r"not run, as ORIGINAL isn't set", environment=without("ORIGINAL"))
+    expect("older pieces", ["damage, library"], 0, r"^[^\n]*\n$", lambda: open(os.path.join(room, RESULTS, "library.jsonl"), encoding="utf-8").read(),
+           {**planted.ENVIRONMENT, "ORIGINAL": "/nowhere"})
+    return faults, len(names)
+
+
+def without(name):
+    return {key: value for key, value in planted.ENVIRONMENT.items() if key != name}
+
+
 def main():
     with planted.copy() as room:
         status, said = planted.run(room, CHECK)
         if status != 0:
             sys.exit(f"evidence_test: evidence.py fails as it is:\n{said}")
         faults = [fault for it in PLANTS for fault in planted.plant(room, CHECK, *it)]
-        faults += strange_file(room)
-        for more, count in (life(room), without_history(room)):
-            faults, number = faults + more, count
-    return planted.tell(faults, len(PLANTS) + 1 + 11 + number)
+        faults += strange_file(room) + refreshed_by_hand(room) + side_commit(room) + data_of_another(room)
+        parts = [life(room), runs(room), without_history(room)]
+        faults += [fault for more, _ in parts for fault in more]
+        count = sum(number for _, number in parts)
+    return planted.tell(faults, len(PLANTS) + 4 + count)
 
 
 if __name__ == "__main__":

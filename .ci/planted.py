@@ -9,23 +9,28 @@ import sys
 import tempfile
 
 ROOT = os.path.dirname(os.path.dirname(os.path.realpath(__file__)))
-# (of the caller's configuration nothing counts, but that the repositories are trusted)
+# (in the copy nothing of the caller's configuration counts)
 ENVIRONMENT = {**os.environ, "GIT_CONFIG_NOSYSTEM": "1", "GIT_CONFIG_GLOBAL": "/dev/null", "GIT_AUTHOR_NAME": "test", "GIT_AUTHOR_EMAIL": "test@example.org",
                "GIT_COMMITTER_NAME": "test", "GIT_COMMITTER_EMAIL": "test@example.org"}
 
 
-def git(folder, *words):
-    return subprocess.run(["git", "-C", folder, *words], env=ENVIRONMENT, check=True, capture_output=True, text=True).stdout
+def git(folder, *words, environment=None):
+    return subprocess.run(["git", "-C", folder, *words], env=environment or ENVIRONMENT, check=True, capture_output=True, text=True).stdout
 
 
 @contextlib.contextmanager
 def copy():
     """A clone with the files as they stand here, in a folder of its own."""
+    try:
+        git(ROOT, "rev-parse", "--verify", "-q", "HEAD", environment=os.environ)
+    except (OSError, subprocess.CalledProcessError) as error:
+        raise SystemExit(f"{ROOT} can't be copied by git: {getattr(error, 'stderr', None) or error}") from None
     with tempfile.TemporaryDirectory(prefix="planted-") as top:
         room = os.path.join(top, "room")
         subprocess.run(["git", "clone", "-q", "--shared", ROOT, room], check=True)
-        changed = git(ROOT, "diff", "--name-only", "-z", "--no-renames", "HEAD") + git(ROOT, "ls-files", "-z", "--others", "--exclude-standard")
-        for path in filter(None, changed.split("\0")):
+        changed = [git(ROOT, *words, environment=os.environ) for words in (["diff", "--name-only", "-z", "--no-renames", "HEAD"],
+                                                                           ["ls-files", "-z", "--others", "--exclude-standard"])]
+        for path in filter(None, "".join(changed).split("\0")):
             source, target = os.path.join(ROOT, path), os.path.join(room, path)
             if os.path.lexists(source):
                 os.makedirs(os.path.dirname(target), exist_ok=True)
@@ -36,9 +41,9 @@ def copy():
         yield room
 
 
-def run(room, check, environment=None):
-    """The status of a check in a copy, and what it prints."""
-    done = subprocess.run([sys.executable, os.path.join(room, check)], env=environment or ENVIRONMENT, capture_output=True, text=True, timeout=120)
+def run(room, check, environment=None, words=()):
+    """The status of a check (or another script) in a copy, and what it prints."""
+    done = subprocess.run([sys.executable, os.path.join(room, check), *words], env=environment or ENVIRONMENT, capture_output=True, text=True, timeout=120)
     return done.returncode, done.stdout + done.stderr
 
 

@@ -49,6 +49,25 @@ def widths_wrong(result):
     return f"{sum(int(it[1]) for it in found if it)} widths of {sum(map(bool, found))} faces, {sum(int(it[2]) for it in found if it)} wrong"
 
 
+def number(cell):
+    return int(cell.replace(",", ""))
+
+
+def span(parts):
+    """The least and the greatest of these parts, in hundredths."""
+    return f"{100 * min(parts):.1f} to {100 * max(parts):.1f} %"
+
+
+def bytes_saved(result):
+    rows = result.tables[0]
+    return f"names, glyph names and hinting left out save {span([1 - number(it['None of the three']) / number(it['All']) for it in rows])} of the bytes of {len(rows)} subsets"
+
+
+def bytes_of_source(result):
+    rows = result.tables[0]
+    return f"{span([number(it['Bytes of the subset']) / number(it['Bytes of the file']) for it in rows])} of the source's, for {len(rows)} fonts"
+
+
 def cost_of_binding(result):
     rows = result.tables[0]
     most = max(int(row["binding, ns"]) / int(row["port, ns"]) for row in rows)
@@ -99,7 +118,7 @@ COMPARISONS = [
     Comparison("options, before", "Did options change an answer, a time or the memory of a call without them?", f"{DEBIAN} compare/options.py --same OLD --faces 2000",
                lines_like(r"\d+ answered alike, \d+ not"), SUBSET + BENCH, by_hand=True),
     Comparison("sizes", "How many bytes does each option save?", f"{DEBIAN} compare/options.py --sizes",
-               lambda result: f"{len(result.tables[0])} fonts", SUBSET + PROGRAM),
+               bytes_saved, SUBSET + PROGRAM),
     Comparison("instance", "Are coordinates, scalars and points those of HarfBuzz, FreeType and fontTools?",
                f"{DEBIAN} compare/instance.py {VARIABLE} --results compare/results", lines_like(r"\d+ differences? out of bounds"),
                INSTANCE + sources("instance_parts"), f"{DEBIAN} compare/instance.py {VARIABLE} --places 4 --glyphs 40", data=("instance.csv",)),
@@ -141,9 +160,11 @@ COMPARISONS = [
                SUBSET + BENCH, original=True, timed=True),
     Comparison("times", "What do calls take beside the Rust crate and HarfBuzz?", "compare/run.py --all --seconds 0.03 --copies 0 --results compare/results",
                parts_of_time, SUBSET + BENCH, original=True, data=("truetype.csv", "cff.csv"), timed=True),
+    Comparison("growth", "How do times grow with the number of kept glyphs?", "compare/run.py --growth docs/growth.svg",
+               lambda result: "a picture of four fonts", SUBSET + BENCH, original=True, data=("../../docs/growth.svg",), timed=True),
     Comparison("bytes", "How many bytes has a subset, of how many of the source?", "compare/bytes.py --results compare/results",
-               lambda result: f"{len(result.data('bytes.csv'))} subsets", ("bindings/rust/src/**",), data=("bytes.csv",)),
-    Comparison("gate", "Does the whole gate pass, and how long does it take?", "make test", lines_like(r"^\d+ passed, \d+ failed"),
+               bytes_of_source, ("bindings/rust/src/**",), data=("bytes.csv",)),
+    Comparison("gate", "Does the whole gate pass, and how long does it take?", "make test", lines_like(r"^\d+ passed, \d+ failed|^\d+ minutes$"),
                ("crates/*/*/**", "bindings/**", "dist/*", ".ci/*", "Makefile"), by_hand=True, timed=True),
     Comparison("processors", "What does a build for any x86-64 cost?", "compare/cpu.py --rounds 30 --seconds 0.02",
                lambda result: "; ".join(re.findall(r"sums .*?ratio [\d.]+|geometric mean of the ratios [\d.]+", " ".join(result.body))),
