@@ -1,8 +1,8 @@
 #!/usr/bin/env python3
-"""Runs the README's examples in Rust, C, Python and JavaScript as they stand there: .ci/examples.py [rust] [c] [python] [js]
+"""Runs the README's examples in Rust, C, Python and JavaScript as they stand there: .ci/examples.py [--skip=NAME,..] [NAME..]
 
 Each is taken from the section of its name, and runs in an empty folder; what it makes has to be a font with the three glyphs
-that it asks for. Without words all four are run. `rust` needs Cargo alone; `c` and `python` need what `make` builds in bindings/c,
+that it asks for. The names are rust, c, python and js; without one all are run. `rust` needs Cargo alone; `c` and `python` need what `make` builds in bindings/c,
 `js` what `make package` builds in bindings/js. A part that lacks something fails. (Blocks of commands are run by .ci/fresh.)
 """
 import glob
@@ -126,13 +126,17 @@ PARTS = {"rust": rust, "c": c, "python": python, "js": js}
 
 
 def main():
-    names = sys.argv[1:] or [*PARTS]
-    if any(it not in PARTS for it in names):
+    names = [it for it in sys.argv[1:] if not it.startswith("--skip=")] or [*PARTS]
+    skipped = [it for word in sys.argv[1:] if word.startswith("--skip=") for it in word[7:].split(",")]
+    if any(it not in PARTS for it in names + skipped):
         sys.exit(__doc__)
     run_blocks = {("Rust", "rust"), ("Rust", "toml"), ("C", "c"), ("Python", "python"), ("JavaScript", "js")}
     failed = [f"nothing runs the block of {language} in the section {section}" for section, language, _ in blocks()
               if section not in NOT_RUN and (section, language) not in run_blocks]
     for name in names:
+        if name in skipped:
+            print(f"examples: {name}: skipped, as was asked for")
+            continue
         with tempfile.TemporaryDirectory(prefix="example-") as room:
             try:
                 PARTS[name](room)

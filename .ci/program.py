@@ -473,6 +473,11 @@ STD_ASKS = [
 ]
 
 
+# `std` copies a name of so many bytes to memory of its own (in Rust before 1.67 or so, each name), and ends the process where just that
+# is refused: at the last one a file beside OUT is left.
+LONG_NAME = 384
+
+
 def asked_by_std(words):
     """How many bytes `std` asks for in a run, request by request."""
     return sorted([size for size, _ in STD_ASKS] + [24 * len(words)] + [len(os.fsencode(word)) for word in words if word])
@@ -864,6 +869,31 @@ def check_refused_memory(table, room):
             table.demand(sorted(by_std) == wanted, f"{words}: what std asks for by itself", f"{sorted(by_std)}, listed {wanted}")
 
 
+def check_refused_names(table, room):
+    """The same for an OUT of a long name: there the build by Cargo may end while a file stands beside OUT."""
+    library = refuser(table, room)
+    if not library:
+        return
+    put(room, "in", FONTS["both"])
+    folder = "/".join(["folder" * 20] * 4)
+    os.makedirs(os.path.join(room, folder))
+    words, left = ["in", f"{folder}/out", "0", "2"], 0
+    base = start_refused(table, room, library, words, out=words[1], REFUSE=0)
+    for number in range(1, 1000):
+        got = start_refused(table, room, library, words, out=words[1], REFUSE=number)
+        if got.refused == 0:
+            break
+        by_std = table.is_cargo and ended_by_std(got)
+        if by_std and by_std > LONG_NAME and got.names == ["out", "out.part0"]:
+            left += 1
+            os.unlink(os.path.join(room, folder, "out.part0"))
+        unwritten = got.answer == (3, b"", f"cannot write {words[1]}\n".encode()) and got.names == base.names
+        is_refused = got.out == OLD and (by_std or unwritten or is_refused_run(got, base))
+        table.demand(is_refused or is_whole_run(got, base), f"a long name, refusal {number}", got)
+    table.demand((left > 0) == table.is_cargo, "a long name: files that are left", left)
+    table.otherwise += left
+
+
 def check_little_room(table, room):
     """With room for so many bytes a run is whole, or tells of it before OUT is touched; and no file is left beside OUT."""
     library = refuser(table, room)
@@ -961,7 +991,7 @@ def main():
             with tempfile.TemporaryDirectory(prefix="program-") as room:
                 table.run_row(row, room)
     for check in (check_words, check_places, check_links, check_rights, check_streams, check_closed, check_many, check_memory,
-                  check_refused_memory, check_little_room, check_failed_calls):
+                  check_refused_memory, check_refused_names, check_little_room, check_failed_calls):
         with tempfile.TemporaryDirectory(prefix="program-") as room:
             check(table, room)
     check_contents(table)

@@ -54,6 +54,7 @@ LOGS = [
     ("a gate that passed", True, [], PASSED + "812 passed, 0 failed\n"),
     ("a gate with a named skip", True, ["SKIP=js"], PASSED + "the page (js): skipped, as was asked for\n812 passed, 0 failed\n"),
     ("a gate that failed", False, [], PASSED + "812 passed, 1 failed\n"),
+    ("a gate of another history", False, [], PASSED + "812 passed, 0 failed\n"),
     ("a part that failed", False, [], PASSED + "the page (js): FAILED after 3 s\n812 passed, 0 failed\n"),
     ("a gate without tests", False, [], PASSED + "0 passed, 0 failed\n"),
     ("a gate that was cut off", False, [], "812 passed, 0 failed\n" + PASSED),
@@ -119,8 +120,9 @@ def try_logs(folder):
     for name, is_kept, words, text in LOGS:
         log = os.path.join(folder, "out.log")
         restore({log: text})
+        commit = "3ff537e" if name == "a gate of another history" else "HEAD"
         before = open(page, encoding="utf-8").read()
-        status, said = run(folder, "compare/gate.py", "--from", log, "--minutes", "61", *words)
+        status, said = run(folder, "compare/gate.py", "--from", log, "--minutes", "61", "--commit", commit, *words)
         after = open(page, encoding="utf-8").read()
         shown = open(readme, encoding="utf-8").read()
         line = " ".join(["make test", *words])

@@ -62,8 +62,9 @@ def read(path):
 
 @functools.lru_cache(maxsize=None)
 def is_ancestor(commit):
-    """Whether a commit is HEAD or behind it."""
-    return ask("merge-base", "--is-ancestor", commit, "HEAD").returncode == 0
+    """Whether a commit is HEAD or behind it; in a merge that isn't committed yet, also whether it is behind the other side."""
+    sides = [it for it in ("HEAD", "MERGE_HEAD") if ask("rev-parse", "--verify", "-q", it).returncode == 0]
+    return any(ask("merge-base", "--is-ancestor", commit, it).returncode == 0 for it in sides)
 
 
 @functools.lru_cache(maxsize=None)

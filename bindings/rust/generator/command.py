@@ -4,7 +4,7 @@ import sys
 import tempfile
 from pathlib import Path
 
-from .crates import CRATES, Crates
+from .crates import Crates
 from .tokens import Refused
 
 # The layout depends on it; it comes with Rust 1.95.
@@ -62,7 +62,7 @@ def main(package, words):
     folder = package / "src" / "proved"
     try:
         check_rustfmt()
-        texts = formatted(package, Crates(package.parent.parent, package, CRATES).texts())
+        texts = formatted(package, Crates(package.parent.parent, package).texts())
     except Refused as why:
         print(f"generate: {why}", file=sys.stderr)
         return 2
