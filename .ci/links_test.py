@@ -41,6 +41,7 @@ PLANTS = [
     ("an option of the program in code", "docs/PDF.md", None, "\n`subset_font --no-outlines`\n", r"subset_font has no option --no-outlines"),
     ("an option alone in CLI.md", "docs/CLI.md", None, "\n`--no-widths`\n", r"nothing has the option --no-widths"),
     ("an option that goes", "crates/subset_font/src/help.rt", "  --json  ", "  --lines ", r"nothing has the option --json"),
+    ("marks of a merge", "docs/WALK.md", None, "\n<<<<<<< HEAD\n", r"docs/WALK\.md: a merge left its marks"),
     ("a crate without a row", "crates.txt", None, "\ngone: subsetter\n", r"no row for the crate gone"),
 ]
 

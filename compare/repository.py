@@ -45,7 +45,7 @@ def ready(history=False):
 
 def documents():
     """The Markdown files that git keeps, below ROOT; Trouble where there are none."""
-    found = sorted(it for it in git("ls-files", "-z", "--", "*.md").split("\0") if it)
+    found = sorted({it for it in git("ls-files", "-z", "--", "*.md").split("\0") if it})
     if not found:
         raise Trouble("git keeps no documents here")
     return found
