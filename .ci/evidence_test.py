@@ -3,7 +3,6 @@
 through a result's life: of the code of today, after a change of the code, after one of documents alone."""
 import os
 import re
-import shutil
 import subprocess
 import sys
 
@@ -83,18 +82,12 @@ def refreshed_by_hand(room):
 
 
 def without_history(room):
-    """evidence.py where git can't answer, or has only a part of the history."""
+    """evidence.py in a clone with a part of the history, and where git can't answer."""
     shallow = room + "-shallow"
     subprocess.run(["git", "clone", "-q", "--depth", "1", f"file://{room}", shallow], check=True, env=planted.ENVIRONMENT)
     faults = planted.faults_of_run("a shallow clone", planted.run(shallow, CHECK), r"^evidence: this clone is shallow: git fetch --unshallow$")
-    hostile = {**planted.ENVIRONMENT, "GIT_TEST_ASSUME_DIFFERENT_OWNER": "1"}
-    faults += planted.faults_of_run("another owner", planted.run(room, CHECK, hostile), r"^evidence: git doesn't trust the owner of this folder: git config")
-    faults += planted.faults_of_run("no git", planted.run(room, CHECK, {**planted.ENVIRONMENT, "PATH": "/nowhere"}), r"^evidence: git isn't installed")
-    planted.git(room, "rm", "-q", "--cached", "*.md")
-    faults += planted.faults_of_run("no documents", planted.run(room, CHECK), r"^evidence: git keeps no documents here")
-    shutil.move(os.path.join(room, ".git"), os.path.join(room, ".gone"))
-    faults += planted.faults_of_run("no repository", planted.run(room, CHECK), r"^evidence: .* isn't a clone that git can read")
-    return faults, 5
+    more, count = planted.without_git(room, CHECK, "evidence")
+    return faults + more, count + 1
 
 
 # ---- the life of a result
@@ -117,9 +110,9 @@ def measured(room, name, text):
     said = os.path.join(room, "..", "said")
     with open(said, "w", encoding="utf-8") as file:
         file.write(f"commit {planted.git(room, 'rev-parse', '--short', 'HEAD').strip()}, machine: a test\n{text}\n")
-    status, told = planted.run(room, ALL, words=[name, "--from", said])
+    status, printed = planted.run(room, ALL, words=[name, "--from", said])
     if status != 0:
-        sys.exit(f"evidence_test: {ALL} {name} --from fails:\n{told}")
+        sys.exit(f"evidence_test: {ALL} {name} --from fails:\n{printed}")
 
 
 def refresh(room):

@@ -80,6 +80,20 @@ def plant(room, check, name, path, old, new, wanted):
         git(room, "checkout", "-q", "--", path)
 
 
+def without_git(room, check, name):
+    """What is wrong with a check's messages where git can't name the documents. The copy is of no use afterwards."""
+    owned = {**ENVIRONMENT, "GIT_TEST_ASSUME_DIFFERENT_OWNER": "1"}
+    faults = faults_of_run("another owner", run(room, check, owned), rf"^{name}: git doesn't trust the owner of this folder: git config --global --add safe\.directory")
+    faults += faults_of_run("no git", run(room, check, {**ENVIRONMENT, "PATH": "/nowhere"}), rf"^{name}: git isn't installed")
+    git(room, "rm", "-q", "--cached", "*.md")
+    faults += faults_of_run("no documents", run(room, check), rf"^{name}: git keeps no documents here")
+    shutil.move(os.path.join(room, ".git"), os.path.join(room, ".gone"))
+    faults += faults_of_run("no repository", run(room, check), rf"^{name}: .* isn't a clone that git can read")
+    git(os.path.dirname(room), "init", "-q")
+    faults += faults_of_run("another's repository", run(room, check), rf"^{name}: .* has no repository of its own")
+    return faults, 5
+
+
 def tell(faults, count):
     """Prints the outcome, and answers the status."""
     print("\n".join([*faults, f"{count} planted, {len(faults)} got through or were misread"]))
