@@ -58,17 +58,19 @@ def faults_of_run(name, ran, wanted):
 
 
 def edit(room, name, path, old, new):
-    """Plants a text in the place of `old`, or at the end of the file where that is None; with `new` None the file goes."""
+    """Plants a text in the place of `old` (a text or a compiled pattern), or at the end of the file where that is None; with `new`
+    None the file goes."""
     full = os.path.join(room, path)
     with open(full, encoding="utf-8") as file:
         text = file.read()
-    if old is not None and old not in text:
-        raise SystemExit(f"{name}: {path} hasn't the text to change: {old!r}")
+    pattern = re.compile(re.escape(old)) if isinstance(old, str) else old
+    if pattern and not pattern.search(text):
+        raise SystemExit(f"{name}: {path} hasn't the text to change: {pattern.pattern!r}")
     if new is None:
         os.unlink(full)
         return
     with open(full, "w", encoding="utf-8") as file:
-        file.write(text + new if old is None else text.replace(old, new, 1))
+        file.write(text + new if old is None else pattern.sub(new if pattern is old else lambda _: new, text, count=1))
 
 
 def plant(room, check, name, path, old, new, wanted):
