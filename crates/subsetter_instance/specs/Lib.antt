@@ -1,6 +1,7 @@
 pub mod Answer
 pub mod Components
 pub mod Drawn
+pub mod Extremes
 pub mod Fault
 pub mod Instance
 pub mod Kept

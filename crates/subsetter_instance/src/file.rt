@@ -47,8 +47,8 @@ fn new_tables(
     ensures glyf { IfOk result (λ t. t.glyf.items ≡ glyf_bytes (by_glyph mapper.now drawn.now count)) }
     ensures loca { IfOk result (λ t. t.loca.items ≡ loca_bytes (is_long (glyf_bytes (by_glyph mapper.now drawn.now count))) (offsets_from 0 (by_glyph mapper.now drawn.now count))) }
     ensures hmtx { IfOk result (λ t. t.hmtx.items ≡ hmtx_bytes (by_glyph mapper.now drawn.now count)) }
-    ensures head { IfOk result (λ t. t.head.items ≡ head_bytes (is_long (glyf_bytes (by_glyph mapper.now drawn.now count))) head.now) }
-    ensures hhea { IfOk result (λ t. t.hhea.items ≡ hhea_bytes count hhea.now) }
+    ensures head { IfOk result (λ t. t.head.items ≡ head_bytes (is_long (glyf_bytes (by_glyph mapper.now drawn.now count))) drawn.now head.now) }
+    ensures hhea { IfOk result (λ t. t.hhea.items ≡ hhea_bytes count drawn.now hhea.now) }
     ensures maxp { IfOk result (λ t. t.maxp.items ≡ maxp_bytes count drawn.now) }
     ensures err { IfErr result (λ e. e ≡ OutOfMemory) }
 {
@@ -57,8 +57,8 @@ fn new_tables(
     let hmtx = writing::hmtx(alloc, &all)?;
     let long = writing::is_long(&outlines.glyf);
     let loca = writing::loca(alloc, long, &outlines.offsets)?;
-    let head = headers::head(alloc, head, long)?;
-    let hhea = headers::hhea(alloc, hhea, count)?;
+    let head = headers::head(alloc, head, long, drawn)?;
+    let hhea = headers::hhea(alloc, hhea, count, drawn)?;
     let maxp = headers::maxp(alloc, count, drawn)?;
     Ok(NewTables {
         glyf: outlines.glyf,

@@ -5,6 +5,7 @@
 pub mod components;
 pub mod composite;
 pub mod drawn;
+pub mod extremes;
 pub mod file;
 pub mod glyph;
 pub mod headers;

@@ -23,8 +23,8 @@ found_by None r found e is h = absurd cc
 found_by (Some x) r found e is h = sym is ∙ ap (λ (y : Bor _). Some y.now) (done_is x r h)
 
 -- head of an instance has zeros for the adjustment
-pub has_room : (long : Bool) (head : List ℕ) → 52 ≤ length head → HasRoom (Some (head_bytes long head))
-has_room long head le bytes is = subst (λ b. (12 ≤ length b) × (with_adjustment 0 b ≡ b)) (just_is (head_bytes long head) bytes is) (head_room long head le, head_zeros long head le)
+pub has_room : (long : Bool) (ds : List Drawn) (head : List ℕ) → 52 ≤ length head → HasRoom (Some (head_bytes long ds head))
+has_room long ds head le bytes is = subst (λ b. (12 ≤ length b) × (with_adjustment 0 b ≡ b)) (just_is (head_bytes long ds head) bytes is) (head_room long ds head le, head_zeros long ds head le)
 
 module _ (find : List ℕ → Option (List ℕ)) (s : Source) (glyphs : List ℕ) (ds : List Drawn) (head hhea : List ℕ) (at_head : find (codes "head") ≡ Some head) (at_hhea : find (codes "hhea") ≡ Some hhea) where
   -- the tables of the file
@@ -36,7 +36,7 @@ module _ (find : List ℕ → Option (List ℕ)) (s : Source) (glyphs : List ℕ
   laid_is = rw (at_head, at_hhea) refl
 
   pub font_tables : 52 ≤ length head → AllByRecursion IsTable (present (rows font))
-  font_tables le = rows_tables font (has_room (is_long (glyf_bytes (by_glyph glyphs ds s.count))) head le)
+  font_tables le = rows_tables font (has_room (is_long (glyf_bytes (by_glyph glyphs ds s.count))) ds head le)
 
   module _ (ts : List Table) (t : FontTables) (n : ℕ) (count : n ≡ s.count) (is : ts ≡ present (rows t)) (made : t ≡ tables find head hhea n ds (by_glyph glyphs ds n)) where
     same : ts ≡ present (rows font)
