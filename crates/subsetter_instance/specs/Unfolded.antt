@@ -172,7 +172,7 @@ placed c x y before part = do
   by ← shift_by c.arguments (is_scaled c.flags c.matrix) x y before (transformed_xs c.matrix part.xs part.ys) (transformed_ys c.matrix part.xs part.ys)
   Ok (record part { xs = shifted by.0 (transformed_xs c.matrix part.xs part.ys); ys = shifted by.1 (transformed_ys c.matrix part.xs part.ys) })
 
--- behind the components before it, whose phantom points stay: at most 65535 points
+-- behind the components before it: at most 65535 points
 abbrev pub joined_parts : Unfolded → Unfolded → Unfolded
 joined_parts before part = record before {
   ends = before.ends ++ map (λ e. e + length before.on) part.ends;
@@ -206,6 +206,14 @@ with_points c x y before part xs ys steps = do
   by ← shift_by c.arguments (is_scaled c.flags c.matrix) x y before xs ys
   joined_moved before part by.0 by.1 xs ys steps
 
+-- USE_MY_METRICS: the phantom points of a component, as it is at the place, before its matrix and its offset, take the place of the glyph's
+-- own and of those of the components before it
+abbrev pub with_metrics : ℕ → Unfolded → Unfolded → Unfolded
+with_metrics flags before part = if has flags 0x0200 then record before { left = part.left; right = part.right } else before
+
+abbrev pub with_component : Component → ℤ → ℤ → Unfolded → Unfolded → ℕ → Result (Unfolded × ℕ) Error
+with_component c x y before part steps = with_part c x y (with_metrics c.flags before part) part steps
+
 -- ---- a composite glyph
 
 -- of a component's number what it unfolds to, in the steps that are left
@@ -217,7 +225,7 @@ unfoldable pub joined : Child → List Component → ℕ → List ℤ → List �
 joined child [] k xs ys before = Ok before
 joined child (c ∷ cs) k xs ys before = do
   part ← child before.1 c.glyph
-  all ← with_part c (slice_index_or xs k (pos 0)) (slice_index_or ys k (pos 0)) before.0 part.0 part.1
+  all ← with_component c (slice_index_or xs k (pos 0)) (slice_index_or ys k (pos 0)) before.0 part.0 part.1
   joined child cs (k + 1) xs ys all
 
 -- no points yet
