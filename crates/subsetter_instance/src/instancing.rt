@@ -20,7 +20,7 @@ ghost use Rattle.subsetter_instance.specs.Plain.{instance_in};
 
 use crate::drawn::draw_all;
 use crate::file::laid;
-use crate::source::{place, source_in};
+use crate::source::{place, source_or_fault};
 use std::alloc::Global;
 use subsetter_base::{Error, GlyphRemapper, Tag};
 use subsetter_sfnt::extras::Extras;
@@ -55,7 +55,7 @@ fn make(
     ensures { Gives (λ v. v.items) result (instance_in (table_in face.now.«data».now face.now.records.now) coordinates.now mapper.now steps) }
 {
     let at = place(alloc, face, coordinates)?;
-    let source = source_in(face, at.len()).ok_or(Error::MalformedFont)?;
+    let source = source_or_fault(face, at.len())?;
     let drawn = draw_all(alloc, &source, &at, steps, mapper)?;
     laid(alloc, face, &source, mapper, &drawn)
 }
@@ -74,8 +74,8 @@ fn make(
 /// memory.
 ///
 /// - `UnknownKind`: the file doesn't begin with a known kind of font, or has none of `glyf`, `CFF ` and `CFF2`.
-/// - `Unimplemented`: the outlines aren't those of `glyf`; `avar` has a major version other than 1; or a glyph is made in a
-///   way that isn't taken.
+/// - `Unimplemented`: the outlines aren't those of `glyf`; `fvar`, `avar`, `gvar` or `HVAR` has a major version other than 1;
+///   or a glyph is made in a way that isn't taken.
 /// - `MalformedFont`: the directory, `fvar`, `avar`, `gvar` or `HVAR` is cut, or a table of outlines or metrics is missing or
 ///   cut; a glyph isn't one of the font's, or its description, its metric or its variations can't be read.
 /// - `OverflowError`: a glyph takes more than `steps`; a coordinate, the delta between two points or the advance doesn't fit

@@ -13,7 +13,7 @@ use Rattle.subsetter_sfnt.specs.Written.{fits, start_of}
 use Rattle.subsetter_instance.specs.Source.{Source, place, source_in}
 use Rattle.subsetter_instance.specs.Drawn.{Drawn, drawn}
 use Rattle.subsetter_instance.specs.Plain.{drawn_all, by_flavor, instance_of}
-use Rattle.subsetter_instance.specs.Fault.{HasGlyphFault, HasInstanceFault, in_opening, no_glyf, no_place, no_source, in_glyph, large_file}
+use Rattle.subsetter_instance.specs.Fault.{HasGlyphFault, HasInstanceFault, in_opening, no_glyf, no_place, other_version, no_source, in_glyph, large_file}
 use Rattle.subsetter_instance.specs.Answer.{IsAnswer}
 use Rattle.subsetter_instance.proofs.FaultLaws.Opening.{no_opening_fault}
 use Rattle.subsetter_instance.proofs.FaultLaws.Glyph.{drawn_clean}
@@ -48,6 +48,7 @@ module _ (font : Font) (settings : List (Tag × ℤ)) (glyphs : List ℕ) (steps
   no_fault e opening (in_opening f) = opening f
   no_fault e opening (no_glyf none cff) = let g = source_glyf (stored font) (length i.at) i.source i.source_is in some_not_none (stored font (codes "glyf")) g.0 g.1 none
   no_fault e opening (no_place h) = ok_not_err (place (stored font) settings) i.at e i.place_is h
+  no_fault e opening (other_version h) = let clash : true ≡ false = sym h ∙ i.known in cc
   no_fault e opening (no_source at p h) = some_not_none (source_in (stored font) (length at)) i.source (ap (λ (l : List ℤ). source_in (stored font) (length l)) (sym (same_place at p)) ∙ i.source_is) h
   no_fault e opening (in_glyph at s g p h there f) = no_fault_in e at s g (same_place at p) (same_source at s p h) there f
   no_fault e opening (large_file at s ds head hhea p h drawn at_head at_hhea f) = not_large at s ds head hhea (same_place at p) (same_source at s p h) drawn at_head at_hhea f
