@@ -14,6 +14,7 @@ use Rattle.subsetter_instance.specs.declared.source.Metric.{Metric}
 use Rattle.subsetter_instance.specs.Unfolded.{Unfolded, unfolded}
 use Rattle.subsetter_instance.specs.Drawn.{Drawn, levels, advance, points_or_fault}
 use Rattle.subsetter_instance.specs.Plain.{drawn_all}
+use Rattle.subsetter_instance.specs.Lines.{Lines, lines_of, with_lines}
 use Rattle.subsetter_instance.specs.Written.{by_glyph, tables}
 
 -- a fault of one glyph of the tables at a place, in so many steps
@@ -40,11 +41,13 @@ pub data HasInstanceFault (font : Font) (settings : List (Tag × ℤ)) (glyphs :
   no_glyf : stored font (codes "glyf") ≡ None → IsSome (stored font (codes "CFF ")) → HasInstanceFault font settings glyphs steps Unimplemented
   -- fvar or avar is cut, or one of them has another version
   no_place : {e : Error} → place (stored font) settings ≡ Err e → HasInstanceFault font settings glyphs steps e
-  -- gvar or HVAR has another version
+  -- gvar, HVAR or MVAR has another version
   other_version : has_other_version (stored font) ≡ true → HasInstanceFault font settings glyphs steps Unimplemented
   -- a table that outlines, metrics or variations are read from is missing or cut
   no_source : (at : List ℤ) → place (stored font) settings ≡ Ok at → source_in (stored font) (length at) ≡ None → HasInstanceFault font settings glyphs steps MalformedFont
   in_glyph : {e : Error} (at : List ℤ) (s : Source) (g : ℕ) → place (stored font) settings ≡ Ok at → source_in (stored font) (length at) ≡ Some s → Contains glyphs g → HasGlyphFault s at steps g e → HasInstanceFault font settings glyphs steps e
+  -- MVAR is cut or has no item for a metric of hhea or post, or this has no 16 bits where it varies
+  no_lines : {e : Error} (at : List ℤ) → place (stored font) settings ≡ Ok at → lines_of (stored font) at ≡ Err e → HasInstanceFault font settings glyphs steps e
   -- a table's place or length doesn't fit 32 bits
-  large_file : (at : List ℤ) (s : Source) (ds : List Drawn) (head hhea : List ℕ) → place (stored font) settings ≡ Ok at → source_in (stored font) (length at) ≡ Some s → drawn_all s at steps glyphs ≡ Ok ds → stored font (codes "head") ≡ Some head → stored font (codes "hhea") ≡ Some hhea
-      → fits (start_of (present (rows (tables (stored font) head hhea s.count ds (by_glyph glyphs ds s.count))))) (present (rows (tables (stored font) head hhea s.count ds (by_glyph glyphs ds s.count)))) ≡ false → HasInstanceFault font settings glyphs steps OverflowError
+  large_file : (at : List ℤ) (s : Source) (ds : List Drawn) (lines : Lines) (head : List ℕ) → place (stored font) settings ≡ Ok at → source_in (stored font) (length at) ≡ Some s → drawn_all s at steps glyphs ≡ Ok ds → lines_of (stored font) at ≡ Ok lines → stored font (codes "head") ≡ Some head
+      → fits (start_of (present (rows (tables (with_lines (stored font) lines) head lines.hhea s.count ds (by_glyph glyphs ds s.count))))) (present (rows (tables (with_lines (stored font) lines) head lines.hhea s.count ds (by_glyph glyphs ds s.count)))) ≡ false → HasInstanceFault font settings glyphs steps OverflowError

@@ -6,6 +6,7 @@ pub mod Fault
 pub mod Instance
 pub mod Kept
 pub mod Laws
+pub mod Lines
 pub mod Optional
 pub mod Plain
 pub mod Source

@@ -57,9 +57,9 @@ source_in find axes = do
   gvar ← variations_in (find (codes "gvar")) axes
   Some (record { glyf = glyf; loca = loca; long = not (format == 0); count = count; pairs = pairs; hmtx = hmtx; gvar = gvar; hvar = find (codes "HVAR") })
 
--- gvar or HVAR has another major version than 1
+-- gvar, HVAR or MVAR has another major version than 1
 abbrev pub has_other_version : (List ℕ → Option (List ℕ)) → Bool
-has_other_version find = is_other_version (find (codes "gvar")) || is_other_version (find (codes "HVAR"))
+has_other_version find = is_other_version (find (codes "gvar")) || (is_other_version (find (codes "HVAR")) || is_other_version (find (codes "MVAR")))
 
 -- the tables, or the name of what is wrong
 abbrev pub source_or_fault : (List ℕ → Option (List ℕ)) → ℕ → Result Source Error

@@ -70,7 +70,7 @@ most_contours drawn = fold max 0 (map (λ d. length d.ends) drawn)
 abbrev pub maxp_bytes : ℕ → List Drawn → List ℕ
 maxp_bytes n drawn = to_be_bytes w32 0x00010000 ++ flat_map (to_be_bytes w16) (n ∷ most_points drawn ∷ most_contours drawn ∷ 0 ∷ 0 ∷ 1 ∷ 0 ∷ 0 ∷ 0 ∷ 0 ∷ 0 ∷ 0 ∷ 0 ∷ 1 ∷ [])
 
--- the tables: no hinting, and name and post as they are
+-- the tables: no hinting, and name and post as they are found
 abbrev pub tables : (List ℕ → Option (List ℕ)) → List ℕ → List ℕ → ℕ → List Drawn → List (Option Drawn) → FontTables
 tables find head hhea n drawn all = record {
   cff = None;

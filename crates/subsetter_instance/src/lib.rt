@@ -12,6 +12,7 @@ pub mod headers;
 pub mod instancing;
 pub mod kept;
 pub mod laws;
+pub mod lines;
 pub mod placing;
 pub mod simple;
 pub mod source;

@@ -101,7 +101,7 @@ pub fn source_in<'a>(face: &Face<'a>, axes: usize) -> Option<Source<'a>>
     })
 }
 
-/// The same. `Unimplemented` where `gvar` or `HVAR` has a major version other than 1, else `MalformedFont` where a table is missing or
+/// The same. `Unimplemented` where `gvar`, `HVAR` or `MVAR` has a major version other than 1, else `MalformedFont` where a table is missing or
 /// cut.
 pub fn source_or_fault<'a>(face: &Face<'a>, axes: usize) -> Result<Source<'a>, Error>
     ensures value { result ≡ source_or_fault (table_in face.now.«data».now face.now.records.now) axes }
@@ -109,7 +109,8 @@ pub fn source_or_fault<'a>(face: &Face<'a>, axes: usize) -> Result<Source<'a>, E
 {
     let gvar = face.stored(Tag::new(b"gvar"));
     let hvar = face.stored(Tag::new(b"HVAR"));
-    if is_other_version(gvar) || is_other_version(hvar) {
+    let mvar = face.stored(Tag::new(b"MVAR"));
+    if is_other_version(gvar) || (is_other_version(hvar) || is_other_version(mvar)) {
         return Err(Error::Unimplemented);
     }
     source_in(face, axes).ok_or(Error::MalformedFont)

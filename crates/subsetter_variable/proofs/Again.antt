@@ -19,10 +19,12 @@ use Rattle.subsetter_instance.specs.Source.{Source, place_by, source_in, variati
 use Rattle.subsetter_instance.specs.Drawn.{Drawn, drawn}
 use Rattle.subsetter_instance.specs.Extremes.{all_extents, box_bytes, extreme_bytes}
 use Rattle.subsetter_instance.specs.Instance.{IsInstance}
+use Rattle.subsetter_instance.specs.Lines.{Lines, lines_of, with_lines}
 use Rattle.subsetter_instance.specs.Plain.{drawn_if, drawn_all}
 use Rattle.subsetter_instance.specs.Written.{by_glyph, glyf_bytes, is_long, offsets_from, loca_bytes, hmtx_bytes, head_bytes, hhea_bytes, maxp_bytes, tables}
 use Rattle.subsetter_instance.proofs.FileLaws.Among.{drawn_one}
 use Rattle.subsetter_instance.proofs.FileLaws.Laid.{has_room}
+use Rattle.subsetter_instance.proofs.FileLaws.Lines.{still_lines}
 use Rattle.subsetter_instance.proofs.FileLaws.Steps.{InstanceSteps, font_steps, source_steps}
 use Rattle.subsetter_variable.proofs.Redrawn.{redrawn}
 use Rattle.subsetter_variable.proofs.SourceRead.{IsRead, is_read}
@@ -34,7 +36,7 @@ module _ (font : Font) (settings : List (Tag × ℤ)) (glyphs : List ℕ) (steps
   all = by_glyph glyphs p.ds p.source.count
 
   abbrev laid : FontTables
-  laid = tables (stored font) p.head p.hhea p.source.count p.ds all
+  laid = tables (with_lines (stored font) p.lines) p.head p.lines.hhea p.source.count p.ds all
 
   long_head : 52 ≤ length p.head
   long_head =
@@ -128,29 +130,40 @@ module _ (font : Font) (settings : List (Tag × ℤ)) (glyphs out again : List �
   same_count : q.source.count ≡ p.source.count
   same_count = ap (λ (s : Source). s.count) own_source ∙ i.count ∙ ap (λ (s : Source). s.count) (sym first_source)
 
+  -- the second instance has no MVAR, so that its hhea and post stay
+  still_rows : (stored (as_font out) (codes "hhea") ≡ Some q.lines.hhea) × (q.lines.post ≡ stored (as_font out) (codes "post"))
+  still_rows = still_lines (stored (as_font out)) q.at q.lines (back font settings glyphs i.steps out p (codes "MVAR") refl) q.lines_are
+
+  first_lines : i.lines ≡ p.lines
+  first_lines = done_is i.lines p.lines (sym i.lines_are ∙ ap (lines_of (stored font)) (sym first_place) ∙ p.lines_are)
+
   head_kept : (long : Bool) (ds : List Drawn) → head_bytes long ds q.head ≡ head_bytes long ds p.head
   head_kept long ds =
       let source : i.head.source ≡ p.head = just_is i.head.source p.head (sym i.head.source_is ∙ p.head_is) in
       let copy : q.head ≡ i.head.copy = just_is q.head i.head.copy (sym q.head_is ∙ i.head.copy_is) in
       same_head long ds q.head p.head (ap (take 8) copy ∙ i.head.front ∙ ap (take 8) source) (i.head_middle p.head q.head p.head_is q.head_is) (i.head_style p.head q.head p.head_is q.head_is) (ap (drop 52) copy ∙ i.head.end ∙ ap (drop 52) source)
 
-  hhea_kept : (n : ℕ) (ds : List Drawn) → hhea_bytes n ds q.hhea ≡ hhea_bytes n ds p.hhea
+  hhea_kept : (n : ℕ) (ds : List Drawn) → hhea_bytes n ds q.lines.hhea ≡ hhea_bytes n ds p.lines.hhea
   hhea_kept n ds =
-      let source : i.hhea.source ≡ p.hhea = just_is i.hhea.source p.hhea (sym i.hhea.source_is ∙ p.hhea_is) in
-      let copy : q.hhea ≡ i.hhea.copy = just_is q.hhea i.hhea.copy (sym q.hhea_is ∙ i.hhea.copy_is) in
-      same_hhea n ds q.hhea p.hhea (ap (take 10) copy ∙ i.hhea.front ∙ ap (take 10) source) (i.hhea_middle p.hhea q.hhea p.hhea_is q.hhea_is) (ap (drop 36) copy ∙ i.hhea.end ∙ ap (drop 36) source)
+      let source : i.hhea.source ≡ i.lines.hhea = just_is i.hhea.source i.lines.hhea (sym i.hhea.source_is) in
+      let copy : q.lines.hhea ≡ i.hhea.copy = just_is q.lines.hhea i.hhea.copy (sym still_rows.0 ∙ i.hhea.copy_is) in
+      same_hhea n ds q.lines.hhea i.lines.hhea (ap (take 10) copy ∙ i.hhea.front ∙ ap (take 10) source) (i.hhea_middle i.lines.hhea q.lines.hhea refl still_rows.0) (ap (drop 36) copy ∙ i.hhea.end ∙ ap (drop 36) source)
+      ∙ ap (λ (l : Lines). hhea_bytes n ds l.hhea) first_lines
 
-  same_parts : (n : ℕ) (ds : List Drawn) (all : List (Option Drawn)) → tables (stored (as_font out)) q.head q.hhea n ds all ≡ tables (stored font) p.head p.hhea n ds all
+  post_kept : q.lines.post ≡ p.lines.post
+  post_kept = still_rows.1 ∙ i.post ∙ ap (λ (l : Lines). l.post) first_lines
+
+  same_parts : (n : ℕ) (ds : List Drawn) (all : List (Option Drawn)) → tables (with_lines (stored (as_font out)) q.lines) q.head q.lines.hhea n ds all ≡ tables (with_lines (stored font) p.lines) p.head p.lines.hhea n ds all
   same_parts n ds all =
       let long = is_long (glyf_bytes all) in
-      ap (λ (l : List ℕ). with_parts n ds all l (hhea_bytes n ds q.hhea) (stored (as_font out) (codes "name")) (stored (as_font out) (codes "post"))) (head_kept long ds)
-      ∙ ap (λ (l : List ℕ). with_parts n ds all (head_bytes long ds p.head) l (stored (as_font out) (codes "name")) (stored (as_font out) (codes "post"))) (hhea_kept n ds)
-      ∙ ap (λ (o : Option (List ℕ)). with_parts n ds all (head_bytes long ds p.head) (hhea_bytes n ds p.hhea) o (stored (as_font out) (codes "post"))) i.name
-      ∙ ap (λ (o : Option (List ℕ)). with_parts n ds all (head_bytes long ds p.head) (hhea_bytes n ds p.hhea) (stored font (codes "name")) o) i.post
+      ap (λ (l : List ℕ). with_parts n ds all l (hhea_bytes n ds q.lines.hhea) (stored (as_font out) (codes "name")) q.lines.post) (head_kept long ds)
+      ∙ ap (λ (l : List ℕ). with_parts n ds all (head_bytes long ds p.head) l (stored (as_font out) (codes "name")) q.lines.post) (hhea_kept n ds)
+      ∙ ap (λ (o : Option (List ℕ)). with_parts n ds all (head_bytes long ds p.head) (hhea_bytes n ds p.lines.hhea) o q.lines.post) i.name
+      ∙ ap (λ (o : Option (List ℕ)). with_parts n ds all (head_bytes long ds p.head) (hhea_bytes n ds p.lines.hhea) (stored font (codes "name")) o) post_kept
 
   pub itself_again : again ≡ out
   itself_again =
       sym q.file_is
-      ∙ ap (λ (n : ℕ). file (kind_word TrueType) (present (rows (tables (stored (as_font out)) q.head q.hhea n q.ds (by_glyph glyphs q.ds n))))) same_count
-      ∙ ap (λ (ds : List Drawn). file (kind_word TrueType) (present (rows (tables (stored (as_font out)) q.head q.hhea p.source.count ds (by_glyph glyphs ds p.source.count))))) same_drawn
+      ∙ ap (λ (n : ℕ). file (kind_word TrueType) (present (rows (tables (with_lines (stored (as_font out)) q.lines) q.head q.lines.hhea n q.ds (by_glyph glyphs q.ds n))))) same_count
+      ∙ ap (λ (ds : List Drawn). file (kind_word TrueType) (present (rows (tables (with_lines (stored (as_font out)) q.lines) q.head q.lines.hhea p.source.count ds (by_glyph glyphs ds p.source.count))))) same_drawn
       ∙ ap (λ (t : FontTables). file (kind_word TrueType) (present (rows t))) (same_parts p.source.count p.ds (by_glyph glyphs p.ds p.source.count)) ∙ p.file_is

@@ -80,7 +80,7 @@ impl<'a> Model for Row<'a> {
 }
 
 /// The signed number of two bytes.
-fn signed_at(bytes: &[u8], at: usize) -> i16
+pub fn signed_at(bytes: &[u8], at: usize) -> i16
     requires { at + 2 ≤ length bytes.now }
     ensures { result ≡ signed_at bytes.now at }
 {
@@ -108,6 +108,15 @@ impl Readable<'_> for RegionAxis {
 
     fn read(r: &mut Reader<'_>) -> Option<Self> {
         Some(region_axis_in(r.read_bytes(6)?))
+    }
+}
+
+impl<'a> Store<'a> {
+    /// How many axes its regions have.
+    pub fn axis_count(&self) -> u16
+        ensures { result ≡ self.now.axis_count }
+    {
+        self.axis_count
     }
 }
 
@@ -441,7 +450,7 @@ fn varied_advance(hvar: &[u8], at: &[i32], glyph: u16) -> Option<i128>
 }
 
 /// Parts of 2^30 as whole units, unless there are too many.
-fn in_whole_units(d: i128) -> Result<i64, Error>
+pub(crate) fn in_whole_units(d: i128) -> Result<i64, Error>
     ensures { result ≡ in_whole_units d }
 {
     if d.unsigned_abs() < 1 << 62 {

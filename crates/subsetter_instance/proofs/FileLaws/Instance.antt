@@ -11,9 +11,11 @@ use Rattle.subsetter_instance.proofs.FileLaws.Afresh.{made, container, afresh, r
 module _ (font : Font) (settings : List (Tag × ℤ)) (glyphs : List ℕ) (steps : ℕ) (out : List ℕ) (bytes : IsBytes font.bytes) where
   unfoldable by_steps : (i : InstanceSteps (stored font) settings glyphs steps out) → instance_of font settings glyphs steps ≡ Ok (made font settings glyphs steps out bytes i) → IsInstance font settings glyphs (made font settings glyphs steps out bytes i)
   by_steps i laid = record {
-    container = container font settings glyphs steps out bytes i;
     at = i.at;
     place_is = i.place_is;
+    lines = i.lines;
+    lines_are = i.lines_are;
+    container = container font settings glyphs steps out bytes i;
     source = i.source;
     source_is = i.source_is;
     out = afresh font settings glyphs steps out bytes i;

@@ -19,6 +19,7 @@ use Rattle.subsetter_variation.specs.Tuples.{Gvar}
 use Rattle.subsetter_instance.specs.Source.{Source, has_other_version, place, source_in, source_or_fault, variations_in}
 use Rattle.subsetter_instance.specs.Drawn.{Drawn}
 use Rattle.subsetter_instance.specs.Plain.{drawn_all, header, laid, instance_in, by_flavor, instance_of}
+use Rattle.subsetter_instance.specs.Lines.{Lines, lines_of, with_lines}
 use Rattle.subsetter_instance.specs.Written.{by_glyph, tables}
 
 -- ---- the source
@@ -138,8 +139,8 @@ file_steps kind ts out h = by (fits (start_of ts) ts) refl h
 -- ---- all
 
 -- the tables that are laid out
-abbrev pub laid_tables : (List ℕ → Option (List ℕ)) → Source → List ℕ → List Drawn → List ℕ → List ℕ → List Table
-laid_tables find s glyphs ds head hhea = present (rows (tables find head hhea s.count ds (by_glyph glyphs ds s.count)))
+abbrev pub laid_tables : (List ℕ → Option (List ℕ)) → Lines → Source → List ℕ → List Drawn → List ℕ → List Table
+laid_tables find lines s glyphs ds head = present (rows (tables (with_lines find lines) head lines.hhea s.count ds (by_glyph glyphs ds s.count)))
 
 pub record InstanceSteps (find : List ℕ → Option (List ℕ)) (settings : List (Tag × ℤ)) (glyphs : List ℕ) (steps : ℕ) (out : List ℕ) : Type 0 where
   pub at : List ℤ
@@ -151,21 +152,21 @@ pub record InstanceSteps (find : List ℕ → Option (List ℕ)) (settings : Lis
   pub drawn_is : drawn_all source at steps glyphs ≡ Ok ds
   pub head : List ℕ
   pub head_is : find (codes "head") ≡ Some head
-  pub hhea : List ℕ
-  pub hhea_is : find (codes "hhea") ≡ Some hhea
-  pub fit : fits (start_of (laid_tables find source glyphs ds head hhea)) (laid_tables find source glyphs ds head hhea) ≡ true
-  pub file_is : file (kind_word TrueType) (laid_tables find source glyphs ds head hhea) ≡ out
+  pub lines : Lines
+  pub lines_are : lines_of find at ≡ Ok lines
+  pub fit : fits (start_of (laid_tables find lines source glyphs ds head)) (laid_tables find lines source glyphs ds head) ≡ true
+  pub file_is : file (kind_word TrueType) (laid_tables find lines source glyphs ds head) ≡ out
 
 instance_steps : (find : List ℕ → Option (List ℕ)) (settings : List (Tag × ℤ)) (glyphs : List ℕ) (steps : ℕ) (out : List ℕ) → instance_in find settings glyphs steps ≡ Ok out → InstanceSteps find settings glyphs steps out
 unfolding instance_in laid
 instance_steps find settings glyphs steps out h =
-    let a = bind_ok (place find settings) (λ at. source_or_fault find (length at) >>= λ s. drawn_all s at steps glyphs >>= λ ds. laid find s glyphs ds) out h in
-    let b = bind_ok (source_or_fault find (length a.0)) (λ s. drawn_all s a.0 steps glyphs >>= λ ds. laid find s glyphs ds) out a.2 in
+    let a = bind_ok (place find settings) (λ at. source_or_fault find (length at) >>= λ s. drawn_all s at steps glyphs >>= λ ds. lines_of find at >>= λ lines. laid find lines s glyphs ds) out h in
+    let b = bind_ok (source_or_fault find (length a.0)) (λ s. drawn_all s a.0 steps glyphs >>= λ ds. lines_of find a.0 >>= λ lines. laid find lines s glyphs ds) out a.2 in
     let r = source_read find (length a.0) b.0 b.1 in
-    let c = bind_ok (drawn_all b.0 a.0 steps glyphs) (λ ds. laid find b.0 glyphs ds) out b.2 in
-    let d = bind_ok (header find (codes "head")) (λ head. header find (codes "hhea") >>= λ hhea. file_of (kind_word TrueType) (laid_tables find b.0 glyphs c.0 head hhea)) out c.2 in
-    let e = bind_ok (header find (codes "hhea")) (λ hhea. file_of (kind_word TrueType) (laid_tables find b.0 glyphs c.0 d.0 hhea)) out d.2 in
-    let f = file_steps (kind_word TrueType) (laid_tables find b.0 glyphs c.0 d.0 e.0) out e.2 in
+    let c = bind_ok (drawn_all b.0 a.0 steps glyphs) (λ ds. lines_of find a.0 >>= λ lines. laid find lines b.0 glyphs ds) out b.2 in
+    let l = bind_ok (lines_of find a.0) (λ lines. laid find lines b.0 glyphs c.0) out c.2 in
+    let d = bind_ok (header find (codes "head")) (λ head. file_of (kind_word TrueType) (laid_tables find l.0 b.0 glyphs c.0 head)) out l.2 in
+    let f = file_steps (kind_word TrueType) (laid_tables find l.0 b.0 glyphs c.0 d.0) out d.2 in
     record {
       at = a.0;
       place_is = a.1;
@@ -176,8 +177,8 @@ instance_steps find settings glyphs steps out h =
       drawn_is = c.1;
       head = d.0;
       head_is = named_ok (find (codes "head")) MalformedFont d.0 d.1;
-      hhea = e.0;
-      hhea_is = named_ok (find (codes "hhea")) MalformedFont e.0 e.1;
+      lines = l.0;
+      lines_are = l.1;
       fit = f.0;
       file_is = f.1;
     }
