@@ -111,15 +111,6 @@ impl Readable<'_> for RegionAxis {
     }
 }
 
-impl<'a> Store<'a> {
-    /// How many axes its regions have.
-    pub fn axis_count(&self) -> u16
-        ensures { result ≡ self.now.axis_count }
-    {
-        self.axis_count
-    }
-}
-
 /// The store that these bytes begin, unless it is cut.
 #[tactic(auto, unfolding(crate::specs::ItemVariations::item_store))]
 pub fn item_store(bytes: &[u8]) -> Option<Store<'_>>
