@@ -1,8 +1,9 @@
 -- A glyph at a place, unfolded: where its contours and its phantom points lie (OpenType, "glyf": "Phantom points", and "gvar").
-use Rattle.std.specs.Prelude.{◌≡◌, ◌≤◌, ◌<◌, ℕ, zero, suc, ◌+◌, ◌^◌, Bool, false, ◌&&◌, List, [], ◌∷◌, ◌++◌, length, take, map, zip, All, slice_get, slice_index_or, Option, Some, None, Result, Ok, Err, nat_le, nat_lt, if◌then◌else◌, ℤ, pos, ◌+ℤ◌, ◌-ℤ◌, ◌*ℤ◌, unsigned_abs}
+use Rattle.std.specs.Prelude.{◌≡◌, ◌≤◌, ◌<◌, ℕ, zero, suc, ◌+◌, ◌^◌, Bool, false, not, ◌&&◌, ◌||◌, List, [], ◌∷◌, ◌++◌, length, take, map, zip, All, slice_get, slice_index_or, Option, Some, None, Result, Ok, Err, nat_le, nat_lt, if◌then◌else◌, ℤ, pos, ◌+ℤ◌, ◌-ℤ◌, ◌*ℤ◌, unsigned_abs}
 use Rattle.std.specs.Int.{w16, cast_signed}
 use Rattle.std.specs.List.{list_all, range_with_len}
 use Rattle.std.specs.Option.{ok_or}
+use Rattle.std.specs.Ordering.{int_eq}
 use Rattle.subsetter_base.specs.Bytes.{number, ◌>>=◌}
 use Rattle.subsetter_base.specs.declared.error.Error.{Error}
 use Rattle.subsetter_base.specs.declared.error.Error.TheVariants.{MalformedFont, Unimplemented, OverflowError}
@@ -145,10 +146,15 @@ transformed_ys (Some m) xs ys = map (transformed_y m) (zip xs ys)
 abbrev pub shifted : ℤ → List ℤ → List ℤ
 shifted by vs = map (λ v. v +ℤ by) vs
 
--- SCALED_COMPONENT_OFFSET with a matrix
+-- a matrix that changes nothing
+abbrev pub is_identity : Matrix → Bool
+is_identity m = int_eq m.xx (pos 16384) && (int_eq m.yx (pos 0) && (int_eq m.xy (pos 0) && int_eq m.yy (pos 16384)))
+
+-- An offset is to be scaled: SCALED_COMPONENT_OFFSET with a matrix that isn't the identity (OpenType, "glyf": composite glyph flags). Beside
+-- UNSCALED_COMPONENT_OFFSET, which is the default, it doesn't count.
 abbrev pub is_scaled : ℕ → Option Matrix → Bool
 is_scaled flags None = false
-is_scaled flags (Some m) = has flags 0x0800
+is_scaled flags (Some m) = has flags 0x0800 && not (has flags 0x1000 || is_identity m)
 
 -- a point by its number
 abbrev pub point_at : List ℤ → List ℤ → ℕ → Option (ℤ × ℤ)
