@@ -1,7 +1,10 @@
 #!/usr/bin/env python3
 """Runs the built program subset_font on a table of rows, and compares all that it leaves behind.
 
-program.py [--program FILE] [--only WORD]
+program.py [--program FILE] [--only WORD] [--cargo]
+
+With --cargo it is the build of bindings/rust: what that does otherwise is a row of `CLOSED` or of `STD_ASKS`, with the reason, and
+has to be so. Where its row would hold as for the other build, it is a row too many, and fails.
 
 Each row has words, a standard input and files, and says the status, the standard output, the standard error, and the files
 that are there afterwards. The options are also compared with `--help`, docs/CLI.md and the manual page, and the version with
@@ -110,11 +113,11 @@ VARIABLE = bytes.fromhex(
     "01f4000001f4000000000000000a0017002300000001000000040006000200000000000100000000000000000000000000000001"
 )
 AT_650 = bytes.fromhex(
-    "000100000006004000020020676c7966b165fa770000006c0000004c6865616460a64275000000b80000003668686561051601310000"
+    "000100000006004000020020676c7966f1667a770000006c0000004c686561646074415c000000b80000003668686561048001d10000"
     "00f000000024686d747807da000d00000114000000106c6f63610030001a000001240000000a6d617870000700080000013000000020"
-    "00010000000000640063000200003133276430630002000d0000015e00770002000500003733271733270d6430eb3218146377310001"
-    "0000000000dc006400040000313333352337a5dc64000001000000010000f8c89bf25f0f3cf5000303e8000000000000000000000000"
-    "000000000000000001900190000000080002000000000000000100000320ff38000001f40000000001f4000100000000000000000000"
+    "00010000000000640063000200007133276430630002000d0000015e00770002000500007733271733270d6430eb3218146377310001"
+    "0000000000dc006400040000713333352337a5dc640000010000000100007a579ce45f0f3cf5000303e8000000000000000000000000"
+    "0000000000000000015e0077000000080002000000000000000100000320ff38000001fe00000096015e000100000000000000000000"
     "00000000000401f4000001fe000001f4000d01f4000000000000000a001a002600000001000000040006000200000000000100000000"
     "000000000000000000000001"
 )
@@ -439,9 +442,52 @@ ROWS = [
 ]
 
 
+# ---- what the build by Cargo does otherwise
+
+# A stream that is closed at the start: its number, the words, the status, what the two others get (None: the closed one), and the
+# same of the build by Cargo where it isn't so there, as Rust's `std` opens /dev/null in the stream's place before `main`.
+CLOSED = [
+    (0, "- out 0 2", (3, b"", b"cannot read -\n"), (1, b"", b"unknown font kind\n")),
+    (0, "--gids-file - six out 0", (3, b"", b"cannot read -\n"), (0, b"", b"")),
+    (0, "simple out 0 2", (0, lines((2, 1)), b""), None),
+    (1, "simple out 0 2", (3, None, b"cannot write standard output\n"), (0, None, b"")),
+    (1, "simple - 0 2", (3, None, b"cannot write -\n"), (0, None, lines((2, 1)))),
+    (1, "--help", (3, None, b"cannot write standard output\n"), (0, None, b"")),
+    (1, "--version", (3, None, b"cannot write standard output\n"), (0, None, b"")),
+    (1, "--axes variable 0", (3, None, b"cannot write standard output\n"), (0, None, b"")),
+    (1, "--at wdth=1 simple out 0 2", (3, None, b"cannot write standard output\n"), (0, None, b"no axis wdth in the font\n")),
+    (1, "--quiet simple out 0 2", (0, None, b""), None),
+    (1, "simple out 0 9", (1, None, b"malformed font\n"), None),
+    (2, "simple - 0 2", (3, SIMPLE_2, None), (0, SIMPLE_2, None)),
+    (2, "simple out 0 2", (0, lines((2, 1)), None), None),
+    (2, "simple out 0 x", (2, b"", None), None),
+]
+
+# What Rust's `std` asks for by itself, in bytes, and why: where that alone is refused the process ends, before any file is made.
+# Where memory is short the program is refused as much before, and tells so. It asks for the arguments too: for their list,
+# and for each that isn't empty.
+STD_ASKS = [
+    (4, "before main: the name of the main thread"),
+    (544, "before main: what the thread's stack is, for a message when it is full"),
+    (1024, "the buffer of standard output, which isn't used, but a stream isn't had without"),
+]
+
+
+# `std` copies a name of so many bytes to memory of its own (in Rust before 1.67 or so, each name), and ends the process where just that
+# is refused: at the last one a file beside OUT is left.
+LONG_NAME = 384
+
+
+def asked_by_std(words):
+    """How many bytes `std` asks for in a run, request by request."""
+    return sorted([size for size, _ in STD_ASKS] + [24 * len(words)] + [len(os.fsencode(word)) for word in words if word])
+
+
 class Table:
-    def __init__(self, program):
+    def __init__(self, program, is_cargo=False):
         self.program, self.same, self.ran, self.wrong = program, {"simple 2": SIMPLE_2}, 0, 0
+        # whether it is the build by Cargo, and how many rows are otherwise there, as listed
+        self.is_cargo, self.otherwise = is_cargo, 0
 
     def fail(self, what, why):
         self.wrong += 1
@@ -528,8 +574,8 @@ def check_words(table, room):
             there = re.search(r"(^|[^-\w])" + re.escape(option) + r"($|[^-\w])", text, re.M)
             table.demand(there, option, f"it doesn't stand in {name}")
     for option in set(re.findall(r"(?:^|[\s`,|])(--[a-z][a-z-]*)", first.stdout.decode() + manual + page)):
-        # (fc-scan has one of its own)
-        table.demand(option in OPTIONS or option == "--format", option, "no such option")
+        # (fc-scan and Cargo have some of their own)
+        table.demand(option in OPTIONS or option in ("--format", "--path", "--features"), option, "no such option")
     with open(os.path.join(ROOT, "VERSION")) as file:
         wanted = f"subset_font {file.read().strip()}, a port of the Rust crate subsetter 0.2.6\n".encode()
     for words in (["--version"], ["--version", "--help"]):
@@ -737,58 +783,220 @@ def check_memory(table, room):
     table.demand(not os.path.exists(os.path.join(room, "other")), "and OUT isn't there", got)
 
 
-def check_refused_memory(table, room):
-    """Each request for memory is refused in turn, by compare/refuse.c: never does a run end with 0 and another output."""
+def refuser(table, room):
+    """compare/refuse.c as a library, None where there is no C compiler."""
     compiler = shutil.which("cc") or shutil.which("gcc")
     if not compiler:
         table.fail("refused memory", "there is no C compiler")
-        return
+        return None
     library = os.path.join(room, "refuse.so")
     subprocess.run([compiler, "-O1", "-shared", "-fPIC", "-o", library, os.path.join(ROOT, "compare", "refuse.c")], check=True)
+    return library
+
+
+# What refused memory may end with: before OUT is made, and without a line.
+REFUSED = ((1, b"", b"out of memory\n"), (3, b"", b"cannot read in\n"), (3, b"", b"cannot read list\n"), (3, b"", b"cannot read -\n"))
+
+
+@dataclass
+class Ended:
+    """How a run under refuse.c ended: status and streams, what is at OUT, the names in the folder, and what was refused."""
+    answer: tuple
+    out: bytes
+    names: list
+    refused: int
+    calls: dict
+
+
+CALLS = ("open", "size", "read", "write", "write1", "write2", "rename", "sync")
+
+
+def start_refused(table, room, library, words, stdin=b"", out="out", **wishes):
+    """Runs the program under refuse.c with an OUT that is there."""
+    put(room, out, OLD)
+    told = os.path.join(room, "told")
+    remove(told)
+    env = {"LD_PRELOAD": library, "TOLD": told} | {name: str(it) for name, it in wishes.items()}
+    got = table.start(words, room, env=env, input=stdin)
+    said = (take(told) or b"").split()
+    calls = dict(zip(CALLS, map(int, said[6:])))
+    names = sorted(name for name in os.listdir(os.path.dirname(os.path.join(room, out))) if name != "told")
+    answer = got.returncode, got.stdout, got.stderr
+    return Ended(answer, take(os.path.join(room, out)), names, int(said[1]) if said else 1, calls)
+
+
+def is_whole_run(got, base):
+    return got.answer == base.answer and got.out == base.out and got.names == base.names
+
+
+def is_refused_run(got, base):
+    return got.answer in REFUSED and got.out == OLD and got.names == base.names
+
+
+def ended_by_std(got):
+    """How many bytes `std` was refused where it ended the process."""
+    told = re.match(rb"memory allocation of (\d+) bytes failed\n", got.answer[2])
+    return int(told[1]) if told and got.answer[:2] == (-6, b"") else None
+
+
+REFUSED_RUNS = (["in", "out", "0", "2"], ["--json", "--widths", "--gids-file", "list", "in", "out", "0"], ["--text", "A", "in", "-", "0"])
+
+
+def check_refused_memory(table, room):
+    """Each request for memory is refused in turn, by compare/refuse.c: never does a run end with 0 and another output."""
+    library = refuser(table, room)
+    if not library:
+        return
     put(room, "in", FONTS["both"])
     put(room, "list", b"1-2 4")
-    for words, out in (
-        (["in", "out", "0", "2"], lines((2, 1))),
-        (["--json", "--widths", "--gids-file", "list", "in", "out", "0"], None),
-        (["--text", "A", "in", "-", "0"], None),
-    ):
-        base = None
-        for number in range(1000):
-            put(room, "out", OLD)
-            env = {"LD_PRELOAD": library, "TOLD": os.path.join(room, "told"), "REFUSE": str(number)}
-            got = table.start(words, room, env=env)
-            left = take(os.path.join(room, "out"))
-            if number == 0:
-                base = got, left
-                table.demand(got.returncode == 0 and out in (None, got.stdout), words, got)
-                continue
-            if (take(os.path.join(room, "told")) or b"0 0").split()[1] == b"0":
+    for words in REFUSED_RUNS:
+        base, by_std = start_refused(table, room, library, words, REFUSE=0), []
+        table.demand(base.answer[0] == 0 and base.answer[1] and base.answer[2] == b"" or "-" in words, words, base)
+        for number in range(1, 1000):
+            got = start_refused(table, room, library, words, REFUSE=number)
+            if got.refused == 0:
                 break
-            ended = (got.returncode, got.stdout, got.stderr)
-            if got.returncode == 0:
-                table.demand((ended, left) == ((0, base[0].stdout, base[0].stderr), base[1]), f"{words}, refusal {number}", ended)
-            else:
-                told = ((1, b"", b"out of memory\n"), (3, b"", b"cannot read in\n"), (3, b"", b"cannot read list\n"))
-                table.demand(ended in told and left == OLD, f"{words}, refusal {number}", ended)
+            size = ended_by_std(got)
+            if table.is_cargo and size is not None:
+                by_std.append(size)
+                table.demand(got.out == OLD and got.names == base.names, f"{words}, refusal {number} ends it, and leaves", got)
+                table.otherwise += 1
+                continue
+            table.demand(is_whole_run(got, base) or is_refused_run(got, base), f"{words}, refusal {number}", got)
         table.demand(number > 5, f"{words}: {number} refusals", number)
+        if table.is_cargo:
+            wanted = asked_by_std([table.program, *words])
+            table.demand(sorted(by_std) == wanted, f"{words}: what std asks for by itself", f"{sorted(by_std)}, listed {wanted}")
+
+
+def check_refused_names(table, room):
+    """The same for an OUT of a long name: there the build by Cargo may end while a file stands beside OUT."""
+    library = refuser(table, room)
+    if not library:
+        return
+    put(room, "in", FONTS["both"])
+    folder = "/".join(["folder" * 20] * 4)
+    os.makedirs(os.path.join(room, folder))
+    words, left = ["in", f"{folder}/out", "0", "2"], 0
+    base = start_refused(table, room, library, words, out=words[1], REFUSE=0)
+    for number in range(1, 1000):
+        got = start_refused(table, room, library, words, out=words[1], REFUSE=number)
+        if got.refused == 0:
+            break
+        by_std = table.is_cargo and ended_by_std(got)
+        if by_std and by_std > LONG_NAME and got.names == ["out", "out.part0"]:
+            left += 1
+            os.unlink(os.path.join(room, folder, "out.part0"))
+        unwritten = got.answer == (3, b"", f"cannot write {words[1]}\n".encode()) and got.names == base.names
+        is_refused = got.out == OLD and (by_std or unwritten or is_refused_run(got, base))
+        table.demand(is_refused or is_whole_run(got, base), f"a long name, refusal {number}", got)
+    table.demand((left > 0) == table.is_cargo, "a long name: files that are left", left)
+    table.otherwise += left
+
+
+def check_little_room(table, room):
+    """With room for so many bytes a run is whole, or tells of it before OUT is touched; and no file is left beside OUT."""
+    library = refuser(table, room)
+    if not library:
+        return
+    put(room, "in", FONTS["both"])
+    put(room, "list", b"1-2 4")
+    folder = "/".join(["folder" * 20] * 4)
+    os.makedirs(os.path.join(room, folder))
+    runs = [(words, b"", "out") for words in REFUSED_RUNS]
+    runs += [(["-", "out", "0", "2"], FONTS["both"], "out"), (["in", f"{folder}/out", "0", "2"], b"", f"{folder}/out")]
+    for words, stdin, out in runs:
+        base = start_refused(table, room, library, words, stdin, out)
+        wrong, rooms = [], 0
+        for rooms in range(0, 1 << 20, 120):
+            got = start_refused(table, room, library, words, stdin, out, ROOM=rooms)
+            if not is_whole_run(got, base) and not is_refused_run(got, base):
+                wrong.append((rooms, got))
+            if got.refused == 0:
+                break
+        table.demand(not wrong, f"{words} with little room", f"{len(wrong)} times, {wrong[:1]}")
+        table.demand(rooms > 8000 and got.answer[0] == 0, f"{words} with {rooms} bytes of room", got)
+
+
+# How a run may end where a call for files fails, and has to in one of them. (The program does without a file beside OUT, and without
+# a look at some files.)
+FAILED_CALLS = {"open": {"unread", "unwritten", "whole"}, "size": {"unread", "whole"}, "read": {"unread"}, "write": {"unwritten"},
+                "write1": {"unlined"}, "rename": {"unwritten"}, "sync": {"unwritten"}}
+# By Cargo lines are written to a copy of the stream, and how large the arguments are is read from a file that it does without.
+FAILED_CALLS_BY_CARGO = {"read": {"unread", "whole"}, "write": {"unwritten", "unlined"}, "write1": set()}
+
+
+def failed_end(got, base):
+    """How a run ended in which a call failed, and what is left; None where that is wrong."""
+    if got.names != base.names:
+        return None
+    if is_whole_run(got, base):
+        return "whole"
+    if got.answer[0] == 3 and got.answer[2] == b"cannot write standard output\n":
+        return "unlined" if got.out == base.out and base.answer[1].startswith(got.answer[1]) else None
+    ends = {(3, b"", b"cannot read in\n"): "unread", (3, b"", b"cannot write out\n"): "unwritten"}
+    return ends.get(got.answer) if got.out == OLD else None
+
+
+def check_failed_calls(table, room):
+    """Each call for files fails in turn: a status 3 that says which file, OUT as it was, or whole where the lines failed."""
+    library = refuser(table, room)
+    if not library:
+        return
+    put(room, "in", FONTS["both"])
+    words = ["in", "out", "0", ",".join(["1", "2"] * 1500)]
+    base = start_refused(table, room, library, words)
+    for what, wanted in (FAILED_CALLS | (FAILED_CALLS_BY_CARGO if table.is_cargo else {})).items():
+        ends = set()
+        for number in range(1, base.calls[what] + 1):
+            got = start_refused(table, room, library, words, FAIL=f"{what}:{number}")
+            ends.add(failed_end(got, base))
+            table.demand(failed_end(got, base) in wanted, f"{what} {number} fails", str(got)[-400:])
+        table.demand(ends == wanted, f"{what} fails", f"{ends}, wanted {wanted}")
+    fail = "write:1" if table.is_cargo else "write2:1"
+    got = start_refused(table, room, library, ["none", "out", "0", "2"], FAIL=fail)
+    table.demand(got.answer == (3, b"", b"") and got.out == OLD, "standard error fails, too", got)
+
+
+def check_closed(table, room):
+    """Streams that are closed at the start."""
+    for name, font in FONTS.items():
+        put(room, name, font)
+    for number, words, wanted, by_cargo in CLOSED:
+        given = {} if number == 0 else {"stdin": subprocess.DEVNULL}
+        remove(os.path.join(room, "out"))
+        got = table.start(words.split(), room, preexec_fn=lambda: os.close(number), **given)
+        found = [got.returncode, got.stdout, got.stderr]
+        if number > 0:
+            found[number] = None
+        if table.is_cargo and by_cargo:
+            wanted = by_cargo
+            table.otherwise += 1
+        table.demand(tuple(found) == wanted, f"{words}: stream {number} is closed", got)
+        is_made = "out" in words.split() and (wanted[0] == 0 or b"standard output" in (wanted[2] or b""))
+        table.demand(os.path.exists(os.path.join(room, "out")) == is_made, f"{words}: stream {number} is closed: OUT", got)
 
 
 def main():
     words = argparse.ArgumentParser(usage=__doc__)
     words.add_argument("--program", default=os.path.join(ROOT, "crates", "subset_font", "out", "subset_font"))
     words.add_argument("--only", default="")
+    words.add_argument("--cargo", action="store_true")
     given = words.parse_args()
     if not os.path.exists(given.program):
         sys.exit(f"program.py: no {given.program}")
-    table = Table(os.path.realpath(given.program))
+    table = Table(os.path.realpath(given.program), given.cargo)
     for row in ROWS:
         if given.only in str(row.words) or row.same:
             with tempfile.TemporaryDirectory(prefix="program-") as room:
                 table.run_row(row, room)
-    for check in (check_words, check_places, check_links, check_rights, check_streams, check_many, check_memory, check_refused_memory):
+    for check in (check_words, check_places, check_links, check_rights, check_streams, check_closed, check_many, check_memory,
+                  check_refused_memory, check_refused_names, check_little_room, check_failed_calls):
         with tempfile.TemporaryDirectory(prefix="program-") as room:
             check(table, room)
     check_contents(table)
+    if given.cargo:
+        print(f"program: {table.otherwise} runs end otherwise, as listed for the build by Cargo")
     print(f"program: {table.ran} rows, {table.wrong} differ")
     sys.exit(1 if table.wrong else 0)
 

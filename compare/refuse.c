@@ -1,7 +1,8 @@
 /* Refuses requests for memory and fails calls for files, one at a time, and counts them. Loaded before the C library:
- * LD_PRELOAD=refuse.so TOLD=FILE [REFUSE=N | REFUSE=all] [WITHIN=clock] [FAIL=WHAT:N] PROGRAM WORDS.
+ * LD_PRELOAD=refuse.so TOLD=FILE [REFUSE=N | REFUSE=all] [ROOM=BYTES] [WITHIN=clock] [FAIL=WHAT:N] PROGRAM WORDS.
  *
  *     REFUSE=N       the Nth request for memory is refused; with `all` each is
+ *     ROOM=BYTES     a request is refused where more than so many bytes would be held
  *     WITHIN=clock   requests count from the first reading of the clock to the second: what a program times
  *     FAIL=WHAT:N    the Nth call of WHAT fails: open, size, read, write, write1 and write2 for the standard streams,
  *                    rename, or sync
@@ -27,16 +28,17 @@ static const char *const names[CALLS] = {"open", "size", "read", "write", "write
 enum stage { BEFORE, READING, AFTER, WRITING };
 static const char *const stages[] = {"before", "reading", "after", "writing"};
 
-static size_t requests, refused, calls[CALLS], wanted_request, wanted_call;
+static size_t requests, refused, calls[CALLS], wanted_request, wanted_call, room = SIZE_MAX;
 static int refuses_all, within_clock, clock_readings, is_ready, is_ended, refused_less;
 static enum call wanted = CALLS;
 static enum stage stage = BEFORE, refused_in = BEFORE;
 
 static void read_wishes(void) {
-    const char *refuse = getenv("REFUSE"), *within = getenv("WITHIN"), *fail = getenv("FAIL");
+    const char *refuse = getenv("REFUSE"), *within = getenv("WITHIN"), *fail = getenv("FAIL"), *most = getenv("ROOM");
     is_ready = 1;
     refuses_all = refuse && !strcmp(refuse, "all");
     wanted_request = refuse && !refuses_all ? strtoul(refuse, NULL, 10) : 0;
+    if (most) room = strtoul(most, NULL, 10);
     within_clock = within && !strcmp(within, "clock");
     const char *colon = fail ? strchr(fail, ':') : NULL;
     for (int k = 0; colon && k < CALLS; k++)
@@ -47,11 +49,11 @@ static void read_wishes(void) {
 /* The C library's own start isn't the program's: what it asks for before this is given. */
 __attribute__((constructor)) static void start(void) { read_wishes(); }
 
-/* Whether a request is to be refused. */
-static int is_refused(void) {
+/* Whether a request for so many bytes is to be refused. */
+static int is_refused(size_t asked) {
     if (!is_ready || is_ended || (within_clock && clock_readings != 1)) return 0;
     requests++;
-    if (!refuses_all && requests != wanted_request) return 0;
+    if (!refuses_all && requests != wanted_request && (asked <= room && held <= room - asked)) return 0;
     refused++;
     refused_in = stage;
     errno = ENOMEM;
@@ -65,21 +67,21 @@ static int fails(enum call what) {
     return 1;
 }
 
-void *malloc(size_t asked) { return is_refused() ? NULL : given(asked); }
+void *malloc(size_t asked) { return is_refused(asked) ? NULL : given(asked); }
 
 void *calloc(size_t count, size_t size) {
     size_t asked;
-    if (__builtin_mul_overflow(count, size, &asked) || is_refused()) return NULL;
+    if (__builtin_mul_overflow(count, size, &asked) || is_refused(asked)) return NULL;
     void *block = given(asked);
     return block ? memset(block, 0, asked) : NULL;
 }
 
-void *aligned_alloc(size_t align, size_t asked) { return is_refused() ? NULL : given_aligned(align, asked); }
+void *aligned_alloc(size_t align, size_t asked) { return is_refused(asked) ? NULL : given_aligned(align, asked); }
 
 void *realloc(void *block, size_t asked) {
     if (!block) return malloc(asked);
     struct head old = *head_of(block);
-    if (is_refused()) {
+    if (is_refused(asked)) {
         refused_less = asked <= old.asked;
         return NULL;
     }

@@ -1,4 +1,4 @@
-"""What stands in the release files, looked at byte by byte: `look(folder, skip, version, licence)` gives what is wrong.
+"""What stands in the release files, looked at byte by byte: `look(folder, skip, version)` gives what is wrong.
 
 It asks nothing of what made them, but where they came to: what each file must hold is said here once more.
 """
@@ -19,6 +19,13 @@ ROOT = os.path.dirname(os.path.dirname(os.path.realpath(__file__)))
 TRIPLES = {"x86_64": "x86_64-unknown-linux-gnu", "aarch64": "aarch64-unknown-linux-gnu"}
 MACHINES = {"x86_64": b"\x3e\x00", "aarch64": b"\xb7\x00"}
 DATE = 315532800
+LICENCE = "MIT OR Apache-2.0"
+# What the two files that every package carries have to say: where the licences' texts are, and what MIT code keeps.
+LICENCE_SAYS = {
+    "LICENSE": ["SPDX-License-Identifier: MIT OR Apache-2.0 ", "https://spdx.org/licenses/MIT.html", "https://www.apache.org/licenses/LICENSE-2.0"],
+    "NOTICE": ["Copyright (c) 2018 Yevhenii Reizner", "Copyright (c) 2017 Just van Rossum", "Permission is hereby granted, free of charge",
+               "The above copyright notice and this permission notice shall be included", 'THE SOFTWARE IS PROVIDED "AS IS"'],
+}
 # Instructions that not every x86-64 processor has: SSE3 to SSE4.2, AVX, BMI and others, by their names in objdump. (What it
 # shows as tzcnt is `rep bsf` too, which older processors run as bsf: compilers write it where both give the same.)
 BEYOND = (r"pshufb|palignr|pmaddubsw|pmulhrsw|phadd\w+|phsub\w+|psign[bwd]|pabs[bwd]|ptest|pmulld|pmuldq|pinsr[bdq]|pextr[bdq]"
@@ -29,8 +36,8 @@ BEYOND = (r"pshufb|palignr|pmaddubsw|pmulhrsw|phadd\w+|phsub\w+|psign[bwd]|pabs[
 
 
 class Looker:
-    def __init__(self, folder, skip, version, licence):
-        self.folder, self.skip, self.version, self.licence = folder, skip, version, licence
+    def __init__(self, folder, skip, version):
+        self.folder, self.skip, self.version = folder, skip, version
         self.number, _, own = version.partition("+")
         self.wheel_version, self.npm_version = f"{self.number}.post{own}", f"{self.number}-{own}"
         self.targets = [it for it in TRIPLES if it not in skip]
@@ -54,7 +61,7 @@ class Looker:
 
     def names(self):
         """The names of all files, with those of the wheels as they stand there, since a test of its own reads their tags."""
-        wanted = {f"subsetter-{self.version}.crate", "PROVED", "SHA256SUMS"}
+        wanted = {f"subsetter-{self.version}.crate", f"subsetter-native-{self.version}.crate", "PROVED", "SHA256SUMS"}
         wanted |= {f"subsetter-{self.version}-linux-{it}.tar.gz" for it in self.targets}
         wanted |= set() if "js" in self.skip else {f"subsetter-proved-{self.npm_version}.tgz"}
         there = sorted(os.listdir(self.folder))
@@ -113,7 +120,7 @@ class Looker:
         with tarfile.open(fileobj=io.BytesIO(gzip.decompress(data))) as tar:
             heads = tar.getmembers()
             for head in heads:
-                is_program = re.search(r"/bin/|\.so[.\d]*$", head.name) and head.isfile()
+                is_program = re.search(r"^[^/]+/bin/|\.so[.\d]*$", head.name) and head.isfile()
                 mode = 0o777 if head.issym() else 0o755 if head.isdir() or is_program else 0o644
                 owner = (head.uid, head.gid, head.uname, head.gname)
                 self.demand((head.mtime, head.mode, owner) == (DATE, mode, (0, 0, "", "")), f"{name}: {head.name} has date {head.mtime}, mode {head.mode:o}, owner {owner}")
@@ -130,6 +137,7 @@ class Looker:
         name = f"subsetter-{self.version}-linux-{target}"
         full = f"libsubsetter.so.{self.version.replace('+', '.')}"
         wanted = dict.fromkeys(["README.md", "include/subsetter.h", "lib/libsubsetter.a", f"lib/{full}", "lib/pkgconfig/subsetter.pc"])
+        wanted.update(dict.fromkeys(["share/doc/subsetter/LICENSE", "share/doc/subsetter/NOTICE"]))
         wanted.update({"lib/libsubsetter.so.0": full, "lib/libsubsetter.so": "libsubsetter.so.0"})
         if target == "x86_64" and "program" not in self.skip:
             wanted.update(dict.fromkeys(["bin/subset_font", "share/man/man1/subset_font.1"]))
@@ -139,9 +147,12 @@ class Looker:
             self.demand(header == file.read(), f"{name}: its header isn't that of bindings/c")
         self.demand(f'"{self.version}"'.encode() in header, f"{name}: its header has another version")
         self.demand(f"\nVersion: {self.version}\n" in pc, f"{name}: subsetter.pc has another version")
-        self.demand(self.licensed(pc, "License: "), f"{name}: the licence in subsetter.pc")
+        self.licensed(f"{name}: subsetter.pc", pc, f"\nLicense: {LICENCE}\n")
+        self.licensed(f"{name}: subsetter.h", header.decode(), f"/* SPDX-License-Identifier: {LICENCE} ")
+        self.carries(name, found, "share/doc/subsetter/")
         readme = found.get("README.md", b"").decode()
-        self.demand(readme.startswith(f"# subsetter {self.version} for Linux on {target}\n") and self.licensed(readme, "The licence is "), f"{name}: README.md")
+        self.demand(readme.startswith(f"# subsetter {self.version} for Linux on {target}\n"), f"{name}: README.md")
+        self.licensed(f"{name}: README.md", readme, f"The licence is {LICENCE}: ")
         self.library(name, target, found.get(f"lib/{full}", b""), found.get("lib/libsubsetter.a", b""))
         if "bin/subset_font" in found:
             with open(os.path.join(ROOT, "crates", "subset_font", "subset_font.1"), "rb") as file:
@@ -150,9 +161,25 @@ class Looker:
             self.baseline(f"{name}: bin/subset_font", found["bin/subset_font"])
         return found
 
-    def licensed(self, text, front):
-        """Whether a text names the licence where there is one, and else none."""
-        return f"{front}{self.licence}" in text if self.licence else front not in text
+    def licensed(self, name, text, wanted):
+        """A text names the licence, by these words."""
+        self.demand(wanted in text, f"{name} doesn't name the licence by {wanted!r}")
+
+    def carries(self, name, found, folder):
+        """A package has both files of the licence in a folder of it, as they stand in the repository."""
+        for it in LICENCE_SAYS:
+            with open(os.path.join(ROOT, it), "rb") as file:
+                self.demand(found.get(folder + it) == file.read(), f"{name}: {folder}{it} isn't there, or isn't the repository's")
+
+    def licence(self):
+        """What the repository itself says of its licence."""
+        with open(os.path.join(ROOT, "LICENSE-SPDX"), encoding="utf-8") as file:
+            self.demand(file.read().rstrip("\n").split("\n")[-1] == LICENCE, f"the last line of LICENSE-SPDX isn't {LICENCE}")
+        for it, wanted in LICENCE_SAYS.items():
+            with open(os.path.join(ROOT, it), encoding="utf-8") as file:
+                text = " ".join(file.read().split())
+            for words in wanted:
+                self.licensed(it, text, words)
 
     def library(self, name, target, shared, static):
         """A shared and a static library: the processor, the soname, what is needed and what is shown."""
@@ -203,13 +230,15 @@ class Looker:
             mode = 0o100755 if head.filename.endswith(".so") else 0o100644
             self.demand((head.date_time, head.external_attr >> 16) == ((1980, 1, 1, 0, 0, 0), mode), f"{names[0]}: {head.filename} has date {head.date_time}, mode {head.external_attr >> 16:o}")
         own = {f"subsetter/{it}" for it in ("__init__.py", "py.typed", "libsubsetter.so")}
-        self.demand({*found} == own | {f"{info}/{it}" for it in ("METADATA", "WHEEL", "RECORD")} and len(heads) == len(found), f"{names[0]}: it holds {sorted(found)}")
+        own |= {f"{info}/{it}" for it in ("METADATA", "WHEEL", "RECORD", "licenses/LICENSE", "licenses/NOTICE")}
+        self.demand({*found} == own and len(heads) == len(found), f"{names[0]}: it holds {sorted(found)}")
+        self.carries(names[0], found, f"{info}/licenses/")
         self.packed += [(names[0], path, data) for path, data in found.items()]
         self.recorded(names[0], info, found)
         metadata = found.get(f"{info}/METADATA", b"").decode()
-        for line in ("Metadata-Version: 2.1", "Name: subsetter", f"Version: {self.wheel_version}", "Requires-Python: >=3.8"):
+        for line in ("Metadata-Version: 2.4", "Name: subsetter", f"Version: {self.wheel_version}", "Requires-Python: >=3.8"):
             self.demand(f"\n{line}\n" in f"\n{metadata}", f"{names[0]}: METADATA has no line {line}")
-        self.demand(self.licensed(metadata, "License: "), f"{names[0]}: the licence")
+        self.licensed(f"{names[0]}: METADATA", metadata, f"\nLicense-Expression: {LICENCE}\nLicense-File: LICENSE\nLicense-File: NOTICE\n")
         self.tags(names[0], found.get(f"{info}/WHEEL", b"").decode(), shared)
         self.demand(found.get("subsetter/libsubsetter.so") == shared, f"{names[0]}: its library isn't that for C")
         with open(os.path.join(ROOT, "bindings", "python", "subsetter", "__init__.py"), "rb") as file:
@@ -240,20 +269,32 @@ class Looker:
             promised = [int(it) for it in numbers.groups()] if numbers else older.get(platform.split("_")[0], [0, 0])
             self.demand(needed != [0, 0] and promised >= needed and promised <= [2, 31], f"{name}: {tag}, and the library needs glibc {needed}")
 
-    def crate(self, libraries):
-        name = f"subsetter-{self.version}"
-        src = sorted(os.listdir(os.path.join(ROOT, "bindings", "rust", "src")))
-        wanted = ["Cargo.toml", "README.md", "build.rs", *[f"src/{it}" for it in src]]
-        wanted += [f"native/{TRIPLES[it]}/libsubsetter.a" for it in self.targets]
-        found = self.tar(f"{name}.crate", name, dict.fromkeys(wanted))
-        for path in ["build.rs", *[f"src/{it}" for it in src]]:
-            with open(os.path.join(ROOT, "bindings", "rust", path), "rb") as file:
-                self.demand(found.get(path) == file.read(), f"{name}.crate: {path} isn't that of bindings/rust")
-        for target in self.targets:
-            self.demand(found.get(f"native/{TRIPLES[target]}/libsubsetter.a") == libraries[target], f"{name}.crate: its library for {target} isn't that for C")
+    def crates_of_rust(self, libraries):
+        plain = self.crate("subsetter", "rust", ["README.md"], [])
+        self.licensed(f"{plain[0]}: README.md", plain[1].get("README.md", b"").decode(), f"\n`{LICENCE}` (LICENSE, NOTICE).\n")
+        self.demand(not [it for it in plain[1] if it.endswith((".a", "build.rs"))], f"{plain[0]}: it isn't plain Rust")
+        self.demand([it for it in plain[1] if it.startswith("src/proved/")], f"{plain[0]}: the generated files are missing")
+        native = [f"native/{TRIPLES[it]}/libsubsetter.a" for it in self.targets]
+        name, found = self.crate("subsetter-native", "rust-native", ["build.rs"], ["README.md", *native])
+        for target, path in zip(self.targets, native):
+            self.demand(found.get(path) == libraries[target], f"{name}: its library for {target} isn't that for C")
+        self.licensed(f"{name}: README.md", found.get("README.md", b"").decode(), f"The licence is {LICENCE} (LICENSE, NOTICE).")
+
+    def crate(self, package, folder, own, more):
+        """The name and the files of a crate: those of a folder of the bindings as they are, and more."""
+        name, at = f"{package}-{self.version}", os.path.join(ROOT, "bindings", folder)
+        own = own + ["Cargo.toml"]
+        for here, _, names in os.walk(os.path.join(at, "src")):
+            own += [os.path.relpath(os.path.join(here, it), at) for it in names]
+        found = self.tar(f"{name}.crate", name, dict.fromkeys([*own, "LICENSE", "NOTICE", *more]))
+        for path in own:
+            with open(os.path.join(at, path), "rb") as file:
+                self.demand(found.get(path) == file.read(), f"{name}.crate: {path} isn't that of bindings/{folder}")
         manifest = found.get("Cargo.toml", b"").decode()
-        self.demand(f'\nversion = "{self.version}"\n' in manifest and self.licensed(manifest, 'license = "'), f"{name}.crate: Cargo.toml")
-        self.demand(self.licensed(found.get("README.md", b"").decode(), "The licence is "), f"{name}.crate: README.md")
+        self.demand(f'\nname = "{package}"\nversion = "{self.version}"\n' in manifest, f"{name}.crate: Cargo.toml")
+        self.licensed(f"{name}.crate: Cargo.toml", manifest, f'\nlicense = "{LICENCE}"\n')
+        self.carries(f"{name}.crate", found, "")
+        return f"{name}.crate", found
 
     def js(self):
         name = f"subsetter-proved-{self.npm_version}.tgz"
@@ -264,10 +305,12 @@ class Looker:
             heads = tar.getmembers()
             found = {it.name: tar.extractfile(it).read() for it in heads}
         self.demand({it.mtime for it in heads} == {499162500}, f"{name}: npm's own date isn't that of each file")
-        wanted = {f"package/{it}" for it in ("README.md", "package.json", "subsetter.d.mts", "subsetter.mjs", "subsetter.wasm")}
+        wanted = {f"package/{it}" for it in ("LICENSE", "NOTICE", "README.md", "package.json", "subsetter.d.mts", "subsetter.mjs", "subsetter.wasm")}
         self.demand({*found} == wanted, f"{name}: it holds {sorted(found)}")
         said = found.get("package/package.json", b"").decode()
-        self.demand(f'"version": "{self.npm_version}"' in said and self.licensed(said, '"license": "'), f"{name}: package.json")
+        self.demand(f'"version": "{self.npm_version}"' in said, f"{name}: package.json")
+        self.licensed(f"{name}: package.json", said, f'"license": "{LICENCE}"')
+        self.carries(name, found, "package/")
         self.packed += [(name, path, data) for path, data in found.items()]
 
     def traces(self):
@@ -279,9 +322,10 @@ class Looker:
                     self.demand(place.encode() not in data, f"{name}: {path} names {place}")
 
 
-def look(folder, skip, version, licence):
+def look(folder, skip, version):
     """What is wrong with the files of a folder, as a list of texts, and how many files it looked at."""
-    it = Looker(folder, skip, version, licence)
+    it = Looker(folder, skip, version)
+    it.licence()
     there = it.names()
     it.sums(there)
     it.proved()
@@ -290,7 +334,7 @@ def look(folder, skip, version, licence):
         found = it.linux(target)
         libraries[target] = found.get("lib/libsubsetter.a")
         it.wheel(target, found.get(f"lib/libsubsetter.so.{version.replace('+', '.')}", b""))
-    it.crate(libraries)
+    it.crates_of_rust(libraries)
     if "js" not in skip:
         it.js()
     it.traces()

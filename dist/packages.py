@@ -83,11 +83,13 @@ def recorded(path, data):
     return f"{path},sha256={sum_of},{len(data)}\n"
 
 
-def wheel(tree, info, metadata, tags):
-    """A wheel of a tree for any Python 3 on the platforms of `tags`; `info` is the name of its folder with METADATA."""
+def wheel(tree, info, metadata, tags, licences):
+    """A wheel of a tree for any Python 3 on the platforms of `tags`; `info` is the name of its folder with METADATA, in which
+    the tree `licences` stands too."""
     said = "Wheel-Version: 1.0\nGenerator: dist/make\nRoot-Is-Purelib: false\n"
     said += "".join(f"Tag: py3-none-{it}\n" for it in tags)
     whole = {path: tree[path] for path in sorted(tree)}
+    whole.update({f"{info}/{path}": licences[path] for path in sorted(licences)})
     whole[f"{info}/METADATA"] = File(metadata.encode())
     whole[f"{info}/WHEEL"] = File(said.encode())
     record = "".join(recorded(path, file.data) for path, file in whole.items()) + f"{info}/RECORD,,\n"

@@ -1,4 +1,6 @@
-/* subsetter: fonts cut down to some of their glyphs, for embedding in PDF.
+/* SPDX-License-Identifier: MIT OR Apache-2.0 (the files LICENSE and NOTICE of the repository and of each package)
+ *
+ * subsetter: fonts cut down to some of their glyphs, for embedding in PDF.
  *
  * Every call is a function of its arguments. It keeps nothing between calls and shares nothing, so threads may call at
  * the same time, each with buffers of its own; the font and the glyph numbers they may share, as long as nobody writes

@@ -57,7 +57,9 @@ async function packed() {
         equal(said.trim(), `true ${version}`, "a program that takes the package");
         const manifest = JSON.parse(readFileSync(join(folder, "node_modules/subsetter-proved/package.json"), "utf8"));
         equal(manifest.version, version.replace("+", "-"), "the package's version");
-        ok(!("license" in manifest) && !("dependencies" in manifest), "no licence and no dependency is named");
+        equal(manifest.license, "MIT OR Apache-2.0", "the licence");
+        for (const name of ["LICENSE", "NOTICE"]) equal(readFileSync(join(folder, "node_modules/subsetter-proved", name), "utf8"), read(`../../../${name}`).toString(), name);
+        ok(!("dependencies" in manifest), "no dependency is named");
     } finally {
         rmSync(folder, { recursive: true });
     }

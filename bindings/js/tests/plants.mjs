@@ -104,6 +104,11 @@ const PLANTS = [
     [BROWSER, "subsetter.mjs", "return compiled(await fetch(url));", "return compiled(await fetch(url.href));"],
     [PACKAGE, "package.json", "\"./subsetter.mjs\"\n    }", "\"./subseter.mjs\"\n    }"],
     [PACKAGE, "subsetter.d.mts", "export class CFFError", "export class CffError"],
+    [PACKAGE, "package.json", "\"license\": \"MIT OR Apache-2.0\"", "\"license\": \"MIT\""],
+    [PACKAGE, "package.json", "  \"license\": \"MIT OR Apache-2.0\",\n", ""],
+    [PACKAGE, "package.json", ", \"LICENSE\", \"NOTICE\"]", ", \"LICENSE\"]"],
+    [PACKAGE, "Makefile", "../../LICENSE ../../NOTICE", "../../LICENSE"],
+    [PACKAGE, "Makefile", "../../LICENSE ../../NOTICE", "../../NOTICE"],
     [HEAP, "module/heap.c", "lists[i] = 0;", "lists[i] = lists[i];"],
     [HEAP, "module/heap.c", "lists[list] = *(word *)at;\n        return at;", "return at;"],
     [HEAP, "module/heap.c", "top = at + size;", "top = at + n;"],
@@ -146,7 +151,7 @@ const word = process.argv[2] ?? "";
 const room = mkdtempSync(join(tmpdir(), "subsetter-plants-")), copy = join(room, "bindings/js");
 mkdirSync(copy, { recursive: true });
 cpSync(join(here, "../../crates/subset_rows/data"), join(room, "crates/subset_rows/data"), { recursive: true });
-for (const name of ["VERSION", "crates.txt", "LICENSE-SPDX"]) {
+for (const name of ["VERSION", "crates.txt", "LICENSE", "NOTICE"]) {
     if (existsSync(join(here, "../..", name))) cpSync(join(here, "../..", name), join(room, name));
 }
 cpSync(here, copy, { recursive: true, verbatimSymlinks: true });

@@ -1,17 +1,20 @@
-//! Fonts cut down to some of their glyphs, for embedding in PDF: the calls of the crate `subsetter`, version 0.2.6, over a
-//! library of which each function is proved.
+//! Cuts OpenType fonts down to some of their glyphs, for embedding in PDF: the public calls of the crate `subsetter`
+//! 0.2.6 over a native library, which is proved as it is built, for Linux.
 //!
-//! A program that uses the crate, or that depends on something which does, takes this one in its place by two lines of
-//! its `Cargo.toml`:
+//! The package is `subsetter-native`, and its library has the crate's name, so that a program changes one line of its
+//! `Cargo.toml`:
 //!
 //! ```toml
-//! [patch.crates-io]
-//! subsetter = { path = "bindings/rust" }
+//! [dependencies]
+//! subsetter = { package = "subsetter-native", path = "bindings/rust-native" }
 //! ```
 //!
-//! The feature `variable-fonts` adds `subset_with_variations`, as in the crate; CFF2 is refused with it, too. What the crate
-//! doesn't have: [`embed`], and by that feature `embed_with_variations`, answers the CIDs and the widths too, which a PDF
-//! needs; [`Limits`] bound what a hostile font can cost, and [`Options`] leave out what a PDF doesn't need.
+//! The package `subsetter` (`bindings/rust`) has the same calls in plain Rust, for every platform and for `[patch]`; it is
+//! generated from the proved sources.
+//!
+//! The feature `variable-fonts` adds `subset_with_variations`, as in 0.2.6, and `embed_with_variations`. Beyond 0.2.6
+//! [`embed`] also answers the CIDs and the widths that a PDF needs, [`Limits`] bound the work on a hostile font and the size
+//! of the new one, and [`Options`] leave out hinting, font names or glyph names.
 //!
 //! ```
 //! use subsetter::{subset, GlyphRemapper};
@@ -21,15 +24,17 @@
 //! #     loca\0\0\0\0\0\0\0\x72\0\0\0\x90";
 //! # let data = &[data, &[0; 198]].concat();
 //! let mut mapper = GlyphRemapper::new();
-//! let new_number = mapper.remap(36);
+//! let cid = mapper.remap(36);
 //! let font = subset(data, 0, &mapper)?;
-//! assert_eq!(new_number, 1);
+//! assert_eq!(cid, 1);
 //! # assert!(font.len() < data.len());
 //! # Ok(())
 //! # }
 //! ```
 
 #![warn(missing_docs)]
+
+extern crate alloc;
 
 mod error;
 mod library;
@@ -51,12 +56,12 @@ pub use tag::Tag;
 ///
 /// # Errors
 ///
-/// A fault of the font, by its name. Where memory runs out the process ends, as it does with any `Vec`.
+/// A fault of the font, by its name. Where memory is refused the process ends, as with any `Vec`.
 pub fn subset(data: &[u8], index: u32, mapper: &GlyphRemapper) -> Result<Vec<u8>, Error> {
     subset_with_options(data, index, mapper, &Options::new())
 }
 
-/// [`subset`] with limits on the charstring of each glyph, for fonts that nobody vouches for.
+/// [`subset`] with limits on the charstring of each glyph, for untrusted fonts.
 ///
 /// ```
 /// use subsetter::{subset_with_limits, Error, GlyphRemapper, Limits};
@@ -103,7 +108,7 @@ pub fn subset_with_limits(
 ///
 /// # Errors
 ///
-/// Those of [`subset_with_limits`]. A table that is left out isn't looked at, so a fault in it is none.
+/// Those of [`subset_with_limits`]. A table that is left out isn't read, so no fault in it is reported.
 pub fn subset_with_options(
     data: &[u8],
     index: u32,
@@ -113,15 +118,17 @@ pub fn subset_with_options(
     library::subset(data, index, mapper.glyphs(), options)
 }
 
-/// [`subset`] of a font as it is at coordinates on its axes, each the tag of an axis and a value in what the axis counts.
+/// [`subset`] of a variable font at coordinates: pairs of an axis's tag and a value on that axis's own scale.
 ///
-/// An axis without a value stays at its default, of several values for an axis the last counts, one past an axis's end is
-/// that end, and a tag that the font doesn't have is passed over. A value is taken as the nearest number of 65536ths, a half
-/// rounded up: `floor(value * 65536 + 1/2)`; one past 32 bits is the nearest one within.
+/// - An axis without a value is at its default, and so is one whose value is NaN.
+/// - Of several values for an axis the last one counts.
+/// - A value beyond an end of the axis, the infinities included, counts as that end.
+/// - A tag that is no axis of the font is ignored.
+/// - A value is rounded to the nearest 65536th, halves up: `floor(value * 65536 + 1/2)`, in 32 bits.
 ///
-/// Where the font stands at its default, has no axes or has its outlines in `CFF `, it is subset as it is, with its hints.
-/// Else the new font is a static one: each glyph is a simple outline without instructions, as the font draws it there, with
-/// the advance that it has there.
+/// Where all axes are at their defaults, and for fonts without axes or with outlines in `CFF `, the answer is that of
+/// [`subset`], hinting included. Else the new font is a static one: each glyph is a simple outline without instructions,
+/// with the shape and the advance that it has at the coordinates.
 ///
 /// ```
 /// use subsetter::{subset_with_variations, GlyphRemapper, Tag};
@@ -142,14 +149,10 @@ pub fn subset_with_options(
 ///
 /// Those of [`subset`]; besides, where there are outlines in `glyf`:
 ///
-/// - [`Error::MalformedFont`]: what says how the font varies (`fvar`, `avar`, `gvar`, `HVAR`) is cut.
-/// - [`Error::Unimplemented`]: `avar` has another version than 1, or a glyph is put together in a way that isn't taken.
+/// - [`Error::MalformedFont`]: a table of the variations (`fvar`, `avar`, `gvar`, `HVAR`) is cut.
+/// - [`Error::Unimplemented`]: `avar` has another version than 1, or a composite glyph scales the offsets of a component.
 /// - [`Error::OverflowError`]: a glyph takes more than 1,000,000 steps, or a coordinate or an advance doesn't fit its 16
 ///   bits.
-///
-/// # Panics
-///
-/// A value is NaN.
 #[cfg(feature = "variable-fonts")]
 pub fn subset_with_variations(
     data: &[u8],
@@ -161,17 +164,14 @@ pub fn subset_with_variations(
     subset_with_variations_and_options(data, index, variation_coordinates, mapper, &options)
 }
 
-/// [`subset_with_variations`] with all choices: the limits, and what the new font keeps. Elsewhere than at its default a
-/// glyph may take as many steps as the limits have tokens: one for each glyph that it leads to, each point, each tuple, and
-/// each point again of a tuple that counts.
+/// [`subset_with_variations`] with all choices: the limits, and what the new font keeps.
+///
+/// Away from the default a glyph may take as many steps as the limits have tokens: one for each glyph that it reaches, each
+/// point, each tuple, and each point again of a tuple that applies.
 ///
 /// # Errors
 ///
 /// Those of [`subset_with_variations`] and of [`subset_with_options`].
-///
-/// # Panics
-///
-/// A value is NaN.
 #[cfg(feature = "variable-fonts")]
 pub fn subset_with_variations_and_options(
     data: &[u8],
@@ -180,7 +180,7 @@ pub fn subset_with_variations_and_options(
     mapper: &GlyphRemapper,
     options: &Options,
 ) -> Result<Vec<u8>, Error> {
-    let coordinates = variations::coordinates(variation_coordinates);
+    let coordinates = library::coordinates(variation_coordinates);
     library::subset_at(data, index, &coordinates, mapper.glyphs(), options)
 }
 
@@ -222,7 +222,7 @@ pub fn embed(data: &[u8], index: u32, glyphs: &[u16]) -> Result<Embedded, Error>
     embed_with_options(data, index, glyphs, &Options::new())
 }
 
-/// [`embed`] with limits on the charstring of each glyph, for fonts that nobody vouches for.
+/// [`embed`] with limits on the charstring of each glyph, for untrusted fonts.
 ///
 /// # Errors
 ///
@@ -240,7 +240,7 @@ pub fn embed_with_limits(
 ///
 /// # Errors
 ///
-/// Those of [`embed_with_limits`]. A table that is left out isn't looked at, so a fault in it is none.
+/// Those of [`embed_with_limits`]. A table that is left out isn't read, so no fault in it is reported.
 pub fn embed_with_options(
     data: &[u8],
     index: u32,
@@ -250,16 +250,12 @@ pub fn embed_with_options(
     library::embed(data, index, glyphs, options)
 }
 
-/// [`embed`] of a font as it is at coordinates on its axes, which are as for [`subset_with_variations`]: the font is the one
-/// that that call answers, and a width is the advance that its glyph has there.
+/// [`embed`] of a variable font at coordinates, which are read as by [`subset_with_variations`]: the font is the one that
+/// that call answers, and each width is the advance at the coordinates.
 ///
 /// # Errors
 ///
 /// Those of [`embed`] and of [`subset_with_variations`].
-///
-/// # Panics
-///
-/// A value is NaN.
 #[cfg(feature = "variable-fonts")]
 pub fn embed_with_variations(
     data: &[u8],
@@ -275,10 +271,6 @@ pub fn embed_with_variations(
 /// # Errors
 ///
 /// Those of [`embed_with_variations`] and of [`embed_with_options`].
-///
-/// # Panics
-///
-/// A value is NaN.
 #[cfg(feature = "variable-fonts")]
 pub fn embed_with_variations_and_options(
     data: &[u8],
@@ -287,6 +279,6 @@ pub fn embed_with_variations_and_options(
     glyphs: &[u16],
     options: &Options,
 ) -> Result<Embedded, Error> {
-    let coordinates = variations::coordinates(variation_coordinates);
+    let coordinates = library::coordinates(variation_coordinates);
     library::embed_at(data, index, &coordinates, glyphs, options)
 }

@@ -1,5 +1,7 @@
 //! The calls of the library, as `../c/subsetter.h` declares them.
 
+#[cfg(feature = "variable-fonts")]
+use crate::{variations, Tag};
 use crate::{Embedded, Error, Options};
 use std::alloc::{handle_alloc_error, Layout};
 use std::ptr;
@@ -273,6 +275,17 @@ pub(crate) fn subset(
         .to_vec())
 }
 
+/// Coordinates as the library takes them.
+#[cfg(feature = "variable-fonts")]
+pub(crate) fn coordinates(given: &[(Tag, f32)]) -> Vec<Coordinate> {
+    let coordinate = |tag: Tag, value| Coordinate {
+        tag: u32::from_be_bytes(*tag.get()),
+        value,
+    };
+    let taken = variations::coordinates(given, coordinate);
+    taken.unwrap_or_else(|_| handle_alloc_error(Layout::new::<Coordinate>()))
+}
+
 /// The subset of a font at coordinates.
 #[cfg(feature = "variable-fonts")]
 pub(crate) fn subset_at(
@@ -329,7 +342,10 @@ mod tests {
 
     /// A font of the worked rows.
     fn font(name: &str) -> Vec<u8> {
-        let rows = include_str!(concat!(env!("CARGO_MANIFEST_DIR"), "/../../crates/subset_rows/data/rows.txt"));
+        let rows = include_str!(concat!(
+            env!("CARGO_MANIFEST_DIR"),
+            "/../../crates/subset_rows/data/rows.txt"
+        ));
         let row = rows
             .lines()
             .find_map(|line| line.strip_prefix(&format!("font {name} ")));
@@ -381,6 +397,20 @@ mod tests {
         assert_eq!(version, env!("CARGO_PKG_VERSION"));
         let whole = include_str!(concat!(env!("CARGO_MANIFEST_DIR"), "/../../VERSION"));
         assert_eq!(version, whole.trim());
+    }
+
+    #[cfg(feature = "variable-fonts")]
+    #[test]
+    fn a_tag_is_a_number() {
+        use super::Coordinate;
+        use crate::Tag;
+        let given = [
+            (Tag::new(b"wght"), 2.0),
+            (Tag::new(b"\xff\0\x80\x01"), -1.0),
+        ];
+        let wanted = [(0x7767_6874, 131_072), (0xff00_8001, -65536)];
+        let wanted = wanted.map(|(tag, value)| Coordinate { tag, value });
+        assert_eq!(super::coordinates(&given), wanted);
     }
 
     #[test]

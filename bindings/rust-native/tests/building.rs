@@ -1,5 +1,6 @@
 //! How a program comes to this package, and the package to its library.
 
+#[path = "../../rust/tests/table/mod.rs"]
 mod table;
 
 use std::env;
@@ -39,7 +40,7 @@ fn cargo(word: &str, target: &Path) -> Command {
     cargo
 }
 
-/// What the dependent program makes of a font, with the library of a folder or of the place where it mostly stands.
+/// What the dependent program makes of a font, with the library of a folder or of the usual one.
 fn run(target: &Path, library: Option<&Path>, font: &[u8]) -> Vec<u8> {
     let mut cargo = cargo("run", target);
     if let Some(folder) = library {
@@ -60,7 +61,7 @@ fn done(command: &mut Command) {
     assert!(command.status().unwrap().success(), "{command:?}");
 }
 
-/// Where the library stands that these tests are linked with.
+/// The library that these tests are linked with.
 fn library() -> PathBuf {
     env::var_os("SUBSETTER_LIBRARY_FOLDER")
         .map_or(
@@ -71,7 +72,7 @@ fn library() -> PathBuf {
 }
 
 #[test]
-fn a_dependency_that_asks_for_the_crate_gets_this_package() {
+fn a_program_that_names_this_package_gets_its_library() {
     let table = table();
     let row = table.rows.iter().find(|row| row.name == "simple").unwrap();
     let target = folder("dependent");
@@ -110,7 +111,7 @@ fn refused(folder: &str) -> String {
 
 #[test]
 fn a_folder_without_the_library_is_refused_with_words() {
-    // (a folder of this name stands in the package, where Cargo runs the build's program)
+    // (a folder of this name is in the package, where Cargo runs the build's program)
     let said = refused("src");
     assert!(
         said.contains("SUBSETTER_LIBRARY_FOLDER is the relative src"),

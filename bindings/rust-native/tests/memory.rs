@@ -1,5 +1,6 @@
 //! Memory: what the library hands over is given back, and where it lacks memory the process ends.
 
+#[path = "../../rust/tests/table/mod.rs"]
 mod table;
 
 use std::env;

@@ -4,7 +4,7 @@
 //! A glyph's new number stands in a table of pages of 64 glyphs, of which only those with a known glyph are there. So
 //! it is found by two reads, and the mapper is copied without hashing: `Remapper<u16, u16>` isn't used for it.
 
-use crate::rattle::prelude::Vec;
+use crate::rattle::prelude::{SliceExt, Vec};
 
 use crate::proved::subsetter_base::error::Error;
 use crate::rattle::alloc::Global;
@@ -124,6 +124,17 @@ impl GlyphRemapper {
         // There are never more than 65535.
         let _count = remapper.num_gids();
         Ok(remapper)
+    }
+
+    /// Glyph 0 and the given glyphs, each once, from the lowest to the highest.
+    ///
+    /// # Errors
+    ///
+    /// `OverflowError` where all glyphs above 0 are given, as these leave no number for glyph 0.
+    pub fn new_from_glyphs_sorted(alloc: Global, glyphs: &[u16]) -> Result<Self, Error> {
+        let mut sorted = glyphs.to_vec_with(alloc)?;
+        sorted.sort_unstable();
+        Self::new_from_glyphs(alloc, &sorted)
     }
 }
 

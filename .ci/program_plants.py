@@ -1,0 +1,109 @@
+#!/usr/bin/env python3
+"""Plants faults in a copy of bindings/rust, one at a time, and shows that program.py sees each in the program that Cargo builds.
+
+program_plants.py [--only WORD] [--list]
+
+A plant is a file below `src`, a text that stands there once, and what is put in its place. The copy is built with it, and program.py
+has to end with status 1 and name a row. Before all, the program without a plant has to pass. The last line is `program_plants: N
+plants, M not seen`, and the status 1 where one isn't seen, doesn't build, or its text isn't there.
+"""
+import argparse
+import os
+import shutil
+import subprocess
+import sys
+import tempfile
+
+HERE = os.path.dirname(os.path.realpath(__file__))
+ROOT = os.path.dirname(HERE)
+
+# What is planted: the name, the file, the text that stands there, and the other.
+PLANTS = [
+    ("an option swapped", "proved/subset_args/options.rs", '"--no-names" => Some(Switch::NoNames)', '"--no-names" => Some(Switch::NoHinting)'),
+    ("a status changed", "proved/subset_font/failure.rs", "Failure::Usage | Failure::List => 2,", "Failure::Usage | Failure::List => 1,"),
+    ("the status dropped", "host/process.rs", "main(HostRuntime).report(&HostRuntime)", "{ main(HostRuntime).report(&HostRuntime); ExitCode::SUCCESS }"),
+    ("standard input asked for twice", "proved/subset_args/jobs.rs", "if is_stream(input) && lists_in_stream(&glyphs)", "if is_stream(input) && !lists_in_stream(&glyphs) && false"),
+    ("the first argument lost", "host/env.rs", "std::env::args_os()", "std::env::args_os().skip(1)"),
+    ("an argument mended", "host/env.rs", "word.into_string().map_err(|_| ErrorKind::InvalidData)?", "std::string::String::from(word.to_string_lossy())"),
+    ("a cut buffer", "host/streams.rs", "let count = output.write(bytes)?;", "let _ = output.write(&bytes[..bytes.len().min(500)])?;\n        let count = bytes.len();"),
+    ("short writes ignored", "host/fs.rs", "Ok(std::io::Write::write(self, buf)?)", "{\n            std::io::Write::write(self, buf)?;\n            Ok(buf.len())\n        }"),
+    ("short writes of lines ignored", "host/streams.rs", "let count = output.write(bytes)?;", "let count = output.write(&bytes[..bytes.len().min(4000)])?.max(bytes.len());"),
+    ("a failed write swallowed", "host/streams.rs", "let count = output.write(bytes)?;", "let count = output.write(bytes).unwrap_or(bytes.len());"),
+    ("a failed message swallowed into success", "host/streams.rs", 'Ok(write!(opened(std::io::stderr())?, "{}", text)?)', "{\n            let _ = write!(opened(std::io::stderr())?, \"{}\", text);\n            Ok(())\n        }"),
+    ("a failed read is the end", "host/fs.rs", "Ok(std::io::Read::read(self, buf)?)", "Ok(std::io::Read::read(self, buf).unwrap_or(0))"),
+    ("a buffer's rest dropped", "rattle/io.rs", "        self.pass_on()?;\n        self.inner.flush()", "        self.buffer.clear();\n        self.inner.flush()"),
+    ("OUT not renamed", "host/fs.rs", "Ok(std::fs::rename(from, to)?)", "{\n        let _ = (from, to);\n        Ok(())\n    }"),
+    ("OUT copied and not renamed", "host/fs.rs", "Ok(std::fs::rename(from, to)?)", "Ok(std::fs::copy(from, to).map(drop)?)"),
+    ("the rights of OUT lost", "host/fs.rs", "Ok(File::set_permissions(self, rights)?)", "{\n            let _ = rights;\n            Ok(())\n        }"),
+    ("a failed settling swallowed", "host/fs.rs", "ended => Ok(ended?),", "_ended => Ok(()),"),
+    ("a file beside OUT left", "host/fs.rs", "Ok(std::fs::remove_file(name)?)", "{\n        let _ = name;\n        Ok(())\n    }"),
+    ("another's file overwritten", "host/fs.rs", "self.how.create_new(is_on);", "self.how.create(is_on);"),
+    ("OUT emptied before it is written", "host/fs.rs", "self.how.write(is_on);", "self.how.write(is_on).truncate(true);"),
+    ("a link replaced", "host/fs.rs", "Ok(std::fs::symlink_metadata(name)?)", "Ok(std::fs::metadata(name)?)"),
+    ("a missing file not seen", "host/streams.rs", "std::io::ErrorKind::NotFound => ErrorKind::NotFound,", "std::io::ErrorKind::NotFound => ErrorKind::Other,"),
+    ("a call that a pipe lacks", "host/streams.rs", "std::io::ErrorKind::InvalidInput => ErrorKind::InvalidInput,", "std::io::ErrorKind::InvalidInput => ErrorKind::Other,"),
+    ("the arguments not asked for", "host/env.rs", "room::ask(size_of_copies())?;", ""),
+    ("standard output taken too late", "host/env.rs", "streams::prepare()?;", ""),
+    ("standard input not asked for", "host/streams.rs", "            room::ask(BUFFER_ROOM)?;\n            self.is_ready", "            self.is_ready"),
+    ("no room for a long name", "host/fs.rs", "            room::keep_for_name(name)?;", ""),
+    ("the room for a long name not given back", "host/fs.rs", "    room::give_back();\n    Ok(std::fs::rename", "    Ok(std::fs::rename"),
+]
+
+
+def build(crate, target):
+    """The program that Cargo builds of a crate, None where it doesn't build."""
+    command = ["cargo", "build", "--release", "--offline", "--quiet", "--features", "program", "--target-dir", target]
+    ran = subprocess.run(command, cwd=crate, stderr=subprocess.PIPE, text=True)
+    if ran.returncode != 0:
+        print(ran.stderr)
+        return None
+    return os.path.join(target, "release", "subset_font")
+
+
+def told_by(program):
+    """The status of program.py, and the first row that differs."""
+    ran = subprocess.run([sys.executable, os.path.join(HERE, "program.py"), "--cargo", "--program", program], stdout=subprocess.PIPE, text=True)
+    rows = [line for line in ran.stdout.splitlines() if line.startswith("program.py: ")]
+    return ran.returncode, rows[0][:160] if rows else ran.stdout[-160:]
+
+
+def is_seen(plant, crate, target):
+    name, file, old, new = plant
+    path = os.path.join(crate, "src", file)
+    with open(path) as source:
+        before = source.read()
+    if before.count(old) != 1:
+        print(f"{name}: {old!r} stands in {file} {before.count(old)} times")
+        return False
+    with open(path, "w") as source:
+        source.write(before.replace(old, new))
+    program = build(crate, target)
+    with open(path, "w") as source:
+        source.write(before)
+    status, row = told_by(program) if program else (0, "it doesn't build")
+    print(f"{name}: {'seen' if status == 1 else 'NOT SEEN'}: {row}", flush=True)
+    return status == 1
+
+
+def main():
+    words = argparse.ArgumentParser(usage=__doc__)
+    words.add_argument("--only", default="")
+    words.add_argument("--list", action="store_true")
+    given = words.parse_args()
+    wanted = [plant for plant in PLANTS if given.only in plant[0]]
+    if given.list:
+        sys.exit("\n".join(plant[0] for plant in wanted))
+    with tempfile.TemporaryDirectory(prefix="program-plants-") as room:
+        crate, target = os.path.join(room, "crate"), os.path.join(room, "target")
+        shutil.copytree(os.path.join(ROOT, "bindings", "rust"), crate, ignore=shutil.ignore_patterns("target"))
+        program = build(crate, target)
+        status, row = told_by(program) if program else (1, "it doesn't build")
+        if status != 0:
+            sys.exit(f"program_plants: without a plant: {row}")
+        missed = [plant[0] for plant in wanted if not is_seen(plant, crate, target)]
+    print(f"program_plants: {len(wanted)} plants, {len(missed)} not seen")
+    sys.exit(1 if missed or not wanted else 0)
+
+
+if __name__ == "__main__":
+    main()

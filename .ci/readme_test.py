@@ -1,0 +1,155 @@
+#!/usr/bin/env python3
+"""Plants bugs in the README and in the results of its figures, one at a time, in a clone: .ci/evidence.py or
+.ci/examples.py has to fail over each.
+
+    .ci/readme_test.py [NAME..]    all of them, or those whose names begin so
+
+It also gives logs of gates to compare/gate.py, which records only one that passed. It needs the repository's history, and Cargo. The
+status is 1 where a bug gets through, or where the clone fails as it is.
+"""
+import os
+import re
+import subprocess
+import sys
+
+sys.dont_write_bytecode = True
+sys.path.insert(0, os.path.dirname(os.path.realpath(__file__)))
+
+import planted  # noqa: E402
+
+RESULTS = "compare/results/"
+
+
+
+
+# A name; what the check has to say; and edits, each a file, a pattern that stands there once, and what is put in its place.
+PLANTS = [
+    ("a number of bytes by hand", "README.md isn't what compare/results gives", [("README.md", r"27,552", "26,552")]),
+    ("a time by hand", "README.md isn't what compare/results gives", [("README.md", r"\| 93 \| 278 \|", "| 39 | 278 |")]),
+    ("the times of another font", "README.md isn't what compare/results gives", [("README.md", r"\| 93 \| 278 \| 369 \|", "| 120 | 517 | 1,553 |")]),
+    ("the bound of another program", "README.md isn't what compare/results gives", [("README.md", r"at most 0\.\d\d of the Rust crate's", "at most 0.25 of the Rust crate's")]),
+    ("damaged fonts of another result", "README.md isn't what compare/results gives", [("README.md", r"1,000,000 damaged fonts 7,570", "100,000 damaged fonts 752")]),
+    ("fewer differences by hand", "README.md isn't what compare/results gives", [("README.md", r"7,570", "757")]),
+    ("another commit", "README.md isn't what compare/results gives", [("README.md", r"damage-kinds\.md\) `[0-9a-f]{7}`", "damage-kinds.md) `1fba716`")]),
+    ("no word of changed code", "README.md isn't what compare/results gives", [("README.md", r"`1fba716`, code changed since", "`1fba716`")]),
+    ("minutes of the gate by hand", "README.md isn't what compare/results gives", [("README.md", r"\d+ minutes on", "5 minutes on")]),
+    ("a block that names another result", "README.md isn't what compare/results gives", [("README.md", r"from compare/results/damage-kinds\.md: readme", "from compare/results/damage-library.md: readme")]),
+    ("a block of another figure", "blocks 'readme: ", [("README.md", r": readme: damage -->", ": sizes -->")]),
+    ("a figure without its block", "blocks 'readme: ", [("README.md", r"<!-- from \S+: readme: damage -->\n(.*\n)<!-- end -->", r"\1")]),
+    ("a block without its end", "has no `end`", [("README.md", r"(explains: .*\n)<!-- end -->", r"\1")]),
+    ("a block in a comment of its own", "blocks 'readme: ", [("README.md", r"(<!-- from \S+: readme: gate -->\n.*\n<!-- end -->)", r"```\n\1\n```")]),
+    ("too many words", "words, and at most", [("README.md", r"\Z", "word " * 1400)]),
+    ("a few words too many", "words, and at most", [("README.md", r"\Z", "MANY")]),
+    ("the source of a size by hand", "isn't what its page says", [(RESULTS + "bytes.csv", r",27552,", ",26552,"), ("README.md", r"27,552", "26,552")]),
+    ("a size by hand, in its page too", "aren't what a run wrote", [(RESULTS + "bytes.csv", r",27552,", ",26552,"), (RESULTS + "bytes.md", r"\| 27552 \|", "| 26552 |"), ("README.md", r"27,552", "26,552")]),
+    ("a time by hand in its result", "aren't what a run wrote", [(RESULTS + "cff.csv", r"LinLibertine_R\.otf,80 low,369046,92618", "LinLibertine_R.otf,80 low,369046,12618"), ("README.md", r"\| 93 \| 278 \|", "| 13 | 278 |")]),
+    ("a damaged font by hand in its result", "says: Of", [(RESULTS + "damage.jsonl", r'(\A.*?"copies": )100000', r"\g<1>200000")]),
+    ("minutes by hand in their result", "aren't what a run wrote", [(RESULTS + "gate.md", r"(?m)^\d+ minutes$", "5 minutes"), ("README.md", r"\d+ minutes on", "5 minutes on")]),
+    ("a result of another history", "isn't behind HEAD", [(RESULTS + "gate.md", r"Commit: `[0-9a-f]{7}`", "Commit: `3ff537e`")]),
+    ("no result", "isn't there", [(RESULTS + "bytes.md", None, "")]),
+    ("a result without its commit", "doesn't say its commit", [(RESULTS + "times.md", r"- Commit: .*\n", "")]),
+]
+# The same for the example in Rust, over which .ci/examples.py has to fail.
+EXAMPLES = [
+    ("another glyph", "hasn't the advance", [("README.md", r"new_from_glyphs\(&\[36, 68\]\);", "new_from_glyphs(&[36, 69]);")]),
+    ("a call that isn't there", "ended with", [("README.md", r"subset\(&data, 0, &mapper\)\?\)", "subset_font(&data, 0, &mapper)?)")]),
+    ("a file that isn't written", "writes no subset.ttf", [("README.md", r'"subset\.ttf", subset', '"other.ttf", subset')]),
+    ("another folder of the crate", "ended with", [("README.md", r'path = "bindings/rust" \}', 'path = "bindings/portable" }')]),
+    ("a block that nothing runs", "nothing runs", [("README.md", r"(?m)^## Documents\n", "## Documents\n\n```python\nimport subsetter\n```\n")]),
+]
+# Logs of a gate: which words were given, and what it printed; the first alone is recorded.
+PASSED = "1:02 rt ci: passed\nthe bindings (bindings): passed in 60 s\n"
+LOGS = [
+    ("a gate that passed", True, [], PASSED + "812 passed, 0 failed\n"),
+    ("a gate with a named skip", True, ["SKIP=js"], PASSED + "the page (js): skipped, as was asked for\n812 passed, 0 failed\n"),
+    ("a gate that failed", False, [], PASSED + "812 passed, 1 failed\n"),
+    ("a gate of another history", False, [], PASSED + "812 passed, 0 failed\n"),
+    ("a part that failed", False, [], PASSED + "the page (js): FAILED after 3 s\n812 passed, 0 failed\n"),
+    ("a gate without tests", False, [], PASSED + "0 passed, 0 failed\n"),
+    ("a gate that was cut off", False, [], "812 passed, 0 failed\n" + PASSED),
+    ("parts that weren't run", False, [], "the bindings, the release files: not run, as not all is proved\n3 passed, 0 failed\n"),
+    ("a skip that isn't named", False, [], PASSED + "the page (js): skipped, as was asked for\n812 passed, 0 failed\n"),
+]
+
+
+def run(folder, *words):
+    """The status of a command, and what it prints."""
+    ran = subprocess.run(words, cwd=folder, env=planted.ENVIRONMENT, stdout=subprocess.PIPE, stderr=subprocess.STDOUT, text=True)
+    return ran.returncode, ran.stdout
+
+
+def plant(folder, edits):
+    """Makes the edits, and answers what stood in their files."""
+    before = {}
+    for name, pattern, new in edits:
+        path = os.path.join(folder, name)
+        with open(path, encoding="utf-8") as file:
+            before.setdefault(path, file.read())
+        if pattern is None:
+            os.remove(path)
+            continue
+        with open(path, encoding="utf-8") as file:
+            text = file.read()
+        if name == "README.md" and new == "MANY":
+            new = "word " * (1401 - len(text.split()))
+        if len(re.findall(pattern, text)) != 1:
+            sys.exit(f"readme_test: {name} hasn't once: {pattern}")
+        with open(path, "w", encoding="utf-8") as file:
+            file.write(re.sub(pattern, new, text))
+    return before
+
+
+def restore(before):
+    """Writes texts into their files."""
+    for path, text in before.items():
+        with open(path, "w", encoding="utf-8") as file:
+            file.write(text)
+
+
+def try_plants(folder, check, plants, names):
+    """How many bugs were tried with a check, and how many results are wrong: without a bug it has to pass."""
+    tried = wrong = 0
+    for name, wanted, edits in [("nothing", "", []), *plants]:
+        if names and name != "nothing" and not name.startswith(tuple(names)):
+            continue
+        before = plant(folder, edits)
+        status, said = run(folder, sys.executable, *check)
+        restore(before)
+        is_well = status == 0 if name == "nothing" else status == 1 and wanted in said and "Traceback" not in said
+        tried, wrong = tried + (name != "nothing"), wrong + (not is_well)
+        print(f"{'caught' if status else 'passed'}{'' if is_well else ', WRONGLY'}: {name}: {said.strip().splitlines()[0][:150]}")
+    return tried, wrong
+
+
+def try_logs(folder):
+    """The same for the logs of gates."""
+    page, readme = (os.path.join(folder, it) for it in (RESULTS + "gate.md", "README.md"))
+    run(folder, "git", "commit", "-qam", "as it stands")
+    missed = 0
+    for name, is_kept, words, text in LOGS:
+        log = os.path.join(folder, "out.log")
+        restore({log: text})
+        commit = "3ff537e" if name == "a gate of another history" else "HEAD"
+        before = open(page, encoding="utf-8").read()
+        status, said = run(folder, "compare/gate.py", "--from", log, "--minutes", "61", "--commit", commit, *words)
+        after = open(page, encoding="utf-8").read()
+        shown = open(readme, encoding="utf-8").read()
+        line = " ".join(["make test", *words])
+        is_well = (status == 0 and f"`{line}`" in shown and "61 minutes on" in shown) if is_kept else status != 0 and after == before
+        missed += not is_well
+        print(f"{'recorded' if after != before else 'refused'}{'' if is_well else ', WRONGLY'}: {name}: {said.strip()[:150]}")
+        run(folder, "git", "checkout", "-q", "--", ".")
+    return len(LOGS), missed
+
+
+def main():
+    with planted.copy() as folder:
+        found = [try_plants(folder, [".ci/evidence.py"], PLANTS, sys.argv[1:]), try_plants(folder, [".ci/examples.py", "rust"], EXAMPLES, sys.argv[1:])]
+        found += [] if sys.argv[1:] else [try_logs(folder)]
+    tried, wrong = map(sum, zip(*found))
+    print(f"readme_test: {tried} bugs and logs, {wrong} results are wrong")
+    sys.exit(bool(wrong))
+
+
+if __name__ == "__main__":
+    main()

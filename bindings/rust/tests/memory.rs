@@ -1,0 +1,324 @@
+//! Memory: each request of each call is refused in turn. A call that answers a `Result` then answers `OutOfMemory`, keeps
+//! nothing and changes nothing, or it does without the memory; a call of 0.2.6 without a `Result` ends the process.
+
+mod table;
+
+use std::alloc::{GlobalAlloc, Layout, System};
+use std::cell::Cell;
+use subsetter::{
+    embed, embed_with_limits, embed_with_options, Error, GlyphRemapper, Limits, Options,
+};
+use subsetter::{subset, subset_with_limits, subset_with_options};
+use table::table;
+
+/// The system's memory, of which a thread's requests are counted and refused.
+struct Counting;
+
+#[global_allocator]
+static COUNTING: Counting = Counting;
+
+thread_local! {
+    /// How many requests of this thread are granted before one is refused; usize::MAX where none is.
+    static GRANTED: Cell<usize> = const { Cell::new(usize::MAX) };
+    /// Whether all requests after that one are refused too.
+    static FOR_GOOD: Cell<bool> = const { Cell::new(true) };
+    /// How many of its requests were refused.
+    static REFUSED: Cell<usize> = const { Cell::new(0) };
+    /// How many bytes it holds.
+    static HELD: Cell<usize> = const { Cell::new(0) };
+}
+
+/// Whether a request is granted.
+fn grants() -> bool {
+    let left = GRANTED.with(Cell::get);
+    if left == usize::MAX {
+        return true;
+    }
+    if left > 0 {
+        GRANTED.with(|granted| granted.set(left - 1));
+        return true;
+    }
+    REFUSED.with(|refused| refused.set(refused.get() + 1));
+    if !FOR_GOOD.with(Cell::get) {
+        GRANTED.with(|granted| granted.set(usize::MAX));
+    }
+    false
+}
+
+fn hold(at: *mut u8, more: usize, less: usize) -> *mut u8 {
+    if !at.is_null() {
+        HELD.with(|held| held.set(held.get().wrapping_add(more).wrapping_sub(less)));
+    }
+    at
+}
+
+// SAFETY: all is handed on to the system's allocator; a refused request is answered null, as the trait allows. What is counted
+// stands in cells without a destructor, which take no memory.
+unsafe impl GlobalAlloc for Counting {
+    unsafe fn alloc(&self, layout: Layout) -> *mut u8 {
+        if !grants() {
+            return std::ptr::null_mut();
+        }
+        hold(System.alloc(layout), layout.size(), 0)
+    }
+
+    unsafe fn dealloc(&self, at: *mut u8, layout: Layout) {
+        hold(at, 0, layout.size());
+        System.dealloc(at, layout);
+    }
+
+    unsafe fn realloc(&self, at: *mut u8, layout: Layout, size: usize) -> *mut u8 {
+        if !grants() {
+            return std::ptr::null_mut();
+        }
+        hold(System.realloc(at, layout, size), size, layout.size())
+    }
+}
+
+/// What a call answers where one request is refused, and how many then were.
+fn with_a_refusal<T>(request: usize, call: impl FnOnce() -> T) -> (T, usize) {
+    REFUSED.with(|refused| refused.set(0));
+    GRANTED.with(|granted| granted.set(request));
+    let answer = call();
+    GRANTED.with(|granted| granted.set(usize::MAX));
+    (answer, REFUSED.with(Cell::get))
+}
+
+/// Refuses each request of a call in turn, alone and with all after it: how many requests the call makes. `last` is its
+/// answer where none is refused.
+fn refuse_each<T: PartialEq + std::fmt::Debug>(
+    call: impl Fn() -> Result<T, Error>,
+    last: &Result<T, Error>,
+) -> usize {
+    FOR_GOOD.with(|for_good| for_good.set(false));
+    let requests = refuse_in_turn(&call, last);
+    FOR_GOOD.with(|for_good| for_good.set(true));
+    assert!(refuse_in_turn(&call, last) <= requests);
+    requests
+}
+
+/// How many requests of a call may be refused without an error: those for a smaller room, as the larger one is kept then.
+const MOST_KEPT: usize = 2;
+
+fn refuse_in_turn<T: PartialEq + std::fmt::Debug>(
+    call: &impl Fn() -> Result<T, Error>,
+    last: &Result<T, Error>,
+) -> usize {
+    let mut kept = 0;
+    for request in 0.. {
+        let before = HELD.with(Cell::get);
+        let (answer, refused) = with_a_refusal(request, call);
+        if refused == 0 {
+            assert_eq!(answer, *last);
+            return request;
+        }
+        if answer != Err(Error::OutOfMemory) {
+            assert_eq!(answer, *last, "request {request}");
+            kept += 1;
+            assert!(kept <= MOST_KEPT, "request {request}");
+        }
+        drop(answer);
+        assert_eq!(HELD.with(Cell::get), before, "request {request}");
+    }
+    unreachable!()
+}
+
+/// The fonts that reach each kind of table.
+const FONTS: [&str; 6] = [
+    "full",
+    "collection",
+    "varied",
+    "font_dicts_unnamed",
+    "one_charstring",
+    "long_glyph",
+];
+
+#[test]
+fn each_request_of_subset_may_be_refused() {
+    let (fonts, limits, options) = (table().fonts, Limits::default(), Options::new());
+    for name in FONTS {
+        let (font, mapper) = (&fonts[name], GlyphRemapper::new_from_glyphs(&[0, 1]));
+        let answer = subset(font, 0, &mapper);
+        let requests = refuse_each(|| subset(font, 0, &mapper), &answer);
+        assert!(answer.is_err() || requests > 3, "{name}: {requests}");
+        refuse_each(|| subset_with_limits(font, 0, &mapper, &limits), &answer);
+        refuse_each(|| subset_with_options(font, 0, &mapper, &options), &answer);
+    }
+}
+
+#[test]
+fn each_request_of_embed_may_be_refused() {
+    let (fonts, limits, options) = (table().fonts, Limits::default(), Options::new());
+    for name in FONTS {
+        let font = &fonts[name];
+        let answer = embed(font, 0, &[1, 1]);
+        refuse_each(|| embed(font, 0, &[1, 1]), &answer);
+        refuse_each(|| embed_with_limits(font, 0, &[1, 1], &limits), &answer);
+        refuse_each(|| embed_with_options(font, 0, &[1, 1], &options), &answer);
+    }
+}
+
+#[cfg(feature = "variable-fonts")]
+#[test]
+fn each_request_of_an_instance_may_be_refused() {
+    use subsetter::{embed_with_variations, embed_with_variations_and_options};
+    use subsetter::{subset_with_variations, subset_with_variations_and_options, Tag};
+    let (font, options) = (&table().fonts["varied"], Options::new());
+    let (wght, mapper) = (Tag::new(b"wght"), GlyphRemapper::new_from_glyphs(&[1, 3]));
+    let plain = subset(font, 0, &mapper);
+    // (with NaN there is a further list)
+    for at in [&[(wght, 650.0)][..], &[(wght, f32::NAN), (wght, 650.0)]] {
+        let answer = subset_with_variations(font, 0, at, &mapper);
+        assert!(answer.is_ok() && answer != plain);
+        let requests = refuse_each(|| subset_with_variations(font, 0, at, &mapper), &answer);
+        assert!(requests > 10 + at.len(), "{requests}");
+        let chosen = || subset_with_variations_and_options(font, 0, at, &mapper, &options);
+        refuse_each(chosen, &answer);
+        let answer = embed_with_variations(font, 0, at, &[1, 3]);
+        refuse_each(|| embed_with_variations(font, 0, at, &[1, 3]), &answer);
+        let chosen = || embed_with_variations_and_options(font, 0, at, &[1, 3], &options);
+        refuse_each(chosen, &answer);
+    }
+}
+
+#[cfg(feature = "variable-fonts")]
+#[test]
+fn a_list_of_coordinates_may_be_refused() {
+    use subsetter::{subset_with_variations, Tag};
+    // Without outlines in `glyf` the list alone is asked for.
+    let font = &table().fonts["one_charstring"];
+    let mapper = GlyphRemapper::new();
+    let call = |at: &[(Tag, f32)]| {
+        let answer = subset_with_variations(font, 0, at, &mapper);
+        refuse_each(|| subset_with_variations(font, 0, at, &mapper), &answer)
+    };
+    let wght = Tag::new(b"wght");
+    let none = call(&[]);
+    assert_eq!(call(&[(wght, 1.0), (wght, 2.0)]), none + 1);
+    assert_eq!(call(&[(wght, f32::NAN), (wght, 2.0)]), none + 2);
+}
+
+#[test]
+fn each_request_of_a_mapper_may_be_refused() {
+    let glyphs: Vec<u16> = (0..2000).map(|number| number * 31 % 5000).collect();
+    let made = GlyphRemapper::try_from_glyphs(&glyphs);
+    let mapper = made.as_ref().unwrap();
+    assert!(refuse_each(GlyphRemapper::try_new, &GlyphRemapper::try_new()) > 0);
+    assert!(refuse_each(|| GlyphRemapper::try_from_glyphs(&glyphs), &made) > 3);
+    let sorted = GlyphRemapper::try_from_glyphs_sorted(&glyphs);
+    assert!(refuse_each(|| GlyphRemapper::try_from_glyphs_sorted(&glyphs), &sorted) > 3);
+    assert!(refuse_each(|| mapper.try_clone(), &made) > 0);
+}
+
+#[test]
+fn a_mapper_stays_as_it_was_where_memory_is_refused() {
+    let mut mapper = GlyphRemapper::new();
+    let mut refusals = 0;
+    for glyph in (64..6400).step_by(17) {
+        let before = mapper.clone();
+        for request in 0.. {
+            let (answer, refused) = with_a_refusal(request, || mapper.try_remap(glyph));
+            if refused == 0 {
+                assert_eq!(answer, Ok(before.num_gids()));
+                break;
+            }
+            assert_eq!(answer, Err(Error::OutOfMemory));
+            assert_eq!((&mapper, mapper.get(glyph)), (&before, None));
+            refusals += 1;
+        }
+        // A known glyph takes no memory.
+        assert_eq!(
+            with_a_refusal(0, || mapper.try_remap(glyph)).0,
+            Ok(before.num_gids())
+        );
+    }
+    assert!(refusals > 10, "{refusals}");
+}
+
+#[test]
+fn texts_and_numbers_take_no_memory() {
+    let mapper = GlyphRemapper::new_from_glyphs(&[3, 5]);
+    let (found, refused) = with_a_refusal(0, || {
+        let sum: u32 = mapper.remapped_gids().map(u32::from).sum();
+        (sum, mapper.num_gids(), mapper.get(5), mapper == mapper)
+    });
+    assert_eq!((found, refused), ((8, 3, Some(2), true), 0));
+}
+
+// ---- the calls of 0.2.6
+
+fn refuse_all(call: impl FnOnce()) {
+    println!("calls");
+    with_a_refusal(0, call);
+    println!("goes on");
+}
+
+#[test]
+#[ignore = "run by another test"]
+fn new_without_memory() {
+    refuse_all(|| drop(GlyphRemapper::new()));
+}
+
+#[test]
+#[ignore = "run by another test"]
+fn default_without_memory() {
+    refuse_all(|| drop(GlyphRemapper::default()));
+}
+
+#[test]
+#[ignore = "run by another test"]
+fn new_from_glyphs_without_memory() {
+    refuse_all(|| drop(GlyphRemapper::new_from_glyphs(&[1])));
+}
+
+#[test]
+#[ignore = "run by another test"]
+fn new_from_glyphs_sorted_without_memory() {
+    refuse_all(|| drop(GlyphRemapper::new_from_glyphs_sorted(&[1])));
+}
+
+#[test]
+#[ignore = "run by another test"]
+fn clone_without_memory() {
+    let mapper = GlyphRemapper::new();
+    refuse_all(|| drop(mapper.clone()));
+}
+
+#[test]
+#[ignore = "run by another test"]
+fn remap_without_memory() {
+    let mut mapper = GlyphRemapper::new();
+    refuse_all(|| assert_eq!(mapper.remap(9999), 1));
+}
+
+#[cfg(unix)]
+#[test]
+fn without_memory_the_mappers_of_0_2_6_end_the_process() {
+    use std::os::unix::process::ExitStatusExt;
+    use std::{env, process::Command};
+    for call in [
+        "new",
+        "default",
+        "new_from_glyphs",
+        "new_from_glyphs_sorted",
+        "clone",
+        "remap",
+    ] {
+        let child = format!("{call}_without_memory");
+        let words = [
+            "--exact",
+            &child,
+            "--ignored",
+            "--nocapture",
+            "--test-threads=1",
+        ];
+        let mut command = Command::new(env::current_exe().unwrap());
+        let output = command.args(words).output().unwrap();
+        let printed = String::from_utf8(output.stdout).unwrap();
+        let said = String::from_utf8(output.stderr).unwrap();
+        let ended = printed.contains("calls") && !printed.contains("goes on");
+        assert!(ended, "{call}: {printed}");
+        assert!(said.contains("memory allocation of"), "{call}: {said}");
+        assert_eq!(output.status.signal(), Some(6), "{call}: {said}");
+    }
+}

@@ -1,0 +1,101 @@
+#!/usr/bin/env python3
+"""Runs the whole gate, and records that it passed: compare/results/gate.md, and the README's line.
+
+    compare/gate.py [SKIP=NAME,..]      runs `make test`, of the commit that is checked out
+    compare/gate.py --from LOG --minutes N --commit HASH [SKIP=NAME,..]
+                                        takes what such a run of a commit printed, and its minutes
+
+Only a gate that passed is recorded: the last line of what it printed is `N passed, 0 failed`, and no part failed or was left
+out. What was skipped has to be named, and the record names it.
+"""
+import argparse
+import datetime
+import os
+import re
+import subprocess
+import sys
+import tempfile
+import time
+
+sys.path.insert(0, os.path.dirname(os.path.realpath(__file__)))
+
+import comparisons  # noqa: E402
+import figures  # noqa: E402
+import repository  # noqa: E402
+import results_of  # noqa: E402
+
+CODE = ("crates", "crates.txt", "bindings", "dist", ".ci", "compare/*.py", "Makefile")
+
+
+def run(words):
+    """Runs the gate; answers what it printed, and its minutes."""
+    start = time.monotonic()
+    with tempfile.NamedTemporaryFile("w+", prefix="gate-", encoding="utf-8", errors="replace") as log:
+        ran = subprocess.run(["bash", "-c", f'set -o pipefail; make test "$@" 2>&1 | tee {log.name}', "sh", *words], cwd=repository.ROOT)
+        log.seek(0)
+        text = log.read()
+    if ran.returncode != 0:
+        sys.exit("gate: it failed, so nothing is recorded")
+    return text, round((time.monotonic() - start) / 60)
+
+
+def kept(text, words):
+    """The lines of a gate that passed which are kept: what its parts took, what was skipped, and the sum."""
+    lines = [line.strip() for line in text.strip().split("\n")]
+    if not re.fullmatch(r"[1-9]\d* passed, 0 failed", lines[-1]):
+        sys.exit(f"gate: the last line is {lines[-1]!r}, and no gate that passed")
+    failed = [line for line in lines if re.search(r"\): FAILED after \d+ s$|: not run, as not all is proved$", line)]
+    if failed:
+        sys.exit(f"gate: {failed[0]}")
+    if not words and any(line.endswith("skipped, as was asked for") for line in lines):
+        sys.exit("gate: parts were skipped: name them, as in SKIP=NAME,..")
+    return [line for line in lines if re.search(r"\): passed in \d+ s$|skipped, as was asked for$", line)] + lines[-1:]
+
+
+def clean_commit():
+    """The commit that is checked out; ends the program where the code has changes."""
+    commit, changed = repository.head(*CODE)
+    if changed:
+        sys.exit("gate: the code has changes that no commit holds: git status " + " ".join(CODE))
+    return commit
+
+
+def from_log(given):
+    """What a run printed, its minutes, its commit and its date."""
+    if not repository.is_ancestor(given.commit):
+        sys.exit(f"gate: the commit {given.commit} isn't behind HEAD")
+    with open(given.log, encoding="utf-8", errors="replace") as file:
+        return file.read(), given.minutes, repository.git("rev-parse", "--short", given.commit).strip(), datetime.date.fromtimestamp(os.path.getmtime(given.log))
+
+
+def record(lines, minutes, commit, date, command):
+    """Writes the page, and the documents."""
+    fields = results_of.fields_of(True, commit, command, results_of.machine(), date)
+    results_of.write(results_of.Result("gate", fields, ["```text", f"{minutes} minutes", *lines, "```"]))
+    figures.refresh()
+    print(figures.row(comparisons.BY_NAME["gate"]))
+
+
+def main():
+    parser = argparse.ArgumentParser(description=__doc__, formatter_class=argparse.RawDescriptionHelpFormatter)
+    parser.add_argument("words", nargs="*", metavar="SKIP=NAME,..")
+    parser.add_argument("--from", dest="log")
+    parser.add_argument("--minutes", type=int)
+    parser.add_argument("--commit")
+    given = parser.parse_args()
+    if len({bool(given.log), given.minutes is not None, bool(given.commit)}) != 1:
+        parser.error("--from, --minutes and --commit go together")
+    repository.ready(history=True)
+    if given.log:
+        text, minutes, commit, date = from_log(given)
+    else:
+        commit, date = clean_commit(), datetime.date.today()
+        text, minutes = run(given.words)
+    record(kept(text, given.words), minutes, commit, date, " ".join(["make test", *given.words]))
+
+
+if __name__ == "__main__":
+    try:
+        main()
+    except repository.Trouble as trouble:
+        sys.exit(f"gate: {trouble}")
