@@ -53,7 +53,7 @@ fn hold(at: *mut u8, more: usize, less: usize) -> *mut u8 {
 }
 
 // SAFETY: all is handed on to the system's allocator; a refused request is answered null, as the trait allows. What is counted
-// stands in cells without a destructor, which take no memory.
+// is in cells without a destructor, which take no memory.
 unsafe impl GlobalAlloc for Counting {
     unsafe fn alloc(&self, layout: Layout) -> *mut u8 {
         if !grants() {
@@ -185,7 +185,7 @@ fn each_request_of_an_instance_may_be_refused() {
 #[test]
 fn a_list_of_coordinates_may_be_refused() {
     use subsetter::{subset_with_variations, Tag};
-    // Without outlines in `glyf` the list alone is asked for.
+    // Without outlines in `glyf` the list is all that the coordinates take.
     let font = &table().fonts["one_charstring"];
     let mapper = GlyphRemapper::new();
     let call = |at: &[(Tag, f32)]| {
