@@ -27,6 +27,9 @@ CHANGED_TREE = re.compile(r"\b([0-9a-f]{7,40})`?\"?(?:, changed| with changes|-d
 # Sums, which are no commits.
 SUMS = re.compile(r"^- Sum: .*$", re.M)
 REFRESH = "compare/all --refresh"
+# Documents in which what was measured stands between the comments alone, and what a measured figure looks like.
+MEASURED = "README.md", "docs/PERFORMANCE.md", "docs/PDF.md", "bindings/js/README.md"
+FIGURE = re.compile(r"\b\d[\d,.]* ?(?:ms|µs|ns|s|min|seconds?|minutes?|hours?|MB|GB|KB|%)(?![\w-])")
 
 
 def result_files():
@@ -47,10 +50,11 @@ def faults_of_page(comparison):
         if not os.path.exists(os.path.join(results_of.RESULTS, name)):
             return [f"{path}: its data file {name} isn't there"]
     one = results_of.result(comparison.name)
-    text, wanted = repository.read(path), results_of.page(one)
-    if SUMS.findall(text) != SUMS.findall(wanted):
-        return [f"{path} or its data files aren't what a run wrote (the sum is another): run compare/all {comparison.name!r}"]
-    return [] if text == wanted else [f"{path} isn't as compare/all writes it: {REFRESH}"]
+    if not results_of.is_whole(one):
+        return [figures.edited_by_hand(comparison)]
+    if results_of.other_commits(one):
+        return [f"{path}: its data files are of {', '.join(results_of.other_commits(one))}"]
+    return [] if repository.read(path) == results_of.page(one) else [f"{path} isn't as compare/all writes it: {REFRESH}"]
 
 
 def faults_of_results():
@@ -71,10 +75,19 @@ def faults_of_commits(path):
     return faults + [f"{path} rests on {it[1]} with changes that no commit holds" for it in CHANGED_TREE.finditer(text)]
 
 
+def figures_by_hand(path, text):
+    """Figures with a unit that a script would write, where none does."""
+    for found in reversed(figures.blocks(text)):
+        text = text[:found.start()] + text[found.end():]
+    text = re.sub(r"`[^`\n]*`", "", figures.FENCE.sub("", text))
+    return [f"{path}: {it!r} is a figure that no script wrote" for it in FIGURE.findall(text)] if path in MEASURED else []
+
+
 def missing_pages(path, text):
     """Pages of results that a document names and that aren't there."""
     names = re.findall(r"compare/results/([\w.-]+\.\w+)", text)
-    return [f"{path} names compare/results/{it}, which isn't there" for it in dict.fromkeys(names) if not os.path.exists(os.path.join(results_of.RESULTS, it))]
+    gone = [it for it in dict.fromkeys(names) if it != "NAME.md" and not os.path.exists(os.path.join(results_of.RESULTS, it))]
+    return [f"{path} names compare/results/{it}, which isn't there" for it in gone]
 
 
 def first_difference(have, wanted):
@@ -99,6 +112,7 @@ def faults_of_document(path):
         return faults
     try:
         wanted = figures.refreshed(path)
+        faults += figures_by_hand(path, text)
     except repository.Trouble as trouble:
         return [*faults, str(trouble)]
     if text != wanted:

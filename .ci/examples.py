@@ -1,11 +1,10 @@
 #!/usr/bin/env python3
-"""Runs the README's examples in Rust, C, Python and JavaScript as they stand there: .ci/examples.py [rust] [c] [python] [js]
+"""Runs the README's examples in Rust, C, Python and JavaScript as they stand there: .ci/examples.py [--skip=NAME,..] [NAME..]
 
 Each is taken from the section of its name, and runs in an empty folder; what it makes has to be a font with the three glyphs
-that it asks for. Without words all four are run. `rust` needs Cargo alone; `c` and `python` need what `make` builds in bindings/c,
+that it asks for. The names are rust, c, python and js; without one all are run. `rust` needs Cargo alone; `c` and `python` need what `make` builds in bindings/c,
 `js` what `make package` builds in bindings/js. A part that lacks something fails. (Blocks of commands are run by .ci/fresh.)
 """
-import glob
 import os
 import re
 import struct
@@ -62,11 +61,12 @@ def run(room, *words, **env):
         raise Wrong(f"{' '.join(words)[:100]} ended with {ran.returncode}: {ran.stdout[-1500:]}")
 
 
-def built(pattern):
-    found = glob.glob(os.path.join(ROOT, pattern))
-    if len(found) != 1:
-        raise Wrong(f"{pattern} isn't built")
-    return found[0]
+def built(name):
+    """The path of something that was built below ROOT."""
+    path = os.path.join(ROOT, name)
+    if not os.path.exists(path):
+        raise Wrong(f"{name} isn't built")
+    return path
 
 
 def tables(path):
@@ -116,7 +116,9 @@ def python(room):
 def js(room):
     package = os.path.join(room, "node_modules", "subsetter-proved")
     os.makedirs(package)
-    run(room, "tar", "xzf", built("bindings/js/out/subsetter-proved-*.tgz"), "--strip-components=1", "-C", package)
+    with open(os.path.join(ROOT, "VERSION"), encoding="utf-8") as file:
+        name = f"subsetter-proved-{file.read().strip().replace('+', '-')}.tgz"
+    run(room, "tar", "xzf", built(f"bindings/js/out/{name}"), "--strip-components=1", "-C", package)
     write('import { writeFileSync } from "node:fs";\n' + block("JavaScript", "js") + 'writeFileSync("subset.ttf", font);\n', room, "user.mjs")
     run(room, "node", "user.mjs")
     demand_font(os.path.join(room, "subset.ttf"))
@@ -126,13 +128,17 @@ PARTS = {"rust": rust, "c": c, "python": python, "js": js}
 
 
 def main():
-    names = sys.argv[1:] or [*PARTS]
-    if any(it not in PARTS for it in names):
+    names = [it for it in sys.argv[1:] if not it.startswith("--skip=")] or [*PARTS]
+    skipped = [it for word in sys.argv[1:] if word.startswith("--skip=") for it in word[7:].split(",")]
+    if any(it not in PARTS for it in names + skipped):
         sys.exit(__doc__)
     run_blocks = {("Rust", "rust"), ("Rust", "toml"), ("C", "c"), ("Python", "python"), ("JavaScript", "js")}
     failed = [f"nothing runs the block of {language} in the section {section}" for section, language, _ in blocks()
               if section not in NOT_RUN and (section, language) not in run_blocks]
     for name in names:
+        if name in skipped:
+            print(f"examples: {name}: skipped, as was asked for")
+            continue
         with tempfile.TemporaryDirectory(prefix="example-") as room:
             try:
                 PARTS[name](room)

@@ -232,9 +232,9 @@ def enter(document, path, folder, made):
     return entered
 
 
-def check_block(document, body):
-    """The commands of a block of code, which begins in ROOT. What isn't a command, as an example's output, has no word that is
-    looked at."""
+def check_block(document, body, folders):
+    """The commands of a block of code, which begins in ROOT; `folders` are those whose Makefile it may mean there. What isn't a
+    command, as an example's output, has no word that is looked at."""
     folder, made = "", []
     for command in re.split(r"&&|\|\||[;|](?=\s)|\n", body.replace("\\\n", " ")):
         words = without_front(words_of(command))
@@ -243,7 +243,7 @@ def check_block(document, body):
         if words[0] == "cd" and len(words) == 2:
             folder = enter(document, words[1], folder, made)
         elif words[0] == "make":
-            check_make(document, words, ["", os.path.dirname(document)] if not folder else [folder])
+            check_make(document, words, [folder] if folder else folders)
         elif is_ours(words[0]):
             ask(document, words[0], words[0])
         check_options(document, words)
@@ -254,22 +254,15 @@ def commands(document, text):
     """The blocks of code that hold commands."""
     for _, language, body in FENCE.findall(text):
         if language in SHELL:
-            check_block(document, body)
+            check_block(document, body, ["", os.path.dirname(document)])
 
 
 def marks(document, text):
     """Targets of make and options in code marks."""
-    text = plain(text)
-    whole = repository.read(document)
-    named = re.findall(r"make -C ([\w./-]+)", whole) + re.findall(r"([\w./-]+)/Makefile\b", whole)
-    everywhere = map(os.path.dirname, repository.git("ls-files", "--", "*Makefile").split()) if document == "CHANGELOG.md" else []
-    for _, mark in MARK.findall(text):
-        words = without_front(words_of(mark))
-        if not words:
-            continue
-        if words[0] == "make":
-            check_make(document, words, ["", os.path.dirname(document), *named, *everywhere])
-        check_options(document, words)
+    named = re.findall(r"make -C ([\w./-]+)", text) + re.findall(r"([\w./-]+)/Makefile\b", text)
+    everywhere = list(map(os.path.dirname, repository.git("ls-files", "--", "*Makefile").split())) if document == "CHANGELOG.md" else []
+    for _, mark in MARK.findall(plain(text)):
+        check_block(document, mark, ["", os.path.dirname(document), *named, *everywhere])
         known = options_of_help() | (set() if document == "docs/CLI.md" else options_anywhere())
         bare = OPTION.findall(mark) if mark.startswith("--") else []
         missing.extend(f"{document}: nothing has the option {it}" for it in bare if it not in known)
@@ -280,6 +273,8 @@ def main():
     documents = repository.documents()
     for document in documents:
         text = repository.read(document)
+        if re.search(r"^(<<<<<<<|>>>>>>>) ", text, re.M):
+            missing.append(f"{document}: a merge left its marks")
         links(document, text)
         references(document, text)
         paths(document, plain(text))

@@ -9,23 +9,28 @@ import sys
 import tempfile
 
 ROOT = os.path.dirname(os.path.dirname(os.path.realpath(__file__)))
-# (of the caller's configuration nothing counts, but that the repositories are trusted)
+# (in the copy nothing of the caller's configuration counts)
 ENVIRONMENT = {**os.environ, "GIT_CONFIG_NOSYSTEM": "1", "GIT_CONFIG_GLOBAL": "/dev/null", "GIT_AUTHOR_NAME": "test", "GIT_AUTHOR_EMAIL": "test@example.org",
                "GIT_COMMITTER_NAME": "test", "GIT_COMMITTER_EMAIL": "test@example.org"}
 
 
-def git(folder, *words):
-    return subprocess.run(["git", "-C", folder, *words], env=ENVIRONMENT, check=True, capture_output=True, text=True).stdout
+def git(folder, *words, environment=None):
+    return subprocess.run(["git", "-C", folder, *words], env=environment or ENVIRONMENT, check=True, capture_output=True, text=True).stdout
 
 
 @contextlib.contextmanager
 def copy():
     """A clone with the files as they stand here, in a folder of its own."""
+    try:
+        git(ROOT, "rev-parse", "--verify", "-q", "HEAD", environment=os.environ)
+    except (OSError, subprocess.CalledProcessError) as error:
+        raise SystemExit(f"{ROOT} can't be copied by git: {getattr(error, 'stderr', None) or error}") from None
     with tempfile.TemporaryDirectory(prefix="planted-") as top:
         room = os.path.join(top, "room")
         subprocess.run(["git", "clone", "-q", "--shared", ROOT, room], check=True)
-        changed = git(ROOT, "diff", "--name-only", "-z", "--no-renames", "HEAD") + git(ROOT, "ls-files", "-z", "--others", "--exclude-standard")
-        for path in filter(None, changed.split("\0")):
+        changed = [git(ROOT, *words, environment=os.environ) for words in (["diff", "--name-only", "-z", "--no-renames", "HEAD"],
+                                                                           ["ls-files", "-z", "--others", "--exclude-standard"])]
+        for path in filter(None, "".join(changed).split("\0")):
             source, target = os.path.join(ROOT, path), os.path.join(room, path)
             if os.path.lexists(source):
                 os.makedirs(os.path.dirname(target), exist_ok=True)
@@ -36,9 +41,9 @@ def copy():
         yield room
 
 
-def run(room, check, environment=None):
-    """The status of a check in a copy, and what it prints."""
-    done = subprocess.run([sys.executable, os.path.join(room, check)], env=environment or ENVIRONMENT, capture_output=True, text=True, timeout=120)
+def run(room, check, environment=None, words=()):
+    """The status of a check (or another script) in a copy, and what it prints."""
+    done = subprocess.run([sys.executable, os.path.join(room, check), *words], env=environment or ENVIRONMENT, capture_output=True, text=True, timeout=120)
     return done.returncode, done.stdout + done.stderr
 
 
@@ -53,17 +58,19 @@ def faults_of_run(name, ran, wanted):
 
 
 def edit(room, name, path, old, new):
-    """Plants a text in the place of `old`, or at the end of the file where that is None; with `new` None the file goes."""
+    """Plants a text in the place of `old` (a text or a compiled pattern), or at the end of the file where that is None; with `new`
+    None the file goes."""
     full = os.path.join(room, path)
     with open(full, encoding="utf-8") as file:
         text = file.read()
-    if old is not None and old not in text:
-        raise SystemExit(f"{name}: {path} hasn't the text to change: {old!r}")
+    pattern = re.compile(re.escape(old)) if isinstance(old, str) else old
+    if pattern and not pattern.search(text):
+        raise SystemExit(f"{name}: {path} hasn't the text to change: {pattern.pattern!r}")
     if new is None:
         os.unlink(full)
         return
     with open(full, "w", encoding="utf-8") as file:
-        file.write(text + new if old is None else text.replace(old, new, 1))
+        file.write(text + new if old is None else pattern.sub(new if pattern is old else lambda _: new, text, count=1))
 
 
 def plant(room, check, name, path, old, new, wanted):
@@ -73,6 +80,20 @@ def plant(room, check, name, path, old, new, wanted):
         return faults_of_run(name, run(room, check), wanted)
     finally:
         git(room, "checkout", "-q", "--", path)
+
+
+def without_git(room, check, name):
+    """What is wrong with a check's messages where git can't name the documents. The copy is of no use afterwards."""
+    owned = {**ENVIRONMENT, "GIT_TEST_ASSUME_DIFFERENT_OWNER": "1"}
+    faults = faults_of_run("another owner", run(room, check, owned), rf"^{name}: git doesn't trust the owner of this folder: git config --global --add safe\.directory")
+    faults += faults_of_run("no git", run(room, check, {**ENVIRONMENT, "PATH": "/nowhere"}), rf"^{name}: git isn't installed")
+    git(room, "rm", "-q", "--cached", "*.md")
+    faults += faults_of_run("no documents", run(room, check), rf"^{name}: git keeps no documents here")
+    shutil.move(os.path.join(room, ".git"), os.path.join(room, ".gone"))
+    faults += faults_of_run("no repository", run(room, check), rf"^{name}: .* isn't a clone that git can read")
+    git(os.path.dirname(room), "init", "-q")
+    faults += faults_of_run("another's repository", run(room, check), rf"^{name}: .* has no repository of its own")
+    return faults, 5
 
 
 def tell(faults, count):

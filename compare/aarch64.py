@@ -3,8 +3,8 @@
 
 It takes both libraries from the packages in dist/out (or FOLDER), which `make dist` builds, links sweep.c with each, and runs
 them on N (200) of this machine's fonts, spread over all that are installed: for aarch64 by Debian's qemu-user-static. Each
-font is subset to three lists of glyphs, by `subset` and by `embed`. All that they answer must be the same. It writes what it
-did to results/aarch64.md, and ends with status 1 where something differs.
+font is subset to three lists of glyphs, by `subset` and by `embed`. All that they answer must be the same. It ends with status 1
+where something differs.
 """
 import argparse
 import glob
@@ -71,11 +71,7 @@ def main():
     with open(os.path.join(given.folder, "PROVED"), encoding="utf-8") as file:
         commit = file.read().split("\n")[1]
     said = f"{len(taken)} fonts, {calls} calls on each processor ({refused} refused), {size} bytes of answers: {len(differ)} fonts differ"
-    with open(os.path.join(HERE, "results", "aarch64.md"), "w", encoding="utf-8") as file:
-        file.write("# aarch64 by qemu-aarch64-static, against x86-64\n\n")
-        file.write(f"`{' '.join(['compare/aarch64.py', *sys.argv[1:]])}`, over packages of the {commit}: {said}.\n")
-        file.writelines(f"\n- {it}" for it in differ)
-    print(said)
+    print(f"{said}; packages of the {commit}")
     sys.exit(bool(differ) or not taken)
 
 

@@ -13,14 +13,13 @@ import argparse
 import csv
 import datetime
 import os
-import platform
-import re
 import subprocess
 import sys
 import tempfile
 
 import build
 import fonts
+import results_of
 
 PORTABLE = os.path.join(build.ROOT, "bindings", "rust")
 # Of each font the glyphs that are like a text of its own: low numbers for Latin, spread ones for Chinese.
@@ -66,16 +65,10 @@ def differing(rows, folder):
     return [row for row in rows if seen.get((row[0], row[1])) != f"{(row[2] + 2 * row[3]) / 1024:.1f}"]
 
 
-def machine():
-    with open("/proc/cpuinfo", encoding="utf-8") as file:
-        model = re.search(r"model name\s*: (.*)", file.read())
-    return f"{os.cpu_count()} cores, {model[1] if model else platform.machine()}"
-
-
 def write(folder, rows):
     commit, changed = build.commit()
     with open(os.path.join(folder, "bytes.csv"), "w", encoding="utf-8") as file:
-        file.write(f"# compare/bytes.py --results compare/results, commit {commit}{' with changes' if changed else ''}, {datetime.date.today()}, {machine()}\n")
+        file.write(f"# compare/bytes.py --results compare/results, commit {commit}{' with changes' if changed else ''}, {datetime.date.today()}, {results_of.machine()}\n")
         csv.writer(file, lineterminator="\n").writerows([HEAD, *rows])
 
 

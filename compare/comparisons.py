@@ -21,6 +21,7 @@ BENCH = sources("subset_bench")
 PROGRAM = sources("subset_font", "subset_args", "subset_lines", "cid_embed", "cmap", "late_file")
 C = sources("subsetter_c", "cid_embed", "cid_embed_at") + ("bindings/c/*",)
 BINDINGS = C + ("bindings/python/**", "bindings/rust-native/**", "bindings/plants", "bindings/test")
+PORTABLE = SUBSET + INSTANCE + C + ("bindings/rust/src/**",)
 JAVASCRIPT = C + ("bindings/js/*.mjs", "bindings/js/Makefile", "bindings/js/module/**")
 
 
@@ -47,6 +48,25 @@ def slowest(result):
 def widths_wrong(result):
     found = [re.search(r"(\d+) widths of \d+ units an em, (\d+) wrong", line) for line in result.body]
     return f"{sum(int(it[1]) for it in found if it)} widths of {sum(map(bool, found))} faces, {sum(int(it[2]) for it in found if it)} wrong"
+
+
+def number(cell):
+    return int(cell.replace(",", ""))
+
+
+def span(parts):
+    """The least and the greatest of these parts, in hundredths."""
+    return f"{100 * min(parts):.1f} to {100 * max(parts):.1f} %"
+
+
+def bytes_saved(result):
+    rows = result.tables[0]
+    return f"names, glyph names and hinting left out save {span([1 - number(it['None of the three']) / number(it['All']) for it in rows])} of the bytes of {len(rows)} subsets"
+
+
+def bytes_of_source(result):
+    rows = result.tables[0]
+    return f"{span([number(it['Bytes of the subset']) / number(it['Bytes of the file']) for it in rows])} of the source's, for {len(rows)} fonts"
 
 
 def cost_of_binding(result):
@@ -99,7 +119,7 @@ COMPARISONS = [
     Comparison("options, before", "Did options change an answer, a time or the memory of a call without them?", f"{DEBIAN} compare/options.py --same OLD --faces 2000",
                lines_like(r"\d+ answered alike, \d+ not"), SUBSET + BENCH, by_hand=True),
     Comparison("sizes", "How many bytes does each option save?", f"{DEBIAN} compare/options.py --sizes",
-               lambda result: f"{len(result.tables[0])} fonts", SUBSET + PROGRAM),
+               bytes_saved, SUBSET + PROGRAM),
     Comparison("instance", "Are coordinates, scalars and points those of HarfBuzz, FreeType and fontTools?",
                f"{DEBIAN} compare/instance.py {VARIABLE} --results compare/results", lines_like(r"\d+ differences? out of bounds"),
                INSTANCE + sources("instance_parts"), f"{DEBIAN} compare/instance.py {VARIABLE} --places 4 --glyphs 40", data=("instance.csv",)),
@@ -141,9 +161,17 @@ COMPARISONS = [
                SUBSET + BENCH, original=True, timed=True),
     Comparison("times", "What do calls take beside the Rust crate and HarfBuzz?", "compare/run.py --all --seconds 0.03 --copies 0 --results compare/results",
                parts_of_time, SUBSET + BENCH, original=True, data=("truetype.csv", "cff.csv"), timed=True),
+    Comparison("portable", "Does the generated crate answer the proved library's bytes and errors, without a panic?",
+               "compare/portable.py --copies 1000000 --results compare/results/portable.jsonl", lines_like(r"\d+ calls, \d+ differ"),
+               PORTABLE, "compare/portable.py", data=("portable.jsonl",)),
+    Comparison("portable, times", "What does the generated crate take beside the proved library and the Rust crate?",
+               "compare/portable_times.py --results compare/results/portable_times.csv", lines_like(r"^The geometric mean.*|\d+ rows, \d+ past a bound"),
+               PORTABLE, data=("portable_times.csv",), timed=True),
+    Comparison("growth", "How do times grow with the number of kept glyphs?", "compare/run.py --growth docs/growth.svg",
+               lambda result: "a picture of four fonts", SUBSET + BENCH, original=True, data=("../../docs/growth.svg",), timed=True),
     Comparison("bytes", "How many bytes has a subset, of how many of the source?", "compare/bytes.py --results compare/results",
-               lambda result: f"{len(result.data('bytes.csv'))} subsets", ("bindings/rust/src/**",), data=("bytes.csv",)),
-    Comparison("gate", "Does the whole gate pass, and how long does it take?", "make test", lines_like(r"^\d+ passed, \d+ failed"),
+               bytes_of_source, ("bindings/rust/src/**",), data=("bytes.csv",)),
+    Comparison("gate", "Does the whole gate pass, and how long does it take?", "make test", lines_like(r"^\d+ passed, \d+ failed|^\d+ minutes$"),
                ("crates/*/*/**", "bindings/**", "dist/*", ".ci/*", "Makefile"), by_hand=True, timed=True),
     Comparison("processors", "What does a build for any x86-64 cost?", "compare/cpu.py --rounds 30 --seconds 0.02",
                lambda result: "; ".join(re.findall(r"sums .*?ratio [\d.]+|geometric mean of the ratios [\d.]+", " ".join(result.body))),

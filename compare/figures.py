@@ -3,7 +3,9 @@
     <!-- from compare/results/NAME.md: KEY -->..<!-- end -->
 
 around a figure, a sentence or a table; `refreshed` writes what stands between by the function of KEY in BLOCKS. On lines of
-their own the two comments hold lines, in a line they hold a part of it. In code they mean nothing."""
+their own the two comments hold lines, in a line they hold a part of it. In blocks of code, and behind a code mark, they mean
+nothing."""
+import math
 import os
 import re
 
@@ -14,7 +16,7 @@ from comparisons import at_most
 
 EVIDENCE = "docs/EVIDENCE.md"
 BLOCK = re.compile(r"<!-- from ([^:>]*): ([^>]*?) -->(.*?)<!-- end -->", re.S)
-CODE = re.compile(r"^(```+|~~~+).*?^\1[^\n]*$|(`+)[^`].*?(?<!`)\2(?!`)", re.S | re.M)
+FENCE = re.compile(r"^(```+|~~~+).*?^\1[^\n]*$", re.S | re.M)
 MOST = 200  # characters of a cell
 
 EVIDENCE_HEAD = """# Evidence
@@ -49,16 +51,16 @@ def evidence():
 
 # ---- the parts of a document that are written here
 
-def in_code(text):
-    """The stretches of a document that are code."""
-    return [found.span() for found in CODE.finditer(text)]
+def is_code(text, place, fences):
+    """Whether a comment stands in code."""
+    return text[place - 1:place] == "`" or any(start <= place < end for start, end in fences)
 
 
 def blocks(text):
     """The blocks of a document, as matches; Trouble where a comment has no other."""
-    code = in_code(text)
-    found = [it for it in BLOCK.finditer(text) if not any(start <= it.start() < end for start, end in code)]
-    marks = [it for it in re.finditer(r"<!-- (from [^>]*|end) -->", text) if not any(start <= it.start() < end for start, end in code)]
+    fences = [found.span() for found in FENCE.finditer(text)]
+    found = [it for it in BLOCK.finditer(text) if not is_code(text, it.start(), fences)]
+    marks = [it for it in re.finditer(r"<!-- (?:from [^>]*|end) -->", text) if not is_code(text, it.start(), fences)]
     if len(marks) != 2 * len(found):
         raise repository.Trouble("a comment `from ..` has no `end`, or the other way round")
     return found
@@ -73,7 +75,10 @@ def written(path, found):
     for name in names:
         results_of.result(name)
     to_results = os.path.relpath("compare/results", os.path.dirname(path) or ".")
-    text = function().replace("](results:", f"]({to_results}/")
+    try:
+        text = function().replace("](results:", f"]({to_results}/")
+    except (LookupError, TypeError, ValueError, ZeroDivisionError) as error:
+        raise repository.Trouble(f"{key!r} can't be made of {' and '.join(names)}: {error!r}") from None
     text = f"\n{text}\n" if found[3].startswith("\n") else text
     files = ", ".join(f"compare/results/{comparisons.page_of(name)}" for name in names)
     return f"<!-- from {files}: {key} -->{text}<!-- end -->"
@@ -92,12 +97,19 @@ def refreshed(path):
     return text
 
 
+def edited_by_hand(comparison):
+    return f"compare/results/{comparisons.page_of(comparison.name)} or its data files aren't what a run wrote (the sum is another): run compare/all {comparison.name!r}"
+
+
 def refresh():
-    """Writes EVIDENCE, the pages' fronts and all blocks; answers the documents that changed."""
+    """Writes EVIDENCE, the pages' fronts and all blocks; answers the documents that changed. Trouble where a result was edited."""
     changed = []
     for comparison in comparisons.COMPARISONS:
         if results_of.is_run(comparison.name):
-            results_of.write(results_of.result(comparison.name))
+            one = results_of.result(comparison.name)
+            if not results_of.is_whole(one):
+                raise repository.Trouble(edited_by_hand(comparison))
+            results_of.write(one)
     for path in sorted({EVIDENCE, *repository.documents()}):
         text = refreshed(path)
         if not os.path.exists(os.path.join(repository.ROOT, path)) or text != repository.read(path):
@@ -136,7 +148,7 @@ def summary_of_times():
 def greatest_ratios():
     """The cases that take the greatest part of the Rust crate's time."""
     found = sorted((it for name in ("truetype", "cff") for it in results_of.rows(f"{name}.csv")), key=lambda it: -share(it, "crate ns"))[:5]
-    return "; ".join(f"{it['font']}, {it['glyphs kept']}: {share(it, 'crate ns'):.2f}" for it in found)
+    return "; ".join(f"{it['font']}, {it['glyphs kept']}: {at_most(share(it, 'crate ns'))}" for it in found)
 
 
 def number_of_times():
@@ -199,12 +211,37 @@ def parts_of_fonttools():
     return at_most(max(ratios), 4)
 
 
+def memory_of_instances():
+    """What a call at coordinates holds above the source and twice the answer."""
+    rows = results_of.rows("instance_times.csv")
+    above = max(int(it["Memory (bytes)"]) - (int(it["Source + 2 × answer + 8 MB"]) - 8 * 2 ** 20) for it in rows)
+    return f"{at_most(above / 2 ** 10, 0)} KiB"
+
+
+def mean_ratio(kind):
+    """The geometric mean of what the rows of a kind of outlines cost in a build for any x86-64."""
+    fonts = {it["font"] for it in results_of.rows(f"{kind}.csv")}
+    ratios = [int(it["x86-64 ns"]) / int(it["x86-64-v2 ns"]) for it in results_of.rows("cpu.csv") if it["font"] in fonts]
+    return math.exp(sum(map(math.log, ratios)) / len(ratios)) - 1
+
+
+def cost_of_any_processor():
+    """What a build for any x86-64 costs beside one for x86-64-v2."""
+    rows = results_of.rows("cpu.csv")
+    every, newer = (sum(int(it[f"{name} ns"]) for it in rows) for name in ("x86-64", "x86-64-v2"))
+    return (f"{100 * (every / newer - 1):.1f} % of the sum of {len(rows)} cases; in the geometric mean {100 * mean_ratio('cff'):.1f} % for fonts with "
+            f"CFF outlines, {100 * mean_ratio('truetype'):.0f} % for those with TrueType outlines")
+
+
 BLOCKS = {
+    "cost of any processor": (cost_of_any_processor, ["processors", "times"]),
+    "source of processors": (source_of("processors"), ["processors"]),
     "number of times": (number_of_times, ["times"]),
     "summary of times": (summary_of_times, ["times"]),
     "greatest ratios": (greatest_ratios, ["times"]),
     "source of times": (source_of("times"), ["times"]),
     "hostile": (as_table("hostile"), ["hostile"]),
+    "source of growth": (source_of("growth"), ["growth"]),
     "source of hostile": (source_of("hostile"), ["hostile"]),
     "under bounds": (under_bounds, ["hostile, families"]),
     "held under bounds": (held_under_bounds, ["hostile, families"]),
@@ -212,11 +249,12 @@ BLOCKS = {
     "source of hostile, families": (source_of("hostile, families"), ["hostile, families"]),
     "ratios of instances": (ratios_of_instances, ["instances, times"]),
     "parts of fontTools' time": (parts_of_fonttools, ["instances, times"]),
+    "memory of instances": (memory_of_instances, ["instances, times"]),
     "source of instances, times": (source_of("instances, times"), ["instances, times"]),
     "sizes": (as_table("sizes"), ["sizes"]),
     "source of sizes": (source_of("sizes"), ["sizes"]),
     "javascript, times": (as_table("javascript, times"), ["javascript, times"]),
-    "source of javascript, times": (source_of("javascript, times"), ["javascript, times"]),
+    "source of javascript, times": (lambda: results_of.source("javascript, times", is_linked=False) + ".", ["javascript, times"]),
 }
 # (the README's blocks, and what else has to hold of it)
 MORE_FAULTS = list

@@ -1,13 +1,15 @@
 #!/usr/bin/env python3
 """Runs the whole gate, and records that it passed: compare/results/gate.md, and the README's line.
 
-    compare/gate.py [SKIP=NAME,..]                           runs `make test`, of the commit that is checked out
-    compare/gate.py --from LOG --minutes N [SKIP=NAME,..]    takes what such a run of this commit printed, and its minutes
+    compare/gate.py [SKIP=NAME,..]      runs `make test`, of the commit that is checked out
+    compare/gate.py --from LOG --minutes N --commit HASH [SKIP=NAME,..]
+                                        takes what such a run of a commit printed, and its minutes
 
 Only a gate that passed is recorded: the last line of what it printed is `N passed, 0 failed`, and no part failed or was left
 out. What was skipped has to be named, and the record names it.
 """
 import argparse
+import datetime
 import os
 import re
 import subprocess
@@ -50,11 +52,25 @@ def kept(text, words):
     return [line for line in lines if re.search(r"\): passed in \d+ s$|skipped, as was asked for$", line)] + lines[-1:]
 
 
-def record(lines, minutes, command):
+def clean_commit():
+    """The commit that is checked out; ends the program where the code has changes."""
     commit, changed = repository.head(*CODE)
     if changed:
         sys.exit("gate: the code has changes that no commit holds: git status " + " ".join(CODE))
-    fields = results_of.fields_of(True, commit, command, results_of.machine())
+    return commit
+
+
+def from_log(given):
+    """What a run printed, its minutes, its commit and its date."""
+    if not repository.is_ancestor(given.commit):
+        sys.exit(f"gate: the commit {given.commit} isn't behind HEAD")
+    with open(given.log, encoding="utf-8", errors="replace") as file:
+        return file.read(), given.minutes, repository.git("rev-parse", "--short", given.commit).strip(), datetime.date.fromtimestamp(os.path.getmtime(given.log))
+
+
+def record(lines, minutes, commit, date, command):
+    """Writes the page, and the documents."""
+    fields = results_of.fields_of(True, commit, command, results_of.machine(), date)
     results_of.write(results_of.Result("gate", fields, ["```text", f"{minutes} minutes", *lines, "```"]))
     figures.refresh()
     print(figures.row(comparisons.BY_NAME["gate"]))
@@ -65,16 +81,17 @@ def main():
     parser.add_argument("words", nargs="*", metavar="SKIP=NAME,..")
     parser.add_argument("--from", dest="log")
     parser.add_argument("--minutes", type=int)
+    parser.add_argument("--commit")
     given = parser.parse_args()
-    if bool(given.log) != (given.minutes is not None):
-        parser.error("--from and --minutes go together")
-    repository.ready()
+    if len({bool(given.log), given.minutes is not None, bool(given.commit)}) != 1:
+        parser.error("--from, --minutes and --commit go together")
+    repository.ready(history=True)
     if given.log:
-        with open(given.log, encoding="utf-8", errors="replace") as file:
-            text, minutes = file.read(), given.minutes
+        text, minutes, commit, date = from_log(given)
     else:
+        commit, date = clean_commit(), datetime.date.today()
         text, minutes = run(given.words)
-    record(kept(text, given.words), minutes, " ".join(["make test", *given.words]))
+    record(kept(text, given.words), minutes, commit, date, " ".join(["make test", *given.words]))
 
 
 if __name__ == "__main__":

@@ -459,11 +459,9 @@ def versions():
 
 
 def commit():
-    """The commit of this folder, and whether it holds more than that."""
-    git = ["git", "-C", build.ROOT]
-    name = subprocess.run([*git, "rev-parse", "--short=10", "HEAD"], capture_output=True, text=True).stdout.strip()
-    changed = subprocess.run([*git, "status", "--porcelain", "--untracked-files=no"], capture_output=True, text=True).stdout
-    return (name or "no commit") + (", changed" if changed else "")
+    """The commit of this folder, and whether the crates hold more than that."""
+    name, changed = build.commit()
+    return (name or "no commit") + (" with changes" if changed else "")
 
 
 def summary(words, reports):

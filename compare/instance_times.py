@@ -111,7 +111,8 @@ def main():
         build.preload("peak.c", to="peak.so")
     build.program(build.BENCH)
     print(f"Commit {instance.commit()}; {instance.versions()}; {words.turns} turns, {os.cpu_count()} cores under a load of {os.getloadavg()[0]:.1f}.\n")
-    head = ["Font", "Glyphs", "Port, µs", "HarfBuzz, µs", "Ratio", "fontTools, ms", "Ratio", "Memory, bytes", "Source + 2 × answer + 8 MB"]
+    head = ["Font", "Glyphs", "Port (µs)", "HarfBuzz (µs)", "Ratio to HarfBuzz", "fontTools (ms)", "Ratio to fontTools", "Memory (bytes)",
+            "Source + 2 × answer + 8 MB"]
     print("|", " | ".join(head), "|\n|" + "---|" * len(head))
     lines, missed = [], 0
     with tempfile.TemporaryDirectory(prefix="times-") as room:

@@ -41,9 +41,9 @@ def sizes_and_times():
     lines = ["| 80 glyphs of | Source, bytes | Subset, bytes | Bare, bytes | This, µs | HarfBuzz, µs | Rust crate, µs |", "|---|--:|--:|--:|--:|--:|--:|"]
     lines += [size_and_time(case, row, timed) for case, row in by_case("bytes.csv").items()]
     crate, harfbuzz = (comparisons.at_most(max(int(it["port ns"]) / int(it[other]) for it in timed.values())) for other in ("crate ns", "harfbuzz ns"))
-    return "\n".join([*lines, "", f"*Bare*: without hinting and names. Times are of the build that is proved; in all {len(timed)} cases timed "
-                      f"they are at most {crate} of the Rust crate's and {harfbuzz} of HarfBuzz's ([commits](results:{comparisons.page_of('times')}) "
-                      f"{results_of.mark(sizes)} for bytes, {results_of.mark(times)} for times)."])
+    return "\n".join([*lines, "", f"*Bare*: without hinting and names. The times are the proved build's: in all {len(timed)} cases at most {crate} of the "
+                      f"Rust crate's and {harfbuzz} of HarfBuzz's. Commits: [bytes](results:{comparisons.page_of('bytes')}) {results_of.mark(sizes)}; "
+                      f"[times](results:{comparisons.page_of('times')}) {results_of.mark(times)}."])
 
 
 def damage():

@@ -16,13 +16,14 @@ import repository
 
 HERE = os.path.dirname(os.path.realpath(__file__))
 RESULTS = os.path.join(HERE, "results")
-NOT_RUN = "not in this history; not run since"
+# What stands for a commit in results from before these pages.
+NOT_RUN, NOT_RECORDED = "not in this history; not run since", "not recorded; not run since"
 CHANGED = "code changed since"
 FIELDS = ("Passed", "Commit", "Date", "Machine", "Command", "Note")
 
 
 class Result:
-    """What one comparison said in one run. `commit` is None where it is none of this repository's, `body` has the lines that
+    """What one comparison said in one run. `commit` is None where it isn't known or is none of this history's, `body` has the lines that
     the run printed, `tables` the tables among them as lists of dictionaries by column."""
 
     def __init__(self, name, fields, body):
@@ -79,6 +80,8 @@ def result(name):
     head, _, body = repository.read(f"compare/results/{page}").partition("\n\n## What it printed\n\n")
     fields = dict(re.findall(r"^- (\w+): (.*)$", head, re.M))
     lacking = [it for it in FIELDS[:-1] if it not in fields]
+    if not lacking and not re.match(r"`[0-9a-f]{7,40}`$", fields["Commit"]) and fields["Commit"] not in (NOT_RUN, NOT_RECORDED):
+        lacking = ["Commit"]
     if lacking:
         raise repository.Trouble(f"compare/results/{page} doesn't say its {' and '.join(lacking).lower()}")
     return Result(name, fields, body.rstrip("\n").split("\n"))
@@ -96,6 +99,20 @@ def sum_of(one):
     for name in one.comparison.data:
         whole.update(repository.read(f"compare/results/{name}").encode())
     return whole.hexdigest()[:16]
+
+
+def other_commits(one):
+    """Commits that the data files of a result name in their first lines, or in a line each, and that aren't the result's."""
+    named = set()
+    for name in one.comparison.data:
+        text = repository.read(f"compare/results/{name}")
+        named |= set(re.findall(r"^#.*?\bcommit ([0-9a-f]{7,40})", text.split("\n")[0])) | set(re.findall(r"\"commit\": \"([0-9a-f]{7,40})", text))
+    return sorted(it for it in named if one.commit and not (it.startswith(one.commit) or one.commit.startswith(it)))
+
+
+def is_whole(one):
+    """Whether a page and its data files are those that a run wrote, by the sum in the page."""
+    return f"\n- Sum: `{sum_of(one)}`\n" in repository.read(f"compare/results/{comparisons.page_of(one.name)}")
 
 
 def page(one):
@@ -144,7 +161,7 @@ def machine(load_before=None):
 
 def fields_of(passed, commit, command, machine, date=None, note=""):
     """The fields of a run's page."""
-    fields = {"Passed": "yes" if passed else "no", "Commit": f"`{commit}`" if commit else NOT_RUN, "Date": str(date or datetime.date.today()),
+    fields = {"Passed": "yes" if passed else "no", "Commit": commit if commit in (NOT_RUN, NOT_RECORDED) else f"`{commit}`", "Date": str(date or datetime.date.today()),
               "Machine": machine, "Command": f"`{comparisons.shown(command)}`"}
     return {**fields, "Note": note} if note else fields
 
@@ -152,12 +169,13 @@ def fields_of(passed, commit, command, machine, date=None, note=""):
 def mark(one):
     """A result's commit as a document names it, with the mark where the code has changed since."""
     if not one.commit:
-        return NOT_RUN
+        return one.fields["Commit"]
     return f"`{one.commit}`" + (f", {CHANGED}" if one.changed else "")
 
 
-def source(name):
-    """Where the figures of a comparison come from, as a sentence's part. (figures.py makes a link of `results:`.)"""
-    one = result(name)
-    commit = f"commit {mark(one)}" if one.commit else f"a commit {NOT_RUN}"
-    return f"[{one.name}](results:{comparisons.page_of(name)}): {commit}; {one.date}; machine: {one.machine}; `{one.command}`"
+def source(name, is_linked=True):
+    """Where the figures of a comparison come from, as a sentence's part. (figures.py makes a link of `results:`.) Without a link it
+    stands in documents that are handed on by themselves."""
+    one, path = result(name), comparisons.page_of(name)
+    where = f"[{one.name}](results:{path})" if is_linked else f"`compare/results/{path}` of the project"
+    return f"{where}: commit {mark(one)}; {one.date}; machine: {one.machine}; `{one.command}`"

@@ -61,7 +61,7 @@ class Looker:
 
     def names(self):
         """The names of all files, with those of the wheels as they stand there, since a test of its own reads their tags."""
-        wanted = {f"subsetter-{self.version}.crate", "PROVED", "SHA256SUMS"}
+        wanted = {f"subsetter-{self.version}.crate", f"subsetter-native-{self.version}.crate", "PROVED", "SHA256SUMS"}
         wanted |= {f"subsetter-{self.version}-linux-{it}.tar.gz" for it in self.targets}
         wanted |= set() if "js" in self.skip else {f"subsetter-proved-{self.npm_version}.tgz"}
         there = sorted(os.listdir(self.folder))
@@ -120,7 +120,7 @@ class Looker:
         with tarfile.open(fileobj=io.BytesIO(gzip.decompress(data))) as tar:
             heads = tar.getmembers()
             for head in heads:
-                is_program = re.search(r"/bin/|\.so[.\d]*$", head.name) and head.isfile()
+                is_program = re.search(r"^[^/]+/bin/|\.so[.\d]*$", head.name) and head.isfile()
                 mode = 0o777 if head.issym() else 0o755 if head.isdir() or is_program else 0o644
                 owner = (head.uid, head.gid, head.uname, head.gname)
                 self.demand((head.mtime, head.mode, owner) == (DATE, mode, (0, 0, "", "")), f"{name}: {head.name} has date {head.mtime}, mode {head.mode:o}, owner {owner}")
@@ -269,22 +269,32 @@ class Looker:
             promised = [int(it) for it in numbers.groups()] if numbers else older.get(platform.split("_")[0], [0, 0])
             self.demand(needed != [0, 0] and promised >= needed and promised <= [2, 31], f"{name}: {tag}, and the library needs glibc {needed}")
 
-    def crate(self, libraries):
-        name = f"subsetter-{self.version}"
-        src = sorted(os.listdir(os.path.join(ROOT, "bindings", "rust", "src")))
-        wanted = ["Cargo.toml", "LICENSE", "NOTICE", "README.md", "build.rs", *[f"src/{it}" for it in src]]
-        wanted += [f"native/{TRIPLES[it]}/libsubsetter.a" for it in self.targets]
-        found = self.tar(f"{name}.crate", name, dict.fromkeys(wanted))
-        for path in ["build.rs", *[f"src/{it}" for it in src]]:
-            with open(os.path.join(ROOT, "bindings", "rust", path), "rb") as file:
-                self.demand(found.get(path) == file.read(), f"{name}.crate: {path} isn't that of bindings/rust")
-        for target in self.targets:
-            self.demand(found.get(f"native/{TRIPLES[target]}/libsubsetter.a") == libraries[target], f"{name}.crate: its library for {target} isn't that for C")
+    def crates_of_rust(self, libraries):
+        plain = self.crate("subsetter", "rust", ["README.md"], [])
+        self.licensed(f"{plain[0]}: README.md", plain[1].get("README.md", b"").decode(), f"\n`{LICENCE}` (LICENSE, NOTICE).\n")
+        self.demand(not [it for it in plain[1] if it.endswith((".a", "build.rs"))], f"{plain[0]}: it isn't plain Rust")
+        self.demand([it for it in plain[1] if it.startswith("src/proved/")], f"{plain[0]}: the generated files are missing")
+        native = [f"native/{TRIPLES[it]}/libsubsetter.a" for it in self.targets]
+        name, found = self.crate("subsetter-native", "rust-native", ["build.rs"], ["README.md", *native])
+        for target, path in zip(self.targets, native):
+            self.demand(found.get(path) == libraries[target], f"{name}: its library for {target} isn't that for C")
+        self.licensed(f"{name}: README.md", found.get("README.md", b"").decode(), f"The licence is {LICENCE} (LICENSE, NOTICE).")
+
+    def crate(self, package, folder, own, more):
+        """The name and the files of a crate: those of a folder of the bindings as they are, and more."""
+        name, at = f"{package}-{self.version}", os.path.join(ROOT, "bindings", folder)
+        own = own + ["Cargo.toml"]
+        for here, _, names in os.walk(os.path.join(at, "src")):
+            own += [os.path.relpath(os.path.join(here, it), at) for it in names]
+        found = self.tar(f"{name}.crate", name, dict.fromkeys([*own, "LICENSE", "NOTICE", *more]))
+        for path in own:
+            with open(os.path.join(at, path), "rb") as file:
+                self.demand(found.get(path) == file.read(), f"{name}.crate: {path} isn't that of bindings/{folder}")
         manifest = found.get("Cargo.toml", b"").decode()
-        self.demand(f'\nversion = "{self.version}"\n' in manifest, f"{name}.crate: Cargo.toml")
+        self.demand(f'\nname = "{package}"\nversion = "{self.version}"\n' in manifest, f"{name}.crate: Cargo.toml")
         self.licensed(f"{name}.crate: Cargo.toml", manifest, f'\nlicense = "{LICENCE}"\n')
-        self.licensed(f"{name}.crate: README.md", found.get("README.md", b"").decode(), f"The licence is {LICENCE} (LICENSE, NOTICE).")
         self.carries(f"{name}.crate", found, "")
+        return f"{name}.crate", found
 
     def js(self):
         name = f"subsetter-proved-{self.npm_version}.tgz"
@@ -324,7 +334,7 @@ def look(folder, skip, version):
         found = it.linux(target)
         libraries[target] = found.get("lib/libsubsetter.a")
         it.wheel(target, found.get(f"lib/libsubsetter.so.{version.replace('+', '.')}", b""))
-    it.crate(libraries)
+    it.crates_of_rust(libraries)
     if "js" not in skip:
         it.js()
     it.traces()

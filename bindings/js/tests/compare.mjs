@@ -2,12 +2,12 @@
  * The module's answers beside those of the native library, which must be the same, byte for byte:
  *
  *     node tests/compare.mjs [--fonts N] [--copies N] [--sixty-four]     the real fonts of this machine, and damaged copies
- *     node tests/compare.mjs --times [--write]                           a table of times; put into ../README.md
+ *     node tests/compare.mjs --times                                     a table of times (compare/all keeps it)
  *
  * It is run by hand after `make native` and says which commit it ran on. `bindings/js/test` compares 300 fonts and 2,000 copies.
  */
 import { execFileSync } from "node:child_process";
-import { readFileSync, statSync, writeFileSync } from "node:fs";
+import { readFileSync, statSync } from "node:fs";
 import { cpus, loadavg } from "node:os";
 import { fileURLToPath } from "node:url";
 import { equal, ok, same } from "./assert.mjs";
@@ -125,14 +125,7 @@ function timed(call) {
     return times.sort((a, b) => a - b)[times.length >> 1];
 }
 
-/** Puts a text into README.md, in the place of the one that stands behind the heading "Times". */
-function write(text) {
-    const path = fileURLToPath(new URL("../README.md", import.meta.url));
-    const [front] = readFileSync(path, "utf8").split("\n## Times\n");
-    writeFileSync(path, `${front}\n## Times\n\n${text}\n`);
-}
-
-async function times(isWritten) {
+async function times() {
     const { load } = await import("../subsetter.mjs");
     const before = loadavg()[0];
     const subsetter = await load(readFileSync(`${OUT}subsetter.wasm`));
@@ -158,12 +151,11 @@ async function times(isWritten) {
         lines.push(`| ${path.split("/").pop()} | ${data.length.toLocaleString("en")} | ${count} | ${us(native)} | ${us(open)} | ${us(once)} | ${(open / native).toFixed(1)} |`);
     }
     const load1 = [before, loadavg()[0]].map((it) => it.toFixed(1)).join(" to ");
-    const text = `Microseconds for a call (median), where the bytes are the same; commit ${commit()}, Node ${process.version}, ${cpus().length} cores of ${cpus()[0].model} under a load of ${load1}. \`node bindings/js/tests/compare.mjs --times --write\` writes this.\n\n${lines.join("\n")}`;
+    const text = `Microseconds for a call (median), where the bytes are the same; commit ${commit()}, Node ${process.version}, ${cpus().length} cores of ${cpus()[0].model} under a load of ${load1}.\n\n${lines.join("\n")}`;
     console.log(text);
-    if (isWritten) write(text);
 }
 
 if (process.argv[1] === fileURLToPath(import.meta.url)) {
     const words = process.argv.slice(2);
-    await (words.includes("--times") ? times(words.includes("--write")) : sweep(words));
+    await (words.includes("--times") ? times() : sweep(words));
 }

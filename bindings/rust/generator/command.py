@@ -4,7 +4,7 @@ import sys
 import tempfile
 from pathlib import Path
 
-from .crates import CRATES, Crates
+from .crates import Crates
 from .tokens import Refused
 
 # The layout depends on it; it comes with Rust 1.95.
@@ -33,7 +33,7 @@ def formatted(package, texts):
         write(Path(folder), texts)
         run = rustfmt("--edition", "2021", "--config-path", str(package / "rustfmt.toml"), str(Path(folder, "mod.rs")))
         if run.returncode:
-            raise Refused(f"rustfmt: {run.stderr}")
+            raise Refused(f"rustfmt: {run.stderr.replace(folder, 'src/proved')}")
         return {name: Path(folder, name).read_text(encoding="utf-8") for name in texts}
 
 
@@ -62,7 +62,7 @@ def main(package, words):
     folder = package / "src" / "proved"
     try:
         check_rustfmt()
-        texts = formatted(package, Crates(package.parent.parent, package, CRATES).texts())
+        texts = formatted(package, Crates(package.parent.parent, package).texts())
     except Refused as why:
         print(f"generate: {why}", file=sys.stderr)
         return 2

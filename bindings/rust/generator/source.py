@@ -3,7 +3,7 @@ import re
 
 from .items import FEATURES, behind_generics, items
 from .comments import plain
-from .tokens import CLOSING, COMMENTS, Tokens
+from .tokens import CLOSING, COMMENTS, OPENING, Tokens
 
 ROOT = "crate::proved"
 SHIM = "crate::rattle"
@@ -22,6 +22,13 @@ TRAITS = {
     "IteratorExt": {"collect_with"},
 }
 HOST = {"HostRuntime", "AllocGlobal", "Print", "Eprint", "Input"}
+# A link of a comment: all that it shows, and the last name of its path.
+LINK = re.compile(r"\[(`(?:\w+::)*(\w+)`)\](?![(\[])")
+# Macros and attributes that mean in Rust what they do in Rattle, or that the stand-in has.
+MACROS = {"eprintln", "format", "matches", "unreachable", "vec", "write", "writeln"}
+ATTRIBUTES = {"derive", "inline", "must_use", "repr"}
+# Words of Rattle that no code has.
+LEFT_OVER = {"ghost", "requires", "ensures", "Model", "tactic", "also_owns", "thiserror", "cfg", "cfg_attr"}
 # What is written for a token that goes. A line of nothing else goes with it.
 CUT = "\0"
 
@@ -34,7 +41,7 @@ class Source(Tokens):
     def __init__(self, path, name, crate, crates):
         super().__init__(name, path.read_text(encoding="utf-8"))
         self.path, self.crate, self.crates = path, crate, crates
-        self.written = list(self.texts)
+        self.written, self.moved = list(self.texts), set()
         self.items = items(self, self, 0, len(self.texts) - 1, None)
 
     # Cutting.
@@ -66,9 +73,9 @@ class Source(Tokens):
 
     # The rules.
 
-    def strip(self, module, reviewed):
-        """Writes the items of a module that are reached."""
-        self.reviewed = reviewed
+    def strip(self, module, reviewed, absent):
+        """Writes the items of a module that are reached. `absent` are the names of those that aren't."""
+        self.reviewed, self.absent = reviewed, absent
         self.cut_contracts()
         self.write_items(self.items, module.level)
         for i, text in enumerate(self.texts):
@@ -88,7 +95,7 @@ class Source(Tokens):
             self.derive(i)
         elif text == "fmt" and before == "fn":
             self.plain_fmt(i)
-        elif text == "main" and before == "fn":
+        elif text == "main" and before == "fn" and self.text(self.before(self.before(i))) != "pub":
             self.written[self.before(i)] = "pub fn"
         elif text == "Drop" and before in (":", "+"):
             self.drop_bound(i)
@@ -292,10 +299,10 @@ class Source(Tokens):
                 close = self.close(i)
                 type_ = self.next(self.close(self.next(self.next(i))))
                 self.cut(self.next(i), type_ - 1)
+                of = self.rooted("".join(self.texts[k] for k in self.code(type_, self.before(close))))
                 arms.append(f"{name}::{variant}(error) => {SHIM}::fmt::Display::fmt(error, f),")
                 conversions.append(
-                    f"impl From<{self.text(type_)}> for {name} {{"
-                    f" fn from(error: {self.text(type_)}) -> Self {{ {name}::{variant}(error) }} }}")
+                    f"impl From<{of}> for {name} {{ fn from(error: {of}) -> Self {{ {name}::{variant}(error) }} }}")
                 i = self.next(close)
             elif self.kinds[told] == "text" and "{" not in self.text(told):
                 arms.append(f"{name}::{variant} => f.write_str({self.text(told)}),")
@@ -335,6 +342,7 @@ class Source(Tokens):
         mutable = [("mut " if self.text(self.before(j)) == "mut" else "") + self.text(j) for j in names]
         matched = "".join(self.written[j] for j in pattern if self.text(j) != "mut").strip()
         self.cut(pattern[0], pattern[-1])
+        self.moved.update(pattern)
         self.written[i] = f"let {listed(mutable)} "
         self.written[equals] = "= match"
         self.written[otherwise] = f"{{ {matched} => {listed([self.text(j) for j in names])}, _ =>"
@@ -370,6 +378,9 @@ class Source(Tokens):
         """The text of the file."""
         self.check()
         self.plain_comments()
+        for i in range(1, len(self.texts)):
+            if self.kinds[i] == "space" and self.kinds[i - 1] == "doc" and self.written[i] != CUT:
+                self.written[i] = "\n" + self.written[i].rpartition("\n")[2]
         lines = []
         for line in "".join(self.written).split("\n"):
             kept = line.replace(CUT, "").rstrip()
@@ -394,12 +405,19 @@ class Source(Tokens):
             while self.kinds[run[-1] + 1:run[-1] + 3] == ["space", self.kinds[i]] and self.texts[run[-1] + 1].count("\n") == 1:
                 run.append(run[-1] + 2)
             indent = len(self.texts[i - 1].rpartition("\n")[2]) if i else 0
-            lines = plain([self.texts[k] for k in run], indent)
+            lines = [self.without_links(line) for line in plain([self.texts[k] for k in run], indent)]
             if lines != [self.texts[k] for k in run]:
                 self.cut(run[0], run[-1])
                 if lines:
                     self.written[run[0]] = ("\n" + " " * indent).join(lines)
             i = run[-1] + 1
+
+    def without_links(self, line):
+        """A line of a comment whose links to items that aren't written are none."""
+        def unlinked(link):
+            return link.group(1) if link.group(2) in self.absent else link.group()
+
+        return LINK.sub(unlinked, line)
 
     def prelude(self):
         """What the stand-in's prelude has to give."""
@@ -411,13 +429,31 @@ class Source(Tokens):
         return [f"use {SHIM}::prelude::{{{', '.join(sorted(names))}}};"]
 
     def check(self):
-        """What is left over of Rattle is an error."""
-        words = ("ghost", "requires", "ensures", "Model", "tactic", "prove", "prove_eq", "prove_ne")
-        for i, text in enumerate(self.written):
-            if self.kinds[i] == "word" and text in words:
-                self.fail(i, f"{text} is left over")
-            if text != CUT and self.gone[i]:
+        """What is left over of Rattle is an error, and so is what the rules have no business to cut."""
+        for i, text in enumerate(self.texts):
+            if self.written[i] == CUT or self.kinds[i] in ("space",) + COMMENTS:
+                continue
+            if self.gone[i]:
                 self.fail(i, "a contract is left over")
+            if self.kinds[i] == "word" and text in LEFT_OVER:
+                self.fail(i, f"{text} is left over")
+            after = self.next(i)
+            if self.kinds[i] == "word" and self.text(i + 1) == "!" and self.text(i + 2) in OPENING and text not in MACROS:
+                self.fail(i, f"{text}! is a macro that isn't known")
+            if text == "#" and self.text(self.next(after) if self.text(after) == "[" else self.next(self.next(after))) not in ATTRIBUTES:
+                self.fail(i, "an attribute that isn't known")
+        self.check_bodies(self.items)
+
+    def check_bodies(self, all_items):
+        """A body that is written is written whole, but for the patterns that a rule puts elsewhere."""
+        for item in all_items:
+            if self.is_dropped(item):
+                continue
+            self.check_bodies(item.children)
+            if item.kind in ("fn", "const", "static"):
+                for i in self.code(item.body or item.keyword, item.last):
+                    if self.written[i] == CUT and i not in self.moved:
+                        self.fail(i, f"{item.name} would lose {self.text(i)}")
 
 
 def listed(names):

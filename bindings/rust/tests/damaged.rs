@@ -22,7 +22,10 @@ fn call_all(font: &[u8], index: u32) -> bool {
     #[cfg(feature = "variable-fonts")]
     {
         use subsetter::{embed_with_variations, subset_with_variations, Tag};
-        let at = [(Tag::new(b"wght"), 650.0), (Tag::new(b"wdth"), -f32::INFINITY)];
+        let at = [
+            (Tag::new(b"wght"), 650.0),
+            (Tag::new(b"wdth"), -f32::INFINITY),
+        ];
         let _ = subset_with_variations(font, index, &at, &few);
         let _ = embed_with_variations(font, index, &at, &[2]);
     }
@@ -42,7 +45,7 @@ fn fonts() -> Vec<Vec<u8>> {
 fn cut_fonts_are_answered() {
     let (mut answered, mut calls) = (0, 0);
     for font in fonts() {
-        for len in (0..font.len()).filter(|len| len % 11 == 0 || *len < 40) {
+        for len in (0..font.len()).filter(|len| len % 17 == 0 || *len < 30) {
             answered += usize::from(call_all(&font[..len], 0));
             calls += 1;
         }
@@ -54,7 +57,7 @@ fn cut_fonts_are_answered() {
 fn changed_fonts_are_answered() {
     let (mut answered, mut calls, mut state) = (0, 0, 1);
     for font in fonts().iter().filter(|font| !font.is_empty()) {
-        for round in 0..40 {
+        for round in 0..20 {
             let mut changed = font.clone();
             for _ in 0..1 + round % 4 {
                 let at = next(&mut state) % changed.len();
@@ -66,5 +69,5 @@ fn changed_fonts_are_answered() {
             calls += 1;
         }
     }
-    assert!(calls > 8000 && answered > 1000, "{answered} of {calls}");
+    assert!(calls > 4000 && answered > 500, "{answered} of {calls}");
 }
