@@ -273,6 +273,8 @@ def main():
     documents = repository.documents()
     for document in documents:
         text = repository.read(document)
+        if re.search(r"^(<<<<<<<|>>>>>>>) ", text, re.M):
+            missing.append(f"{document}: a merge left its marks")
         links(document, text)
         references(document, text)
         paths(document, plain(text))

@@ -1,10 +1,7 @@
 #!/usr/bin/env python3
 """Plants references that lead nowhere in a copy of this repository, one at a time: links.py has to fail with each, and to say
 which. It has to fail too where it can't see the documents."""
-import os
 import re
-import shutil
-import subprocess
 import sys
 
 sys.dont_write_bytecode = True
@@ -41,6 +38,7 @@ PLANTS = [
     ("an option of the program in code", "docs/PDF.md", None, "\n`subset_font --no-outlines`\n", r"subset_font has no option --no-outlines"),
     ("an option alone in CLI.md", "docs/CLI.md", None, "\n`--no-widths`\n", r"nothing has the option --no-widths"),
     ("an option that goes", "crates/subset_font/src/help.rt", "  --json  ", "  --lines ", r"nothing has the option --json"),
+    ("marks of a merge", "docs/WALK.md", None, "\n<<<<<<< HEAD\n", r"docs/WALK\.md: a merge left its marks"),
     ("a crate without a row", "crates.txt", None, "\ngone: subsetter\n", r"no row for the crate gone"),
 ]
 
@@ -67,28 +65,13 @@ def all_at_once(room):
     return faults
 
 
-def without_documents(room):
-    """links.py where git can't name documents, or names none."""
-    faults = []
-    hostile = {**planted.ENVIRONMENT, "GIT_TEST_ASSUME_DIFFERENT_OWNER": "1"}
-    faults += planted.faults_of_run("another owner", planted.run(room, CHECK, hostile), r"git doesn't trust the owner of this folder: git config --global --add safe\.directory")
-    faults += planted.faults_of_run("no git", planted.run(room, CHECK, {**planted.ENVIRONMENT, "PATH": "/nowhere"}), r"git isn't installed")
-    planted.git(room, "rm", "-q", "--cached", "*.md")
-    faults += planted.faults_of_run("no documents", planted.run(room, CHECK), r"git keeps no documents here")
-    shutil.move(os.path.join(room, ".git"), os.path.join(room, ".gone"))
-    faults += planted.faults_of_run("no repository", planted.run(room, CHECK), r"isn't a clone that git can read")
-    subprocess.run(["git", "init", "-q", os.path.dirname(room)], check=True, env=planted.ENVIRONMENT)
-    faults += planted.faults_of_run("another's repository", planted.run(room, CHECK), r"has no repository of its own")
-    return faults, 5
-
-
 def main():
     with planted.copy() as room:
         status, said = planted.run(room, CHECK)
         if status != 0:
             sys.exit(f"links_test: links.py fails as it is:\n{said}")
         faults = planted.faults_of_run("one alone", alone(room), PLANTS[0][-1]) + all_at_once(room)
-        more, count = without_documents(room)
+        more, count = planted.without_git(room, CHECK, "links")
     return planted.tell(faults + more, len(PLANTS) + count)
 
 

@@ -58,17 +58,19 @@ def faults_of_run(name, ran, wanted):
 
 
 def edit(room, name, path, old, new):
-    """Plants a text in the place of `old`, or at the end of the file where that is None; with `new` None the file goes."""
+    """Plants a text in the place of `old` (a text or a compiled pattern), or at the end of the file where that is None; with `new`
+    None the file goes."""
     full = os.path.join(room, path)
     with open(full, encoding="utf-8") as file:
         text = file.read()
-    if old is not None and old not in text:
-        raise SystemExit(f"{name}: {path} hasn't the text to change: {old!r}")
+    pattern = re.compile(re.escape(old)) if isinstance(old, str) else old
+    if pattern and not pattern.search(text):
+        raise SystemExit(f"{name}: {path} hasn't the text to change: {pattern.pattern!r}")
     if new is None:
         os.unlink(full)
         return
     with open(full, "w", encoding="utf-8") as file:
-        file.write(text + new if old is None else text.replace(old, new, 1))
+        file.write(text + new if old is None else pattern.sub(new if pattern is old else lambda _: new, text, count=1))
 
 
 def plant(room, check, name, path, old, new, wanted):
@@ -78,6 +80,20 @@ def plant(room, check, name, path, old, new, wanted):
         return faults_of_run(name, run(room, check), wanted)
     finally:
         git(room, "checkout", "-q", "--", path)
+
+
+def without_git(room, check, name):
+    """What is wrong with a check's messages where git can't name the documents. The copy is of no use afterwards."""
+    owned = {**ENVIRONMENT, "GIT_TEST_ASSUME_DIFFERENT_OWNER": "1"}
+    faults = faults_of_run("another owner", run(room, check, owned), rf"^{name}: git doesn't trust the owner of this folder: git config --global --add safe\.directory")
+    faults += faults_of_run("no git", run(room, check, {**ENVIRONMENT, "PATH": "/nowhere"}), rf"^{name}: git isn't installed")
+    git(room, "rm", "-q", "--cached", "*.md")
+    faults += faults_of_run("no documents", run(room, check), rf"^{name}: git keeps no documents here")
+    shutil.move(os.path.join(room, ".git"), os.path.join(room, ".gone"))
+    faults += faults_of_run("no repository", run(room, check), rf"^{name}: .* isn't a clone that git can read")
+    git(os.path.dirname(room), "init", "-q")
+    faults += faults_of_run("another's repository", run(room, check), rf"^{name}: .* has no repository of its own")
+    return faults, 5
 
 
 def tell(faults, count):

@@ -21,6 +21,7 @@ BENCH = sources("subset_bench")
 PROGRAM = sources("subset_font", "subset_args", "subset_lines", "cid_embed", "cmap", "late_file")
 C = sources("subsetter_c", "cid_embed", "cid_embed_at") + ("bindings/c/*",)
 BINDINGS = C + ("bindings/python/**", "bindings/rust-native/**", "bindings/plants", "bindings/test")
+PORTABLE = SUBSET + INSTANCE + C + ("bindings/rust/src/**",)
 JAVASCRIPT = C + ("bindings/js/*.mjs", "bindings/js/Makefile", "bindings/js/module/**")
 
 
@@ -160,6 +161,12 @@ COMPARISONS = [
                SUBSET + BENCH, original=True, timed=True),
     Comparison("times", "What do calls take beside the Rust crate and HarfBuzz?", "compare/run.py --all --seconds 0.03 --copies 0 --results compare/results",
                parts_of_time, SUBSET + BENCH, original=True, data=("truetype.csv", "cff.csv"), timed=True),
+    Comparison("portable", "Does the generated crate answer the proved library's bytes and errors, without a panic?",
+               "compare/portable.py --copies 1000000 --results compare/results/portable.jsonl", lines_like(r"\d+ calls, \d+ differ"),
+               PORTABLE, "compare/portable.py", data=("portable.jsonl",)),
+    Comparison("portable, times", "What does the generated crate take beside the proved library and the Rust crate?",
+               "compare/portable_times.py --results compare/results/portable_times.csv", lines_like(r"^The geometric mean.*|\d+ rows, \d+ past a bound"),
+               PORTABLE, data=("portable_times.csv",), timed=True),
     Comparison("growth", "How do times grow with the number of kept glyphs?", "compare/run.py --growth docs/growth.svg",
                lambda result: "a picture of four fonts", SUBSET + BENCH, original=True, data=("../../docs/growth.svg",), timed=True),
     Comparison("bytes", "How many bytes has a subset, of how many of the source?", "compare/bytes.py --results compare/results",

@@ -148,7 +148,7 @@ def summary_of_times():
 def greatest_ratios():
     """The cases that take the greatest part of the Rust crate's time."""
     found = sorted((it for name in ("truetype", "cff") for it in results_of.rows(f"{name}.csv")), key=lambda it: -share(it, "crate ns"))[:5]
-    return "; ".join(f"{it['font']}, {it['glyphs kept']}: {share(it, 'crate ns'):.2f}" for it in found)
+    return "; ".join(f"{it['font']}, {it['glyphs kept']}: {at_most(share(it, 'crate ns'))}" for it in found)
 
 
 def number_of_times():

@@ -45,7 +45,7 @@ def ready(history=False):
 
 def documents():
     """The Markdown files that git keeps, below ROOT; Trouble where there are none."""
-    found = sorted(it for it in git("ls-files", "-z", "--", "*.md").split("\0") if it)
+    found = sorted({it for it in git("ls-files", "-z", "--", "*.md").split("\0") if it})
     if not found:
         raise Trouble("git keeps no documents here")
     return found
@@ -62,41 +62,42 @@ def read(path):
 
 @functools.lru_cache(maxsize=None)
 def is_ancestor(commit):
-    """Whether a commit is HEAD or behind it."""
-    return ask("merge-base", "--is-ancestor", commit, "HEAD").returncode == 0
+    """Whether a commit is HEAD or behind it; in a merge that isn't committed yet, also whether it is behind the other side."""
+    sides = [it for it in ("HEAD", "MERGE_HEAD") if ask("rev-parse", "--verify", "-q", it).returncode == 0]
+    return any(ask("merge-base", "--is-ancestor", commit, it).returncode == 0 for it in sides)
 
 
 @functools.lru_cache(maxsize=None)
 def pattern(path):
-    """A path as a regular expression: `**` is any number of folders, `*` any part of a name."""
-    parts = {"**/": "(?:.*/)?", "**": ".*", "*": "[^/]*"}
-    return re.compile("".join(parts.get(it) or re.escape(it) for it in re.split(r"(\*\*/|\*\*|\*)", path)) + "$")
+    """A path as a regular expression for one of many lines: `**` is any number of folders, `*` any part of a name."""
+    parts = {"**/": "(?:.*/)?", "**": ".*", "*": "[^/\\n]*"}
+    return re.compile("^" + "".join(parts.get(it) or re.escape(it) for it in re.split(r"(\*\*/|\*\*|\*)", path)) + "$", re.M)
 
 
 @functools.lru_cache(maxsize=None)
 def kept():
-    """The files that git keeps."""
-    return git("ls-files", "-z").split("\0")
+    """The files that git keeps, one in each line."""
+    return git("ls-files", "-z").replace("\0", "\n")
 
 
 @functools.lru_cache(maxsize=None)
 def changed_since(commit):
     """The files that differ between a commit and HEAD, or the commit and what stands here, so that a change is seen before it is
-    committed."""
+    committed; one in each line."""
     if not is_ancestor(commit):
         raise Trouble(f"the commit {commit} isn't behind HEAD")
-    return {it for to in (["HEAD"], []) for it in git("diff", "--name-only", "--no-renames", "-z", commit, *to).split("\0")}
+    return "".join(git("diff", "--name-only", "--no-renames", "-z", commit, *to) for to in (["HEAD"], [])).replace("\0", "\n")
 
 
 @functools.lru_cache(maxsize=None)
 def is_there(path):
     """Whether git keeps a file at this pattern."""
-    return any(pattern(path).match(it) for it in kept())
+    return bool(pattern(path).search(kept()))
 
 
 def differs(commit, paths):
     """Whether files at these paths have changed since a commit."""
-    return any(pattern(path).match(it) for path in paths for it in changed_since(commit))
+    return any(pattern(path).search(changed_since(commit)) for path in paths)
 
 
 def head(*paths):

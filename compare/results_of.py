@@ -16,7 +16,7 @@ import repository
 
 HERE = os.path.dirname(os.path.realpath(__file__))
 RESULTS = os.path.join(HERE, "results")
-# In the place of a commit, for results from before these pages.
+# What stands for a commit in results from before these pages.
 NOT_RUN, NOT_RECORDED = "not in this history; not run since", "not recorded; not run since"
 CHANGED = "code changed since"
 FIELDS = ("Passed", "Commit", "Date", "Machine", "Command", "Note")

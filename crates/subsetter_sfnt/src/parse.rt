@@ -85,9 +85,10 @@ impl<'a> Face<'a> {
             || (!extras.names && tag == Tag::NAME)
     }
 
-    /// The bytes of a table other than `post`, if it is asked for.
+    /// The bytes of a table other than `maxp` and `post`, if it is asked for.
     pub fn table(&self, tag: Tag) -> Option<&'a [u8]>
-        requires { bytes_eq tag.0 (codes "post") ≡ false }
+        requires maxp { bytes_eq tag.0 (codes "maxp") ≡ false }
+        requires post { bytes_eq tag.0 (codes "post") ≡ false }
         ensures { option_copied result ≡ asked self.now.extras (table_in self.now.«data».now self.now.records.now) tag.0 }
     {
         if self.leaves_out(tag) {
