@@ -24,7 +24,10 @@ fn header(file: &[u8], index: u32, extras: Extras) -> Result<usize, Error>
     if kind == FontKind::Single {
         return Ok(0);
     }
-    let mut r = Reader::new_at(file, 12usize.saturating_add(4usize.saturating_mul(index as usize)));
+    let mut r = Reader::new_at(
+        file,
+        12usize.saturating_add(4usize.saturating_mul(index as usize)),
+    );
     let offset = r.read::<u32>().ok_or(Error::MalformedFont)?;
     let mut r = Reader::new_at(file, offset as usize);
     match r.read::<FontKind>() {
