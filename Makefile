@@ -27,6 +27,7 @@ prove: # proves all crates over what earlier runs kept, or one: CRATE=subsetter 
 generate: # writes the crate bindings/rust from the proved sources | 10 s
 	@.ci/install generate
 	@bindings/rust/generate
+	@bindings/copies --write
 
 dist: # builds the release files into dist/out; SKIP=PART,.. (docs/PACKAGES.md) | 10 min over kept proofs
 	@.ci/install $(skip) dist

@@ -5,7 +5,6 @@ Each is taken from the section of its name, and runs in an empty folder; what it
 that it asks for. The names are rust, c, python and js; without one all are run. `rust` needs Cargo alone; `c` and `python` need what `make` builds in bindings/c,
 `js` what `make package` builds in bindings/js. A part that lacks something fails. (Blocks of commands are run by .ci/fresh.)
 """
-import glob
 import os
 import re
 import struct
@@ -62,11 +61,12 @@ def run(room, *words, **env):
         raise Wrong(f"{' '.join(words)[:100]} ended with {ran.returncode}: {ran.stdout[-1500:]}")
 
 
-def built(pattern):
-    found = glob.glob(os.path.join(ROOT, pattern))
-    if len(found) != 1:
-        raise Wrong(f"{pattern} isn't built")
-    return found[0]
+def built(name):
+    """The path of something that was built below ROOT."""
+    path = os.path.join(ROOT, name)
+    if not os.path.exists(path):
+        raise Wrong(f"{name} isn't built")
+    return path
 
 
 def tables(path):
@@ -116,7 +116,9 @@ def python(room):
 def js(room):
     package = os.path.join(room, "node_modules", "subsetter-proved")
     os.makedirs(package)
-    run(room, "tar", "xzf", built("bindings/js/out/subsetter-proved-*.tgz"), "--strip-components=1", "-C", package)
+    with open(os.path.join(ROOT, "VERSION"), encoding="utf-8") as file:
+        name = f"subsetter-proved-{file.read().strip().replace('+', '-')}.tgz"
+    run(room, "tar", "xzf", built(f"bindings/js/out/{name}"), "--strip-components=1", "-C", package)
     write('import { writeFileSync } from "node:fs";\n' + block("JavaScript", "js") + 'writeFileSync("subset.ttf", font);\n', room, "user.mjs")
     run(room, "node", "user.mjs")
     demand_font(os.path.join(room, "subset.ttf"))

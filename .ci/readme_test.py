@@ -1,9 +1,10 @@
 #!/usr/bin/env python3
-"""Plants bugs in the README and in the results of its figures, one at a time, in a clone: .ci/evidence.py has to fail over each.
+"""Plants bugs in the README and in the results of its figures, one at a time, in a clone: .ci/evidence.py or
+.ci/examples.py has to fail over each.
 
     .ci/readme_test.py [NAME..]    all of them, or those whose names begin so
 
-It also gives logs of gates to compare/gate.py, which records only one that passed. It needs the repository's history. The
+It also gives logs of gates to compare/gate.py, which records only one that passed. It needs the repository's history, and Cargo. The
 status is 1 where a bug gets through, or where the clone fails as it is.
 """
 import os
@@ -47,6 +48,14 @@ PLANTS = [
     ("a result of another history", "isn't behind HEAD", [(RESULTS + "gate.md", r"Commit: `[0-9a-f]{7}`", "Commit: `3ff537e`")]),
     ("no result", "isn't there", [(RESULTS + "bytes.md", None, "")]),
     ("a result without its commit", "doesn't say its commit", [(RESULTS + "times.md", r"- Commit: .*\n", "")]),
+]
+# The same for the example in Rust, over which .ci/examples.py has to fail.
+EXAMPLES = [
+    ("another glyph", "hasn't the advance", [("README.md", r"new_from_glyphs\(&\[36, 68\]\);", "new_from_glyphs(&[36, 69]);")]),
+    ("a call that isn't there", "ended with", [("README.md", r"subset\(&data, 0, &mapper\)\?\)", "subset_font(&data, 0, &mapper)?)")]),
+    ("a file that isn't written", "writes no subset.ttf", [("README.md", r'"subset\.ttf", subset', '"other.ttf", subset')]),
+    ("another folder of the crate", "ended with", [("README.md", r'path = "bindings/rust" \}', 'path = "bindings/portable" }')]),
+    ("a block that nothing runs", "nothing runs", [("README.md", r"(?m)^## Documents\n", "## Documents\n\n```python\nimport subsetter\n```\n")]),
 ]
 # Logs of a gate: which words were given, and what it printed; the first alone is recorded.
 PASSED = "1:02 rt ci: passed\nthe bindings (bindings): passed in 60 s\n"
@@ -97,19 +106,19 @@ def restore(before):
             file.write(text)
 
 
-def try_plants(folder, names):
-    """How many bugs were tried, and how many got through."""
-    tried = missed = 0
-    for name, wanted, edits in [("nothing", "", []), *PLANTS]:
+def try_plants(folder, check, plants, names):
+    """How many bugs were tried with a check, and how many results are wrong: without a bug it has to pass."""
+    tried = wrong = 0
+    for name, wanted, edits in [("nothing", "", []), *plants]:
         if names and name != "nothing" and not name.startswith(tuple(names)):
             continue
         before = plant(folder, edits)
-        status, said = run(folder, sys.executable, ".ci/evidence.py")
+        status, said = run(folder, sys.executable, *check)
         restore(before)
         is_well = status == 0 if name == "nothing" else status == 1 and wanted in said and "Traceback" not in said
-        tried, missed = tried + 1, missed + (not is_well)
+        tried, wrong = tried + (name != "nothing"), wrong + (not is_well)
         print(f"{'caught' if status else 'passed'}{'' if is_well else ', WRONGLY'}: {name}: {said.strip().splitlines()[0][:150]}")
-    return tried, missed
+    return tried, wrong
 
 
 def try_logs(folder):
@@ -135,10 +144,11 @@ def try_logs(folder):
 
 def main():
     with planted.copy() as folder:
-        tried, missed = try_plants(folder, sys.argv[1:])
-        logs, wrong = (0, 0) if sys.argv[1:] else try_logs(folder)
-    print(f"readme_test: {tried - 1} bugs and {logs} logs, {missed + wrong} results are wrong")
-    sys.exit(bool(missed + wrong))
+        found = [try_plants(folder, [".ci/evidence.py"], PLANTS, sys.argv[1:]), try_plants(folder, [".ci/examples.py", "rust"], EXAMPLES, sys.argv[1:])]
+        found += [] if sys.argv[1:] else [try_logs(folder)]
+    tried, wrong = map(sum, zip(*found))
+    print(f"readme_test: {tried} bugs and logs, {wrong} results are wrong")
+    sys.exit(bool(wrong))
 
 
 if __name__ == "__main__":

@@ -11,14 +11,18 @@ For each font it takes N places (20) as instance.py does, and N glyphs at each (
 The port makes an instance for these glyphs. Its file is read by variable.py, and
 
     reading      each asked glyph has the contours, the points, the advance and the bearing that variable.py computes of the
-                 source at this place, in whole numbers; every other glyph is empty, and 0 0 in `hmtx`
+                 source at this place, in whole numbers, and OVERLAP_SIMPLE on its first flag alone; every other glyph is
+                 empty, and 0 0 in `hmtx`; `head` has their box, `hhea` their extremes, and `hhea` and `post` what `MVAR` varies
     HarfBuzz     what variable.py has before rounding is within 0.01 of what HarfBuzz draws at the same normalized
                  coordinates, and the advance is HarfBuzz's; where a font has no HVAR HarfBuzz rounds as the port does
     fontTools    the points are those of fontTools' reader in floats, unfolded and rounded once by halves up
+    extremes     fontTools computes of the instance the box of `head` and the extremes of `hhea` that it has
+    MVAR         `hhea` and `post` have the source's values and what fontTools' reader adds, rounded by halves up
+    FreeType advance  where a font has no HVAR, the advance is within 1 of the one that FreeType loads at the same coordinates
     FreeType     the instance goes through `subset`, and FreeType draws of the new font what it draws of the instance
 
 Glyphs that variable.py refuses are left out, and told; the port has to refuse each of them by itself. With --damage it
-changes N copies of the fonts in fvar, avar, gvar, HVAR or glyf, at a random place and for 12 glyphs: the port has to answer
+changes N copies of the fonts in fvar, avar, gvar, HVAR, MVAR or glyf, at a random place and for 12 glyphs: the port has to answer
 as variable.py reads, or to refuse what that refuses, each within a second. --hostile makes four small fonts that ask for
 much, each of which has to be refused within a tenth of a second. The status is 1 where something differs.
 """
@@ -40,10 +44,10 @@ import variable
 from variable import UNIT
 
 STEPS = 1000000
-DAMAGED = ["fvar", "avar", "gvar", "HVAR", "glyf"]
+DAMAGED = ["fvar", "avar", "gvar", "HVAR", "MVAR", "glyf"]
 TEXTS = {"UnknownKind": "unknown font kind", "MalformedFont": "malformed font", "Unimplemented": "unsupported feature in font",
          "OverflowError": "overflow occurred"}
-KINDS = ["reading", "HarfBuzz", "HarfBuzz advance", "fontTools", "FreeType"]
+KINDS = ["reading", "HarfBuzz", "HarfBuzz advance", "fontTools", "extremes", "MVAR", "FreeType advance", "FreeType"]
 
 
 # ---- the port
@@ -75,8 +79,23 @@ def place_in(place):
     return [(tag.encode("latin-1"), value) for tag, value in place]
 
 
-def is_as_read(data, drawn):
-    """What is wrong with an instance's file for what was computed of each glyph, if anything is."""
+def flags_of(description):
+    """The flags of a simple glyph as they are stored."""
+    ends = variable.number(description, 0) * 2 + 8
+    size = variable.number(description, ends + 2)
+    return description[ends + 4 + size:][:variable.number(description, ends) + 1]
+
+
+def headers_of(lines, drawn, count):
+    """`hhea` and `post` of an instance, for those at the place: with the extremes of what is drawn, and the count of metrics."""
+    hhea, post = bytearray(lines[0]), lines[1]
+    box, sides = variable.extremes(drawn.values())
+    hhea[10:18], hhea[34:36] = u16(*sides), u16(count)
+    return u16(*box), bytes(hhea), post
+
+
+def is_as_read(data, drawn, lines):
+    """What is wrong with an instance's file for what was computed of each glyph, and of `hhea` and `post`, if anything is."""
     font = variable.Font(data, [])
     tables = set(font.tables) - {b"name", b"post"}
     if tables != {b"glyf", b"head", b"hhea", b"hmtx", b"loca", b"maxp"}:
@@ -89,6 +108,11 @@ def is_as_read(data, drawn):
             return f"glyph {glyph}: {font.metric(glyph)}, and not {(advance, bearing)}"
         if not ends and font.description(glyph) and glyph not in drawn:
             return f"glyph {glyph} isn't empty"
+        if ends and [flag & 0x40 for flag in flags_of(font.description(glyph))] != [0x40] + [0] * (len(points) - 1):
+            return f"glyph {glyph} has other flags of overlaps"
+    headers = font.tables[b"head"][36:44], font.tables[b"hhea"], font.tables.get(b"post")
+    if headers != headers_of(lines, drawn, font.count):
+        return f"`head`, `hhea` or `post`: {headers}, and not {headers_of(lines, drawn, font.count)}"
     return None
 
 
@@ -127,15 +151,52 @@ class Floats:
             return moved[:len(points)], getattr(it, "xMin", 0) - bearing + moved[len(points)][0]
         parts = it.components
         moved = self.moved(glyph, [(getattr(c, "x", 0), getattr(c, "y", 0)) for c in parts], list(range(len(parts))), at)
-        points = []
+        points, left = [], it.xMin - bearing + moved[len(parts)][0]
         for part, (dx, dy) in zip(parts, moved):
-            inner, _ = self.unfolded(source.font.getGlyphID(part.glyphName), at)
+            inner, inner_left = self.unfolded(source.font.getGlyphID(part.glyphName), at)
+            left = inner_left if part.flags & 0x0200 else left
             (a, b), (c, d) = getattr(part, "transform", ((1, 0), (0, 1)))
             inner = [(a * x + c * y, b * x + d * y) for x, y in inner]
             if hasattr(part, "firstPt"):
                 dx, dy = (points[part.firstPt][k] - inner[part.secondPt][k] for k in (0, 1))
             points += [(x + dx, y + dy) for x, y in inner]
-        return points, it.xMin - bearing + moved[len(parts)][0]
+        return points, left
+
+
+def extremes_of(path):
+    """Of a font the box of `head` and the extremes of `hhea`, and the same as fontTools computes them."""
+    from fontTools.ttLib import TTFont
+
+    with TTFont(path, recalcBBoxes=False) as font:
+        def now():
+            head, hhea = font["head"], font["hhea"]
+            return [head.xMin, head.yMin, head.xMax, head.yMax, hhea.advanceWidthMax, hhea.minLeftSideBearing, hhea.minRightSideBearing, hhea.xMaxExtent]
+        # (glyphs that weren't asked for are 0 0 in `hmtx`, which widens nothing)
+        stored = now()
+        font.recalcBBoxes = True
+        font["maxp"].recalc(font)
+        font["hhea"].recalc(font)
+        return stored, now()
+
+
+# Where fontTools has the metrics that MVAR varies in `hhea` and `post`.
+METRICS = {"hasc": ("hhea", "ascent"), "hdsc": ("hhea", "descent"), "hlgp": ("hhea", "lineGap"), "hcrs": ("hhea", "caretSlopeRise"), "hcrn": ("hhea", "caretSlopeRun"),
+           "hcof": ("hhea", "caretOffset"), "undo": ("post", "underlinePosition"), "unds": ("post", "underlineThickness")}
+
+
+def metrics_of(source, path, at):
+    """The metrics of an instance, and those of the source with what fontTools' reader of MVAR adds."""
+    from fontTools.ttLib import TTFont
+    from fontTools.varLib.varStore import VarStoreInstancer
+
+    mvar, deltas = source.font["MVAR"].table if "MVAR" in source.font else None, {}
+    if mvar and mvar.VarStore:
+        store = VarStoreInstancer(mvar.VarStore, source.font["fvar"].axes, {tag: value / 16384 for tag, value in zip(source.tags, at)})
+        deltas = {record.ValueTag: store[record.VarIdx] for record in mvar.ValueRecord}
+    with TTFont(path, lazy=True) as font:
+        there = {name: places for name, places in METRICS.items() if places[0] in font}
+        ours = [getattr(font[tag], field) for tag, field in there.values()]
+    return ours, [getattr(source.font[tag], field) + instance.half_up(deltas.get(name, 0)) for name, (tag, field) in there.items()]
 
 
 def advance_by(harfbuzz, glyph):
@@ -172,6 +233,35 @@ class Report:
         self.wrong.append(f"{self.label}: {kind}: {text}")
 
 
+def beside_freetype(report, path, font, drawn):
+    """The advances, where no HVAR says them."""
+    import freetype
+
+    if b"HVAR" in font.tables:
+        return
+    face = freetype.Face(path)
+    face.set_var_blend_coords([value / 16384 for value in font.at])
+    for glyph, (_, _, advance, _, _) in drawn.items():
+        face.load_glyph(glyph, freetype.FT_LOAD_NO_SCALE)
+        report.counts["FreeType advance"] += 1
+        theirs = max(face.glyph.metrics.horiAdvance, 0)
+        if abs(advance - theirs) > instance.FREETYPE_BOUND:
+            report.say("FreeType advance", f"glyph {glyph} at {font.at}: {advance}, and not {theirs}")
+
+
+def beside_fonttools(report, font, out, source):
+    """The headers of an instance."""
+    stored, computed = extremes_of(out)
+    report.counts["extremes"] += 1
+    if stored != computed:
+        report.say("extremes", f"at {font.at}: {stored}, and not {computed}")
+    if not source.has_twins:
+        ours, theirs = metrics_of(source, out, font.at)
+        report.counts["MVAR"] += b"MVAR" in font.tables
+        if ours != theirs:
+            report.say("MVAR", f"at {font.at}: {ours}, and not {theirs}")
+
+
 def beside_others(report, font, drawn, floats, harfbuzz):
     harfbuzz.place(font.at)
     for glyph, (_, points, advance, _, it) in drawn.items():
@@ -183,8 +273,10 @@ def beside_others(report, font, drawn, floats, harfbuzz):
         if distance is None or distance > instance.HARFBUZZ_BOUND:
             report.say("HarfBuzz", f"glyph {glyph} at {font.at}: {distance} off")
         report.counts["HarfBuzz advance"] += 1
-        if advance != advance_by(harfbuzz, glyph):
-            report.say("HarfBuzz advance", f"glyph {glyph} at {font.at}: {advance}, and not {advance_by(harfbuzz, glyph)}")
+        # (no advance in a file is under 0)
+        theirs = max(advance_by(harfbuzz, glyph), 0)
+        if advance != theirs:
+            report.say("HarfBuzz advance", f"glyph {glyph} at {font.at}: {advance}, and not {theirs}")
         if floats:
             theirs, left = floats.unfolded(glyph, font.at)
             report.counts["fontTools"] += 1
@@ -215,11 +307,14 @@ def compare_place(report, path, data, place, glyphs, others, room):
         report.say("reading", f"refused at {font.at}: {said[-1]}")
         return
     with open(out, "rb") as file:
-        wrong = is_as_read(file.read(), {glyph: it[:4] for glyph, it in drawn.items()})
+        wrong = is_as_read(file.read(), {glyph: it[:4] for glyph, it in drawn.items()}, font.lines())
     report.counts["reading"] += len(drawn)
     if wrong:
         report.say("reading", f"at {font.at}: {wrong}")
+    source, *others = others
     beside_others(report, font, drawn, *others)
+    beside_freetype(report, path, font, drawn)
+    beside_fonttools(report, font, out, source)
     asked = [glyph for glyph in drawn if glyph]
     if not port([words_of(out, asked, again, [])], room)[0].startswith("ok "):
         report.say("FreeType", f"at {font.at}: `subset` refuses the instance")
@@ -232,7 +327,7 @@ def compare_place(report, path, data, place, glyphs, others, room):
 def compare_font(words, path):
     report = Report(path)
     source, harfbuzz = instance.Source(path), instance.HarfBuzz(path)
-    others = (None if source.has_twins else Floats(source)), harfbuzz
+    others = source, None if source.has_twins else Floats(source), harfbuzz
     rng = random.Random(f"{words.seed} {report.label}")
     with open(path, "rb") as file:
         data = file.read()
@@ -269,10 +364,10 @@ def damaged(rng, data, source):
 
 
 def answer_of(data, place, glyphs):
-    """What variable.py reads: the glyphs as drawn, or the name of a fault."""
+    """What variable.py reads: the glyphs as drawn, and `hhea` and `post`, or the name of a fault."""
     try:
         font = variable.Font(data, place_in(place))
-        return {glyph: font.drawn(glyph, STEPS)[:4] for glyph in sorted({0, *glyphs})}
+        return {glyph: font.drawn(glyph, STEPS)[:4] for glyph in sorted({0, *glyphs})}, font.lines()
     except variable.Fault as it:
         return it.args[0]
 
@@ -312,7 +407,7 @@ def judge_copy(report, out, line, tag, wanted, label):
     if int(line.split(" ")[1]) > 10 ** 9:
         report.say("damage", f"{label}: took {line.split(' ')[1]} ns")
     with open(out, "rb") as file:
-        wrong = wanted if isinstance(wanted, str) else is_as_read(file.read(), wanted)
+        wrong = wanted if isinstance(wanted, str) else is_as_read(file.read(), *wanted)
     if wrong:
         report.say("damage", f"{label}: answered, {wrong}")
 

@@ -11,7 +11,7 @@
     damage   N damaged copies (20,000) of fonts of all kinds and of those under 900 KB, each by one call, and of a variable one by
              one at coordinates
 
-All with overflow checks and debug assertions. Damaged copies are made in pieces of 50,000. With --results each part and each piece
+All with overflow checks and debug assertions. Damaged copies are made in pieces of 20,000. With --results each part and each piece
 is a line of FILE when it is done, with the commit; those that stand there aren't made again, so that a run may be stopped at any
 time. --native - compares the crate with itself, for a trial. It needs Cargo, gcc and `make` in bindings/c; Debian's fonts it
 installs. The last line is `portable: N calls, M differ`, and the status 1 where one differs or none was made.
@@ -28,7 +28,7 @@ import time
 import build
 import portable_build
 
-PIECE = 50000
+PIECE = 20000
 # How many of the machine's faces have their requests refused, and of how large a file at most.
 REFUSED_FACES, REFUSED_SIZE = 60, 400_000
 

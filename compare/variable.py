@@ -24,6 +24,11 @@ def number(data, at, size=2, signed=False):
     return int.from_bytes(cut(data, at, size), "big", signed=signed)
 
 
+def need_version_1(table):
+    """Another major version isn't read."""
+    need(table is None or len(table) < 2 or number(table, 0) == 1, "Unimplemented")
+
+
 def nearest(a, b):
     """a / b to the nearest whole number, halves up."""
     return (2 * a + b) // (2 * b)
@@ -61,7 +66,15 @@ def normalized(axis, value):
     return 0
 
 
+def is_map(pairs):
+    """Whether a segment map keeps -1, 0 and 1, its fromCoordinates ascend and its toCoordinates don't descend."""
+    ascends = all(a < c and b <= d for (a, b), (c, d) in zip(pairs, pairs[1:]))
+    return ascends and all((v, v) in pairs for v in (-16384, 0, 16384))
+
+
 def bent(pairs, n):
+    if not is_map(pairs):
+        return n
     for (a, b), (c, d) in zip(pairs, pairs[1:]):
         if 4 * a <= n < 4 * c:
             return 4 * b + nearest((n - 4 * a) * (4 * d - 4 * b), 4 * c - 4 * a)
@@ -73,7 +86,8 @@ def place_of(font, settings):
     fvar, avar = font.get(b"fvar"), font.get(b"avar")
     if fvar is None:
         return []
-    need(avar is None or len(avar) < 2 or number(avar, 0) == 1, "Unimplemented")
+    need_version_1(fvar)
+    need_version_1(avar)
     axes = axes_of(fvar)
     user = [[value for tag, value in settings if tag == axis[0]][-1:] for axis in axes]
     along = [normalized(axis, values[0] if values else axis[2]) for axis, values in zip(axes, user)]
@@ -150,9 +164,9 @@ def packed_deltas(rest, count):
 def packed_points(rest, count):
     """The numbers of points, which ascend, or None for all."""
     first = rest.number(1)
-    if first == 0:
-        return None
     many = first if first < 128 else (first - 128) * 256 + rest.number(1)
+    if many == 0:
+        return None
     steps = runs(rest, many, lambda control: ((control & 127) + 1, lambda rest: rest.number(2 if control & 128 else 1)))
     points, last = [], 0
     for step in steps:
@@ -276,15 +290,49 @@ def advance_index(hvar, glyph):
     return entry >> bits, entry & ((1 << bits) - 1)
 
 
-def advance_delta(hvar, at, glyph):
-    where = number(hvar, 4, 4)
-    need(where and where <= len(hvar))
-    store = hvar[where:]
-    # (the store is there, and has the font's axes, before an item is looked for)
+def store_at(table, where, at):
+    """The item variation store there: it has the font's axes, before an item is looked for."""
+    need(where and where <= len(table))
+    store = table[where:]
     regions = number(store, 2, 4)
     need(number(store, 0) == 1 and regions and number(store, regions) == len(at))
     cut(store, regions + 4, number(store, regions + 2) * len(at) * 6)
+    return store
+
+
+def advance_delta(hvar, at, glyph):
+    store = store_at(hvar, number(hvar, 4, 4), at)
     return item_delta(store, at, *advance_index(hvar, glyph))
+
+
+# ---- MVAR
+
+# Where a metric stands in its table.
+LINES = {b"hhea": {4: b"hasc", 6: b"hdsc", 8: b"hlgp", 18: b"hcrs", 20: b"hcrn", 22: b"hcof"}, b"post": {8: b"undo", 10: b"unds"}}
+
+
+def metric_delta(mvar, at, tag):
+    size, count = number(mvar, 6), number(mvar, 8)
+    need(size >= 8)
+    for k in range(count):
+        record = cut(mvar, 12 + k * size, 8)
+        if record[:4] == tag:
+            return item_delta(store_at(mvar, number(mvar, 10), at), at, number(record, 4), number(record, 6))
+    return 0
+
+
+def varied_lines(mvar, at, tag, table):
+    """`hhea` or `post`, of which some metrics vary."""
+    if mvar is None or table is None or len(table) < max(LINES[tag]) + 2:
+        return table
+    table = bytearray(table)
+    for where, metric in LINES[tag].items():
+        delta = metric_delta(mvar, at, metric)
+        need(abs(delta) < 1 << 62, "OverflowError")
+        value = number(table, where, 2, True) + nearest(delta, UNIT)
+        need(-32768 <= value <= 32767, "OverflowError")
+        table[where:where + 2] = (value % 65536).to_bytes(2, "big")
+    return bytes(table)
 
 
 # ---- outlines
@@ -359,6 +407,8 @@ class Font:
         tables = directory(data)
         need(b"glyf" in tables, "Unimplemented" if b"CFF " in tables else "UnknownKind")
         self.tables, self.at = tables, place_of(tables, settings)
+        for tag in (b"gvar", b"HVAR", b"MVAR"):
+            need_version_1(tables.get(tag))
         need(all(tag in tables for tag in (b"loca", b"head", b"maxp", b"hhea", b"hmtx")))
         self.long = number(tables[b"head"], 50) != 0
         self.count, self.pairs = number(tables[b"maxp"], 4), number(tables[b"hhea"], 34)
@@ -400,6 +450,8 @@ class Font:
         all_ends, all_points = [], []
         for k, part in enumerate(parts):
             inner = self.unfolded(part[1], steps, depth + 1)
+            if part[0] & 0x0200:
+                left, right = inner.left, inner.right
             for x, y, on in self.placed(part, inner.points, all_points, to_x[k], to_y[k]):
                 all_points.append((x, y, on))
             all_ends += [len(all_points) - len(inner.points) + end for end in inner.ends]
@@ -409,9 +461,10 @@ class Font:
         """The points of a component where it stands behind others."""
         flags, _, arguments, matrix = part
         if matrix:
-            need(not flags & 0x0800, "Unimplemented")
             a, b, c, d = matrix
             points = [(nearest(a * x + c * y, 16384), nearest(b * x + d * y, 16384), on) for x, y, on in points]
+        # (where an offset may be scaled or not, it is not)
+        need(flags & 0x1802 != 0x0802 or matrix in (None, (16384, 0, 0, 16384)), "Unimplemented")
         if not flags & 2:
             one, other = arguments
             need(one < len(before) and other < len(points))
@@ -433,6 +486,19 @@ class Font:
             need(all(-32768 <= b - a <= 32767 for a, b in zip(values, values[1:])), "OverflowError")
         need(advance < 65536 and len(points) <= 65536 and len(it.ends) <= 32767, "OverflowError")
         return it.ends, points, advance, min((p[0] for p in points), default=0), it
+
+    def lines(self):
+        """`hhea` and `post` at the place."""
+        return [varied_lines(self.tables.get(b"MVAR"), self.at, tag, self.tables.get(tag)) for tag in (b"hhea", b"post")]
+
+
+def extremes(drawn):
+    """Of drawn glyphs the box of `head`, and what `hhea` has of them: the greatest advance, the least bearings and the extent."""
+    with_points = [it for it in drawn if it[1]]
+    boxes = [[f(p[axis] for p in it[1]) for f in (min, max) for axis in (0, 1)] for it in with_points]
+    box = [f((b[k] for b in boxes), default=0) for k, f in enumerate((min, min, max, max))]
+    rights = [min(it[2] - b[2], 32767) for it, b in zip(with_points, boxes)]
+    return box, [max((it[2] for it in drawn), default=0), box[0], min(rights, default=0), box[2]]
 
 
 def directory(data):

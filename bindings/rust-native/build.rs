@@ -1,4 +1,4 @@
-//! Says where `libsubsetter.a` stands: in the folder that SUBSETTER_LIBRARY_FOLDER names, else in `native/TARGET`, where the
+//! Says where `libsubsetter.a` is: in the folder that SUBSETTER_LIBRARY_FOLDER names, else in `native/TARGET`, where the
 //! package carries libraries, else in `../c/out`.
 
 use std::env;

@@ -13,7 +13,7 @@ pub enum Error {
     Unimplemented,
     /// A kept string lies outside its table, or the new `name` would be too large.
     SubsetError,
-    /// All glyphs above 0 are asked for, or the new font would be too large; or a real number of a CFF dict has more than
+    /// All glyphs above 0 are requested, or the new font would be too large; or a real number of a CFF dict has more than
     /// 64 characters, or `hhea` counts no metrics.
     OverflowError,
     /// `CFF ` has another version than 1, or a charstring can't be run.

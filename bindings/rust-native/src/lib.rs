@@ -149,10 +149,11 @@ pub fn subset_with_options(
 ///
 /// Those of [`subset`]; besides, where there are outlines in `glyf`:
 ///
-/// - [`Error::MalformedFont`]: a table of the variations (`fvar`, `avar`, `gvar`, `HVAR`) is cut.
-/// - [`Error::Unimplemented`]: `avar` has another version than 1, or a composite glyph scales the offsets of a component.
-/// - [`Error::OverflowError`]: a glyph takes more than 1,000,000 steps, or a coordinate or an advance doesn't fit its 16
-///   bits.
+/// - [`Error::MalformedFont`]: `fvar`, `avar`, `gvar`, `HVAR` or `MVAR` is cut.
+/// - [`Error::Unimplemented`]: one of these has another major version than 1, or a composite glyph scales the offset of a
+///   component.
+/// - [`Error::OverflowError`]: a glyph takes more than 1,000,000 steps; or a coordinate, an advance or a metric of `hhea` or
+///   `post` doesn't fit its 16 bits.
 #[cfg(feature = "variable-fonts")]
 pub fn subset_with_variations(
     data: &[u8],

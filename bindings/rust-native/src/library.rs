@@ -342,7 +342,10 @@ mod tests {
 
     /// A font of the worked rows.
     fn font(name: &str) -> Vec<u8> {
-        let rows = include_str!(concat!(env!("CARGO_MANIFEST_DIR"), "/../../crates/subset_rows/data/rows.txt"));
+        let rows = include_str!(concat!(
+            env!("CARGO_MANIFEST_DIR"),
+            "/../../crates/subset_rows/data/rows.txt"
+        ));
         let row = rows
             .lines()
             .find_map(|line| line.strip_prefix(&format!("font {name} ")));

@@ -33,7 +33,7 @@ def formatted(package, texts):
         write(Path(folder), texts)
         run = rustfmt("--edition", "2021", "--config-path", str(package / "rustfmt.toml"), str(Path(folder, "mod.rs")))
         if run.returncode:
-            raise Refused(f"rustfmt: {run.stderr}")
+            raise Refused(f"rustfmt: {run.stderr.replace(folder, 'src/proved')}")
         return {name: Path(folder, name).read_text(encoding="utf-8") for name in texts}
 
 

@@ -61,12 +61,12 @@ def declared(module):
 
 
 def load_declared(module, item, folder, suffix, open_file):
+    if module.tokens.is_plain and module.parent is None and item.name in ("proved", "rattle"):
+        return
     found = [path for path in (folder / f"{item.name}{suffix}", folder / item.name / f"mod{suffix}") if path.is_file()]
     if not found:
         item.file.fail(item.first, f"mod {item.name} has no file")
     tokens = open_file(found[0])
-    if tokens is None:
-        return
     for one in tokens.items if tokens.is_plain else ():
         one.level = max(one.level, item.level)
     inner = Module(item.name, tokens, module, item)
@@ -75,6 +75,13 @@ def load_declared(module, item, folder, suffix, open_file):
     module.names[item.name].append(inner)
     item.target = inner
     load(inner, found[0], open_file)
+
+
+def everything(module):
+    """A module and all in it."""
+    yield module
+    for inner in module.inner:
+        yield from everything(inner)
 
 
 class Crates:
@@ -124,11 +131,7 @@ class Crates:
     def load_plain(self):
         """The crate's own files, from lib.rs on; the generated ones and the stand-in aside."""
         source = self.package / "src"
-        aside = (source / "proved", source / "rattle")
-
         def open_file(path):
-            if path.parent in aside:
-                return None
             tokens = Plain(path, str(path.relative_to(self.repository)))
             self.words.update(text for i, text in enumerate(tokens.texts) if tokens.kinds[i] == "word")
             return tokens
@@ -176,6 +179,7 @@ class Crates:
         """The files that are written, by their paths, before rustfmt."""
         modules = ""
         found = {}
+        absent = self.absent()
         for name, root in self.roots.items():
             if root.level is None:
                 continue
@@ -184,11 +188,21 @@ class Crates:
             for module in self.below(root):
                 path = Path(name, *module.path.split("::")[1:])
                 path = path / "mod.rs" if module is root else path.with_suffix(".rs")
-                module.tokens.strip(module, self.reviewed)
+                module.tokens.strip(module, self.reviewed, absent)
                 found[path] = MARK.format(module.tokens.name) + module.tokens.layout()
         self.reviewed.check()
         found[Path("mod.rs")] = MARK.format("crates") + HEAD + modules
         return found
+
+    def absent(self):
+        """The names of items that aren't written, under which none is."""
+        there, gone = set(), set()
+        for root in self.roots.values():
+            for module in everything(root):
+                for item in module.items:
+                    for one in [item, *item.children]:
+                        (gone if one.level is None else there).add(one.name)
+        return gone - there
 
     def below(self, module):
         """The modules of a crate that have files and are reached."""

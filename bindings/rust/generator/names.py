@@ -90,18 +90,18 @@ class Reach:
                 continue
             for item in module.items:
                 if item.kind == "impl":
-                    of = self.item_of(module, item.of) if item.of else None
-                    trait = self.item_of(module, item.trait) if item.trait else None
+                    of = self.item_of(module, item.of, item.first) if item.of else None
+                    trait = self.item_of(module, item.trait, item.first) if item.trait else None
                     item.self_type, item.self_trait = of, trait
                     found.append(item)
                 elif item.kind == "trait":
                     item.self_type = item
         return found
 
-    def item_of(self, module, path):
-        """The item that a path means, without reaching it; None for one that isn't the sources' own."""
+    def item_of(self, module, path, at):
+        """The item that a path at a token means, without reaching it; None for one that isn't the sources' own."""
         ends = []
-        self.walk(module, [(word, 0) for word in path], lambda thing: None, ends.append)
+        self.walk(module, [(word, at) for word in path], lambda thing: None, ends.append)
         return next((end for end in ends if isinstance(end, Item)), None)
 
     # Paths.
@@ -160,7 +160,7 @@ class Reach:
             tokens = item.module.tokens
             for i in tokens.code(item.first, item.last):
                 if tokens.kinds[i] == "word" and tokens.text(i) in item.module.names:
-                    target = self.item_of(item.module, [tokens.text(i)])
+                    target = self.item_of(item.module, [tokens.text(i)], i)
                     if target and target is not item:
                         self.member(target, name)
         if name not in self.wanted[id(item)]:
@@ -239,7 +239,7 @@ class Reach:
                     if thing.kind == "trait" and module.called & {child.name for child in thing.children}:
                         self.mark(thing)
                 elif not isinstance(thing, Module) and thing.reached is None:
-                    trait = self.item_of(module, thing.path) if thing.path[0] not in FOREIGN else None
+                    trait = self.item_of(module, thing.path, thing.at) if thing.path[0] not in FOREIGN else None
                     members = {child.name for child in trait.children} if trait and trait.kind == "trait" else set()
                     if thing.path[0] in FOREIGN or module.root is self.plain:
                         members = self.traits.get(thing.path[-1], set())

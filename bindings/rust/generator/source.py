@@ -22,6 +22,8 @@ TRAITS = {
     "IteratorExt": {"collect_with"},
 }
 HOST = {"HostRuntime", "AllocGlobal", "Print", "Eprint", "Input"}
+# A link of a comment: all that it shows, and the last name of its path.
+LINK = re.compile(r"\[(`(?:\w+::)*(\w+)`)\](?![(\[])")
 # Macros and attributes that mean in Rust what they do in Rattle, or that the stand-in has.
 MACROS = {"eprintln", "format", "matches", "unreachable", "vec", "write", "writeln"}
 ATTRIBUTES = {"derive", "inline", "must_use", "repr"}
@@ -71,9 +73,9 @@ class Source(Tokens):
 
     # The rules.
 
-    def strip(self, module, reviewed):
-        """Writes the items of a module that are reached."""
-        self.reviewed = reviewed
+    def strip(self, module, reviewed, absent):
+        """Writes the items of a module that are reached. `absent` are the names of those that aren't."""
+        self.reviewed, self.absent = reviewed, absent
         self.cut_contracts()
         self.write_items(self.items, module.level)
         for i, text in enumerate(self.texts):
@@ -93,7 +95,7 @@ class Source(Tokens):
             self.derive(i)
         elif text == "fmt" and before == "fn":
             self.plain_fmt(i)
-        elif text == "main" and before == "fn":
+        elif text == "main" and before == "fn" and self.text(self.before(self.before(i))) != "pub":
             self.written[self.before(i)] = "pub fn"
         elif text == "Drop" and before in (":", "+"):
             self.drop_bound(i)
@@ -297,10 +299,10 @@ class Source(Tokens):
                 close = self.close(i)
                 type_ = self.next(self.close(self.next(self.next(i))))
                 self.cut(self.next(i), type_ - 1)
+                of = self.rooted("".join(self.texts[k] for k in self.code(type_, self.before(close))))
                 arms.append(f"{name}::{variant}(error) => {SHIM}::fmt::Display::fmt(error, f),")
                 conversions.append(
-                    f"impl From<{self.text(type_)}> for {name} {{"
-                    f" fn from(error: {self.text(type_)}) -> Self {{ {name}::{variant}(error) }} }}")
+                    f"impl From<{of}> for {name} {{ fn from(error: {of}) -> Self {{ {name}::{variant}(error) }} }}")
                 i = self.next(close)
             elif self.kinds[told] == "text" and "{" not in self.text(told):
                 arms.append(f"{name}::{variant} => f.write_str({self.text(told)}),")
@@ -403,12 +405,19 @@ class Source(Tokens):
             while self.kinds[run[-1] + 1:run[-1] + 3] == ["space", self.kinds[i]] and self.texts[run[-1] + 1].count("\n") == 1:
                 run.append(run[-1] + 2)
             indent = len(self.texts[i - 1].rpartition("\n")[2]) if i else 0
-            lines = plain([self.texts[k] for k in run], indent)
+            lines = [self.without_links(line) for line in plain([self.texts[k] for k in run], indent)]
             if lines != [self.texts[k] for k in run]:
                 self.cut(run[0], run[-1])
                 if lines:
                     self.written[run[0]] = ("\n" + " " * indent).join(lines)
             i = run[-1] + 1
+
+    def without_links(self, line):
+        """A line of a comment whose links to items that aren't written are none."""
+        def unlinked(link):
+            return link.group(1) if link.group(2) in self.absent else link.group()
+
+        return LINK.sub(unlinked, line)
 
     def prelude(self):
         """What the stand-in's prelude has to give."""
@@ -421,8 +430,8 @@ class Source(Tokens):
 
     def check(self):
         """What is left over of Rattle is an error, and so is what the rules have no business to cut."""
-        for i, text in enumerate(self.written):
-            if text == CUT or self.kinds[i] in ("space",) + COMMENTS:
+        for i, text in enumerate(self.texts):
+            if self.written[i] == CUT or self.kinds[i] in ("space",) + COMMENTS:
                 continue
             if self.gone[i]:
                 self.fail(i, "a contract is left over")

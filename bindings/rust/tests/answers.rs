@@ -55,8 +55,14 @@ fn a_mapper_without_numbers_answers_an_error() {
     assert_eq!(mapper.get(65535), None);
     assert_eq!(mapper.try_remap(65534), Ok(65534));
     for glyphs in [all_from(1, 65535), all_from(0, 65535)] {
-        assert_eq!(GlyphRemapper::try_from_glyphs(&glyphs).err(), overflow.err());
-        assert_eq!(GlyphRemapper::try_from_glyphs_sorted(&glyphs).err(), overflow.err());
+        assert_eq!(
+            GlyphRemapper::try_from_glyphs(&glyphs).err(),
+            overflow.err()
+        );
+        assert_eq!(
+            GlyphRemapper::try_from_glyphs_sorted(&glyphs).err(),
+            overflow.err()
+        );
     }
     let most = GlyphRemapper::try_from_glyphs_sorted(&all_from(2, 65535)).unwrap();
     assert_eq!((most.num_gids(), most.get(65535)), (65535, Some(65534)));
@@ -79,7 +85,10 @@ fn a_mapper_without_numbers_panics_in_the_calls_of_0_2_6() {
         panic_of(move || assert_eq!(full.remap(1), 0)),
     ];
     for text in texts {
-        assert_eq!(text, "no number is left: a mapper holds at most 65535 glyphs");
+        assert_eq!(
+            text,
+            "no number is left: a mapper holds at most 65535 glyphs"
+        );
     }
 }
 
@@ -92,10 +101,14 @@ mod coordinates {
     /// A font with the axes `wght`, from 100 over 400 to 900, and `wdth`, from 50 over 100 to 200, at coordinates.
     fn made(at: &[(&str, f32)]) -> Vec<u8> {
         let data = &table().fonts["varied"];
-        let at: Vec<(Tag, f32)> = at.iter().map(|(tag, value)| (tag.parse().unwrap(), *value)).collect();
+        let at: Vec<(Tag, f32)> = at
+            .iter()
+            .map(|(tag, value)| (tag.parse().unwrap(), *value))
+            .collect();
         let mapper = GlyphRemapper::new_from_glyphs(&[1, 2, 3]);
         let font = subset_with_variations(data, 0, &at, &mapper).unwrap();
-        let Embedded { font: embedded, .. } = embed_with_variations(data, 0, &at, &[1, 2, 3]).unwrap();
+        let Embedded { font: embedded, .. } =
+            embed_with_variations(data, 0, &at, &[1, 2, 3]).unwrap();
         assert_eq!(font, embedded);
         font
     }

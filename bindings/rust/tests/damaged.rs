@@ -22,7 +22,10 @@ fn call_all(font: &[u8], index: u32) -> bool {
     #[cfg(feature = "variable-fonts")]
     {
         use subsetter::{embed_with_variations, subset_with_variations, Tag};
-        let at = [(Tag::new(b"wght"), 650.0), (Tag::new(b"wdth"), -f32::INFINITY)];
+        let at = [
+            (Tag::new(b"wght"), 650.0),
+            (Tag::new(b"wdth"), -f32::INFINITY),
+        ];
         let _ = subset_with_variations(font, index, &at, &few);
         let _ = embed_with_variations(font, index, &at, &[2]);
     }

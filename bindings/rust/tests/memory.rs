@@ -1,11 +1,13 @@
 //! Memory: each request of each call is refused in turn. A call that answers a `Result` then answers `OutOfMemory`, keeps
-//! nothing and changes nothing; a call of 0.2.6 without a `Result` ends the process.
+//! nothing and changes nothing, or it does without the memory; a call of 0.2.6 without a `Result` ends the process.
 
 mod table;
 
 use std::alloc::{GlobalAlloc, Layout, System};
 use std::cell::Cell;
-use subsetter::{embed, embed_with_limits, embed_with_options, Error, GlyphRemapper, Limits, Options};
+use subsetter::{
+    embed, embed_with_limits, embed_with_options, Error, GlyphRemapper, Limits, Options,
+};
 use subsetter::{subset, subset_with_limits, subset_with_options};
 use table::table;
 
@@ -51,7 +53,7 @@ fn hold(at: *mut u8, more: usize, less: usize) -> *mut u8 {
 }
 
 // SAFETY: all is handed on to the system's allocator; a refused request is answered null, as the trait allows. What is counted
-// stands in cells without a destructor, which take no memory.
+// is in cells without a destructor, which take no memory.
 unsafe impl GlobalAlloc for Counting {
     unsafe fn alloc(&self, layout: Layout) -> *mut u8 {
         if !grants() {
@@ -91,14 +93,18 @@ fn refuse_each<T: PartialEq + std::fmt::Debug>(
     FOR_GOOD.with(|for_good| for_good.set(false));
     let requests = refuse_in_turn(&call, last);
     FOR_GOOD.with(|for_good| for_good.set(true));
-    assert_eq!(refuse_in_turn(&call, last), requests);
+    assert!(refuse_in_turn(&call, last) <= requests);
     requests
 }
+
+/// How many requests of a call may be refused without an error: those for a smaller room, as the larger one is kept then.
+const MOST_KEPT: usize = 2;
 
 fn refuse_in_turn<T: PartialEq + std::fmt::Debug>(
     call: &impl Fn() -> Result<T, Error>,
     last: &Result<T, Error>,
 ) -> usize {
+    let mut kept = 0;
     for request in 0.. {
         let before = HELD.with(Cell::get);
         let (answer, refused) = with_a_refusal(request, call);
@@ -106,7 +112,11 @@ fn refuse_in_turn<T: PartialEq + std::fmt::Debug>(
             assert_eq!(answer, *last);
             return request;
         }
-        assert_eq!(answer, Err(Error::OutOfMemory), "request {request}");
+        if answer != Err(Error::OutOfMemory) {
+            assert_eq!(answer, *last, "request {request}");
+            kept += 1;
+            assert!(kept <= MOST_KEPT, "request {request}");
+        }
         drop(answer);
         assert_eq!(HELD.with(Cell::get), before, "request {request}");
     }
@@ -175,7 +185,7 @@ fn each_request_of_an_instance_may_be_refused() {
 #[test]
 fn a_list_of_coordinates_may_be_refused() {
     use subsetter::{subset_with_variations, Tag};
-    // Without outlines in `glyf` the list alone is asked for.
+    // Without outlines in `glyf` the list is all that the coordinates take.
     let font = &table().fonts["one_charstring"];
     let mapper = GlyphRemapper::new();
     let call = |at: &[(Tag, f32)]| {
@@ -217,7 +227,10 @@ fn a_mapper_stays_as_it_was_where_memory_is_refused() {
             refusals += 1;
         }
         // A known glyph takes no memory.
-        assert_eq!(with_a_refusal(0, || mapper.try_remap(glyph)).0, Ok(before.num_gids()));
+        assert_eq!(
+            with_a_refusal(0, || mapper.try_remap(glyph)).0,
+            Ok(before.num_gids())
+        );
     }
     assert!(refusals > 10, "{refusals}");
 }
@@ -283,9 +296,22 @@ fn remap_without_memory() {
 fn without_memory_the_mappers_of_0_2_6_end_the_process() {
     use std::os::unix::process::ExitStatusExt;
     use std::{env, process::Command};
-    for call in ["new", "default", "new_from_glyphs", "new_from_glyphs_sorted", "clone", "remap"] {
+    for call in [
+        "new",
+        "default",
+        "new_from_glyphs",
+        "new_from_glyphs_sorted",
+        "clone",
+        "remap",
+    ] {
         let child = format!("{call}_without_memory");
-        let words = ["--exact", &child, "--ignored", "--nocapture", "--test-threads=1"];
+        let words = [
+            "--exact",
+            &child,
+            "--ignored",
+            "--nocapture",
+            "--test-threads=1",
+        ];
         let mut command = Command::new(env::current_exe().unwrap());
         let output = command.args(words).output().unwrap();
         let printed = String::from_utf8(output.stdout).unwrap();

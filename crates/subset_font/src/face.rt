@@ -46,7 +46,11 @@ fn place_in_collection(file: &[u8], index: u32) -> Option<usize>
     ensures place { result ≡ header_by_kind Collection (record { bytes = file.now; index = index; extras = all_extras }) }
     ensures small { IfSome result (λ at. at < 2 ^ 32) }
 {
-    let at = Reader::new_at(file, 12 + 4 * (index as usize)).read::<u32>()?;
+    let at = Reader::new_at(
+        file,
+        12usize.saturating_add(4usize.saturating_mul(index as usize)),
+    )
+    .read::<u32>()?;
     match kind_at(file, at as usize)? {
         Kind::Single => Some(at as usize),
         Kind::Collection => None,

@@ -1,2 +1,3 @@
 -- The number of glyphs: `maxp`.
+pub mod Fields
 pub mod Kept

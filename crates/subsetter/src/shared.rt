@@ -6,6 +6,7 @@ ghost use Rattle.std.specs.Option.{option_map};
 ghost use Rattle.subsetter_base.specs.Gives.{Gives};
 ghost use Rattle.subsetter_sfnt.specs.FontAt.{tables_of};
 ghost use Rattle.subsetter.specs.TableView.{table_bytes, font_seen};
+ghost use Rattle.subsetter.specs.Maxp.Written.{maxp_of};
 ghost use Rattle.subsetter.specs.Name.View.{name_seen};
 ghost use Rattle.subsetter.specs.Post.Plain.{post_of};
 ghost use Rattle.subsetter.specs.Shared.Plain.{shared_of, with_shared};
@@ -50,6 +51,17 @@ fn glyph_names<'a>(
     }
 }
 
+/// `maxp`, with the fields that bound instructions where hinting is asked for.
+fn max_profile<'a>(
+    face: &Face<'a>,
+    flavor: FontFlavor,
+    count: u16,
+) -> Result<Option<NewMaxp<'a>>, Error>
+    ensures { Gives (λ new. new) result (maxp_of (tables_of face.now) flavor count) }
+{
+    maxp::subset(face.stored(Tag::MAXP), face.extras.hinting, flavor, count)
+}
+
 impl<'a> SharedTables<'a> {
     /// Makes the shared tables for an order of the glyphs. `long` says whether `loca` has the long format. The errors are
     /// those of `head`, `hmtx`, `maxp`, `name` and `post`, of the first that has one.
@@ -66,7 +78,7 @@ impl<'a> SharedTables<'a> {
         let head = head::subset(face.table(Tag::HEAD), long)?;
         let metrics = hmtx::subset(alloc, face.table(Tag::HHEA), face.table(Tag::HMTX), order)?;
         let count = order.num_gids();
-        let maxp = maxp::subset(face.table(Tag::MAXP), flavor, count)?;
+        let maxp = max_profile(face, flavor, count)?;
         let name = name::subset(alloc, face.table(Tag::NAME))?;
         let post = glyph_names(alloc, face, order)?;
         Ok(Self {

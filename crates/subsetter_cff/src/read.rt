@@ -1,6 +1,6 @@
 //! What is read of a CFF table.
 
-pub(crate) mod demands;
+pub mod demands;
 pub(crate) mod fd_select;
 pub(crate) mod fields;
 pub(crate) mod font_dict;

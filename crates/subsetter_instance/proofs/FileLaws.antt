@@ -1,5 +1,6 @@
 -- The file of an instance: how it is laid out, and what is read afresh from it.
 pub mod Head
+pub mod Lines
 pub mod Laid
 pub mod Outlines
 pub mod Metrics

@@ -15,7 +15,7 @@ use Rattle.subsetter_instance.specs.declared.components.Component.{Component}
 use Rattle.subsetter_instance.specs.declared.source.Metric.{Metric}
 use Rattle.subsetter_instance.specs.Components.{offset_x, offset_xs, offset_y, offset_ys}
 use Rattle.subsetter_instance.specs.Source.{Source, metric}
-use Rattle.subsetter_instance.specs.Unfolded.{Child, Composite, Unfolded, composite, counted_description, is_composite, joined, no_points, unfolded, unfolded_composite, unfolded_simple, with_part, with_phantoms}
+use Rattle.subsetter_instance.specs.Unfolded.{Child, Composite, Unfolded, composite, counted_description, is_composite, joined, no_points, unfolded, unfolded_composite, unfolded_simple, with_component, with_phantoms}
 
 -- ---- offsets
 
@@ -48,7 +48,7 @@ pub component_next : (cs : List Component) (k : ℕ) (c : Component) → k < len
 component_next cs k c h e = drop_more cs k c h ∙ ap (λ d. d ∷ drop (k + 1) cs) (sym e)
 
 pub joined_step : (child : Child) (cs rest : List Component) (c : Component) (k : ℕ) (xs ys : List ℤ) (before all : Unfolded) (left steps last : ℕ) (part : Unfolded)
-    → cs ≡ c ∷ rest → child left c.glyph ≡ Ok (part, steps) → with_part c (slice_index_or xs k (pos 0)) (slice_index_or ys k (pos 0)) before part steps ≡ Ok (all, last)
+    → cs ≡ c ∷ rest → child left c.glyph ≡ Ok (part, steps) → with_component c (slice_index_or xs k (pos 0)) (slice_index_or ys k (pos 0)) before part steps ≡ Ok (all, last)
     → joined child cs k xs ys (before, left) ≡ joined child rest (k + 1) xs ys (all, last)
 unfolding joined
 joined_step child cs rest c k xs ys before all left steps last part e h g = rw (e, h, g) refl
@@ -58,7 +58,7 @@ unfolding joined
 joined_end child cs k xs ys before e = rw e refl
 
 first_of : (child : Child) (cs rest : List Component) (c : Component) (k : ℕ) (xs ys : List ℤ) (before : Unfolded) (left : ℕ) → cs ≡ c ∷ rest
-    → joined child cs k xs ys (before, left) ≡ (child left c.glyph >>= λ part. with_part c (slice_index_or xs k (pos 0)) (slice_index_or ys k (pos 0)) before part.0 part.1 >>= λ all. joined child rest (k + 1) xs ys all)
+    → joined child cs k xs ys (before, left) ≡ (child left c.glyph >>= λ part. with_component c (slice_index_or xs k (pos 0)) (slice_index_or ys k (pos 0)) before part.0 part.1 >>= λ all. joined child rest (k + 1) xs ys all)
 unfolding joined
 first_of child cs rest c k xs ys before left e = rw e refl
 
@@ -66,13 +66,13 @@ first_of child cs rest c k xs ys before left e = rw e refl
 pub component_fails : (child : Child) (cs rest : List Component) (c : Component) (k : ℕ) (xs ys : List ℤ) (before : Unfolded) (left : ℕ) (whole : Result (Unfolded × ℕ) Error) (e : Error)
     → cs ≡ c ∷ rest → joined child cs k xs ys (before, left) ≡ whole → Fails e (child left c.glyph) → Fails e whole
 component_fails child cs rest c k xs ys before left whole e s h f =
-    fails_on (child left c.glyph) (λ part. with_part c (slice_index_or xs k (pos 0)) (slice_index_or ys k (pos 0)) before part.0 part.1 >>= λ all. joined child rest (k + 1) xs ys all) whole e (sym (first_of child cs rest c k xs ys before left s) ∙ h) f
+    fails_on (child left c.glyph) (λ part. with_component c (slice_index_or xs k (pos 0)) (slice_index_or ys k (pos 0)) before part.0 part.1 >>= λ all. joined child rest (k + 1) xs ys all) whole e (sym (first_of child cs rest c k xs ys before left s) ∙ h) f
 
 -- and what its placing fails with
 pub placing_fails : (child : Child) (cs rest : List Component) (c : Component) (k : ℕ) (xs ys : List ℤ) (before part : Unfolded) (left steps : ℕ) (whole : Result (Unfolded × ℕ) Error) (e : Error)
-    → cs ≡ c ∷ rest → joined child cs k xs ys (before, left) ≡ whole → child left c.glyph ≡ Ok (part, steps) → Fails e (with_part c (slice_index_or xs k (pos 0)) (slice_index_or ys k (pos 0)) before part steps) → Fails e whole
+    → cs ≡ c ∷ rest → joined child cs k xs ys (before, left) ≡ whole → child left c.glyph ≡ Ok (part, steps) → Fails e (with_component c (slice_index_or xs k (pos 0)) (slice_index_or ys k (pos 0)) before part steps) → Fails e whole
 placing_fails child cs rest c k xs ys before part left steps whole e s h g f =
-    fails_on (with_part c (slice_index_or xs k (pos 0)) (slice_index_or ys k (pos 0)) before part steps) (λ all. joined child rest (k + 1) xs ys all) whole e (sym (ap (λ r. r >>= λ p. with_part c (slice_index_or xs k (pos 0)) (slice_index_or ys k (pos 0)) before p.0 p.1 >>= λ all. joined child rest (k + 1) xs ys all) g) ∙ sym (first_of child cs rest c k xs ys before left s) ∙ h) f
+    fails_on (with_component c (slice_index_or xs k (pos 0)) (slice_index_or ys k (pos 0)) before part steps) (λ all. joined child rest (k + 1) xs ys all) whole e (sym (ap (λ r. r >>= λ p. with_component c (slice_index_or xs k (pos 0)) (slice_index_or ys k (pos 0)) before p.0 p.1 >>= λ all. joined child rest (k + 1) xs ys all) g) ∙ sym (first_of child cs rest c k xs ys before left s) ∙ h) f
 
 -- ---- a composite glyph
 

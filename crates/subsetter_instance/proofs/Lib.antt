@@ -1,3 +1,4 @@
+pub mod Boxes
 pub mod Chains
 pub mod Ends
 pub mod Glyphs

@@ -1,12 +1,13 @@
 -- What is unfolded, and within what bounds.
 use Rattle.std.proofs.Common.{◌≡◌, ◌≤◌, ◌<◌, ◌^◌, ◌+◌, ◌++◌, ℕ, ℤ, List, length, map, unsigned_abs, get_or, drop, pos, w64, ap, false, to_z, of_z, [], ◌∷◌, append_assoc, sym, subst, arith, ◌+ℤ◌, ◌∙◌, true, refl, Bool}
-use Rattle.std.specs.Prelude.{All, nat_le, zip, ◌&&◌}
+use Rattle.std.specs.Prelude.{All, nat_le, zip, ◌&&◌, if◌then◌else◌}
 use Rattle.std.proofs.lemmas.Bool.{leb-true}
 use Rattle.std.proofs.lemmas.List.Sums.{AllPass-from_list_all}
 use Rattle.std.proofs.lemmas.Int.{to_z-of_z, fits_signed_from_abs}
 use Rattle.std.proofs.lemmas.List.{append-nil, drop_all, drop_more, length-append, length-map}
 use Rattle.std.proofs.lemmas.List.Elements.{All-append, All-cons, All-map, All-nil, All-weaker}
-use Rattle.subsetter_instance.specs.Unfolded.{Unfolded, IsInReach, are_near, joined_parts, moved_part, shifted}
+use Rattle.subsetter_points.specs.Simple.{has}
+use Rattle.subsetter_instance.specs.Unfolded.{Unfolded, IsInReach, are_near, joined_parts, moved_part, shifted, with_metrics}
 
 wide_47 : (x : ℤ) → unsigned_abs x ≤ 2 ^ 45 → unsigned_abs x ≤ 2 ^ 47
 wide_47 x h = omega arith
@@ -36,6 +37,14 @@ joined_reach a b h g =
       xs = All-append (λ x. unsigned_abs x ≤ 2 ^ 45) a.xs b.xs h.xs g.xs;
       ys = All-append (λ x. unsigned_abs x ≤ 2 ^ 45) a.ys b.ys h.ys g.ys;
     }
+
+-- the phantom points of one and all else of another
+pub metrics_reach : (flags : ℕ) (a b : Unfolded) → IsInReach a → IsInReach b → IsInReach (with_metrics flags a b)
+metrics_reach flags a b h g = by (has flags 0x0200)
+  where
+    by : (t : Bool) → IsInReach (if t then record a { left = b.left; right = b.right } else a)
+    by true = record { shape = record { xs = h.shape.xs; ys = h.shape.ys; ends = h.shape.ends; left = g.shape.left; right = g.shape.right }; xs = h.xs; ys = h.ys }
+    by false = h
 
 -- one more pair
 pub zip_step : (f : ℤ × ℤ → ℤ) (out : List ℤ) (z : ℤ) (xs ys : List ℤ) (i : ℕ) → i < length xs → i < length ys → z ≡ f (get_or xs i (pos 0), get_or ys i (pos 0)) → (out ++ z ∷ []) ++ map f (zip (drop (i + 1) xs) (drop (i + 1) ys)) ≡ out ++ map f (zip (drop i xs) (drop i ys))

@@ -12,8 +12,10 @@ use Rattle.subsetter_sfnt.specs.Rows.{rows, present, tags}
 use Rattle.subsetter_sfnt.specs.Written.{kind_word}
 use Rattle.subsetter_instance.specs.Source.{Source, description, metric, place, source_in}
 use Rattle.subsetter_instance.specs.Drawn.{Drawn, drawn}
+use Rattle.subsetter_instance.specs.Extremes.{all_extents, box_bytes, extreme_bytes}
+use Rattle.subsetter_instance.specs.Lines.{Lines, lines_of, with_lines}
 use Rattle.subsetter_instance.specs.Written.{tables}
-use Rattle.subsetter_instance.specs.Plain.{instance_of}
+use Rattle.subsetter_instance.specs.Plain.{drawn_all, instance_of}
 
 -- the tags of the tables; name and post where the font has them
 abbrev pub tags_with : (List ℕ → Option (List ℕ)) → List (List ℕ)
@@ -28,14 +30,22 @@ pub record IsDrawn (s out : Source) (at : List ℤ) (steps g : ℕ) : Type 0 whe
   pub reads : parts (aligned 2 (parts_bytes it.ends it.points)) ≡ Some (it.ends, it.points)
   pub metrics : metric out g ≡ Some (record { advance = it.advance; bearing = cast_unsigned w16 it.bearing })
 
--- a table of the file is that of the font, or neither has one
-abbrev pub KeepsTable : Font → Font → List ℕ → Type 0
-KeepsTable font out tag = stored out tag ≡ stored font tag
+-- a table of the file is that of the source, which a look-up finds, or neither has one
+abbrev pub KeepsTable : (List ℕ → Option (List ℕ)) → Font → List ℕ → Type 0
+KeepsTable find out tag = stored out tag ≡ find tag
+
+-- a table's bytes between two places are those of the source's
+abbrev pub KeepsBytes : (List ℕ → Option (List ℕ)) → Font → List ℕ → ℕ → ℕ → Type 0
+KeepsBytes find out tag from to = (source copy : List ℕ) → find tag ≡ Some source → stored out tag ≡ Some copy → slice_range copy from to ≡ slice_range source from to
+
+-- or they are these
+abbrev pub HasBytes : Font → List ℕ → ℕ → ℕ → List ℕ → Type 0
+HasBytes out tag from to bytes = (copy : List ℕ) → stored out tag ≡ Some copy → slice_range copy from to ≡ bytes
 
 -- a header keeps its bytes but for those between two places
-pub record KeepsHeader (font out : Font) (tag : List ℕ) (from to : ℕ) : Type 0 where
+pub record KeepsHeader (find : List ℕ → Option (List ℕ)) (out : Font) (tag : List ℕ) (from to : ℕ) : Type 0 where
   pub source : List ℕ
-  pub source_is : stored font tag ≡ Some source
+  pub source_is : find tag ≡ Some source
   pub copy : List ℕ
   pub copy_is : stored out tag ≡ Some copy
   pub same_length : length copy ≡ length source
@@ -43,11 +53,14 @@ pub record KeepsHeader (font out : Font) (tag : List ℕ) (from to : ℕ) : Type
   pub end : drop to copy ≡ drop to source
 
 pub record IsInstance (font : Font) (settings : List (Tag × ℤ)) (glyphs : List ℕ) (file : List ℕ) : Type 0 where
-  -- a TrueType file, its directory, checksums and padding right, with these tables alone, so that none hints
-  pub container : IsSoundContainer file (kind_word TrueType) (tags_with (stored font))
-  -- the place, and the tables that are drawn from
+  -- the place, and hhea and post there, of which some metrics vary
   pub at : List ℤ
   pub place_is : place (stored font) settings ≡ Ok at
+  pub lines : Lines
+  pub lines_are : lines_of (stored font) at ≡ Ok lines
+  -- a TrueType file, its directory, checksums and padding right, with these tables alone, so that none hints
+  pub container : IsSoundContainer file (kind_word TrueType) (tags_with (with_lines (stored font) lines))
+  -- the tables that are drawn from
   pub source : Source
   pub source_is : source_in (stored font) (length at) ≡ Some source
   -- the file's own tables, read as those of a font without axes
@@ -60,11 +73,20 @@ pub record IsInstance (font : Font) (settings : List (Tag × ℤ)) (glyphs : Lis
   -- as many glyphs as the font has
   pub count : out.count ≡ source.count
   pub pairs : out.pairs ≡ source.count
-  -- head but for checksumAdjustment and indexToLocFormat, hhea but for numberOfHMetrics; name and post byte for byte
-  pub head : KeepsHeader font (as_font file) (codes "head") 8 52
-  pub head_middle : (source copy : List ℕ) → stored font (codes "head") ≡ Some source → stored (as_font file) (codes "head") ≡ Some copy → slice_range copy 12 50 ≡ slice_range source 12 50
-  pub hhea : KeepsHeader font (as_font file) (codes "hhea") 34 36
-  pub name : KeepsTable font (as_font file) (codes "name")
-  pub post : KeepsTable font (as_font file) (codes "post")
+  -- what is drawn of the glyphs that were asked for, in their order
+  pub drawn : List Drawn
+  pub all_drawn : drawn_all source at steps glyphs ≡ Ok drawn
+  -- head but for checksumAdjustment, the box, which is the least one around what is drawn, and indexToLocFormat
+  pub head : KeepsHeader (stored font) (as_font file) (codes "head") 8 52
+  pub head_middle : KeepsBytes (stored font) (as_font file) (codes "head") 12 36
+  pub head_box : HasBytes (as_font file) (codes "head") 36 44 (box_bytes (all_extents drawn))
+  pub head_style : KeepsBytes (stored font) (as_font file) (codes "head") 44 50
+  -- hhea, as it varies, but for the extremes of what is drawn and numberOfHMetrics
+  pub hhea : KeepsHeader (with_lines (stored font) lines) (as_font file) (codes "hhea") 10 36
+  pub hhea_extremes : HasBytes (as_font file) (codes "hhea") 10 18 (extreme_bytes drawn)
+  pub hhea_middle : KeepsBytes (with_lines (stored font) lines) (as_font file) (codes "hhea") 18 34
+  -- name, and post as it varies, byte for byte
+  pub name : KeepsTable (stored font) (as_font file) (codes "name")
+  pub post : KeepsTable (with_lines (stored font) lines) (as_font file) (codes "post")
   -- byte for byte what the plain way lays out
   pub layout : instance_of font settings glyphs steps ≡ Ok file

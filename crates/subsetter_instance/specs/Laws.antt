@@ -1,9 +1,14 @@
--- What is answered is an instance, and the only one; what is refused has a fault.
-use Rattle.std.specs.Prelude.{◌≡◌, ℕ, List, Ok, Err, ℤ}
+-- What is answered is an instance, and the only one; what is refused has a fault. The box of its header is the least one.
+use Rattle.std.specs.Prelude.{◌≡◌, ℕ, List, ◌∷◌, Ok, Err, ℤ}
+use Rattle.std.specs.List.{flat_map}
 use Rattle.subsetter_base.specs.Bytes.{IsBytes}
 use Rattle.subsetter_base.specs.declared.tag.Tag.{Tag}
 use Rattle.subsetter_base.specs.declared.error.Error.{Error}
 use Rattle.subsetter_sfnt.specs.Read.{Font}
+use Rattle.subsetter_points.specs.declared.outline.Point.{Point}
+use Rattle.subsetter_points.specs.Simple.{box}
+use Rattle.subsetter_instance.specs.Drawn.{Drawn}
+use Rattle.subsetter_instance.specs.Extremes.{all_extents, box_bytes}
 use Rattle.subsetter_instance.specs.Fault.{HasInstanceFault}
 use Rattle.subsetter_instance.specs.Instance.{IsInstance}
 use Rattle.subsetter_instance.specs.Plain.{instance_of}
@@ -23,3 +28,7 @@ HasFaultWhereRefused = (font : Font) (settings : List (Tag × ℤ)) (glyphs : Li
 -- where there is a file no fault stands
 abbrev pub HasNoneWhereAnswered : Type 0
 HasNoneWhereAnswered = (font : Font) (settings : List (Tag × ℤ)) (glyphs : List ℕ) (steps : ℕ) (file : List ℕ) → instance_of font settings glyphs steps ≡ Ok file → (e : Error) → ¬ (HasInstanceFault font settings glyphs steps e)
+
+-- the box of what is drawn is that of one glyph with the points of all glyphs, which has the least and the greatest of all coordinates
+abbrev pub IsBoxOfAll : Type 0
+IsBoxOfAll = (drawn : List Drawn) (p : Point) (points : List Point) → flat_map (λ d. d.points) drawn ≡ p ∷ points → box_bytes (all_extents drawn) ≡ box p points

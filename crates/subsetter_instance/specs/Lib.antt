@@ -1,10 +1,12 @@
 pub mod Answer
 pub mod Components
 pub mod Drawn
+pub mod Extremes
 pub mod Fault
 pub mod Instance
 pub mod Kept
 pub mod Laws
+pub mod Lines
 pub mod Optional
 pub mod Plain
 pub mod Source

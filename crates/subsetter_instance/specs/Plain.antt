@@ -11,8 +11,9 @@ use Rattle.subsetter_sfnt.specs.Read.{Font, table_in}
 use Rattle.subsetter_sfnt.specs.Plain.{opened, flavored, file_of}
 use Rattle.subsetter_sfnt.specs.Rows.{rows, present}
 use Rattle.subsetter_sfnt.specs.Written.{kind_word}
-use Rattle.subsetter_instance.specs.Source.{Source, place, source_in}
+use Rattle.subsetter_instance.specs.Source.{Source, place, source_or_fault}
 use Rattle.subsetter_instance.specs.Drawn.{Drawn, drawn}
+use Rattle.subsetter_instance.specs.Lines.{Lines, lines_of, with_lines}
 use Rattle.subsetter_instance.specs.Written.{by_glyph, tables}
 
 -- each glyph that is asked for is one of the font's, and is drawn in as many steps as each other
@@ -26,24 +27,24 @@ drawn_all s at steps (g ∷ glyphs) = do
   rest ← drawn_all s at steps glyphs
   Ok (d ∷ rest)
 
--- head of at least 52 bytes and hhea of at least 36, which `source_in` has read from
+-- head of at least 52 bytes, which `source_in` has read from
 abbrev pub header : (List ℕ → Option (List ℕ)) → List ℕ → Result (List ℕ) Error
 header find tag = ok_or (find tag) MalformedFont
 
 -- the file, unless the length of glyf passes 32 bits
-unfoldable pub laid : (List ℕ → Option (List ℕ)) → Source → List ℕ → List Drawn → Result (List ℕ) Error
-laid find s glyphs ds = do
+unfoldable pub laid : (List ℕ → Option (List ℕ)) → Lines → Source → List ℕ → List Drawn → Result (List ℕ) Error
+laid find lines s glyphs ds = do
   head ← header find (codes "head")
-  hhea ← header find (codes "hhea")
-  file_of (kind_word TrueType) (present (rows (tables find head hhea s.count ds (by_glyph glyphs ds s.count))))
+  file_of (kind_word TrueType) (present (rows (tables (with_lines find lines) head lines.hhea s.count ds (by_glyph glyphs ds s.count))))
 
 -- of the tables that a look-up finds
 unfoldable pub instance_in : (List ℕ → Option (List ℕ)) → List (Tag × ℤ) → List ℕ → ℕ → Result (List ℕ) Error
 instance_in find settings glyphs steps = do
   at ← place find settings
-  s ← ok_or (source_in find (length at)) MalformedFont
+  s ← source_or_fault find (length at)
   ds ← drawn_all s at steps glyphs
-  laid find s glyphs ds
+  lines ← lines_of find at
+  laid find lines s glyphs ds
 
 -- outlines in glyf alone are taken
 abbrev pub by_flavor : FontFlavor → (List ℕ → Option (List ℕ)) → List (Tag × ℤ) → List ℕ → ℕ → Result (List ℕ) Error

@@ -1,11 +1,12 @@
 -- The tables that an instance is made from (OpenType, "head", "hhea", "hmtx", "maxp", "loca", "glyf", "fvar", "avar", "gvar" and "HVAR").
-use Rattle.std.specs.Prelude.{◌≡◌, IfSome, ℕ, ◌+◌, ◌-◌, ◌*◌, Bool, not, List, [], codes, Option, Some, None, Result, Ok, nat_le, nat_lt, ◌==◌, if◌then◌else◌, ℤ}
-use Rattle.std.specs.Option.{option_map}
+use Rattle.std.specs.Prelude.{◌≡◌, IfSome, ℕ, ◌+◌, ◌-◌, ◌*◌, Bool, not, ◌||◌, List, [], codes, Option, Some, None, Result, Ok, Err, nat_le, nat_lt, ◌==◌, if◌then◌else◌, ℤ}
+use Rattle.std.specs.Option.{ok_or, option_map}
 use Rattle.subsetter_base.specs.Bytes.{range, number}
 use Rattle.subsetter_base.specs.declared.tag.Tag.{Tag}
 use Rattle.subsetter_base.specs.declared.error.Error.{Error}
+use Rattle.subsetter_base.specs.declared.error.Error.TheVariants.{MalformedFont, Unimplemented}
 use Rattle.subsetter_variation.specs.Tuples.{Gvar, gvar_table}
-use Rattle.subsetter_variation.specs.Coordinates.{normalized_or_fault}
+use Rattle.subsetter_variation.specs.Coordinates.{is_other_version, normalized_or_fault}
 use Rattle.subsetter_instance.specs.Optional.{◌>>=◌}
 use Rattle.subsetter_instance.specs.declared.source.Metric.{Metric}
 
@@ -55,6 +56,14 @@ source_in find axes = do
   hmtx ← find (codes "hmtx")
   gvar ← variations_in (find (codes "gvar")) axes
   Some (record { glyf = glyf; loca = loca; long = not (format == 0); count = count; pairs = pairs; hmtx = hmtx; gvar = gvar; hvar = find (codes "HVAR") })
+
+-- gvar, HVAR or MVAR has another major version than 1
+abbrev pub has_other_version : (List ℕ → Option (List ℕ)) → Bool
+has_other_version find = is_other_version (find (codes "gvar")) || (is_other_version (find (codes "HVAR")) || is_other_version (find (codes "MVAR")))
+
+-- the tables, or the name of what is wrong
+abbrev pub source_or_fault : (List ℕ → Option (List ℕ)) → ℕ → Result Source Error
+source_or_fault find axes = if has_other_version find then Err Unimplemented else ok_or (source_in find axes) MalformedFont
 
 -- gvar, if there is one, has so many axes
 abbrev pub HasAxes : Option Gvar → ℕ → Type 0

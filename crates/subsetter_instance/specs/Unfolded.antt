@@ -1,8 +1,9 @@
 -- A glyph at a place, unfolded: where its contours and its phantom points lie (OpenType, "glyf": "Phantom points", and "gvar").
-use Rattle.std.specs.Prelude.{◌≡◌, ◌≤◌, ◌<◌, ℕ, zero, suc, ◌+◌, ◌^◌, Bool, false, ◌&&◌, List, [], ◌∷◌, ◌++◌, length, take, map, zip, All, slice_get, slice_index_or, Option, Some, None, Result, Ok, Err, nat_le, nat_lt, if◌then◌else◌, ℤ, pos, ◌+ℤ◌, ◌-ℤ◌, ◌*ℤ◌, unsigned_abs}
+use Rattle.std.specs.Prelude.{◌≡◌, ◌≤◌, ◌<◌, ℕ, zero, suc, ◌+◌, ◌^◌, Bool, false, not, ◌&&◌, ◌||◌, List, [], ◌∷◌, ◌++◌, length, take, map, zip, All, slice_get, slice_index_or, Option, Some, None, Result, Ok, Err, nat_le, nat_lt, if◌then◌else◌, ℤ, pos, ◌+ℤ◌, ◌-ℤ◌, ◌*ℤ◌, unsigned_abs}
 use Rattle.std.specs.Int.{w16, cast_signed}
 use Rattle.std.specs.List.{list_all, range_with_len}
 use Rattle.std.specs.Option.{ok_or}
+use Rattle.std.specs.Ordering.{int_eq}
 use Rattle.subsetter_base.specs.Bytes.{number, ◌>>=◌}
 use Rattle.subsetter_base.specs.declared.error.Error.{Error}
 use Rattle.subsetter_base.specs.declared.error.Error.TheVariants.{MalformedFont, Unimplemented, OverflowError}
@@ -145,10 +146,15 @@ transformed_ys (Some m) xs ys = map (transformed_y m) (zip xs ys)
 abbrev pub shifted : ℤ → List ℤ → List ℤ
 shifted by vs = map (λ v. v +ℤ by) vs
 
--- SCALED_COMPONENT_OFFSET with a matrix
+-- a matrix that changes nothing
+abbrev pub is_identity : Matrix → Bool
+is_identity m = int_eq m.xx (pos 16384) && (int_eq m.yx (pos 0) && (int_eq m.xy (pos 0) && int_eq m.yy (pos 16384)))
+
+-- An offset is to be scaled: SCALED_COMPONENT_OFFSET with a matrix that isn't the identity (OpenType, "glyf": composite glyph flags). Beside
+-- UNSCALED_COMPONENT_OFFSET, which is the default, it doesn't count.
 abbrev pub is_scaled : ℕ → Option Matrix → Bool
 is_scaled flags None = false
-is_scaled flags (Some m) = has flags 0x0800
+is_scaled flags (Some m) = has flags 0x0800 && not (has flags 0x1000 || is_identity m)
 
 -- a point by its number
 abbrev pub point_at : List ℤ → List ℤ → ℕ → Option (ℤ × ℤ)
@@ -172,7 +178,7 @@ placed c x y before part = do
   by ← shift_by c.arguments (is_scaled c.flags c.matrix) x y before (transformed_xs c.matrix part.xs part.ys) (transformed_ys c.matrix part.xs part.ys)
   Ok (record part { xs = shifted by.0 (transformed_xs c.matrix part.xs part.ys); ys = shifted by.1 (transformed_ys c.matrix part.xs part.ys) })
 
--- behind the components before it, whose phantom points stay: at most 65535 points
+-- behind the components before it: at most 65535 points
 abbrev pub joined_parts : Unfolded → Unfolded → Unfolded
 joined_parts before part = record before {
   ends = before.ends ++ map (λ e. e + length before.on) part.ends;
@@ -206,6 +212,14 @@ with_points c x y before part xs ys steps = do
   by ← shift_by c.arguments (is_scaled c.flags c.matrix) x y before xs ys
   joined_moved before part by.0 by.1 xs ys steps
 
+-- USE_MY_METRICS: the phantom points of a component, as it is at the place, before its matrix and its offset, take the place of the glyph's
+-- own and of those of the components before it
+abbrev pub with_metrics : ℕ → Unfolded → Unfolded → Unfolded
+with_metrics flags before part = if has flags 0x0200 then record before { left = part.left; right = part.right } else before
+
+abbrev pub with_component : Component → ℤ → ℤ → Unfolded → Unfolded → ℕ → Result (Unfolded × ℕ) Error
+with_component c x y before part steps = with_part c x y (with_metrics c.flags before part) part steps
+
 -- ---- a composite glyph
 
 -- of a component's number what it unfolds to, in the steps that are left
@@ -217,7 +231,7 @@ unfoldable pub joined : Child → List Component → ℕ → List ℤ → List �
 joined child [] k xs ys before = Ok before
 joined child (c ∷ cs) k xs ys before = do
   part ← child before.1 c.glyph
-  all ← with_part c (slice_index_or xs k (pos 0)) (slice_index_or ys k (pos 0)) before.0 part.0 part.1
+  all ← with_component c (slice_index_or xs k (pos 0)) (slice_index_or ys k (pos 0)) before.0 part.0 part.1
   joined child cs (k + 1) xs ys all
 
 -- no points yet

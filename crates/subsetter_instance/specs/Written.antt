@@ -8,6 +8,7 @@ use Rattle.subsetter_base.specs.Places.{place}
 use Rattle.subsetter_points.specs.Simple.{parts_bytes}
 use Rattle.subsetter_sfnt.specs.Rows.{FontTables}
 use Rattle.subsetter_instance.specs.Drawn.{Drawn}
+use Rattle.subsetter_instance.specs.Extremes.{all_extents, box_bytes, extreme_bytes}
 
 -- what is drawn of a glyph, if it was asked for
 abbrev pub glyph_among : List ℕ → List Drawn → ℕ → Option Drawn
@@ -48,13 +49,14 @@ metric_bytes (Some d) = to_be_bytes w16 d.advance ++ to_be_bytes w16 (cast_unsig
 abbrev pub hmtx_bytes : List (Option Drawn) → List ℕ
 hmtx_bytes all = flat_map metric_bytes all
 
--- numberOfHMetrics is the number of glyphs
-abbrev pub hhea_bytes : ℕ → List ℕ → List ℕ
-hhea_bytes n hhea = take 34 hhea ++ to_be_bytes w16 n ++ drop 36 hhea
+-- advanceWidthMax, minLeftSideBearing, minRightSideBearing and xMaxExtent are those of what is drawn, and numberOfHMetrics is the number of
+-- glyphs
+abbrev pub hhea_bytes : ℕ → List Drawn → List ℕ → List ℕ
+hhea_bytes n drawn hhea = (take 10 hhea ++ extreme_bytes drawn ++ slice_range hhea 18 34) ++ to_be_bytes w16 n ++ drop 36 hhea
 
--- checksumAdjustment is 0 until the file is laid out, and indexToLocFormat 0 or 1
-abbrev pub head_bytes : Bool → List ℕ → List ℕ
-head_bytes long head = take 8 head ++ (0 ∷ 0 ∷ 0 ∷ 0 ∷ []) ++ slice_range head 12 50 ++ (0 ∷ (if long then 1 else 0) ∷ []) ++ drop 52 head
+-- checksumAdjustment is 0 until the file is laid out, xMin, yMin, xMax and yMax are those of what is drawn, and indexToLocFormat is 0 or 1
+abbrev pub head_bytes : Bool → List Drawn → List ℕ → List ℕ
+head_bytes long drawn head = take 8 head ++ (0 ∷ 0 ∷ 0 ∷ 0 ∷ []) ++ (slice_range head 12 36 ++ box_bytes (all_extents drawn) ++ slice_range head 44 50) ++ (0 ∷ (if long then 1 else 0) ∷ []) ++ drop 52 head
 
 -- the most points of a glyph, and the most contours
 abbrev pub most_points : List Drawn → ℕ
@@ -68,15 +70,15 @@ most_contours drawn = fold max 0 (map (λ d. length d.ends) drawn)
 abbrev pub maxp_bytes : ℕ → List Drawn → List ℕ
 maxp_bytes n drawn = to_be_bytes w32 0x00010000 ++ flat_map (to_be_bytes w16) (n ∷ most_points drawn ∷ most_contours drawn ∷ 0 ∷ 0 ∷ 1 ∷ 0 ∷ 0 ∷ 0 ∷ 0 ∷ 0 ∷ 0 ∷ 0 ∷ 1 ∷ [])
 
--- the tables: no hinting, and name and post as they are
+-- the tables: no hinting, and name and post as they are found
 abbrev pub tables : (List ℕ → Option (List ℕ)) → List ℕ → List ℕ → ℕ → List Drawn → List (Option Drawn) → FontTables
 tables find head hhea n drawn all = record {
   cff = None;
   cvt = None;
   fpgm = None;
   glyf = Some (glyf_bytes all);
-  head = Some (head_bytes (is_long (glyf_bytes all)) head);
-  hhea = Some (hhea_bytes n hhea);
+  head = Some (head_bytes (is_long (glyf_bytes all)) drawn head);
+  hhea = Some (hhea_bytes n drawn hhea);
   hmtx = Some (hmtx_bytes all);
   loca = Some (loca_bytes (is_long (glyf_bytes all)) (offsets_from 0 all));
   maxp = Some (maxp_bytes n drawn);

@@ -6,12 +6,12 @@ ghost use Rattle.std.specs.Option.{option_copied};
 ghost use Rattle.subsetter_base.specs.Gives.{Gives};
 ghost use Rattle.subsetter_instance.specs.Components.{offset_xs, offset_ys};
 ghost use Rattle.subsetter_instance.specs.Source.{HasAxes};
-ghost use Rattle.subsetter_instance.specs.Unfolded.{IsInReach, composite, moved, no_points, with_part, with_phantoms};
+ghost use Rattle.subsetter_instance.specs.Unfolded.{IsInReach, composite, moved, no_points, with_component, with_phantoms};
 
 use crate::components::{
     Component, ends_with_phantoms, read_components, xs_with_phantoms, ys_with_phantoms,
 };
-use crate::placing::with_part;
+use crate::placing::{with_metrics, with_part};
 use crate::simple::{coordinate_at, left_point, moved, right_point};
 use crate::source::{Metric, Source};
 use crate::unfolding::Unfolded;
@@ -145,7 +145,7 @@ impl Composite {
         })
     }
 
-    /// The components before component k with itself, and the steps that are left.
+    /// The components before component k with itself, the phantom points of the last one with USE_MY_METRICS, and the steps that are left.
     pub fn with_component(
         &self,
         alloc: Global,
@@ -157,11 +157,12 @@ impl Composite {
     ) -> Result<(Unfolded, u32), Error>
         requires before { IsInReach before }
         requires part { IsInReach part.now }
-        ensures value { Gives (λ r. (r.0, r.1)) result (with_part component (slice_index_or self.now.xs k (pos 0)) (slice_index_or self.now.ys k (pos 0)) before part.now steps) }
+        ensures value { Gives (λ r. (r.0, r.1)) result (with_component component (slice_index_or self.now.xs k (pos 0)) (slice_index_or self.now.ys k (pos 0)) before part.now steps) }
         ensures bound { IfOk result (λ r. IsInReach r.0) }
     {
         let x = coordinate_at(&self.xs, k);
         let y = coordinate_at(&self.ys, k);
+        let before = with_metrics(component.flags, before, part);
         with_part(alloc, component, x, y, before, part, steps)
     }
 }

@@ -1,6 +1,7 @@
 //! The file of an instance.
 //!
-//! Its tables are `glyf`, `head`, `hhea`, `hmtx`, `loca` and `maxp`, which are made anew, and `name` and `post` as they are in the font. The
+//! Its tables are `glyf`, `head`, `hhea`, `hmtx`, `loca` and `maxp`, which are made anew, `name` as it is in the font, and `post` with the
+//! metrics that vary. The
 //! tables that instructions are read from are left out, as no outline has instructions.
 
 ghost use Rattle.std.specs.Prelude.{◌≡◌, ◌≤◌, IfOk, IfErr, IfSome, Some, None, length, codes};
@@ -13,6 +14,7 @@ ghost use Rattle.subsetter_instance.specs.Plain.{laid};
 ghost use Rattle.subsetter_instance.specs.Written.{by_glyph, glyf_bytes, is_long, offsets_from, loca_bytes, hmtx_bytes, head_bytes, hhea_bytes, maxp_bytes, tables};
 
 use crate::drawn::Drawn;
+use crate::lines::Lines;
 use crate::source::Source;
 use crate::{headers, writing};
 use std::alloc::Global;
@@ -47,8 +49,8 @@ fn new_tables(
     ensures glyf { IfOk result (λ t. t.glyf.items ≡ glyf_bytes (by_glyph mapper.now drawn.now count)) }
     ensures loca { IfOk result (λ t. t.loca.items ≡ loca_bytes (is_long (glyf_bytes (by_glyph mapper.now drawn.now count))) (offsets_from 0 (by_glyph mapper.now drawn.now count))) }
     ensures hmtx { IfOk result (λ t. t.hmtx.items ≡ hmtx_bytes (by_glyph mapper.now drawn.now count)) }
-    ensures head { IfOk result (λ t. t.head.items ≡ head_bytes (is_long (glyf_bytes (by_glyph mapper.now drawn.now count))) head.now) }
-    ensures hhea { IfOk result (λ t. t.hhea.items ≡ hhea_bytes count hhea.now) }
+    ensures head { IfOk result (λ t. t.head.items ≡ head_bytes (is_long (glyf_bytes (by_glyph mapper.now drawn.now count))) drawn.now head.now) }
+    ensures hhea { IfOk result (λ t. t.hhea.items ≡ hhea_bytes count drawn.now hhea.now) }
     ensures maxp { IfOk result (λ t. t.maxp.items ≡ maxp_bytes count drawn.now) }
     ensures err { IfErr result (λ e. e ≡ OutOfMemory) }
 {
@@ -57,8 +59,8 @@ fn new_tables(
     let hmtx = writing::hmtx(alloc, &all)?;
     let long = writing::is_long(&outlines.glyf);
     let loca = writing::loca(alloc, long, &outlines.offsets)?;
-    let head = headers::head(alloc, head, long)?;
-    let hhea = headers::hhea(alloc, hhea, count)?;
+    let head = headers::head(alloc, head, long, drawn)?;
+    let hhea = headers::hhea(alloc, hhea, count, drawn)?;
     let maxp = headers::maxp(alloc, count, drawn)?;
     Ok(NewTables {
         glyf: outlines.glyf,
@@ -94,8 +96,8 @@ fn font_tables<'a>(
     }
 }
 
-/// The file of glyphs that are drawn, by the mapper's order: each under its old number, and every other glyph empty. `MalformedFont` where
-/// `head` or `hhea` is missing, and `OverflowError` where a table's place or length is 2^32 or more.
+/// The file of glyphs that are drawn, by the mapper's order: each under its old number, and every other glyph empty. `hhea` and `post` are those of
+/// the place. `MalformedFont` where `head` is missing, and `OverflowError` where a table's place or length is 2^32 or more.
 #[tactic(auto, unfolding(crate::specs::Plain::laid))]
 pub fn laid(
     alloc: Global,
@@ -103,15 +105,15 @@ pub fn laid(
     source: &Source<'_>,
     mapper: &GlyphRemapper,
     drawn: &[Drawn],
+    lines: &Lines,
 ) -> Result<Vec<u8>, Error>
     requires head { IfSome (table_in face.now.«data».now face.now.records.now (codes "head")) (λ head. 52 ≤ length head) }
-    requires hhea { IfSome (table_in face.now.«data».now face.now.records.now (codes "hhea")) (λ hhea. 36 ≤ length hhea) }
-    ensures { Gives (λ v. v.items) result (laid (table_in face.now.«data».now face.now.records.now) source.now mapper.now drawn.now) }
+    requires hhea { 36 ≤ length lines.now.hhea }
+    ensures { Gives (λ v. v.items) result (laid (table_in face.now.«data».now face.now.records.now) lines.now source.now mapper.now drawn.now) }
 {
     let head = face.stored(Tag::HEAD).ok_or(Error::MalformedFont)?;
-    let hhea = face.stored(Tag::HHEA).ok_or(Error::MalformedFont)?;
-    let new = new_tables(alloc, head, hhea, source.count(), mapper, drawn)?;
-    let tables = font_tables(&new, face.stored(Tag::NAME), face.stored(Tag::POST));
+    let new = new_tables(alloc, head, lines.hhea(), source.count(), mapper, drawn)?;
+    let tables = font_tables(&new, face.stored(Tag::NAME), lines.post());
     let list = in_order(alloc, tables)?;
     finish(alloc, FontFlavor::TrueType, &list, None)
 }

@@ -2,9 +2,11 @@
 
 ghost use Rattle.std.specs.Prelude.{◌≡◌, ◌++◌, length, IfErr, Some, OnOk};
 ghost use Rattle.subsetter_base.specs.declared.error.Error.TheVariants.{OutOfMemory};
+ghost use Rattle.subsetter_instance.specs.Extremes.{glyph_extents};
 ghost use Rattle.subsetter_instance.specs.Written.{outline_bytes, metric_bytes};
 
 use crate::drawn::Drawn;
+use crate::extremes::{Extents, glyph_extents};
 use subsetter_base::Error;
 use subsetter_points::write_simple;
 
@@ -21,6 +23,13 @@ impl Drawn {
         ensures { result ≡ length self.now.ends }
     {
         self.outline.ends.len()
+    }
+
+    /// Its extents, if it has contours.
+    pub fn extents(&self) -> Option<Extents>
+        ensures { result ≡ glyph_extents self.now.advance self.now.points }
+    {
+        glyph_extents(self.advance, &self.outline.points)
     }
 
     /// Appends its description, of even length, to `glyf`.

@@ -4,6 +4,7 @@ ghost use Rattle.std.specs.Prelude.{◌≡◌, ◌≤◌, IfOk, length, if◌the
 ghost use Rattle.subsetter_instance.specs.Written.{head_bytes, hhea_bytes, most_points, most_contours, maxp_bytes};
 
 use crate::drawn::Drawn;
+use crate::extremes::{all_extents, write_box, write_extremes};
 use std::alloc::{AllocError, Global};
 
 /// indexToLocFormat: 1 for long offsets.
@@ -13,27 +14,41 @@ fn loca_format(long: bool) -> u8
     u8::from(long)
 }
 
-/// `head`: without its checksum, and with the format of the new `loca`.
-pub fn head(alloc: Global, source: &[u8], long: bool) -> Result<Vec<u8>, AllocError>
+/// `head`: without its checksum, with the box around what is drawn, and with the format of the new `loca`.
+pub fn head(
+    alloc: Global,
+    source: &[u8],
+    long: bool,
+    drawn: &[Drawn],
+) -> Result<Vec<u8>, AllocError>
     requires { 52 ≤ length source.now }
-    ensures { IfOk result (λ v. v.items ≡ head_bytes long source.now) }
+    ensures { IfOk result (λ v. v.items ≡ head_bytes long drawn.now source.now) }
 {
     let mut head = Vec::with_capacity(alloc, source.len())?;
     head.extend_from_slice(&source[..8])?;
     head.extend_from_slice(&[0; 4])?;
-    head.extend_from_slice(&source[12..50])?;
+    head.extend_from_slice(&source[12..36])?;
+    write_box(&mut head, all_extents(drawn))?;
+    head.extend_from_slice(&source[44..50])?;
     head.extend_from_slice(&[0, loca_format(long)])?;
     head.extend_from_slice(&source[52..])?;
     Ok(head)
 }
 
-/// `hhea`: with a pair of `hmtx` for each glyph.
-pub fn hhea(alloc: Global, source: &[u8], count: u16) -> Result<Vec<u8>, AllocError>
+/// `hhea`: with the extremes of what is drawn, and a pair of `hmtx` for each glyph.
+pub fn hhea(
+    alloc: Global,
+    source: &[u8],
+    count: u16,
+    drawn: &[Drawn],
+) -> Result<Vec<u8>, AllocError>
     requires { 36 ≤ length source.now }
-    ensures { IfOk result (λ v. v.items ≡ hhea_bytes count source.now) }
+    ensures { IfOk result (λ v. v.items ≡ hhea_bytes count drawn.now source.now) }
 {
     let mut hhea = Vec::with_capacity(alloc, source.len())?;
-    hhea.extend_from_slice(&source[..34])?;
+    hhea.extend_from_slice(&source[..10])?;
+    write_extremes(&mut hhea, drawn)?;
+    hhea.extend_from_slice(&source[18..34])?;
     hhea.extend_from_slice(&count.to_be_bytes())?;
     hhea.extend_from_slice(&source[36..])?;
     Ok(hhea)

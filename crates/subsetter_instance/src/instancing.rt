@@ -20,7 +20,8 @@ ghost use Rattle.subsetter_instance.specs.Plain.{instance_in};
 
 use crate::drawn::draw_all;
 use crate::file::laid;
-use crate::source::{place, source_in};
+use crate::lines::lines_of;
+use crate::source::{place, source_or_fault};
 use std::alloc::Global;
 use subsetter_base::{Error, GlyphRemapper, Tag};
 use subsetter_sfnt::extras::Extras;
@@ -55,9 +56,10 @@ fn make(
     ensures { Gives (λ v. v.items) result (instance_in (table_in face.now.«data».now face.now.records.now) coordinates.now mapper.now steps) }
 {
     let at = place(alloc, face, coordinates)?;
-    let source = source_in(face, at.len()).ok_or(Error::MalformedFont)?;
+    let source = source_or_fault(face, at.len())?;
     let drawn = draw_all(alloc, &source, &at, steps, mapper)?;
-    laid(alloc, face, &source, mapper, &drawn)
+    let lines = lines_of(alloc, face, &at)?;
+    laid(alloc, face, &source, mapper, &drawn, &lines)
 }
 
 /// A static TrueType font: the mapper's glyphs, glyph 0 among them, as a variable font has them at these coordinates, each
@@ -74,12 +76,12 @@ fn make(
 /// memory.
 ///
 /// - `UnknownKind`: the file doesn't begin with a known kind of font, or has none of `glyf`, `CFF ` and `CFF2`.
-/// - `Unimplemented`: the outlines aren't those of `glyf`; `avar` has a major version other than 1; or a glyph is made in a
-///   way that isn't taken.
-/// - `MalformedFont`: the directory, `fvar`, `avar`, `gvar` or `HVAR` is cut, or a table of outlines or metrics is missing or
+/// - `Unimplemented`: the outlines aren't those of `glyf`; `fvar`, `avar`, `gvar`, `HVAR` or `MVAR` has a major version
+///   other than 1; or a glyph is made in a way that isn't taken.
+/// - `MalformedFont`: the directory, `fvar`, `avar`, `gvar`, `HVAR` or `MVAR` is cut, or a table of outlines or metrics is missing or
 ///   cut; a glyph isn't one of the font's, or its description, its metric or its variations can't be read.
-/// - `OverflowError`: a glyph takes more than `steps`; a coordinate, the delta between two points or the advance doesn't fit
-///   its 16 bits; or the file passes 2^32 bytes.
+/// - `OverflowError`: a glyph takes more than `steps`; a coordinate, the delta between two points, the advance or a metric of `hhea`
+///   or `post` doesn't fit its 16 bits; or the file passes 2^32 bytes.
 pub fn instance(
     alloc: Global,
     data: &[u8],

@@ -5,12 +5,14 @@
 pub mod components;
 pub mod composite;
 pub mod drawn;
+pub mod extremes;
 pub mod file;
 pub mod glyph;
 pub mod headers;
 pub mod instancing;
 pub mod kept;
 pub mod laws;
+pub mod lines;
 pub mod placing;
 pub mod simple;
 pub mod source;

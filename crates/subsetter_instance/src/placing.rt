@@ -3,7 +3,7 @@
 ghost use Rattle.std.specs.Prelude.{◌≡◌, ◌≤◌, ◌<◌, ◌^◌, ◌+◌, ◌++◌, ◌*ℤ◌, ◌+ℤ◌, ◌&&◌, ℕ, nat_le, length, map, zip, slice_get, unsigned_abs, All, IfOk, IfSome};
 ghost use Rattle.subsetter_base.specs.Gives.{Gives};
 ghost use Rattle.subsetter_variation.specs.Nearest.{nearest};
-ghost use Rattle.subsetter_instance.specs.Unfolded.{IsInReach, are_near, is_scaled, joined_moved, joined_parts, matched, moved_part, point_at, shift_by, shifted, transformed_x, transformed_y, with_part, with_points};
+ghost use Rattle.subsetter_instance.specs.Unfolded.{IsInReach, are_near, is_identity, is_scaled, joined_moved, joined_parts, matched, moved_part, point_at, shift_by, shifted, transformed_x, transformed_y, with_metrics, with_part, with_points};
 
 use crate::components::{Arguments, Component, Matrix, has};
 use crate::unfolding::Unfolded;
@@ -11,8 +11,12 @@ use std::alloc::{AllocError, Global};
 use subsetter_base::Error;
 use subsetter_variation::rounding::{minus, nearest, plus};
 
+/// The glyph has the phantom points of the component.
+const USE_MY_METRICS: u16 = 0x0200;
 /// An offset is to be scaled by the matrix.
 const SCALED_COMPONENT_OFFSET: u16 = 0x0800;
+/// It isn't, which is the default.
+const UNSCALED_COMPONENT_OFFSET: u16 = 0x1000;
 
 /// A coordinate times a scale.
 fn product(scale: i16, v: i64) -> i64
@@ -96,13 +100,23 @@ fn all_ys(alloc: Global, m: Matrix, xs: &[i64], ys: &[i64]) -> Result<Vec<i64>, 
     Ok(all)
 }
 
-/// Whether an offset is to be scaled.
+/// Whether a matrix changes nothing.
+fn is_identity(m: Matrix) -> bool
+    ensures { result ≡ is_identity m }
+{
+    m.xx == 16384 && m.yx == 0 && m.xy == 0 && m.yy == 16384
+}
+
+/// Whether an offset is to be scaled. Where the flags say both, it isn't, as by default.
 fn is_scaled(flags: u16, matrix: Option<Matrix>) -> bool
     ensures { result ≡ is_scaled flags matrix }
 {
     match matrix {
         None => false,
-        Some(_) => has(flags, SCALED_COMPONENT_OFFSET),
+        Some(m) => {
+            has(flags, SCALED_COMPONENT_OFFSET)
+                && !(has(flags, UNSCALED_COMPONENT_OFFSET) || is_identity(m))
+        }
     }
 }
 
@@ -313,6 +327,34 @@ fn with_points(
     let scaled = is_scaled(component.flags, component.matrix);
     let (across, up) = shift_by(component.arguments, scaled, x, y, &before, xs, ys)?;
     joined_moved(before, part, across, up, xs, ys, steps)
+}
+
+/// The components before a component, with its phantom points where it has USE_MY_METRICS.
+#[tactic(auto, using(crate::proofs::Reach::metrics_reach))]
+pub fn with_metrics(flags: u16, before: Unfolded, part: &Unfolded) -> Unfolded
+    requires before { IsInReach before }
+    requires part { IsInReach part.now }
+    ensures value { result ≡ with_metrics flags before part.now }
+    ensures bound { IsInReach result }
+{
+    if !has(flags, USE_MY_METRICS) {
+        return before;
+    }
+    let Unfolded {
+        ends,
+        on,
+        xs,
+        ys,
+        ..
+    } = before;
+    Unfolded {
+        ends,
+        on,
+        xs,
+        ys,
+        left: part.left,
+        right: part.right,
+    }
 }
 
 /// The components before a component, and itself, and the steps that are left.

@@ -5,14 +5,14 @@ ghost use Rattle.std.specs.Option.{ok_or, option_copied};
 ghost use Rattle.subsetter_base.specs.Gives.{Gives};
 ghost use Rattle.subsetter_base.specs.declared.error.Error.TheVariants.{MalformedFont};
 ghost use Rattle.subsetter_sfnt.specs.Read.{table_in};
-ghost use Rattle.subsetter_instance.specs.Source.{HasAxes, place, variations_in, source_in, offset, between_offsets, description, metric_at, metric};
+ghost use Rattle.subsetter_instance.specs.Source.{HasAxes, place, variations_in, source_in, source_or_fault, offset, between_offsets, description, metric_at, metric};
 
 use std::alloc::Global;
 use std::marker::Model;
 use subsetter_base::read::Reader;
 use subsetter_base::{Error, Tag};
 use subsetter_sfnt::face::Face;
-use subsetter_variation::coordinates::coordinates;
+use subsetter_variation::coordinates::{coordinates, is_other_version};
 use subsetter_variation::tuples::{Gvar, gvar_table};
 
 /// The horizontal metric of a glyph, in font design units.
@@ -47,7 +47,7 @@ impl<'a> Model for Source<'a> {
 }
 
 /// The normalized coordinates for settings of user coordinates, each a tag and a value in 65536ths. A cut table is
-/// `MalformedFont`, a major version of `avar` other than 1 `Unimplemented`.
+/// `MalformedFont`, a major version of `fvar` or `avar` other than 1 `Unimplemented`.
 pub fn place(alloc: Global, face: &Face<'_>, settings: &[(Tag, i32)]) -> Result<Vec<i32>, Error>
     ensures { Gives (λ v. v.items) result (place (table_in face.now.«data».now face.now.records.now) settings.now) }
 {
@@ -99,6 +99,21 @@ pub fn source_in<'a>(face: &Face<'a>, axes: usize) -> Option<Source<'a>>
         gvar,
         hvar: face.stored(Tag::new(b"HVAR")),
     })
+}
+
+/// The same. `Unimplemented` where `gvar`, `HVAR` or `MVAR` has a major version other than 1, else `MalformedFont` where a table is missing or
+/// cut.
+pub fn source_or_fault<'a>(face: &Face<'a>, axes: usize) -> Result<Source<'a>, Error>
+    ensures value { result ≡ source_or_fault (table_in face.now.«data».now face.now.records.now) axes }
+    ensures axes { IfOk result (λ s. HasAxes s.gvar axes) }
+{
+    let gvar = face.stored(Tag::new(b"gvar"));
+    let hvar = face.stored(Tag::new(b"HVAR"));
+    let mvar = face.stored(Tag::new(b"MVAR"));
+    if is_other_version(gvar) || (is_other_version(hvar) || is_other_version(mvar)) {
+        return Err(Error::Unimplemented);
+    }
+    source_in(face, axes).ok_or(Error::MalformedFont)
 }
 
 /// The bytes between two offsets.

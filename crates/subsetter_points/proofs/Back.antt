@@ -60,53 +60,85 @@ pub record Says (flag : ℕ) (on : Bool) (x y : Encoding) : Type 0 where
   pub x_encoding : encoding_of 0x02 0x10 flag ≡ x
   pub y_encoding : encoding_of 0x04 0x20 flag ≡ y
 
-pub flag_back : (on : Bool) (x y : Encoding) → Says (flag_of on x y) on x y
-flag_back true Same Same = record { single = refl; curve = refl; x_encoding = refl; y_encoding = refl }
-flag_back true Same Positive = record { single = refl; curve = refl; x_encoding = refl; y_encoding = refl }
-flag_back true Same Negative = record { single = refl; curve = refl; x_encoding = refl; y_encoding = refl }
-flag_back true Same Word = record { single = refl; curve = refl; x_encoding = refl; y_encoding = refl }
-flag_back true Positive Same = record { single = refl; curve = refl; x_encoding = refl; y_encoding = refl }
-flag_back true Positive Positive = record { single = refl; curve = refl; x_encoding = refl; y_encoding = refl }
-flag_back true Positive Negative = record { single = refl; curve = refl; x_encoding = refl; y_encoding = refl }
-flag_back true Positive Word = record { single = refl; curve = refl; x_encoding = refl; y_encoding = refl }
-flag_back true Negative Same = record { single = refl; curve = refl; x_encoding = refl; y_encoding = refl }
-flag_back true Negative Positive = record { single = refl; curve = refl; x_encoding = refl; y_encoding = refl }
-flag_back true Negative Negative = record { single = refl; curve = refl; x_encoding = refl; y_encoding = refl }
-flag_back true Negative Word = record { single = refl; curve = refl; x_encoding = refl; y_encoding = refl }
-flag_back true Word Same = record { single = refl; curve = refl; x_encoding = refl; y_encoding = refl }
-flag_back true Word Positive = record { single = refl; curve = refl; x_encoding = refl; y_encoding = refl }
-flag_back true Word Negative = record { single = refl; curve = refl; x_encoding = refl; y_encoding = refl }
-flag_back true Word Word = record { single = refl; curve = refl; x_encoding = refl; y_encoding = refl }
-flag_back false Same Same = record { single = refl; curve = refl; x_encoding = refl; y_encoding = refl }
-flag_back false Same Positive = record { single = refl; curve = refl; x_encoding = refl; y_encoding = refl }
-flag_back false Same Negative = record { single = refl; curve = refl; x_encoding = refl; y_encoding = refl }
-flag_back false Same Word = record { single = refl; curve = refl; x_encoding = refl; y_encoding = refl }
-flag_back false Positive Same = record { single = refl; curve = refl; x_encoding = refl; y_encoding = refl }
-flag_back false Positive Positive = record { single = refl; curve = refl; x_encoding = refl; y_encoding = refl }
-flag_back false Positive Negative = record { single = refl; curve = refl; x_encoding = refl; y_encoding = refl }
-flag_back false Positive Word = record { single = refl; curve = refl; x_encoding = refl; y_encoding = refl }
-flag_back false Negative Same = record { single = refl; curve = refl; x_encoding = refl; y_encoding = refl }
-flag_back false Negative Positive = record { single = refl; curve = refl; x_encoding = refl; y_encoding = refl }
-flag_back false Negative Negative = record { single = refl; curve = refl; x_encoding = refl; y_encoding = refl }
-flag_back false Negative Word = record { single = refl; curve = refl; x_encoding = refl; y_encoding = refl }
-flag_back false Word Same = record { single = refl; curve = refl; x_encoding = refl; y_encoding = refl }
-flag_back false Word Positive = record { single = refl; curve = refl; x_encoding = refl; y_encoding = refl }
-flag_back false Word Negative = record { single = refl; curve = refl; x_encoding = refl; y_encoding = refl }
-flag_back false Word Word = record { single = refl; curve = refl; x_encoding = refl; y_encoding = refl }
+pub flag_back : (overlap on : Bool) (x y : Encoding) → Says (flag_of overlap on x y) on x y
+flag_back true true Same Same = record { single = refl; curve = refl; x_encoding = refl; y_encoding = refl }
+flag_back true true Same Positive = record { single = refl; curve = refl; x_encoding = refl; y_encoding = refl }
+flag_back true true Same Negative = record { single = refl; curve = refl; x_encoding = refl; y_encoding = refl }
+flag_back true true Same Word = record { single = refl; curve = refl; x_encoding = refl; y_encoding = refl }
+flag_back true true Positive Same = record { single = refl; curve = refl; x_encoding = refl; y_encoding = refl }
+flag_back true true Positive Positive = record { single = refl; curve = refl; x_encoding = refl; y_encoding = refl }
+flag_back true true Positive Negative = record { single = refl; curve = refl; x_encoding = refl; y_encoding = refl }
+flag_back true true Positive Word = record { single = refl; curve = refl; x_encoding = refl; y_encoding = refl }
+flag_back true true Negative Same = record { single = refl; curve = refl; x_encoding = refl; y_encoding = refl }
+flag_back true true Negative Positive = record { single = refl; curve = refl; x_encoding = refl; y_encoding = refl }
+flag_back true true Negative Negative = record { single = refl; curve = refl; x_encoding = refl; y_encoding = refl }
+flag_back true true Negative Word = record { single = refl; curve = refl; x_encoding = refl; y_encoding = refl }
+flag_back true true Word Same = record { single = refl; curve = refl; x_encoding = refl; y_encoding = refl }
+flag_back true true Word Positive = record { single = refl; curve = refl; x_encoding = refl; y_encoding = refl }
+flag_back true true Word Negative = record { single = refl; curve = refl; x_encoding = refl; y_encoding = refl }
+flag_back true true Word Word = record { single = refl; curve = refl; x_encoding = refl; y_encoding = refl }
+flag_back true false Same Same = record { single = refl; curve = refl; x_encoding = refl; y_encoding = refl }
+flag_back true false Same Positive = record { single = refl; curve = refl; x_encoding = refl; y_encoding = refl }
+flag_back true false Same Negative = record { single = refl; curve = refl; x_encoding = refl; y_encoding = refl }
+flag_back true false Same Word = record { single = refl; curve = refl; x_encoding = refl; y_encoding = refl }
+flag_back true false Positive Same = record { single = refl; curve = refl; x_encoding = refl; y_encoding = refl }
+flag_back true false Positive Positive = record { single = refl; curve = refl; x_encoding = refl; y_encoding = refl }
+flag_back true false Positive Negative = record { single = refl; curve = refl; x_encoding = refl; y_encoding = refl }
+flag_back true false Positive Word = record { single = refl; curve = refl; x_encoding = refl; y_encoding = refl }
+flag_back true false Negative Same = record { single = refl; curve = refl; x_encoding = refl; y_encoding = refl }
+flag_back true false Negative Positive = record { single = refl; curve = refl; x_encoding = refl; y_encoding = refl }
+flag_back true false Negative Negative = record { single = refl; curve = refl; x_encoding = refl; y_encoding = refl }
+flag_back true false Negative Word = record { single = refl; curve = refl; x_encoding = refl; y_encoding = refl }
+flag_back true false Word Same = record { single = refl; curve = refl; x_encoding = refl; y_encoding = refl }
+flag_back true false Word Positive = record { single = refl; curve = refl; x_encoding = refl; y_encoding = refl }
+flag_back true false Word Negative = record { single = refl; curve = refl; x_encoding = refl; y_encoding = refl }
+flag_back true false Word Word = record { single = refl; curve = refl; x_encoding = refl; y_encoding = refl }
+flag_back false true Same Same = record { single = refl; curve = refl; x_encoding = refl; y_encoding = refl }
+flag_back false true Same Positive = record { single = refl; curve = refl; x_encoding = refl; y_encoding = refl }
+flag_back false true Same Negative = record { single = refl; curve = refl; x_encoding = refl; y_encoding = refl }
+flag_back false true Same Word = record { single = refl; curve = refl; x_encoding = refl; y_encoding = refl }
+flag_back false true Positive Same = record { single = refl; curve = refl; x_encoding = refl; y_encoding = refl }
+flag_back false true Positive Positive = record { single = refl; curve = refl; x_encoding = refl; y_encoding = refl }
+flag_back false true Positive Negative = record { single = refl; curve = refl; x_encoding = refl; y_encoding = refl }
+flag_back false true Positive Word = record { single = refl; curve = refl; x_encoding = refl; y_encoding = refl }
+flag_back false true Negative Same = record { single = refl; curve = refl; x_encoding = refl; y_encoding = refl }
+flag_back false true Negative Positive = record { single = refl; curve = refl; x_encoding = refl; y_encoding = refl }
+flag_back false true Negative Negative = record { single = refl; curve = refl; x_encoding = refl; y_encoding = refl }
+flag_back false true Negative Word = record { single = refl; curve = refl; x_encoding = refl; y_encoding = refl }
+flag_back false true Word Same = record { single = refl; curve = refl; x_encoding = refl; y_encoding = refl }
+flag_back false true Word Positive = record { single = refl; curve = refl; x_encoding = refl; y_encoding = refl }
+flag_back false true Word Negative = record { single = refl; curve = refl; x_encoding = refl; y_encoding = refl }
+flag_back false true Word Word = record { single = refl; curve = refl; x_encoding = refl; y_encoding = refl }
+flag_back false false Same Same = record { single = refl; curve = refl; x_encoding = refl; y_encoding = refl }
+flag_back false false Same Positive = record { single = refl; curve = refl; x_encoding = refl; y_encoding = refl }
+flag_back false false Same Negative = record { single = refl; curve = refl; x_encoding = refl; y_encoding = refl }
+flag_back false false Same Word = record { single = refl; curve = refl; x_encoding = refl; y_encoding = refl }
+flag_back false false Positive Same = record { single = refl; curve = refl; x_encoding = refl; y_encoding = refl }
+flag_back false false Positive Positive = record { single = refl; curve = refl; x_encoding = refl; y_encoding = refl }
+flag_back false false Positive Negative = record { single = refl; curve = refl; x_encoding = refl; y_encoding = refl }
+flag_back false false Positive Word = record { single = refl; curve = refl; x_encoding = refl; y_encoding = refl }
+flag_back false false Negative Same = record { single = refl; curve = refl; x_encoding = refl; y_encoding = refl }
+flag_back false false Negative Positive = record { single = refl; curve = refl; x_encoding = refl; y_encoding = refl }
+flag_back false false Negative Negative = record { single = refl; curve = refl; x_encoding = refl; y_encoding = refl }
+flag_back false false Negative Word = record { single = refl; curve = refl; x_encoding = refl; y_encoding = refl }
+flag_back false false Word Same = record { single = refl; curve = refl; x_encoding = refl; y_encoding = refl }
+flag_back false false Word Positive = record { single = refl; curve = refl; x_encoding = refl; y_encoding = refl }
+flag_back false false Word Negative = record { single = refl; curve = refl; x_encoding = refl; y_encoding = refl }
+flag_back false false Word Word = record { single = refl; curve = refl; x_encoding = refl; y_encoding = refl }
 
 next_back : (old flag : ℕ) (rest : List ℕ) → has flag 0x08 ≡ false → next (record { flag = old; repeats = 0 }) (flag ∷ rest) ≡ Some (record { flag = flag; repeats = 0 }, rest)
 next_back old flag rest e =
     ap (λ o. o >>= λ f. repeats_at f.0 f.1 >>= λ a. Some (record { flag = f.0; repeats = a.0 }, a.1)) (byte_back flag rest)
     ∙ ap (λ b. (if b then byte rest else Some (0, rest)) >>= λ a. Some (record { flag = flag; repeats = a.0 }, a.1)) e
 
-pub flags_back : (old : ℕ) (x y : ℤ) (ps : List Point) (rest : List ℕ) → flags (length ps) (record { flag = old; repeats = 0 }) (flag_bytes x y ps ++ rest) ≡ Some (flag_bytes x y ps, rest)
+pub flags_back : (old : ℕ) (overlap : Bool) (x y : ℤ) (ps : List Point) (rest : List ℕ) → flags (length ps) (record { flag = old; repeats = 0 }) (flag_bytes overlap x y ps ++ rest) ≡ Some (flag_bytes overlap x y ps, rest)
 unfolding flags flag_bytes
-flags_back old x y [] rest = refl
-flags_back old x y (p ∷ ps) rest =
-    let f = flag_of p.on_curve (shortest_encoding (p.x -ℤ x)) (shortest_encoding (p.y -ℤ y)) in
-    let says = flag_back p.on_curve (shortest_encoding (p.x -ℤ x)) (shortest_encoding (p.y -ℤ y)) in
-    flags_suc (length ps) (record { flag = old; repeats = 0 }) (f ∷ (flag_bytes p.x p.y ps ++ rest)) (record { flag = f; repeats = 0 }, flag_bytes p.x p.y ps ++ rest) (next_back old f (flag_bytes p.x p.y ps ++ rest) says.single)
-    ∙ ap (onto f) (flags_back f p.x p.y ps rest)
+flags_back old overlap x y [] rest = refl
+flags_back old overlap x y (p ∷ ps) rest =
+    let f = flag_of overlap p.on_curve (shortest_encoding (p.x -ℤ x)) (shortest_encoding (p.y -ℤ y)) in
+    let says = flag_back overlap p.on_curve (shortest_encoding (p.x -ℤ x)) (shortest_encoding (p.y -ℤ y)) in
+    flags_suc (length ps) (record { flag = old; repeats = 0 }) (f ∷ (flag_bytes false p.x p.y ps ++ rest)) (record { flag = f; repeats = 0 }, flag_bytes false p.x p.y ps ++ rest) (next_back old f (flag_bytes false p.x p.y ps ++ rest) says.single)
+    ∙ ap (onto f) (flags_back f false p.x p.y ps rest)
 
 -- ---- coordinates
 
@@ -142,29 +174,29 @@ coordinates_back short same v (f ∷ fs) (z ∷ zs) rest says e =
 coordinates_back short same v [] (z ∷ zs) rest says e = absurd says
 coordinates_back short same v (f ∷ fs) [] rest says e = absurd says
 
-say_xs : (x y : ℤ) (ps : List Point) → AllSay 0x02 0x10 x (flag_bytes x y ps) (xs_of ps)
+say_xs : (overlap : Bool) (x y : ℤ) (ps : List Point) → AllSay 0x02 0x10 x (flag_bytes overlap x y ps) (xs_of ps)
 unfolding flag_bytes
-say_xs x y [] = tt
-say_xs x y (p ∷ ps) = ((flag_back p.on_curve (shortest_encoding (p.x -ℤ x)) (shortest_encoding (p.y -ℤ y))).x_encoding, say_xs p.x p.y ps)
+say_xs overlap x y [] = tt
+say_xs overlap x y (p ∷ ps) = ((flag_back overlap p.on_curve (shortest_encoding (p.x -ℤ x)) (shortest_encoding (p.y -ℤ y))).x_encoding, say_xs false p.x p.y ps)
 
-say_ys : (x y : ℤ) (ps : List Point) → AllSay 0x04 0x20 y (flag_bytes x y ps) (ys_of ps)
+say_ys : (overlap : Bool) (x y : ℤ) (ps : List Point) → AllSay 0x04 0x20 y (flag_bytes overlap x y ps) (ys_of ps)
 unfolding flag_bytes
-say_ys x y [] = tt
-say_ys x y (p ∷ ps) = ((flag_back p.on_curve (shortest_encoding (p.x -ℤ x)) (shortest_encoding (p.y -ℤ y))).y_encoding, say_ys p.x p.y ps)
+say_ys overlap x y [] = tt
+say_ys overlap x y (p ∷ ps) = ((flag_back overlap p.on_curve (shortest_encoding (p.x -ℤ x)) (shortest_encoding (p.y -ℤ y))).y_encoding, say_ys false p.x p.y ps)
 
 -- ---- points
 
-pub points_back : (x y : ℤ) (ps : List Point) → points (flag_bytes x y ps) (xs_of ps) (ys_of ps) ≡ ps
+pub points_back : (overlap : Bool) (x y : ℤ) (ps : List Point) → points (flag_bytes overlap x y ps) (xs_of ps) (ys_of ps) ≡ ps
 unfolding points flag_bytes
-points_back x y [] = refl
-points_back x y (p ∷ ps) =
-    let says = flag_back p.on_curve (shortest_encoding (p.x -ℤ x)) (shortest_encoding (p.y -ℤ y)) in
-    ap (λ b. record { x = p.x; y = p.y; on_curve = b } ∷ points (flag_bytes p.x p.y ps) (xs_of ps) (ys_of ps)) says.curve ∙ ap (λ l. p ∷ l) (points_back p.x p.y ps)
+points_back overlap x y [] = refl
+points_back overlap x y (p ∷ ps) =
+    let says = flag_back overlap p.on_curve (shortest_encoding (p.x -ℤ x)) (shortest_encoding (p.y -ℤ y)) in
+    ap (λ b. record { x = p.x; y = p.y; on_curve = b } ∷ points (flag_bytes false p.x p.y ps) (xs_of ps) (ys_of ps)) says.curve ∙ ap (λ l. p ∷ l) (points_back false p.x p.y ps)
 
 pub points_at_back : (ps : List Point) (rest : List ℕ) → points_fit ps ≡ true → points_at (length ps) (point_bytes ps ++ rest) ≡ Some ps
 unfolding points_at
 points_at_back ps rest e =
-    let fs = flag_bytes (pos 0) (pos 0) ps in
+    let fs = flag_bytes true (pos 0) (pos 0) ps in
     let sx = delta_bytes (pos 0) (xs_of ps) in
     let sy = delta_bytes (pos 0) (ys_of ps) in
     let a = both (nat_lt (length ps) 0x10000) (deltas_fit (pos 0) (xs_of ps) && deltas_fit (pos 0) (ys_of ps)) e in
@@ -172,10 +204,10 @@ points_at_back ps rest e =
     let none : Run = record { flag = 0; repeats = 0 } in
     let parted : (fs ++ (sx ++ sy)) ++ rest ≡ fs ++ (sx ++ (sy ++ rest)) = append_assoc fs (sx ++ sy) rest ∙ ap (λ l. fs ++ l) (append_assoc sx sy rest) in
     ap (points_at (length ps)) parted
-    ∙ ap (λ o. o >>= λ f. xs f.0 f.1 >>= λ x. ys f.0 x.1 >>= λ y. Some (points f.0 x.0 y.0)) (flags_back 0 (pos 0) (pos 0) ps (sx ++ (sy ++ rest)))
-    ∙ ap (λ o. o >>= λ x. ys fs x.1 >>= λ y. Some (points fs x.0 y.0)) (coordinates_back 0x02 0x10 (pos 0) fs (xs_of ps) (sy ++ rest) (say_xs (pos 0) (pos 0) ps) b.0)
-    ∙ ap (λ o. o >>= λ y. Some (points fs (xs_of ps) y.0)) (coordinates_back 0x04 0x20 (pos 0) fs (ys_of ps) rest (say_ys (pos 0) (pos 0) ps) b.1)
-    ∙ ap (λ l. Some l) (points_back (pos 0) (pos 0) ps)
+    ∙ ap (λ o. o >>= λ f. xs f.0 f.1 >>= λ x. ys f.0 x.1 >>= λ y. Some (points f.0 x.0 y.0)) (flags_back 0 true (pos 0) (pos 0) ps (sx ++ (sy ++ rest)))
+    ∙ ap (λ o. o >>= λ x. ys fs x.1 >>= λ y. Some (points fs x.0 y.0)) (coordinates_back 0x02 0x10 (pos 0) fs (xs_of ps) (sy ++ rest) (say_xs true (pos 0) (pos 0) ps) b.0)
+    ∙ ap (λ o. o >>= λ y. Some (points fs (xs_of ps) y.0)) (coordinates_back 0x04 0x20 (pos 0) fs (ys_of ps) rest (say_ys true (pos 0) (pos 0) ps) b.1)
+    ∙ ap (λ l. Some l) (points_back true (pos 0) (pos 0) ps)
 
 -- ---- ends
 

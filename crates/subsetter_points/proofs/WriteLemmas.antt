@@ -36,15 +36,15 @@ deltas_end out v all s = ap (λ l. out ++ delta_bytes v l) s ∙ simp append-nil
 
 -- ---- flags
 
-pub flags_written : (out new : List ℕ) (x y : ℤ) (all ps : List Point) (p : Point) → all ≡ p ∷ ps → new ≡ out ++ flag_of p.on_curve (shortest_encoding (p.x -ℤ x)) (shortest_encoding (p.y -ℤ y)) ∷ []
-    → out ++ flag_bytes x y all ≡ new ++ flag_bytes p.x p.y ps
+pub flags_written : (out new : List ℕ) (overlap : Bool) (x y : ℤ) (all ps : List Point) (p : Point) → all ≡ p ∷ ps → new ≡ out ++ flag_of overlap p.on_curve (shortest_encoding (p.x -ℤ x)) (shortest_encoding (p.y -ℤ y)) ∷ []
+    → out ++ flag_bytes overlap x y all ≡ new ++ flag_bytes false p.x p.y ps
 unfolding flag_bytes
-flags_written out new x y all ps p s e =
-    ap (λ l. out ++ flag_bytes x y l) s ∙ sym (append_assoc out (flag_of p.on_curve (shortest_encoding (p.x -ℤ x)) (shortest_encoding (p.y -ℤ y)) ∷ []) (flag_bytes p.x p.y ps)) ∙ ap (λ l. l ++ flag_bytes p.x p.y ps) (sym e)
+flags_written out new overlap x y all ps p s e =
+    ap (λ l. out ++ flag_bytes overlap x y l) s ∙ sym (append_assoc out (flag_of overlap p.on_curve (shortest_encoding (p.x -ℤ x)) (shortest_encoding (p.y -ℤ y)) ∷ []) (flag_bytes false p.x p.y ps)) ∙ ap (λ l. l ++ flag_bytes false p.x p.y ps) (sym e)
 
-pub flags_written_end : (out : List ℕ) (x y : ℤ) (all : List Point) → all ≡ [] → out ++ flag_bytes x y all ≡ out
+pub flags_written_end : (out : List ℕ) (overlap : Bool) (x y : ℤ) (all : List Point) → all ≡ [] → out ++ flag_bytes overlap x y all ≡ out
 unfolding flag_bytes
-flags_written_end out x y all s = ap (λ l. out ++ flag_bytes x y l) s ∙ simp append-nil
+flags_written_end out overlap x y all s = ap (λ l. out ++ flag_bytes overlap x y l) s ∙ simp append-nil
 
 -- ---- tests
 
@@ -163,7 +163,7 @@ fit_parts es ps h =
     (ltb-true (length es) 0x8000 b.0, d.0, d.1)
 
 pub parts_bytes_cons : (es : List ℕ) (all ps : List Point) (p : Point) → all ≡ p ∷ ps
-    → parts_bytes es all ≡ to_be_bytes w16 (length es) ++ (box p ps ++ (end_bytes es ++ ((0 ∷ 0 ∷ []) ++ (flag_bytes (pos 0) (pos 0) all ++ (delta_bytes (pos 0) (xs_of all) ++ delta_bytes (pos 0) (ys_of all))))))
+    → parts_bytes es all ≡ to_be_bytes w16 (length es) ++ (box p ps ++ (end_bytes es ++ ((0 ∷ 0 ∷ []) ++ (flag_bytes true (pos 0) (pos 0) all ++ (delta_bytes (pos 0) (xs_of all) ++ delta_bytes (pos 0) (ys_of all))))))
 unfolding parts_bytes
 parts_bytes_cons es all ps p s = ap (parts_bytes es) s ∙ ap (λ l. to_be_bytes w16 (length es) ++ (box p ps ++ (end_bytes es ++ (0 ∷ 0 ∷ point_bytes l)))) (sym s)
 

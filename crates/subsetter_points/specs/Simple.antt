@@ -1,6 +1,6 @@
 -- A simple glyph description as points, and points as a simple glyph description (OpenType, chapter "glyf").
 -- A Point of the code is x and y, whole numbers, and whether it is on the curve.
-use Rattle.std.specs.Prelude.{ℕ, zero, suc, ◌+◌, ◌-◌, Bool, true, not, ◌&&◌, List, [], ◌∷◌, ◌++◌, length, take, drop, map, flat_map, Option, Some, None, bit_and, nat_lt, nat_le, ◌==◌, if◌then◌else◌, ℤ, pos, negsuc, ◌+ℤ◌, ◌-ℤ◌, neg_ℤ, unsigned_abs}
+use Rattle.std.specs.Prelude.{ℕ, zero, suc, ◌+◌, ◌-◌, Bool, true, false, not, ◌&&◌, List, [], ◌∷◌, ◌++◌, length, take, drop, map, flat_map, Option, Some, None, bit_and, nat_lt, nat_le, ◌==◌, if◌then◌else◌, ℤ, pos, negsuc, ◌+ℤ◌, ◌-ℤ◌, neg_ℤ, unsigned_abs}
 use Rattle.std.specs.List.{fold, list_all}
 use Rattle.std.specs.Int.{w16, to_be_bytes, cast_signed, cast_unsigned, int_min, int_max}
 use Rattle.subsetter_base.specs.Bytes.{number}
@@ -219,14 +219,16 @@ encoding_bits short same Positive = short + same
 encoding_bits short same Negative = short
 encoding_bits short same Word = 0
 
--- the flag of a point, by whether it is on the curve and how its two deltas are encoded
-abbrev pub flag_of : Bool → Encoding → Encoding → ℕ
-flag_of on x y = (if on then 0x01 else 0) + encoding_bits 0x02 0x10 x + encoding_bits 0x04 0x20 y
+-- the flag of a point, by whether it says that contours may overlap (OVERLAP_SIMPLE), whether the point is on the curve, and how
+-- its two deltas are encoded
+abbrev pub flag_of : Bool → Bool → Encoding → Encoding → ℕ
+flag_of overlap on x y = (if overlap then 0x40 else 0) + (if on then 0x01 else 0) + encoding_bits 0x02 0x10 x + encoding_bits 0x04 0x20 y
 
--- the flag of each point, by itself: none is repeated. The first point's deltas are from x and y
-unfoldable pub flag_bytes : ℤ → ℤ → List Point → List ℕ
-flag_bytes x y [] = []
-flag_bytes x y (p ∷ points) = flag_of p.on_curve (shortest_encoding (p.x -ℤ x)) (shortest_encoding (p.y -ℤ y)) ∷ flag_bytes p.x p.y points
+-- the flag of each point, by itself: none is repeated. The first point's deltas are from x and y, and no flag but the first says
+-- that contours may overlap
+unfoldable pub flag_bytes : Bool → ℤ → ℤ → List Point → List ℕ
+flag_bytes overlap x y [] = []
+flag_bytes overlap x y (p ∷ points) = flag_of overlap p.on_curve (shortest_encoding (p.x -ℤ x)) (shortest_encoding (p.y -ℤ y)) ∷ flag_bytes false p.x p.y points
 
 -- each coordinate as a delta from the one before it, at first from v
 unfoldable pub delta_bytes : ℤ → List ℤ → List ℕ
@@ -251,9 +253,10 @@ box p points = signed_word (fold int_min p.x (xs_of points)) ++ signed_word (fol
 abbrev pub end_bytes : List ℕ → List ℕ
 end_bytes ends = flat_map (to_be_bytes w16) ends
 
--- flags, xCoordinates and yCoordinates
+-- flags, of which the first has OVERLAP_SIMPLE, as contours of a variable font overlap where they please; xCoordinates and
+-- yCoordinates
 abbrev pub point_bytes : List Point → List ℕ
-point_bytes points = flag_bytes (pos 0) (pos 0) points ++ (delta_bytes (pos 0) (xs_of points) ++ delta_bytes (pos 0) (ys_of points))
+point_bytes points = flag_bytes true (pos 0) (pos 0) points ++ (delta_bytes (pos 0) (xs_of points) ++ delta_bytes (pos 0) (ys_of points))
 
 -- nothing where there are no points; else numberOfContours, the box, endPtsOfContours, no instructions, and the points
 unfoldable pub parts_bytes : List ℕ → List Point → List ℕ

@@ -1,9 +1,9 @@
 //! A simple glyph description, written.
 //!
 //! The bounding box is that of all points, control points among them. There is one flag for each point, without
-//! REPEAT_FLAG (repeats would save 1.4 % of the outlines of the fonts that were measured) and without OVERLAP_SIMPLE. A
-//! delta takes its shortest encoding: nothing for 0, a byte below 256 in size, else two bytes. There are no
-//! instructions.
+//! REPEAT_FLAG (repeats would save 1.4 % of the outlines of the fonts that were measured). The first one has OVERLAP_SIMPLE,
+//! as contours of a variable font may overlap at any place. A delta takes its shortest encoding: nothing for 0, a byte below
+//! 256 in size, else two bytes. There are no instructions.
 
 ghost use Rattle.std.specs.Prelude.{◌≡◌, ◌++◌, IsTrue, OnOk, IfErr};
 ghost use Rattle.subsetter_base.specs.declared.error.Error.TheVariants.{OutOfMemory};

@@ -24,7 +24,10 @@ fn header(file: &[u8], index: u32, extras: Extras) -> Result<usize, Error>
     if kind == FontKind::Single {
         return Ok(0);
     }
-    let mut r = Reader::new_at(file, 12usize.saturating_add(4usize.saturating_mul(index as usize)));
+    let mut r = Reader::new_at(
+        file,
+        12usize.saturating_add(4usize.saturating_mul(index as usize)),
+    );
     let offset = r.read::<u32>().ok_or(Error::MalformedFont)?;
     let mut r = Reader::new_at(file, offset as usize);
     match r.read::<FontKind>() {
@@ -85,9 +88,10 @@ impl<'a> Face<'a> {
             || (!extras.names && tag == Tag::NAME)
     }
 
-    /// The bytes of a table other than `post`, if it is asked for.
+    /// The bytes of a table other than `maxp` and `post`, if it is asked for.
     pub fn table(&self, tag: Tag) -> Option<&'a [u8]>
-        requires { bytes_eq tag.0 (codes "post") ≡ false }
+        requires maxp { bytes_eq tag.0 (codes "maxp") ≡ false }
+        requires post { bytes_eq tag.0 (codes "post") ≡ false }
         ensures { option_copied result ≡ asked self.now.extras (table_in self.now.«data».now self.now.records.now) tag.0 }
     {
         if self.leaves_out(tag) {

@@ -12,7 +12,7 @@
 
 pub mod argstack;
 pub mod charstring;
-mod fixed_stack;
+pub mod fixed_stack;
 mod flattening;
 mod last_number;
 pub mod laws;
@@ -27,4 +27,4 @@ mod scanning;
 mod sink;
 mod stretch;
 pub mod subroutines;
-mod token;
+pub mod token;

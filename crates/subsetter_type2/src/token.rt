@@ -9,12 +9,19 @@ use subsetter_cffdata::operator::{Operator, OperatorType, TWO_BYTE_OPERATOR_MARK
 /// What an operator does.
 #[derive(Clone, Copy, PartialEq, Eq, Debug)]
 pub enum Effect {
+    /// It counts stems: its operands are their edges.
     CountsStems,
+    /// It takes all operands, as those that move and draw do.
     Draws,
+    /// It calls a local subroutine.
     CallsLocal,
+    /// It calls a global subroutine.
     CallsGlobal,
+    /// It returns to the caller.
     Returns,
+    /// It ends the glyph.
     Ends,
+    /// It takes the bytes of a mask.
     Masks,
 }
 

@@ -17,11 +17,14 @@ use Rattle.subsetter_sfnt.proofs.Laws.Laid.{row_back}
 use Rattle.subsetter_variation.specs.Tuples.{Gvar}
 use Rattle.subsetter_instance.specs.Source.{Source, place_by, source_in, variations_in}
 use Rattle.subsetter_instance.specs.Drawn.{Drawn, drawn}
+use Rattle.subsetter_instance.specs.Extremes.{all_extents, box_bytes, extreme_bytes}
 use Rattle.subsetter_instance.specs.Instance.{IsInstance}
+use Rattle.subsetter_instance.specs.Lines.{Lines, lines_of, with_lines}
 use Rattle.subsetter_instance.specs.Plain.{drawn_if, drawn_all}
 use Rattle.subsetter_instance.specs.Written.{by_glyph, glyf_bytes, is_long, offsets_from, loca_bytes, hmtx_bytes, head_bytes, hhea_bytes, maxp_bytes, tables}
 use Rattle.subsetter_instance.proofs.FileLaws.Among.{drawn_one}
 use Rattle.subsetter_instance.proofs.FileLaws.Laid.{has_room}
+use Rattle.subsetter_instance.proofs.FileLaws.Lines.{still_lines}
 use Rattle.subsetter_instance.proofs.FileLaws.Steps.{InstanceSteps, font_steps, source_steps}
 use Rattle.subsetter_variable.proofs.Redrawn.{redrawn}
 use Rattle.subsetter_variable.proofs.SourceRead.{IsRead, is_read}
@@ -33,7 +36,7 @@ module _ (font : Font) (settings : List (Tag × ℤ)) (glyphs : List ℕ) (steps
   all = by_glyph glyphs p.ds p.source.count
 
   abbrev laid : FontTables
-  laid = tables (stored font) p.head p.hhea p.source.count p.ds all
+  laid = tables (with_lines (stored font) p.lines) p.head p.lines.hhea p.source.count p.ds all
 
   long_head : 52 ≤ length p.head
   long_head =
@@ -41,7 +44,7 @@ module _ (font : Font) (settings : List (Tag × ℤ)) (glyphs : List ℕ) (steps
       omega (arith, number-fits read.head 50 2 read.format read.format_is, ap length (just_is read.head p.head (sym read.head_is ∙ p.head_is)))
 
   pub back : (tag : List ℕ) → bytes_eq tag (codes "head") ≡ false → stored (as_font out) tag ≡ bytes_of tag (rows laid)
-  back tag other = ap (λ (f : List ℕ). stored (as_font f) tag) (sym p.file_is) ∙ row_back TrueType laid (has_room (is_long (glyf_bytes all)) p.head long_head) p.fit tag other
+  back tag other = ap (λ (f : List ℕ). stored (as_font f) tag) (sym p.file_is) ∙ row_back TrueType laid (has_room (is_long (glyf_bytes all)) p.ds p.head long_head) p.fit tag other
 
 -- ---- its glyphs
 
@@ -58,16 +61,19 @@ all_redrawn s t at m n (g ∷ gs) xs ys alike e f =
 
 -- ---- its headers
 
-head_by : Bool → List ℕ → List ℕ → List ℕ → List ℕ
-head_by long front middle end = front ++ (0 ∷ 0 ∷ 0 ∷ 0 ∷ []) ++ middle ++ (0 ∷ (if long then 1 else 0) ∷ []) ++ end
+head_by : Bool → List Drawn → List ℕ → List ℕ → List ℕ → List ℕ → List ℕ
+head_by long ds front middle style end = front ++ (0 ∷ 0 ∷ 0 ∷ 0 ∷ []) ++ (middle ++ box_bytes (all_extents ds) ++ style) ++ (0 ∷ (if long then 1 else 0) ∷ []) ++ end
 
-same_head : (long : Bool) (a b : List ℕ) → take 8 a ≡ take 8 b → slice_range a 12 50 ≡ slice_range b 12 50 → drop 52 a ≡ drop 52 b → head_bytes long a ≡ head_bytes long b
+same_head : (long : Bool) (ds : List Drawn) (a b : List ℕ) → take 8 a ≡ take 8 b → slice_range a 12 36 ≡ slice_range b 12 36 → slice_range a 44 50 ≡ slice_range b 44 50 → drop 52 a ≡ drop 52 b → head_bytes long ds a ≡ head_bytes long ds b
 unfolding head_by
-same_head long a b f m e =
-    ap (λ (l : List ℕ). head_by long l (slice_range a 12 50) (drop 52 a)) f ∙ ap (λ (l : List ℕ). head_by long (take 8 b) l (drop 52 a)) m ∙ ap (λ (l : List ℕ). head_by long (take 8 b) (slice_range b 12 50) l) e
+same_head long ds a b f m y e =
+    ap (λ (l : List ℕ). head_by long ds l (slice_range a 12 36) (slice_range a 44 50) (drop 52 a)) f ∙ ap (λ (l : List ℕ). head_by long ds (take 8 b) l (slice_range a 44 50) (drop 52 a)) m
+    ∙ ap (λ (l : List ℕ). head_by long ds (take 8 b) (slice_range b 12 36) l (drop 52 a)) y ∙ ap (λ (l : List ℕ). head_by long ds (take 8 b) (slice_range b 12 36) (slice_range b 44 50) l) e
 
-same_hhea : (n : ℕ) (a b : List ℕ) → take 34 a ≡ take 34 b → drop 36 a ≡ drop 36 b → hhea_bytes n a ≡ hhea_bytes n b
-same_hhea n a b f e = ap (λ (l : List ℕ). l ++ to_be_bytes w16 n ++ drop 36 a) f ∙ ap (λ (l : List ℕ). take 34 b ++ to_be_bytes w16 n ++ l) e
+same_hhea : (n : ℕ) (ds : List Drawn) (a b : List ℕ) → take 10 a ≡ take 10 b → slice_range a 18 34 ≡ slice_range b 18 34 → drop 36 a ≡ drop 36 b → hhea_bytes n ds a ≡ hhea_bytes n ds b
+same_hhea n ds a b f m e =
+    ap (λ (l : List ℕ). (l ++ extreme_bytes ds ++ slice_range a 18 34) ++ to_be_bytes w16 n ++ drop 36 a) f ∙ ap (λ (l : List ℕ). (take 10 b ++ extreme_bytes ds ++ l) ++ to_be_bytes w16 n ++ drop 36 a) m
+    ∙ ap (λ (l : List ℕ). (take 10 b ++ extreme_bytes ds ++ slice_range b 18 34) ++ to_be_bytes w16 n ++ l) e
 
 -- ---- the file
 
@@ -124,29 +130,40 @@ module _ (font : Font) (settings : List (Tag × ℤ)) (glyphs out again : List �
   same_count : q.source.count ≡ p.source.count
   same_count = ap (λ (s : Source). s.count) own_source ∙ i.count ∙ ap (λ (s : Source). s.count) (sym first_source)
 
-  head_kept : (long : Bool) → head_bytes long q.head ≡ head_bytes long p.head
-  head_kept long =
+  -- the second instance has no MVAR, so that its hhea and post stay
+  still_rows : (stored (as_font out) (codes "hhea") ≡ Some q.lines.hhea) × (q.lines.post ≡ stored (as_font out) (codes "post"))
+  still_rows = still_lines (stored (as_font out)) q.at q.lines (back font settings glyphs i.steps out p (codes "MVAR") refl) q.lines_are
+
+  first_lines : i.lines ≡ p.lines
+  first_lines = done_is i.lines p.lines (sym i.lines_are ∙ ap (lines_of (stored font)) (sym first_place) ∙ p.lines_are)
+
+  head_kept : (long : Bool) (ds : List Drawn) → head_bytes long ds q.head ≡ head_bytes long ds p.head
+  head_kept long ds =
       let source : i.head.source ≡ p.head = just_is i.head.source p.head (sym i.head.source_is ∙ p.head_is) in
       let copy : q.head ≡ i.head.copy = just_is q.head i.head.copy (sym q.head_is ∙ i.head.copy_is) in
-      same_head long q.head p.head (ap (take 8) copy ∙ i.head.front ∙ ap (take 8) source) (i.head_middle p.head q.head p.head_is q.head_is) (ap (drop 52) copy ∙ i.head.end ∙ ap (drop 52) source)
+      same_head long ds q.head p.head (ap (take 8) copy ∙ i.head.front ∙ ap (take 8) source) (i.head_middle p.head q.head p.head_is q.head_is) (i.head_style p.head q.head p.head_is q.head_is) (ap (drop 52) copy ∙ i.head.end ∙ ap (drop 52) source)
 
-  hhea_kept : (n : ℕ) → hhea_bytes n q.hhea ≡ hhea_bytes n p.hhea
-  hhea_kept n =
-      let source : i.hhea.source ≡ p.hhea = just_is i.hhea.source p.hhea (sym i.hhea.source_is ∙ p.hhea_is) in
-      let copy : q.hhea ≡ i.hhea.copy = just_is q.hhea i.hhea.copy (sym q.hhea_is ∙ i.hhea.copy_is) in
-      same_hhea n q.hhea p.hhea (ap (take 34) copy ∙ i.hhea.front ∙ ap (take 34) source) (ap (drop 36) copy ∙ i.hhea.end ∙ ap (drop 36) source)
+  hhea_kept : (n : ℕ) (ds : List Drawn) → hhea_bytes n ds q.lines.hhea ≡ hhea_bytes n ds p.lines.hhea
+  hhea_kept n ds =
+      let source : i.hhea.source ≡ i.lines.hhea = just_is i.hhea.source i.lines.hhea (sym i.hhea.source_is) in
+      let copy : q.lines.hhea ≡ i.hhea.copy = just_is q.lines.hhea i.hhea.copy (sym still_rows.0 ∙ i.hhea.copy_is) in
+      same_hhea n ds q.lines.hhea i.lines.hhea (ap (take 10) copy ∙ i.hhea.front ∙ ap (take 10) source) (i.hhea_middle i.lines.hhea q.lines.hhea refl still_rows.0) (ap (drop 36) copy ∙ i.hhea.end ∙ ap (drop 36) source)
+      ∙ ap (λ (l : Lines). hhea_bytes n ds l.hhea) first_lines
 
-  same_parts : (n : ℕ) (ds : List Drawn) (all : List (Option Drawn)) → tables (stored (as_font out)) q.head q.hhea n ds all ≡ tables (stored font) p.head p.hhea n ds all
+  post_kept : q.lines.post ≡ p.lines.post
+  post_kept = still_rows.1 ∙ i.post ∙ ap (λ (l : Lines). l.post) first_lines
+
+  same_parts : (n : ℕ) (ds : List Drawn) (all : List (Option Drawn)) → tables (with_lines (stored (as_font out)) q.lines) q.head q.lines.hhea n ds all ≡ tables (with_lines (stored font) p.lines) p.head p.lines.hhea n ds all
   same_parts n ds all =
       let long = is_long (glyf_bytes all) in
-      ap (λ (l : List ℕ). with_parts n ds all l (hhea_bytes n q.hhea) (stored (as_font out) (codes "name")) (stored (as_font out) (codes "post"))) (head_kept long)
-      ∙ ap (λ (l : List ℕ). with_parts n ds all (head_bytes long p.head) l (stored (as_font out) (codes "name")) (stored (as_font out) (codes "post"))) (hhea_kept n)
-      ∙ ap (λ (o : Option (List ℕ)). with_parts n ds all (head_bytes long p.head) (hhea_bytes n p.hhea) o (stored (as_font out) (codes "post"))) i.name
-      ∙ ap (λ (o : Option (List ℕ)). with_parts n ds all (head_bytes long p.head) (hhea_bytes n p.hhea) (stored font (codes "name")) o) i.post
+      ap (λ (l : List ℕ). with_parts n ds all l (hhea_bytes n ds q.lines.hhea) (stored (as_font out) (codes "name")) q.lines.post) (head_kept long ds)
+      ∙ ap (λ (l : List ℕ). with_parts n ds all (head_bytes long ds p.head) l (stored (as_font out) (codes "name")) q.lines.post) (hhea_kept n ds)
+      ∙ ap (λ (o : Option (List ℕ)). with_parts n ds all (head_bytes long ds p.head) (hhea_bytes n ds p.lines.hhea) o q.lines.post) i.name
+      ∙ ap (λ (o : Option (List ℕ)). with_parts n ds all (head_bytes long ds p.head) (hhea_bytes n ds p.lines.hhea) (stored font (codes "name")) o) post_kept
 
   pub itself_again : again ≡ out
   itself_again =
       sym q.file_is
-      ∙ ap (λ (n : ℕ). file (kind_word TrueType) (present (rows (tables (stored (as_font out)) q.head q.hhea n q.ds (by_glyph glyphs q.ds n))))) same_count
-      ∙ ap (λ (ds : List Drawn). file (kind_word TrueType) (present (rows (tables (stored (as_font out)) q.head q.hhea p.source.count ds (by_glyph glyphs ds p.source.count))))) same_drawn
+      ∙ ap (λ (n : ℕ). file (kind_word TrueType) (present (rows (tables (with_lines (stored (as_font out)) q.lines) q.head q.lines.hhea n q.ds (by_glyph glyphs q.ds n))))) same_count
+      ∙ ap (λ (ds : List Drawn). file (kind_word TrueType) (present (rows (tables (with_lines (stored (as_font out)) q.lines) q.head q.lines.hhea p.source.count ds (by_glyph glyphs ds p.source.count))))) same_drawn
       ∙ ap (λ (t : FontTables). file (kind_word TrueType) (present (rows t))) (same_parts p.source.count p.ds (by_glyph glyphs p.ds p.source.count)) ∙ p.file_is

@@ -107,16 +107,17 @@ module _ (find : List ℕ → Option (List ℕ)) (axes : ℕ) where
 abbrev by_choice : Bool → Bool → Bool → List ℕ → Option (List ℕ) → Option (List ℕ)
 by_choice h n g tag found = by_glyph_names g tag (by_names n tag (by_hinting h tag found))
 
--- neither a program, nor name, nor post
+-- neither a program, nor maxp, nor name, nor post
 record IsAlways (tag : List ℕ) : Type 0 where
   program : is_program tag ≡ false
+  profile : bytes_eq tag (codes "maxp") ≡ false
   names : bytes_eq tag (codes "name") ≡ false
   glyph_names : bytes_eq tag (codes "post") ≡ false
 
 module _ (tag : List ℕ) (a : IsAlways tag) where
   hinted : (h : Bool) (found : Option (List ℕ)) → by_hinting h tag found ≡ found
   hinted true found = refl
-  hinted false found = rw a.program refl
+  hinted false found = rw (a.program, a.profile) refl
 
   named : (n : Bool) (found : Option (List ℕ)) → by_names n tag found ≡ found
   named true found = refl
@@ -134,23 +135,23 @@ module _ (file : List ℕ) (x : Extras) where
   found tag bytes a h = always tag a x.hinting x.names x.glyph_names (stored (font_at file 0 x) tag) ∙ sym (same_stored (font_at file 0 x) tag) ∙ h
 
   module _ (s : Source) (r : IsRead (stored (as_font file)) 0 s) where
-    plain : {tag : List ℕ} → is_program tag ≡ false → bytes_eq tag (codes "name") ≡ false → bytes_eq tag (codes "post") ≡ false → IsAlways tag
-    plain p n g = record { program = p; names = n; glyph_names = g }
+    plain : {tag : List ℕ} → is_program tag ≡ false → bytes_eq tag (codes "maxp") ≡ false → bytes_eq tag (codes "name") ≡ false → bytes_eq tag (codes "post") ≡ false → IsAlways tag
+    plain p m n g = record { program = p; profile = m; names = n; glyph_names = g }
 
     pub glyf_found : table (font_at file 0 x) (codes "glyf") ≡ Some s.glyf
-    glyf_found = found (codes "glyf") s.glyf (plain refl refl refl) r.glyf_is
+    glyf_found = found (codes "glyf") s.glyf (plain refl refl refl refl) r.glyf_is
 
     loca_found : table (font_at file 0 x) (codes "loca") ≡ Some s.loca
-    loca_found = found (codes "loca") s.loca (plain refl refl refl) r.loca_is
+    loca_found = found (codes "loca") s.loca (plain refl refl refl refl) r.loca_is
 
     head_found : table (font_at file 0 x) (codes "head") ≡ Some r.head
-    head_found = found (codes "head") r.head (plain refl refl refl) r.head_is
+    head_found = found (codes "head") r.head (plain refl refl refl refl) r.head_is
 
     hhea_found : table (font_at file 0 x) (codes "hhea") ≡ Some r.hhea
-    hhea_found = found (codes "hhea") r.hhea (plain refl refl refl) r.hhea_is
+    hhea_found = found (codes "hhea") r.hhea (plain refl refl refl refl) r.hhea_is
 
     pub hmtx_found : table (font_at file 0 x) (codes "hmtx") ≡ Some s.hmtx
-    hmtx_found = found (codes "hmtx") s.hmtx (plain refl refl refl) r.hmtx_is
+    hmtx_found = found (codes "hmtx") s.hmtx (plain refl refl refl refl) r.hmtx_is
 
     -- ---- outlines
 

@@ -4,7 +4,7 @@ use Rattle.std.specs.Option.{option_map}
 use Rattle.std.proofs.lemmas.Bool.{leb-true}
 use Rattle.std.proofs.lemmas.Option.{same_Some}
 use Rattle.subsetter_variation.specs.Optional.{◌>>=◌}
-use Rattle.subsetter_variation.specs.Packed.{Run, begun, count_in, ended, listed, next_point, point_numbers, points_from, runs, step_in, stepped}
+use Rattle.subsetter_variation.specs.Packed.{Run, begun, count_in, ended, next_point, point_numbers, points_from, runs, step_in, stepped}
 use Rattle.subsetter_variation.specs.VariationLaws.{AreAscending, Ascends}
 
 some_bind : {A B : Type 0} (o : Option A) (f : A → Option B) (y : B) → (o >>= f) ≡ Some y → (x : A) × (o ≡ Some x) × (f x ≡ Some y)
@@ -37,28 +37,23 @@ points_ascend limit (suc n) before least r x h =
     let rest = some_bind (points_from limit n p.0.0 (p.0.0 + 1) p.0.1) (λ rest. Some (p.0.0 ∷ rest.0, rest.1)) x p.2 in
     subst (λ y. Ascends least y.0) (same_Some (p.0.0 ∷ rest.0.0, rest.0.1) x rest.2) (next_least limit before least r p.0 p.1, points_ascend limit n p.0.0 (p.0.0 + 1) p.0.1 rest.0 rest.1)
 
-listed_ascend : (limit : ℕ) (bytes : List ℕ) (x : List ℕ × List ℕ) → listed limit bytes ≡ Some x → Ascends 0 x.0
-unfolding listed
-listed_ascend limit bytes x h =
-    let count = some_bind (count_in bytes) (λ count. points_from limit count.0 0 0 (runs count.1)) x h in
-    points_ascend limit count.0.0 0 0 (runs count.0.1) x count.2
-
 some_list : (xs ys : List ℕ) → Some xs ≡ Some ys → xs ≡ ys
 some_list xs ys h = cc
 
-from_listed : (limit : ℕ) (bytes rest numbers : List ℕ) (o : Option (List ℕ × List ℕ)) → listed limit bytes ≡ o → option_map {T = List ℕ × List ℕ} {U = Option (List ℕ) × List ℕ} (λ x. (Some x.0, x.1)) o ≡ Some (Some numbers, rest) → Ascends 0 numbers
-from_listed limit bytes rest numbers None e k = absurd cc
-from_listed limit bytes rest numbers (Some x) e k = subst (Ascends 0) (some_list x.0 numbers (ap (λ y. y.0) (same_Some (Some x.0, x.1) (Some numbers, rest) k))) (listed_ascend limit bytes x e)
+from_points : (limit n : ℕ) (bytes rest numbers : List ℕ) (o : Option (List ℕ × List ℕ)) → points_from limit n 0 0 (runs bytes) ≡ o → option_map {T = List ℕ × List ℕ} {U = Option (List ℕ) × List ℕ} (λ x. (Some x.0, x.1)) o ≡ Some (Some numbers, rest) → Ascends 0 numbers
+from_points limit n bytes rest numbers None e k = absurd cc
+from_points limit n bytes rest numbers (Some x) e k = subst (Ascends 0) (some_list x.0 numbers (ap (λ y. y.0) (same_Some (Some x.0, x.1) (Some numbers, rest) k))) (points_ascend limit n 0 0 (runs bytes) x e)
 
 none_is_none : (xs : List ℕ) (o : Option (List ℕ)) → o ≡ None → o ≡ Some xs → ⊥
 none_is_none xs None e h = cc
 none_is_none xs (Some ys) e h = cc
 
-numbers_ascend : (b : Bool) (limit : ℕ) (bytes more rest numbers : List ℕ) → cond b (Some (None, more)) (option_map {T = List ℕ × List ℕ} {U = Option (List ℕ) × List ℕ} (λ x. (Some x.0, x.1)) (listed limit bytes)) ≡ Some (Some numbers, rest) → Ascends 0 numbers
-numbers_ascend true limit bytes more rest numbers h = absurd (none_is_none numbers None refl (ap (λ y. y.0) (same_Some {A = Option (List ℕ) × List ℕ} (None, more) (Some numbers, rest) h)))
-numbers_ascend false limit bytes more rest numbers h = from_listed limit bytes rest numbers (listed limit bytes) refl h
+numbers_ascend : (b : Bool) (limit n : ℕ) (bytes rest numbers : List ℕ) → cond b (Some (None, bytes)) (option_map {T = List ℕ × List ℕ} {U = Option (List ℕ) × List ℕ} (λ x. (Some x.0, x.1)) (points_from limit n 0 0 (runs bytes))) ≡ Some (Some numbers, rest) → Ascends 0 numbers
+numbers_ascend true limit n bytes rest numbers h = absurd (none_is_none numbers None refl (ap (λ y. y.0) (same_Some {A = Option (List ℕ) × List ℕ} (None, bytes) (Some numbers, rest) h)))
+numbers_ascend false limit n bytes rest numbers h = from_points limit n bytes rest numbers (points_from limit n 0 0 (runs bytes)) refl h
 
 pub are_ascending : AreAscending
 unfolding point_numbers
-are_ascending limit [] rest numbers h = absurd cc
-are_ascending limit (b ∷ bytes) rest numbers h = numbers_ascend (nat_eq b 0) limit (b ∷ bytes) bytes rest numbers h
+are_ascending limit bytes rest numbers h =
+    let count = some_bind (count_in bytes) (λ count. cond (nat_eq count.0 0) (Some (None, count.1)) (option_map {T = List ℕ × List ℕ} {U = Option (List ℕ) × List ℕ} (λ x. (Some x.0, x.1)) (points_from limit count.0 0 0 (runs count.1)))) (Some numbers, rest) h in
+    numbers_ascend (nat_eq count.0.0 0) limit count.0.0 count.0.1 rest numbers count.2

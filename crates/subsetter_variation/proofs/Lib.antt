@@ -21,3 +21,4 @@ pub mod Terms
 pub mod Turning
 pub mod Walk
 pub mod Walks
+pub mod Values

@@ -1,5 +1,5 @@
 -- The coordinates of an instance on the axes of its font, each from -1 to 1, in 16384ths (OpenType, "Coordinate Scales and Normalization").
-use Rattle.std.specs.Prelude.{ℕ, ◌+◌, ◌*◌, not, Bool, false, List, [], ◌∷◌, length, map, Option, Some, None, Result, Err, ◌==◌, if◌then◌else◌, ℤ}
+use Rattle.std.specs.Prelude.{ℕ, ◌+◌, ◌*◌, not, ◌||◌, Bool, false, List, [], ◌∷◌, length, map, Option, Some, None, Result, Err, ◌==◌, if◌then◌else◌, ℤ}
 use Rattle.std.specs.Option.{ok_or}
 use Rattle.subsetter_base.specs.Bytes.{number}
 use Rattle.subsetter_base.specs.declared.tag.Tag.{Tag}
@@ -41,15 +41,15 @@ coordinates_by (Some avar) settings axes = mapped_coordinates axes settings avar
 unfoldable pub normalized : List ℕ → Option (List ℕ) → List (Tag × ℤ) → Option (List ℤ)
 normalized fvar avar settings = axes fvar >>= coordinates_by avar settings
 
--- another major version than 1 is not read
+-- a table of another major version than 1 is not read (OpenType, "fvar", "avar", "gvar" and "HVAR")
 abbrev pub is_other : Option ℕ → Bool
 is_other None = false
 is_other (Some version) = not (version == 1)
 
 abbrev pub is_other_version : Option (List ℕ) → Bool
 is_other_version None = false
-is_other_version (Some avar) = is_other (number avar 0 2)
+is_other_version (Some table) = is_other (number table 0 2)
 
 -- the coordinates, or the name of what is wrong
 unfoldable pub normalized_or_fault : List ℕ → Option (List ℕ) → List (Tag × ℤ) → Result (List ℤ) Error
-normalized_or_fault fvar avar settings = if is_other_version avar then Err Unimplemented else ok_or (normalized fvar avar settings) MalformedFont
+normalized_or_fault fvar avar settings = if is_other_version (Some fvar) || is_other_version avar then Err Unimplemented else ok_or (normalized fvar avar settings) MalformedFont

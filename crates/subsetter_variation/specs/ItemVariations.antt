@@ -1,6 +1,7 @@
 -- Item variation stores, and the advances of `HVAR` (OpenType, "Item Variation Store", "Associating Target Items to Variation Data" and "HVAR").
-use Rattle.std.specs.Prelude.{ℕ, zero, suc, ◌+◌, ◌-◌, ◌*◌, ◌/◌, ◌%◌, ◌^◌, ◌==◌, ◌&&◌, Bool, List, length, drop, take, Option, Some, None, Result, Ok, Err, nat_lt, nat_le, if◌then◌else◌, ℤ, pos, ◌+ℤ◌, ◌*ℤ◌, unsigned_abs}
+use Rattle.std.specs.Prelude.{ℕ, zero, suc, ◌+◌, ◌-◌, ◌*◌, ◌/◌, ◌%◌, ◌^◌, ◌==◌, ◌&&◌, Bool, List, length, map, drop, take, Option, Some, None, Result, Ok, Err, nat_lt, nat_le, if◌then◌else◌, ℤ, pos, ◌+ℤ◌, ◌*ℤ◌, unsigned_abs}
 use Rattle.std.specs.Int.{w8, w16, w32, cast_signed}
+use Rattle.std.specs.List.{range_with_len}
 use Rattle.std.specs.Option.{option_map}
 use Rattle.subsetter_base.specs.Bytes.{be, range, number}
 use Rattle.subsetter_base.specs.Items.{Items, values}
@@ -87,6 +88,25 @@ item_row s outer inner = do
   data_count ← number s.bytes 6 2
   at ← if nat_lt outer data_count then offset_at s.bytes (8 + outer * 4) else None
   row_in s.bytes at inner
+
+-- where item variation data stand in the store
+abbrev pub data_place : Store → ℕ → Option ℕ
+data_place s outer = do
+  data_count ← number s.bytes 6 2
+  if nat_lt outer data_count then offset_at s.bytes (8 + outer * 4) else None
+
+-- the bytes that spell the indexes of the regions of item variation data: regionIndexCount, and two bytes for each
+unfoldable pub data_regions : Store → ℕ → Option (List ℕ)
+data_regions s outer = do
+  at ← data_place s outer
+  count ← number s.bytes (at + 4) 2
+  range s.bytes (at + 6) (count * 2)
+
+abbrev pub region_index : List ℕ → ℕ → ℕ
+region_index bytes k = be (take 2 (drop (k * 2) bytes))
+
+abbrev pub region_indexes : List ℕ → List ℕ
+region_indexes bytes = map (region_index bytes) (range_with_len 0 (length bytes / 2))
 
 -- the delta for the region numbered k
 abbrev pub word_delta : Row → ℕ → Option ℤ

@@ -1,5 +1,6 @@
 pub mod Axes
 pub mod Coordinates
+pub mod FontMetrics
 pub mod Inferred
 pub mod ItemVariations
 pub mod Movement

@@ -1,6 +1,7 @@
 -- The segments that bend an axis (OpenType, "avar").
-use Rattle.std.specs.Prelude.{ℕ, ◌+◌, ◌*◌, Bool, ◌&&◌, List, [], ◌∷◌, take, drop, Option, Some, int_lt, int_le, if◌then◌else◌, ℤ, pos, ◌+ℤ◌, ◌-ℤ◌, ◌*ℤ◌, unsigned_abs}
+use Rattle.std.specs.Prelude.{ℕ, ◌+◌, ◌*◌, Bool, true, false, ◌&&◌, ◌||◌, List, [], ◌∷◌, take, drop, Option, Some, int_lt, int_le, if◌then◌else◌, ℤ, pos, neg_ℤ, ◌+ℤ◌, ◌-ℤ◌, ◌*ℤ◌, unsigned_abs}
 use Rattle.std.specs.Int.{w16, cast_signed}
+use Rattle.std.specs.Ordering.{int_eq}
 use Rattle.subsetter_base.specs.Bytes.{be, range, number}
 use Rattle.subsetter_base.specs.Items.{Items, values}
 use Rattle.subsetter_variation.specs.Optional.{◌>>=◌}
@@ -42,6 +43,33 @@ abbrev pub mapped_from : AxisValueMap → List AxisValueMap → ℤ → ℤ
 mapped_from p [] n = n
 mapped_from p (q ∷ ends) n = if is_on p q n then on_segment p q n else mapped_from q ends n
 
+abbrev pub by_segments : List AxisValueMap → ℤ → ℤ
+by_segments [] n = n
+by_segments (p ∷ ends) n = mapped_from p ends n
+
+-- ---- what a map of segments has to be
+
+-- a number has itself as its new number
+abbrev pub keeps : ℤ → List AxisValueMap → Bool
+keeps z [] = false
+keeps z (p ∷ ends) = (int_eq p.from z && int_eq p.to z) || keeps z ends
+
+-- an end comes after another: its number is greater, and its new number isn't less
+abbrev pub follows : AxisValueMap → AxisValueMap → Bool
+follows p q = int_lt p.from q.from && int_le p.to q.to
+
+abbrev pub ascends_from : AxisValueMap → List AxisValueMap → Bool
+ascends_from p [] = true
+ascends_from p (q ∷ ends) = follows p q && ascends_from q ends
+
+abbrev pub ascends : List AxisValueMap → Bool
+ascends [] = true
+ascends (p ∷ ends) = ascends_from p ends
+
+-- it keeps -1, 0 and 1, and ascends
+abbrev pub is_segment_map : List AxisValueMap → Bool
+is_segment_map ends = keeps (neg_ℤ (pos 16384)) ends && (keeps (pos 0) ends && (keeps (pos 16384) ends && ascends ends))
+
+-- any other one maps nothing
 abbrev pub mapped : List AxisValueMap → ℤ → ℤ
-mapped [] n = n
-mapped (p ∷ ends) n = mapped_from p ends n
+mapped ends n = if is_segment_map ends then by_segments ends n else n

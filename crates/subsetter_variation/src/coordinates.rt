@@ -105,21 +105,21 @@ fn coordinates_by(
     }
 }
 
-/// Whether `avar` has another major version than 1.
-fn is_other_version(avar: Option<&[u8]>) -> bool
-    ensures { result ≡ is_other_version (option_copied avar.entry) }
+/// Whether a table is there and has another major version than 1.
+pub fn is_other_version(table: Option<&[u8]>) -> bool
+    ensures { result ≡ is_other_version (option_copied table.entry) }
 {
-    let Some(avar) = avar else {
+    let Some(table) = table else {
         return false;
     };
-    let Some(version) = Reader::new(avar).read::<u16>() else {
+    let Some(version) = Reader::new(table).read::<u16>() else {
         return false;
     };
     version != 1
 }
 
 /// The coordinates on the axes of `fvar`, in 16384ths, for settings in 65536ths: the last one of an axis' tag, and else its
-/// default. A major version of `avar` other than 1 is `Unimplemented`, a cut table `MalformedFont`.
+/// default. A major version of `fvar` or `avar` other than 1 is `Unimplemented`, a cut table `MalformedFont`.
 #[tactic(auto, unfolding(crate::specs::Coordinates::normalized_or_fault, crate::specs::Coordinates::normalized))]
 pub fn coordinates(
     alloc: Global,
@@ -129,7 +129,7 @@ pub fn coordinates(
 ) -> Result<Vec<i32>, Error>
     ensures { Gives (λ v. v.items) result (normalized_or_fault fvar.now (option_copied avar.entry) settings.now) }
 {
-    if is_other_version(avar) {
+    if is_other_version(Some(fvar)) || is_other_version(avar) {
         return Err(Error::Unimplemented);
     }
     let axes = axes(alloc, fvar)?;

@@ -7,11 +7,11 @@
 //! looked at.
 
 ghost use Rattle.std.specs.Prelude.{[], ◌∷◌, MatchOption, ◌≡◌, ◌+◌, ◌*◌, ◌<◌, ◌≤◌, ◌^◌, Some, IfSome, length, pos, ◌*ℤ◌, ◌≤ℤ◌, unsigned_abs};
-ghost use Rattle.std.specs.Option.{ok_or};
+ghost use Rattle.std.specs.Option.{ok_or, option_copied};
 ghost use Rattle.subsetter_base.specs.Bytes.{be};
 ghost use Rattle.subsetter_base.specs.declared.error.Error.TheVariants.{MalformedFont};
 ghost use Rattle.subsetter_variation.specs.Region.{scalar};
-ghost use Rattle.subsetter_variation.specs.ItemVariations.{offset_at, item_store, region_axis_in, region_items, region_of, row_size, row_at, row_in, item_row, word_delta, byte_delta, delta, term, terms, item_delta, map_head, split_index, mapped_index, advance_index, store_of, advance_delta, in_whole_units, whole_or_fault, signed_at, entry_place};
+ghost use Rattle.subsetter_variation.specs.ItemVariations.{offset_at, item_store, region_axis_in, region_items, region_of, data_place, data_regions, row_size, row_at, row_in, item_row, word_delta, byte_delta, delta, term, terms, item_delta, map_head, split_index, mapped_index, advance_index, store_of, advance_delta, in_whole_units, whole_or_fault, signed_at, entry_place};
 
 use crate::region::{RegionAxis, counted};
 use crate::rounding::{nearest, scaled, wide_plus};
@@ -45,6 +45,22 @@ impl<'a> Model for Store<'a> {
     ghost view = { λ s. record { axis_count = s.axis_count; region_count = s.region_count; regions = s.regions.now; bytes = s.bytes.now } };
 }
 
+impl<'a> Store<'a> {
+    /// How many axes a region has.
+    pub fn axis_count(&self) -> u16
+        ensures { result ≡ self.now.axis_count }
+    {
+        self.axis_count
+    }
+
+    /// How many regions there are.
+    pub fn region_count(&self) -> u16
+        ensures { result ≡ self.now.region_count }
+    {
+        self.region_count
+    }
+}
+
 /// A row of deltas in a store.
 #[derive(Drop)]
 struct Row<'a> {
@@ -64,7 +80,7 @@ impl<'a> Model for Row<'a> {
 }
 
 /// The signed number of two bytes.
-fn signed_at(bytes: &[u8], at: usize) -> i16
+pub fn signed_at(bytes: &[u8], at: usize) -> i16
     requires { at + 2 ≤ length bytes.now }
     ensures { result ≡ signed_at bytes.now at }
 {
@@ -119,7 +135,7 @@ pub fn item_store(bytes: &[u8]) -> Option<Store<'_>>
 }
 
 /// A region of the list.
-fn region_items<'a>(s: &Store<'a>, index: u16) -> Option<LazyArray16<'a, RegionAxis>>
+pub fn region_items<'a>(s: &Store<'a>, index: u16) -> Option<LazyArray16<'a, RegionAxis>>
     ensures value { result ≡ region_items s.now index }
     ensures count { IfSome result (λ x. x.count ≡ s.now.axis_count) }
 {
@@ -142,7 +158,7 @@ fn coordinate_in(at: &[i32]) -> Option<(i32, &[i32])>
 
 /// The scalar of a region at a place, in parts of 2^30. The axes behind one that makes it 0 aren't read.
 #[tactic(auto, using(crate::proofs::Masters::scalar_of_none))]
-fn region_scalar(region: LazyArray16<'_, RegionAxis>, at: &[i32]) -> i64
+pub fn region_scalar(region: LazyArray16<'_, RegionAxis>, at: &[i32]) -> i64
     ensures value { result ≡ scalar (region_of region.entry) at.now }
     ensures low { pos 0 ≤ℤ result }
     ensures high { result ≤ℤ pos (2 ^ 30) }
@@ -215,6 +231,30 @@ fn item_row<'a>(s: &Store<'a>, outer: u32, inner: u32) -> Option<Row<'a>>
     }
     let at = offset_at(s.bytes, 8 + outer as usize * 4)?;
     row_in(s.bytes, at as usize, inner)
+}
+
+/// Where item variation data stand in the store.
+fn data_place(s: &Store<'_>, outer: u32) -> Option<u32>
+    ensures value { result ≡ data_place s.now outer }
+    ensures few { IfSome result (λ _. outer < 65536) }
+{
+    let data_count = Reader::new_at(s.bytes, 6).read::<u16>()?;
+    if outer >= u32::from(data_count) {
+        return None;
+    }
+    offset_at(s.bytes, 8 + outer as usize * 4)
+}
+
+/// The bytes that spell the indexes of the regions of item variation data, two for each.
+#[tactic(auto, unfolding(crate::specs::ItemVariations::data_regions))]
+pub fn data_regions<'a>(s: &Store<'a>, outer: u32) -> Option<&'a [u8]>
+    ensures value { option_copied result ≡ data_regions s.now outer }
+    ensures few { IfSome result (λ bytes. length bytes.now ≤ 131070) }
+    ensures data_count { IfSome result (λ _. outer < 65536) }
+{
+    let at = data_place(s, outer)? as usize;
+    let count = Reader::new_at(s.bytes, at + 4).read::<u16>()?;
+    Reader::new_at(s.bytes, at + 6).read_bytes(count as usize * 2)
 }
 
 /// A delta that is a word.
@@ -401,7 +441,7 @@ fn varied_advance(hvar: &[u8], at: &[i32], glyph: u16) -> Option<i128>
 }
 
 /// Parts of 2^30 as whole units, unless there are too many.
-fn in_whole_units(d: i128) -> Result<i64, Error>
+pub(crate) fn in_whole_units(d: i128) -> Result<i64, Error>
     ensures { result ≡ in_whole_units d }
 {
     if d.unsigned_abs() < 1 << 62 {

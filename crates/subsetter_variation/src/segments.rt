@@ -1,10 +1,10 @@
 //! The segments that bend an axis (OpenType, "avar").
 //!
-//! A number past the last pair stays as it is, as in FreeType. OpenType asks for the pairs of -1, 0 and 1, past which
-//! no number lies. The major version has to be 1.
+//! OpenType asks for the pairs of -1, 0 and 1, past which no number lies, for numbers that ascend, and for new numbers that
+//! don't descend. Where an axis has anything else, its coordinate isn't modified. The major version has to be 1.
 
 ghost use Rattle.std.specs.Prelude.{◌≡◌, ◌+◌, ◌*◌, ◌<◌, ◌≤◌, ◌^◌, Some, true, ◌-ℤ◌, ◌≤ℤ◌, ◌<ℤ◌, IfSome, true, unsigned_abs};
-ghost use Rattle.subsetter_variation.specs.Segments.{axis_value_map_of, segment_map_at, axis_value_maps, fine, passed, on_segment, is_on, mapped};
+ghost use Rattle.subsetter_variation.specs.Segments.{axis_value_map_of, segment_map_at, axis_value_maps, fine, passed, on_segment, is_on, by_segments, keeps, follows, ascends, is_segment_map, mapped};
 
 use crate::rounding::{minus, part, plus};
 use subsetter_base::read::{LazyArray16, Readable, Reader};
@@ -87,10 +87,67 @@ pub fn next_segment_map<'a>(r: &mut Reader<'a>) -> Option<LazyArray16<'a, AxisVa
     r.read_array16(count)
 }
 
-/// A number by the first segment in which it lies; one that lies in none stays.
+/// Whether a number has itself as its new number.
+fn keeps(ends: &LazyArray16<'_, AxisValueMap>, number: i16) -> bool
+    ensures { result ≡ keeps number (axis_value_maps ends.now) }
+{
+    for end in ends.iter() {
+        if end.from == number && end.to == number {
+            return true;
+        }
+    }
+    false
+}
+
+/// Whether an end comes after another.
+fn follows(p: AxisValueMap, q: AxisValueMap) -> bool
+    ensures { result ≡ follows p q }
+{
+    p.from < q.from && p.to <= q.to
+}
+
+/// Whether each end comes after the one before it.
+fn ascends(ends: &LazyArray16<'_, AxisValueMap>) -> bool
+    ensures { result ≡ ascends (axis_value_maps ends.now) }
+{
+    let mut rest = ends.iter();
+    let Some(first) = rest.next() else {
+        return true;
+    };
+    let mut p = first;
+    for q in rest {
+        if !follows(p, q) {
+            return false;
+        }
+        p = q;
+    }
+    true
+}
+
+/// Whether these are the ends of segments: -1, 0 and 1 are kept, and the ends ascend.
+fn is_segment_map(ends: &LazyArray16<'_, AxisValueMap>) -> bool
+    ensures { result ≡ is_segment_map (axis_value_maps ends.now) }
+{
+    keeps(ends, -16384) && keeps(ends, 0) && keeps(ends, 16384) && ascends(ends)
+}
+
+/// A number by the segments of an axis; one that lies in none stays, and so does each where the ends aren't those of segments.
 pub fn mapped(ends: LazyArray16<'_, AxisValueMap>, n: i64) -> i64
     requires { unsigned_abs n ≤ 2 ^ 19 }
     ensures value { result ≡ mapped (axis_value_maps ends.entry) n }
+    ensures bound { unsigned_abs result ≤ 2 ^ 19 }
+{
+    if is_segment_map(&ends) {
+        by_segments(ends, n)
+    } else {
+        n
+    }
+}
+
+/// A number by the first segment in which it lies; one that lies in none stays.
+fn by_segments(ends: LazyArray16<'_, AxisValueMap>, n: i64) -> i64
+    requires { unsigned_abs n ≤ 2 ^ 19 }
+    ensures value { result ≡ by_segments (axis_value_maps ends.entry) n }
     ensures bound { unsigned_abs result ≤ 2 ^ 19 }
 {
     let mut rest = ends.iter();

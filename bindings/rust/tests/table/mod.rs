@@ -173,7 +173,10 @@ pub fn table() -> Table {
         texts: HashMap::new(),
         rows: Vec::new(),
     };
-    table.read(concat!(env!("CARGO_MANIFEST_DIR"), "/../../crates/subset_rows/data/rows.txt"));
+    table.read(concat!(
+        env!("CARGO_MANIFEST_DIR"),
+        "/../../crates/subset_rows/data/rows.txt"
+    ));
     assert!(table.rows.len() > 300);
     table
 }

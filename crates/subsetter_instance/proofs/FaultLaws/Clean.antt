@@ -12,8 +12,9 @@ use Rattle.subsetter_sfnt.specs.Read.{Font, table_in, stored}
 use Rattle.subsetter_sfnt.specs.Written.{fits, start_of}
 use Rattle.subsetter_instance.specs.Source.{Source, place, source_in}
 use Rattle.subsetter_instance.specs.Drawn.{Drawn, drawn}
+use Rattle.subsetter_instance.specs.Lines.{Lines, lines_of}
 use Rattle.subsetter_instance.specs.Plain.{drawn_all, by_flavor, instance_of}
-use Rattle.subsetter_instance.specs.Fault.{HasGlyphFault, HasInstanceFault, in_opening, no_glyf, no_place, no_source, in_glyph, large_file}
+use Rattle.subsetter_instance.specs.Fault.{HasGlyphFault, HasInstanceFault, in_opening, no_glyf, no_place, other_version, no_source, in_glyph, no_lines, large_file}
 use Rattle.subsetter_instance.specs.Answer.{IsAnswer}
 use Rattle.subsetter_instance.proofs.FaultLaws.Opening.{no_opening_fault}
 use Rattle.subsetter_instance.proofs.FaultLaws.Glyph.{drawn_clean}
@@ -34,23 +35,25 @@ module _ (font : Font) (settings : List (Tag × ℤ)) (glyphs : List ℕ) (steps
       let d = drawn_one i.source i.at steps g m.d m.drawn_is in
       drawn_clean i.source i.at steps g m.d e d.0 d.1 (subst (λ (l : List ℤ). HasGlyphFault i.source l steps g e) (sym a) (subst (λ (x : Source). HasGlyphFault x at steps g e) (sym t) f))
 
-  not_large : (at : List ℤ) (s : Source) (ds : List Drawn) (head hhea : List ℕ) → i.at ≡ at → i.source ≡ s → drawn_all s at steps glyphs ≡ Ok ds → stored font (codes "head") ≡ Some head → stored font (codes "hhea") ≡ Some hhea
-      → fits (start_of (laid_tables (stored font) s glyphs ds head hhea)) (laid_tables (stored font) s glyphs ds head hhea) ≡ false → ⊥
-  not_large at s ds head hhea a t drawn at_head at_hhea h =
+  not_large : (at : List ℤ) (s : Source) (ds : List Drawn) (l : Lines) (head : List ℕ) → i.at ≡ at → i.source ≡ s → drawn_all s at steps glyphs ≡ Ok ds → lines_of (stored font) at ≡ Ok l → stored font (codes "head") ≡ Some head
+      → fits (start_of (laid_tables (stored font) l s glyphs ds head)) (laid_tables (stored font) l s glyphs ds head) ≡ false → ⊥
+  not_large at s ds l head a t drawn varies at_head h =
       let same : i.ds ≡ ds = done_is i.ds ds (sym i.drawn_is ∙ ap (λ (l : List ℤ). drawn_all i.source l steps glyphs) a ∙ ap (λ (x : Source). drawn_all x at steps glyphs) t ∙ drawn) in
       let x : i.head ≡ head = just_is i.head head (sym i.head_is ∙ at_head) in
-      let y : i.hhea ≡ hhea = just_is i.hhea hhea (sym i.hhea_is ∙ at_hhea) in
-      let fit = λ (s : Source) (ds : List Drawn) (head hhea : List ℕ). fits (start_of (laid_tables (stored font) s glyphs ds head hhea)) (laid_tables (stored font) s glyphs ds head hhea) in
-      let clash : true ≡ false = sym i.fit ∙ ap (λ (s : Source). fit s i.ds i.head i.hhea) t ∙ ap (λ (l : List Drawn). fit s l i.head i.hhea) same ∙ ap (λ (l : List ℕ). fit s ds l i.hhea) x ∙ ap (λ (l : List ℕ). fit s ds head l) y ∙ h in
+      let y : i.lines ≡ l = done_is i.lines l (sym i.lines_are ∙ ap (lines_of (stored font)) a ∙ varies) in
+      let fit = λ (l : Lines) (s : Source) (ds : List Drawn) (head : List ℕ). fits (start_of (laid_tables (stored font) l s glyphs ds head)) (laid_tables (stored font) l s glyphs ds head) in
+      let clash : true ≡ false = sym i.fit ∙ ap (λ (s : Source). fit i.lines s i.ds i.head) t ∙ ap (λ (d : List Drawn). fit i.lines s d i.head) same ∙ ap (λ (h : List ℕ). fit i.lines s ds h) x ∙ ap (λ (l : Lines). fit l s ds head) y ∙ h in
       cc
 
   no_fault : (e : Error) → (HasOpeningFault font e → ⊥) → HasInstanceFault font settings glyphs steps e → ⊥
   no_fault e opening (in_opening f) = opening f
   no_fault e opening (no_glyf none cff) = let g = source_glyf (stored font) (length i.at) i.source i.source_is in some_not_none (stored font (codes "glyf")) g.0 g.1 none
   no_fault e opening (no_place h) = ok_not_err (place (stored font) settings) i.at e i.place_is h
+  no_fault e opening (other_version h) = let clash : true ≡ false = sym h ∙ i.known in cc
   no_fault e opening (no_source at p h) = some_not_none (source_in (stored font) (length at)) i.source (ap (λ (l : List ℤ). source_in (stored font) (length l)) (sym (same_place at p)) ∙ i.source_is) h
   no_fault e opening (in_glyph at s g p h there f) = no_fault_in e at s g (same_place at p) (same_source at s p h) there f
-  no_fault e opening (large_file at s ds head hhea p h drawn at_head at_hhea f) = not_large at s ds head hhea (same_place at p) (same_source at s p h) drawn at_head at_hhea f
+  no_fault e opening (no_lines at p h) = ok_not_err (lines_of (stored font) i.at) i.lines e i.lines_are (ap (lines_of (stored font)) (same_place at p) ∙ h)
+  no_fault e opening (large_file at s ds l head p h drawn varies at_head f) = not_large at s ds l head (same_place at p) (same_source at s p h) drawn varies at_head f
 
 -- a font that was opened, and whose outlines are of a known kind
 pub clean_opening : (font : Font) (settings : List (Tag × ℤ)) (glyphs : List ℕ) (steps : ℕ) (out : List ℕ) (e : Error) → instance_of font settings glyphs steps ≡ Ok out → HasOpeningFault font e → ⊥

@@ -1,7 +1,6 @@
 -- A font of which there is no instance has a fault.
 use Rattle.std.proofs.Common.{◌≡◌, ℕ, Bool, true, false, cond, List, length, Option, Some, Ok, Err, ℤ, refl, sym, ap, subst, ◌∙◌, inl, inr}
 use Rattle.std.specs.Prelude.{codes}
-use Rattle.std.specs.Option.{ok_or}
 use Rattle.subsetter_base.specs.Bytes.{◌>>=◌}
 use Rattle.subsetter_base.specs.declared.tag.Tag.{Tag}
 use Rattle.subsetter_base.specs.declared.error.Error.{Error}
@@ -14,14 +13,15 @@ use Rattle.subsetter_sfnt.specs.Plain.{opened, flavored, file_of}
 use Rattle.subsetter_sfnt.specs.Read.{Font, table_in, stored}
 use Rattle.subsetter_sfnt.specs.Written.{Table, fits, file, start_of, kind_word}
 use Rattle.subsetter_sfnt.proofs.Laws.Fault.{opened_refused}
-use Rattle.subsetter_instance.specs.Source.{Source, place, source_in}
+use Rattle.subsetter_instance.specs.Source.{Source, place, source_in, source_or_fault}
 use Rattle.subsetter_instance.specs.Drawn.{Drawn}
+use Rattle.subsetter_instance.specs.Lines.{Lines, lines_of}
 use Rattle.subsetter_instance.specs.Plain.{drawn_all, header, laid, instance_in, by_flavor, instance_of}
-use Rattle.subsetter_instance.specs.Fault.{HasInstanceFault, in_opening, no_glyf, no_place, no_source, in_glyph, large_file}
+use Rattle.subsetter_instance.specs.Fault.{HasInstanceFault, in_opening, no_glyf, no_place, other_version, no_source, in_glyph, no_lines, large_file}
 use Rattle.subsetter_instance.specs.Answer.{HasNoAnswer}
 use Rattle.subsetter_instance.proofs.FaultLaws.Opening.{same_find, unflavored, is_cff}
 use Rattle.subsetter_instance.proofs.FaultLaws.Glyph.{not_all_drawn}
-use Rattle.subsetter_instance.proofs.FileLaws.Steps.{laid_tables, source_steps}
+use Rattle.subsetter_instance.proofs.FileLaws.Steps.{laid_tables, source_read, source_refused, source_steps}
 
 -- a file that isn't laid out is too large
 pub not_laid : (kind : ℕ) (ts : List Table) (e : Error) → file_of kind ts ≡ Err e → (fits (start_of ts) ts ≡ false) × (OverflowError ≡ e)
@@ -41,38 +41,45 @@ module _ (font : Font) (settings : List (Tag × ℤ)) (glyphs : List ℕ) (steps
   Faulty = HasInstanceFault font settings glyphs steps e
 
   module _ (at : List ℤ) (s : Source) (placed : place (stored font) settings ≡ Ok at) (read : source_in (stored font) (length at) ≡ Some s) where
-    unlaid : (ds : List Drawn) → drawn_all s at steps glyphs ≡ Ok ds → laid (stored font) s glyphs ds ≡ Err e → Faulty
+    unlaid : (ds : List Drawn) (l : Lines) → drawn_all s at steps glyphs ≡ Ok ds → lines_of (stored font) at ≡ Ok l → laid (stored font) l s glyphs ds ≡ Err e → Faulty
     unfolding laid
-    unlaid ds drawn h =
+    unlaid ds l drawn varies h =
         let t = source_steps (stored font) (length at) s read in
-        elim (bind_err (header (stored font) (codes "head")) (λ head. header (stored font) (codes "hhea") >>= λ hhea. file_of (kind_word TrueType) (laid_tables (stored font) s glyphs ds head hhea)) e h) [
+        elim (bind_err (header (stored font) (codes "head")) (λ head. file_of (kind_word TrueType) (laid_tables (stored font) l s glyphs ds head)) e h) [
           | inl k ↦ absurd (not_missing (stored font) (codes "head") t.head e t.head_is k)
-          | inr k ↦ elim (bind_err (header (stored font) (codes "hhea")) (λ hhea. file_of (kind_word TrueType) (laid_tables (stored font) s glyphs ds k.0 hhea)) e k.2) [
-            | inl l ↦ absurd (not_missing (stored font) (codes "hhea") t.hhea e t.hhea_is l)
-            | inr l ↦
-                let n = not_laid (kind_word TrueType) (laid_tables (stored font) s glyphs ds k.0 l.0) e l.2 in
-                subst (HasInstanceFault font settings glyphs steps) n.1 (large_file at s ds k.0 l.0 placed read drawn (named_ok (stored font (codes "head")) MalformedFont k.0 k.1) (named_ok (stored font (codes "hhea")) MalformedFont l.0 l.1) n.0)
-          ]
+          | inr k ↦
+              let n = not_laid (kind_word TrueType) (laid_tables (stored font) l s glyphs ds k.0) e k.2 in
+              subst (HasInstanceFault font settings glyphs steps) n.1 (large_file at s ds l k.0 placed read drawn varies (named_ok (stored font (codes "head")) MalformedFont k.0 k.1) n.0)
         ]
 
-    unmade : (drawn_all s at steps glyphs >>= λ ds. laid (stored font) s glyphs ds) ≡ Err e → Faulty
+    unvaried : (ds : List Drawn) → drawn_all s at steps glyphs ≡ Ok ds → (lines_of (stored font) at >>= λ l. laid (stored font) l s glyphs ds) ≡ Err e → Faulty
+    unvaried ds drawn h =
+        elim (bind_err (lines_of (stored font) at) (λ l. laid (stored font) l s glyphs ds) e h) [
+          | inl k ↦ no_lines at placed k
+          | inr k ↦ unlaid ds k.0 drawn k.1 k.2
+        ]
+
+    unmade : (drawn_all s at steps glyphs >>= λ ds. lines_of (stored font) at >>= λ l. laid (stored font) l s glyphs ds) ≡ Err e → Faulty
     unmade h =
-        elim (bind_err (drawn_all s at steps glyphs) (λ ds. laid (stored font) s glyphs ds) e h) [
+        elim (bind_err (drawn_all s at steps glyphs) (λ ds. lines_of (stored font) at >>= λ l. laid (stored font) l s glyphs ds) e h) [
           | inl k ↦ let u = not_all_drawn s at steps glyphs e k in in_glyph at s u.g placed read u.there u.fault
-          | inr k ↦ unlaid k.0 k.1 k.2
+          | inr k ↦ unvaried k.0 k.1 k.2
         ]
 
-  unread : (at : List ℤ) → place (stored font) settings ≡ Ok at → (ok_or (source_in (stored font) (length at)) MalformedFont >>= λ s. drawn_all s at steps glyphs >>= λ ds. laid (stored font) s glyphs ds) ≡ Err e → Faulty
+  unread : (at : List ℤ) → place (stored font) settings ≡ Ok at → (source_or_fault (stored font) (length at) >>= λ s. drawn_all s at steps glyphs >>= λ ds. lines_of (stored font) at >>= λ l. laid (stored font) l s glyphs ds) ≡ Err e → Faulty
   unread at placed h =
-      elim (bind_err (ok_or (source_in (stored font) (length at)) MalformedFont) (λ s. drawn_all s at steps glyphs >>= λ ds. laid (stored font) s glyphs ds) e h) [
-        | inl k ↦ let n = named_err (source_in (stored font) (length at)) MalformedFont e k in subst (HasInstanceFault font settings glyphs steps) n.1 (no_source at placed n.0)
-        | inr k ↦ unmade at k.0 placed (named_ok (source_in (stored font) (length at)) MalformedFont k.0 k.1) k.2
+      elim (bind_err (source_or_fault (stored font) (length at)) (λ s. drawn_all s at steps glyphs >>= λ ds. lines_of (stored font) at >>= λ l. laid (stored font) l s glyphs ds) e h) [
+        | inl k ↦ elim (source_refused (stored font) (length at) e k) [
+          | inl n ↦ subst (HasInstanceFault font settings glyphs steps) n.1 (other_version n.0)
+          | inr n ↦ subst (HasInstanceFault font settings glyphs steps) n.1 (no_source at placed n.0)
+        ]
+        | inr k ↦ unmade at k.0 placed (source_read (stored font) (length at) k.0 k.1).1 k.2
       ]
 
   in_tables : instance_in (stored font) settings glyphs steps ≡ Err e → Faulty
   unfolding instance_in
   in_tables h =
-      elim (bind_err (place (stored font) settings) (λ at. ok_or (source_in (stored font) (length at)) MalformedFont >>= λ s. drawn_all s at steps glyphs >>= λ ds. laid (stored font) s glyphs ds) e h) [
+      elim (bind_err (place (stored font) settings) (λ at. source_or_fault (stored font) (length at) >>= λ s. drawn_all s at steps glyphs >>= λ ds. lines_of (stored font) at >>= λ l. laid (stored font) l s glyphs ds) e h) [
         | inl k ↦ no_place k
         | inr k ↦ unread k.0 k.1 k.2
       ]

@@ -13,6 +13,7 @@ use Rattle.subsetter_sfnt.specs.Written.{Table, IsTable, with_adjustment, kind_w
 use Rattle.subsetter_sfnt.proofs.Laws.Rows.{HasRoom, rows_tables}
 use Rattle.subsetter_instance.specs.Source.{Source}
 use Rattle.subsetter_instance.specs.Drawn.{Drawn}
+use Rattle.subsetter_instance.specs.Lines.{Lines, with_lines}
 use Rattle.subsetter_instance.specs.Plain.{laid}
 use Rattle.subsetter_instance.specs.Written.{by_glyph, glyf_bytes, head_bytes, is_long, tables}
 use Rattle.subsetter_instance.proofs.FileLaws.Head.{head_zeros, head_room}
@@ -23,27 +24,27 @@ found_by None r found e is h = absurd cc
 found_by (Some x) r found e is h = sym is ∙ ap (λ (y : Bor _). Some y.now) (done_is x r h)
 
 -- head of an instance has zeros for the adjustment
-pub has_room : (long : Bool) (head : List ℕ) → 52 ≤ length head → HasRoom (Some (head_bytes long head))
-has_room long head le bytes is = subst (λ b. (12 ≤ length b) × (with_adjustment 0 b ≡ b)) (just_is (head_bytes long head) bytes is) (head_room long head le, head_zeros long head le)
+pub has_room : (long : Bool) (ds : List Drawn) (head : List ℕ) → 52 ≤ length head → HasRoom (Some (head_bytes long ds head))
+has_room long ds head le bytes is = subst (λ b. (12 ≤ length b) × (with_adjustment 0 b ≡ b)) (just_is (head_bytes long ds head) bytes is) (head_room long ds head le, head_zeros long ds head le)
 
-module _ (find : List ℕ → Option (List ℕ)) (s : Source) (glyphs : List ℕ) (ds : List Drawn) (head hhea : List ℕ) (at_head : find (codes "head") ≡ Some head) (at_hhea : find (codes "hhea") ≡ Some hhea) where
+module _ (find : List ℕ → Option (List ℕ)) (lines : Lines) (s : Source) (glyphs : List ℕ) (ds : List Drawn) (head : List ℕ) (at_head : find (codes "head") ≡ Some head) where
   -- the tables of the file
   abbrev pub font : FontTables
-  font = tables find head hhea s.count ds (by_glyph glyphs ds s.count)
+  font = tables (with_lines find lines) head lines.hhea s.count ds (by_glyph glyphs ds s.count)
 
-  pub laid_is : laid find s glyphs ds ≡ file_of (kind_word TrueType) (present (rows font))
+  pub laid_is : laid find lines s glyphs ds ≡ file_of (kind_word TrueType) (present (rows font))
   unfolding laid
-  laid_is = rw (at_head, at_hhea) refl
+  laid_is = rw at_head refl
 
   pub font_tables : 52 ≤ length head → AllByRecursion IsTable (present (rows font))
-  font_tables le = rows_tables font (has_room (is_long (glyf_bytes (by_glyph glyphs ds s.count))) head le)
+  font_tables le = rows_tables font (has_room (is_long (glyf_bytes (by_glyph glyphs ds s.count))) ds head le)
 
-  module _ (ts : List Table) (t : FontTables) (n : ℕ) (count : n ≡ s.count) (is : ts ≡ present (rows t)) (made : t ≡ tables find head hhea n ds (by_glyph glyphs ds n)) where
+  module _ (ts : List Table) (t : FontTables) (n : ℕ) (count : n ≡ s.count) (is : ts ≡ present (rows t)) (made : t ≡ tables (with_lines find lines) head lines.hhea n ds (by_glyph glyphs ds n)) where
     same : ts ≡ present (rows font)
-    same = is ∙ ap (λ x. present (rows x)) (made ∙ ap (λ k. tables find head hhea k ds (by_glyph glyphs ds k)) count)
+    same = is ∙ ap (λ x. present (rows x)) (made ∙ ap (λ k. tables (with_lines find lines) head lines.hhea k ds (by_glyph glyphs ds k)) count)
 
     pub all_tables : IfSome (find (codes "head")) (λ h. 52 ≤ length h) → AllByRecursion IsTable ts
     all_tables room = subst (AllByRecursion IsTable) (sym same) (font_tables (subst (λ o. IfSome o (λ h. 52 ≤ length h)) at_head room))
 
-    pub plainly : file_of (kind_word TrueType) ts ≡ laid find s glyphs ds
+    pub plainly : file_of (kind_word TrueType) ts ≡ laid find lines s glyphs ds
     plainly = ap (file_of (kind_word TrueType)) same ∙ sym laid_is

@@ -1,15 +1,19 @@
 -- `hmtx`, `hhea` and `maxp` that were written are read back.
 use Rattle.std.proofs.Common.{◌≡◌, ℕ, zero, suc, ◌+◌, ◌*◌, ◌^◌, ◌<◌, ◌≤◌, Bool, true, List, [], ◌∷◌, ◌++◌, length, get_or, take, drop, Option, Some, None, refl, sym, ap, ◌∙◌, append_assoc, cond, arith}
+use Rattle.std.specs.Prelude.{slice_range}
 use Rattle.std.specs.List.{flat_map}
 use Rattle.std.specs.Int.{w16, w32, to_be_bytes, cast_unsigned}
 use Rattle.std.proofs.lemmas.Bool.{lt-ltb}
-use Rattle.std.proofs.lemmas.List.{length-append, length-take-le, length-drop, take_at, drop_at}
+use Rattle.std.proofs.lemmas.List.{length-append, length-take, length-take-le, length-drop, take_at, drop_at}
 use Rattle.subsetter_base.specs.Bytes.{number}
 use Rattle.subsetter_base.proofs.ByteLemmas.{be-u16, number_at}
 use Rattle.subsetter_instance.specs.declared.source.Metric.{Metric}
 use Rattle.subsetter_instance.specs.Source.{Source, metric_at, metric}
+use Rattle.subsetter_instance.specs.declared.extremes.Extents.{Extents}
 use Rattle.subsetter_instance.specs.Drawn.{Drawn}
+use Rattle.subsetter_instance.specs.Extremes.{all_extents, widest, side_bytes, extreme_bytes}
 use Rattle.subsetter_instance.specs.Written.{metric_bytes, hmtx_bytes, hhea_bytes, most_points, most_contours, maxp_bytes}
+use Rattle.subsetter_instance.proofs.FileLaws.Head.{slice_at}
 
 -- ---- hmtx
 
@@ -55,21 +59,60 @@ metric_back t all i d is lt at small_a small_b =
 
 -- ---- hhea
 
-pub pairs_back : (n : ℕ) (hhea : List ℕ) → n < 2 ^ 16 → 36 ≤ length hhea → number (hhea_bytes n hhea) 34 2 ≡ Some n
-pairs_back n hhea small long =
-    number_at ((take 34 hhea ++ to_be_bytes w16 n) ++ drop 36 hhea) (take 34 hhea) (to_be_bytes w16 n) (drop 36 hhea) 34 2 n (append_assoc (take 34 hhea) (to_be_bytes w16 n) (drop 36 hhea)) (sym (length-take-le 34 hhea (omega arith))) refl (be-u16 n small)
+six_bytes : (e : Option Extents) → length (side_bytes e) ≡ 6
+six_bytes None = refl
+six_bytes (Some e) = refl
 
-pub hhea_length : (n : ℕ) (hhea : List ℕ) → 36 ≤ length hhea → length (hhea_bytes n hhea) ≡ length hhea
-hhea_length n hhea long =
-    omega (arith, length-append (take 34 hhea ++ to_be_bytes w16 n) (drop 36 hhea), length-append (take 34 hhea) (to_be_bytes w16 n), length-take-le 34 hhea (omega arith), length-drop 36 hhea)
+eight_bytes : (ds : List Drawn) → length (extreme_bytes ds) ≡ 8
+eight_bytes ds = omega (arith, length-append (to_be_bytes w16 (widest ds)) (side_bytes (all_extents ds)), six_bytes (all_extents ds))
 
-pub hhea_front : (n : ℕ) (hhea : List ℕ) → 36 ≤ length hhea → take 34 (hhea_bytes n hhea) ≡ take 34 hhea
-hhea_front n hhea long =
-    ap (λ (l : List ℕ). take 34 l) (append_assoc (take 34 hhea) (to_be_bytes w16 n) (drop 36 hhea)) ∙ take_at (take 34 hhea) (to_be_bytes w16 n ++ drop 36 hhea) 34 (length-take-le 34 hhea (omega arith))
+-- what stands before numberOfHMetrics
+abbrev front_bytes : List Drawn → List ℕ → List ℕ
+front_bytes ds hhea = take 10 hhea ++ extreme_bytes ds ++ slice_range hhea 18 34
 
-pub hhea_end : (n : ℕ) (hhea : List ℕ) → 36 ≤ length hhea → drop 36 (hhea_bytes n hhea) ≡ drop 36 hhea
-hhea_end n hhea long =
-    drop_at (take 34 hhea ++ to_be_bytes w16 n) (drop 36 hhea) 36 (omega (arith, length-append (take 34 hhea) (to_be_bytes w16 n), length-take-le 34 hhea (omega arith)))
+module _ (n : ℕ) (ds : List Drawn) (hhea : List ℕ) (long : 36 ≤ length hhea) where
+  abbrev front : List ℕ
+  front = take 10 hhea
+
+  abbrev middle : List ℕ
+  middle = slice_range hhea 18 34
+
+  abbrev behind : List ℕ
+  behind = to_be_bytes w16 n ++ drop 36 hhea
+
+  length-front : length front ≡ 10
+  length-front = length-take-le 10 hhea (omega arith)
+
+  length-middle : length middle ≡ 16
+  length-middle = omega (arith, length-take 16 (drop 18 hhea), length-drop 18 hhea)
+
+  length-before : length (front_bytes ds hhea) ≡ 34
+  length-before = omega (arith, length-append (front ++ extreme_bytes ds) middle, length-append front (extreme_bytes ds), length-front, eight_bytes ds, length-middle)
+
+  whole : hhea_bytes n ds hhea ≡ front_bytes ds hhea ++ behind
+  whole = append_assoc (front_bytes ds hhea) (to_be_bytes w16 n) (drop 36 hhea)
+
+  in_parts : hhea_bytes n ds hhea ≡ front ++ (extreme_bytes ds ++ (middle ++ behind))
+  in_parts = whole ∙ append_assoc (front ++ extreme_bytes ds) middle behind ∙ append_assoc front (extreme_bytes ds) (middle ++ behind)
+
+  pub pairs_back : n < 2 ^ 16 → number (hhea_bytes n ds hhea) 34 2 ≡ Some n
+  pairs_back small = number_at (hhea_bytes n ds hhea) (front_bytes ds hhea) (to_be_bytes w16 n) (drop 36 hhea) 34 2 n whole (sym length-before) refl (be-u16 n small)
+
+  pub hhea_length : length (hhea_bytes n ds hhea) ≡ length hhea
+  hhea_length = omega (arith, length-append (front_bytes ds hhea ++ to_be_bytes w16 n) (drop 36 hhea), length-append (front_bytes ds hhea) (to_be_bytes w16 n), length-before, length-drop 36 hhea)
+
+  pub hhea_front : take 10 (hhea_bytes n ds hhea) ≡ take 10 hhea
+  hhea_front = ap (take 10) in_parts ∙ take_at front (extreme_bytes ds ++ (middle ++ behind)) 10 length-front
+
+  pub hhea_extremes : slice_range (hhea_bytes n ds hhea) 10 18 ≡ extreme_bytes ds
+  hhea_extremes = slice_at _ front (extreme_bytes ds) (middle ++ behind) 10 8 in_parts length-front (eight_bytes ds)
+
+  pub hhea_middle : slice_range (hhea_bytes n ds hhea) 18 34 ≡ slice_range hhea 18 34
+  hhea_middle =
+      slice_at _ (front ++ extreme_bytes ds) middle behind 18 16 (in_parts ∙ sym (append_assoc front (extreme_bytes ds) (middle ++ behind))) (omega (arith, length-append front (extreme_bytes ds), length-front, eight_bytes ds)) length-middle
+
+  pub hhea_end : drop 36 (hhea_bytes n ds hhea) ≡ drop 36 hhea
+  hhea_end = drop_at (front_bytes ds hhea ++ to_be_bytes w16 n) (drop 36 hhea) 36 (omega (arith, length-append (front_bytes ds hhea) (to_be_bytes w16 n), length-before))
 
 -- ---- maxp
 

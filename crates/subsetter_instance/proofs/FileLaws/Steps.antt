@@ -1,12 +1,13 @@
 -- The steps of the plain way to an instance.
-use Rattle.std.proofs.Common.{◌≡◌, ℕ, Bool, true, false, cond, List, length, Option, Some, None, Ok, Err, ℤ, refl, sym, ap, subst, ◌∙◌}
+use Rattle.std.proofs.Common.{◌≡◌, ℕ, Bool, true, false, cond, List, length, Option, Some, None, Ok, Err, ℤ, refl, sym, ap, subst, ◌∙◌, ◌⊎◌, inl, inr}
 use Rattle.std.specs.Prelude.{codes, not, ◌==◌}
 use Rattle.std.specs.Option.{option_and_then, ok_or}
 use Rattle.subsetter_base.specs.Bytes.{number, ◌>>=◌}
 use Rattle.subsetter_base.specs.declared.tag.Tag.{Tag}
-use Rattle.subsetter_base.specs.declared.error.Error.TheVariants.{MalformedFont, OverflowError}
+use Rattle.subsetter_base.specs.declared.error.Error.{Error}
+use Rattle.subsetter_base.specs.declared.error.Error.TheVariants.{MalformedFont, Unimplemented, OverflowError}
 use Rattle.subsetter_base.proofs.Options.{just_is, bind_some}
-use Rattle.subsetter_base.proofs.Results.{done_is, bind_ok, named_ok}
+use Rattle.subsetter_base.proofs.Results.{done_is, failed_is, bind_ok, named_ok, named_err}
 use Rattle.subsetter_sfnt.specs.declared.flavor.FontFlavor.{FontFlavor}
 use Rattle.subsetter_sfnt.specs.declared.flavor.FontFlavor.TheVariants.{TrueType, Cff}
 use Rattle.subsetter_sfnt.specs.Plain.{opened, flavored, file_of}
@@ -15,9 +16,10 @@ use Rattle.subsetter_sfnt.specs.Rows.{rows, present}
 use Rattle.subsetter_sfnt.specs.Written.{Table, fits, file, start_of, kind_word}
 use Rattle.subsetter_sfnt.proofs.Laws.Fault.{opened_records}
 use Rattle.subsetter_variation.specs.Tuples.{Gvar}
-use Rattle.subsetter_instance.specs.Source.{Source, place, source_in, variations_in}
+use Rattle.subsetter_instance.specs.Source.{Source, has_other_version, place, source_in, source_or_fault, variations_in}
 use Rattle.subsetter_instance.specs.Drawn.{Drawn}
 use Rattle.subsetter_instance.specs.Plain.{drawn_all, header, laid, instance_in, by_flavor, instance_of}
+use Rattle.subsetter_instance.specs.Lines.{Lines, lines_of, with_lines}
 use Rattle.subsetter_instance.specs.Written.{by_glyph, tables}
 
 -- ---- the source
@@ -101,6 +103,22 @@ module _ (find : List ℕ → Option (List ℕ)) (axes : ℕ) where
       let w = widths s a.0 b.0 d.0 e.0 e.2 in
       record { head = c.0; head_is = c.1; format = d.0; format_is = d.1; maxp = e.0; maxp_is = e.1; count_is = w.count_is; hhea = w.hhea; hhea_is = w.hhea_is; pairs_is = w.pairs_is }
 
+-- tables of version 1 that were read
+pub source_read : (find : List ℕ → Option (List ℕ)) (axes : ℕ) (s : Source) → source_or_fault find axes ≡ Ok s → (has_other_version find ≡ false) × (source_in find axes ≡ Some s)
+source_read find axes s h = by (has_other_version find) refl h
+  where
+    by : (b : Bool) → has_other_version find ≡ b → cond b (Err Unimplemented) (ok_or (source_in find axes) MalformedFont) ≡ Ok s → (has_other_version find ≡ false) × (source_in find axes ≡ Some s)
+    by true e k = absurd cc
+    by false e k = (e, named_ok (source_in find axes) MalformedFont s k)
+
+-- and tables that weren't
+pub source_refused : (find : List ℕ → Option (List ℕ)) (axes : ℕ) (e : Error) → source_or_fault find axes ≡ Err e → ((has_other_version find ≡ true) × (Unimplemented ≡ e)) ⊎ ((source_in find axes ≡ None) × (MalformedFont ≡ e))
+source_refused find axes e h = by (has_other_version find) refl h
+  where
+    by : (b : Bool) → has_other_version find ≡ b → cond b (Err Unimplemented) (ok_or (source_in find axes) MalformedFont) ≡ Err e → ((has_other_version find ≡ true) × (Unimplemented ≡ e)) ⊎ ((source_in find axes ≡ None) × (MalformedFont ≡ e))
+    by true t k = inl (t, failed_is {A = Source} Unimplemented e k)
+    by false t k = inr (named_err (source_in find axes) MalformedFont e k)
+
 -- the tables of the file, read for no axes: what isn't there doesn't vary
 pub source_by : (find : List ℕ → Option (List ℕ)) (glyf loca head : List ℕ) (format : ℕ) (maxp : List ℕ) (count : ℕ) (hhea : List ℕ) (pairs : ℕ) (hmtx : List ℕ) → find (codes "glyf") ≡ Some glyf → find (codes "loca") ≡ Some loca → find (codes "head") ≡ Some head → number head 50 2 ≡ Some format
     → find (codes "maxp") ≡ Some maxp → number maxp 4 2 ≡ Some count → find (codes "hhea") ≡ Some hhea → number hhea 34 2 ≡ Some pairs → find (codes "hmtx") ≡ Some hmtx → find (codes "gvar") ≡ None → find (codes "HVAR") ≡ None
@@ -121,43 +139,46 @@ file_steps kind ts out h = by (fits (start_of ts) ts) refl h
 -- ---- all
 
 -- the tables that are laid out
-abbrev pub laid_tables : (List ℕ → Option (List ℕ)) → Source → List ℕ → List Drawn → List ℕ → List ℕ → List Table
-laid_tables find s glyphs ds head hhea = present (rows (tables find head hhea s.count ds (by_glyph glyphs ds s.count)))
+abbrev pub laid_tables : (List ℕ → Option (List ℕ)) → Lines → Source → List ℕ → List Drawn → List ℕ → List Table
+laid_tables find lines s glyphs ds head = present (rows (tables (with_lines find lines) head lines.hhea s.count ds (by_glyph glyphs ds s.count)))
 
 pub record InstanceSteps (find : List ℕ → Option (List ℕ)) (settings : List (Tag × ℤ)) (glyphs : List ℕ) (steps : ℕ) (out : List ℕ) : Type 0 where
   pub at : List ℤ
   pub place_is : place find settings ≡ Ok at
+  pub known : has_other_version find ≡ false
   pub source : Source
   pub source_is : source_in find (length at) ≡ Some source
   pub ds : List Drawn
   pub drawn_is : drawn_all source at steps glyphs ≡ Ok ds
   pub head : List ℕ
   pub head_is : find (codes "head") ≡ Some head
-  pub hhea : List ℕ
-  pub hhea_is : find (codes "hhea") ≡ Some hhea
-  pub fit : fits (start_of (laid_tables find source glyphs ds head hhea)) (laid_tables find source glyphs ds head hhea) ≡ true
-  pub file_is : file (kind_word TrueType) (laid_tables find source glyphs ds head hhea) ≡ out
+  pub lines : Lines
+  pub lines_are : lines_of find at ≡ Ok lines
+  pub fit : fits (start_of (laid_tables find lines source glyphs ds head)) (laid_tables find lines source glyphs ds head) ≡ true
+  pub file_is : file (kind_word TrueType) (laid_tables find lines source glyphs ds head) ≡ out
 
 instance_steps : (find : List ℕ → Option (List ℕ)) (settings : List (Tag × ℤ)) (glyphs : List ℕ) (steps : ℕ) (out : List ℕ) → instance_in find settings glyphs steps ≡ Ok out → InstanceSteps find settings glyphs steps out
 unfolding instance_in laid
 instance_steps find settings glyphs steps out h =
-    let a = bind_ok (place find settings) (λ at. ok_or (source_in find (length at)) MalformedFont >>= λ s. drawn_all s at steps glyphs >>= λ ds. laid find s glyphs ds) out h in
-    let b = bind_ok (ok_or (source_in find (length a.0)) MalformedFont) (λ s. drawn_all s a.0 steps glyphs >>= λ ds. laid find s glyphs ds) out a.2 in
-    let c = bind_ok (drawn_all b.0 a.0 steps glyphs) (λ ds. laid find b.0 glyphs ds) out b.2 in
-    let d = bind_ok (header find (codes "head")) (λ head. header find (codes "hhea") >>= λ hhea. file_of (kind_word TrueType) (laid_tables find b.0 glyphs c.0 head hhea)) out c.2 in
-    let e = bind_ok (header find (codes "hhea")) (λ hhea. file_of (kind_word TrueType) (laid_tables find b.0 glyphs c.0 d.0 hhea)) out d.2 in
-    let f = file_steps (kind_word TrueType) (laid_tables find b.0 glyphs c.0 d.0 e.0) out e.2 in
+    let a = bind_ok (place find settings) (λ at. source_or_fault find (length at) >>= λ s. drawn_all s at steps glyphs >>= λ ds. lines_of find at >>= λ lines. laid find lines s glyphs ds) out h in
+    let b = bind_ok (source_or_fault find (length a.0)) (λ s. drawn_all s a.0 steps glyphs >>= λ ds. lines_of find a.0 >>= λ lines. laid find lines s glyphs ds) out a.2 in
+    let r = source_read find (length a.0) b.0 b.1 in
+    let c = bind_ok (drawn_all b.0 a.0 steps glyphs) (λ ds. lines_of find a.0 >>= λ lines. laid find lines b.0 glyphs ds) out b.2 in
+    let l = bind_ok (lines_of find a.0) (λ lines. laid find lines b.0 glyphs c.0) out c.2 in
+    let d = bind_ok (header find (codes "head")) (λ head. file_of (kind_word TrueType) (laid_tables find l.0 b.0 glyphs c.0 head)) out l.2 in
+    let f = file_steps (kind_word TrueType) (laid_tables find l.0 b.0 glyphs c.0 d.0) out d.2 in
     record {
       at = a.0;
       place_is = a.1;
+      known = r.0;
       source = b.0;
-      source_is = named_ok (source_in find (length a.0)) MalformedFont b.0 b.1;
+      source_is = r.1;
       ds = c.0;
       drawn_is = c.1;
       head = d.0;
       head_is = named_ok (find (codes "head")) MalformedFont d.0 d.1;
-      hhea = e.0;
-      hhea_is = named_ok (find (codes "hhea")) MalformedFont e.0 e.1;
+      lines = l.0;
+      lines_are = l.1;
       fit = f.0;
       file_is = f.1;
     }

@@ -13,6 +13,7 @@ use Rattle.subsetter_instance.specs.declared.source.Metric.{Metric}
 use Rattle.subsetter_instance.specs.Source.{Source, metric, source_in}
 use Rattle.subsetter_instance.specs.Unfolded.{Unfolded, unfolded}
 use Rattle.subsetter_instance.specs.Drawn.{Drawn, rounded, levels, drawn}
+use Rattle.subsetter_instance.specs.Lines.{Lines, lines_of}
 use Rattle.subsetter_instance.specs.Plain.{drawn_if, drawn_all, instance_of}
 use Rattle.subsetter_instance.specs.Answer.{IsTheAnswer}
 use Rattle.subsetter_instance.proofs.FileLaws.Among.{drawn_one}
@@ -51,10 +52,10 @@ by_steps find settings glyphs m n x y i j =
     let source : j.source ≡ i.source = just_is j.source i.source (sym j.source_is ∙ ap (λ (l : List ℤ). source_in find (length l)) at ∙ i.source_is) in
     let ds : i.ds ≡ j.ds = all_alike i.source i.at m n glyphs i.ds j.ds i.drawn_is (ap (λ (l : List ℤ). drawn_all i.source l n glyphs) (sym at) ∙ ap (λ (s : Source). drawn_all s j.at n glyphs) (sym source) ∙ j.drawn_is) in
     let head : i.head ≡ j.head = just_is i.head j.head (sym i.head_is ∙ j.head_is) in
-    let hhea : i.hhea ≡ j.hhea = just_is i.hhea j.hhea (sym i.hhea_is ∙ j.hhea_is) in
+    let lines : i.lines ≡ j.lines = done_is i.lines j.lines (sym i.lines_are ∙ ap (lines_of find) (sym at) ∙ j.lines_are) in
     sym i.file_is
-    ∙ ap (λ (s : Source). file (kind_word TrueType) (laid_tables find s glyphs i.ds i.head i.hhea)) (sym source) ∙ ap (λ (l : List Drawn). file (kind_word TrueType) (laid_tables find j.source glyphs l i.head i.hhea)) ds
-    ∙ ap (λ (l : List ℕ). file (kind_word TrueType) (laid_tables find j.source glyphs j.ds l i.hhea)) head ∙ ap (λ (l : List ℕ). file (kind_word TrueType) (laid_tables find j.source glyphs j.ds j.head l)) hhea
+    ∙ ap (λ (s : Source). file (kind_word TrueType) (laid_tables find i.lines s glyphs i.ds i.head)) (sym source) ∙ ap (λ (l : List Drawn). file (kind_word TrueType) (laid_tables find i.lines j.source glyphs l i.head)) ds
+    ∙ ap (λ (l : List ℕ). file (kind_word TrueType) (laid_tables find i.lines j.source glyphs j.ds l)) head ∙ ap (λ (l : Lines). file (kind_word TrueType) (laid_tables find l j.source glyphs j.ds j.head)) lines
     ∙ j.file_is
 
 pub one_file : (font : Font) (settings : List (Tag × ℤ)) (glyphs : List ℕ) (m n : ℕ) (x y : List ℕ) → instance_of font settings glyphs m ≡ Ok x → instance_of font settings glyphs n ≡ Ok y → x ≡ y

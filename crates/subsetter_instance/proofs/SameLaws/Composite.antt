@@ -13,7 +13,7 @@ use Rattle.subsetter_instance.specs.declared.components.Component.{Component}
 use Rattle.subsetter_instance.specs.declared.source.Metric.{Metric}
 use Rattle.subsetter_instance.specs.Components.{component_at, components_at, offset_xs, offset_ys}
 use Rattle.subsetter_instance.specs.Source.{Source}
-use Rattle.subsetter_instance.specs.Unfolded.{Child, Composite, Unfolded, composite, joined, joined_or_fault, joined_parts, left_point, moved, near_or_fault, no_points, placed, right_point, unfolded_composite, with_part, with_phantoms}
+use Rattle.subsetter_instance.specs.Unfolded.{Child, Composite, Unfolded, composite, joined, joined_or_fault, joined_parts, left_point, moved, near_or_fault, no_points, placed, right_point, unfolded_composite, with_component, with_metrics, with_part, with_phantoms}
 use Rattle.subsetter_instance.proofs.SameLaws.Simple.{moved_alike, near_is, one_answer}
 
 -- the same of a glyph, whatever the steps
@@ -105,6 +105,9 @@ part_alike c x y before part m n a b e f =
     let near : p2.0.0 ≡ q2.0.0 = near_is p.0 m p2.0 p2.1 ∙ same ∙ sym (near_is q.0 n q2.0 q2.1) in
     joined_is before p2.0.0 p2.0.1 a p2.2 ∙ ap (joined_parts before) near ∙ sym (joined_is before q2.0.0 q2.0.1 b q2.2)
 
+component_alike : (c : Component) (x y : ℤ) (before part : Unfolded) (m n : ℕ) (a b : Unfolded × ℕ) → with_component c x y before part m ≡ Ok a → with_component c x y before part n ≡ Ok b → a.0 ≡ b.0
+component_alike c x y before part m n a b e f = part_alike c x y (with_metrics c.flags before part) part m n a b e f
+
 joined_alike : (child : Child) → IsAlike child → (cs : List Component) (k : ℕ) (xs ys : List ℤ) (a b u v : Unfolded × ℕ) → a.0 ≡ b.0 → joined child cs k xs ys a ≡ Ok u → joined child cs k xs ys b ≡ Ok v → u.0 ≡ v.0
 unfolding joined
 joined_alike child alike [] k xs ys a b u v h e f = sym (ap (λ (r : Unfolded × ℕ). r.0) (done_is a u e)) ∙ h ∙ ap (λ (r : Unfolded × ℕ). r.0) (done_is b v f)
@@ -112,13 +115,13 @@ joined_alike child alike (c ∷ cs) k xs ys a b u v h e f =
     let x = slice_index_or xs k (pos 0) in
     let y = slice_index_or ys k (pos 0) in
     let rest = λ (all : Unfolded × ℕ). joined child cs (k + 1) xs ys all in
-    let p = bind_ok (child a.1 c.glyph) (λ part. with_part c x y a.0 part.0 part.1 >>= rest) u e in
-    let q = bind_ok (child b.1 c.glyph) (λ part. with_part c x y b.0 part.0 part.1 >>= rest) v f in
+    let p = bind_ok (child a.1 c.glyph) (λ part. with_component c x y a.0 part.0 part.1 >>= rest) u e in
+    let q = bind_ok (child b.1 c.glyph) (λ part. with_component c x y b.0 part.0 part.1 >>= rest) v f in
     let part : p.0.0 ≡ q.0.0 = alike a.1 b.1 c.glyph p.0 q.0 p.1 q.1 in
-    let p2 = bind_ok (with_part c x y a.0 p.0.0 p.0.1) rest u p.2 in
-    let q2 = bind_ok (with_part c x y b.0 q.0.0 q.0.1) rest v q.2 in
-    let also : with_part c x y a.0 p.0.0 q.0.1 ≡ Ok q2.0 = ap (λ (z : Unfolded). with_part c x y z p.0.0 q.0.1) h ∙ ap (λ (z : Unfolded). with_part c x y b.0 z q.0.1) part ∙ q2.1 in
-    joined_alike child alike cs (k + 1) xs ys p2.0 q2.0 u v (part_alike c x y a.0 p.0.0 p.0.1 q.0.1 p2.0 q2.0 p2.1 also) p2.2 q2.2
+    let p2 = bind_ok (with_component c x y a.0 p.0.0 p.0.1) rest u p.2 in
+    let q2 = bind_ok (with_component c x y b.0 q.0.0 q.0.1) rest v q.2 in
+    let also : with_component c x y a.0 p.0.0 q.0.1 ≡ Ok q2.0 = ap (λ (z : Unfolded). with_component c x y z p.0.0 q.0.1) h ∙ ap (λ (z : Unfolded). with_component c x y b.0 z q.0.1) part ∙ q2.1 in
+    joined_alike child alike cs (k + 1) xs ys p2.0 q2.0 u v (component_alike c x y a.0 p.0.0 p.0.1 q.0.1 p2.0 q2.0 p2.1 also) p2.2 q2.2
 
 -- a composite glyph
 pub composite_alike : (child : Child) → IsAlike child → (s : Source) (at : List ℤ) (m n g : ℕ) (bytes : List ℕ) (k : Metric) (u v : Unfolded × ℕ) → unfolded_composite child s at m g bytes k ≡ Ok u → unfolded_composite child s at n g bytes k ≡ Ok v → u.0 ≡ v.0

@@ -1,6 +1,6 @@
 -- The tables of a file of bytes are bytes.
-use Rattle.std.proofs.Common.{◌≡◌, ℕ, zero, suc, ◌/◌, ◌<◌, Bool, true, false, cond, List, ◌∷◌, ◌++◌, length, Option, Some, None, refl, subst, arith}
-use Rattle.std.specs.Prelude.{codes, nat_le, take, drop}
+use Rattle.std.proofs.Common.{◌≡◌, ℕ, zero, suc, ◌/◌, ◌<◌, Bool, true, false, cond, List, [], ◌∷◌, ◌++◌, length, Option, Some, None, refl, subst, arith}
+use Rattle.std.specs.Prelude.{codes, nat_le, replicate, take, drop}
 use Rattle.std.specs.Option.{option_and_then, option_map}
 use Rattle.std.specs.Str.{bytes_eq}
 use Rattle.std.specs.Int.{w32, to_be_bytes}
@@ -8,7 +8,7 @@ use Rattle.subsetter_base.specs.Bytes.{range, IsBytes}
 use Rattle.subsetter_base.proofs.ByteLemmas.{IsBytes-range, IsBytes-take, IsBytes-drop}
 use Rattle.subsetter_sfnt.specs.declared.face.TableRecord.{TableRecord}
 use Rattle.subsetter_base.proofs.Options.{just_is}
-use Rattle.subsetter_sfnt.specs.Extras.{is_program, without_glyph_names, by_hinting, by_names, by_glyph_names}
+use Rattle.subsetter_sfnt.specs.Extras.{bare_fields, is_program, no_instructions, without_glyph_names, without_instructions, by_hinting, by_names, by_glyph_names}
 use Rattle.subsetter_sfnt.specs.Read.{Font, records, directory_records, find_record, table_in, stored, table}
 
 pub table_in_bytes : (bytes directory tag found : List ℕ) → IsBytes bytes → table_in bytes directory tag ≡ Some found → IsBytes found
@@ -34,10 +34,6 @@ unfolding Holds
 left_out true o h found e = absurd cc
 left_out false o h found e = h found e
 
-by_hinting_bytes : (b : Bool) (tag : List ℕ) (o : Option (List ℕ)) → Holds o → Holds (by_hinting b tag o)
-by_hinting_bytes true tag o h = h
-by_hinting_bytes false tag o h = left_out (is_program tag) o h
-
 by_names_bytes : (b : Bool) (tag : List ℕ) (o : Option (List ℕ)) → Holds o → Holds (by_names b tag o)
 by_names_bytes true tag o h = h
 by_names_bytes false tag o h = left_out (bytes_eq tag (codes "name")) o h
@@ -45,6 +41,39 @@ by_names_bytes false tag o h = left_out (bytes_eq tag (codes "name")) o h
 IsBytes-cons : (x : ℕ) (rest : List ℕ) → x < 256 → IsBytes rest → IsBytes (x ∷ rest)
 IsBytes-cons x rest lt h zero = lt
 IsBytes-cons x rest lt h (suc i) = h i
+
+IsBytes-append : (xs ys : List ℕ) → IsBytes xs → IsBytes ys → IsBytes (xs ++ ys)
+IsBytes-append [] ys h k = k
+IsBytes-append (x ∷ xs) ys h k = IsBytes-cons x (xs ++ ys) (h 0) (IsBytes-append xs ys (λ i. h (suc i)) k)
+
+IsBytes-zeros : (n : ℕ) → IsBytes (replicate n 0)
+IsBytes-zeros zero = λ i. omega arith
+IsBytes-zeros (suc n) = IsBytes-cons 0 (replicate n 0) (omega arith) (IsBytes-zeros n)
+
+fields_bytes : (fields : List ℕ) → IsBytes fields → IsBytes (bare_fields fields)
+fields_bytes fields h = by (nat_le 22 (length fields))
+  where
+    none : IsBytes no_instructions
+    none = IsBytes-cons 0 (1 ∷ replicate 12 0) (omega arith) (IsBytes-cons 1 (replicate 12 0) (omega arith) (IsBytes-zeros 12))
+
+    by : (b : Bool) → IsBytes (cond b (take 8 fields ++ no_instructions ++ drop 22 fields) fields)
+    by true = IsBytes-append (take 8 fields ++ no_instructions) (drop 22 fields) (IsBytes-append (take 8 fields) no_instructions (IsBytes-take 8 fields h) none) (IsBytes-drop 22 fields h)
+    by false = h
+
+profile_of : (o : Option (List ℕ)) → Holds o → Holds (option_map without_instructions o)
+unfolding Holds
+profile_of None h found e = absurd cc
+profile_of (Some maxp) h found e =
+    let b = h maxp refl in
+    subst IsBytes (just_is (without_instructions maxp) found e) (IsBytes-append (take 6 maxp) (bare_fields (drop 6 maxp)) (IsBytes-take 6 maxp b) (fields_bytes (drop 6 maxp) (IsBytes-drop 6 maxp b)))
+
+by_hinting_bytes : (b : Bool) (tag : List ℕ) (o : Option (List ℕ)) → Holds o → Holds (by_hinting b tag o)
+by_hinting_bytes true tag o h = h
+by_hinting_bytes false tag o h = left_out (is_program tag) (cond (bytes_eq tag (codes "maxp")) (option_map without_instructions o) o) (by (bytes_eq tag (codes "maxp")))
+  where
+    by : (b : Bool) → Holds (cond b (option_map without_instructions o) o)
+    by true = profile_of o h
+    by false = h
 
 header_bytes : (bytes : List ℕ) → IsBytes bytes → IsBytes (without_glyph_names bytes)
 header_bytes bytes h = by (nat_le 32 (length bytes))

@@ -32,7 +32,11 @@ fn kind_at(file: &[u8], at: usize) -> Option<Kind> {
 
 /// Where the header of a collection's font stands.
 fn place_in_collection(file: &[u8], index: u32) -> Option<usize> {
-    let at = Reader::new_at(file, 12 + 4 * (index as usize)).read::<u32>()?;
+    let at = Reader::new_at(
+        file,
+        12usize.saturating_add(4usize.saturating_mul(index as usize)),
+    )
+    .read::<u32>()?;
     match kind_at(file, at as usize)? {
         Kind::Single => Some(at as usize),
         Kind::Collection => None,

@@ -3,7 +3,7 @@
 //!
 //! It begins with its version and numGlyphs; version 1.0, which goes with TrueType outlines, has further fields, and
 //! version 0.5, which goes with CFF outlines, has none. The new table has the new number, and the source's further fields
-//! where its version has any.
+//! where its version has any. Where hinting isn't asked for there is one zone, and the fields that bound instructions are 0.
 
 use crate::rattle::prelude::Vec;
 
@@ -27,11 +27,35 @@ fn further_fields(maxp: &[u8], flavor: FontFlavor) -> &[u8] {
     }
 }
 
+/// maxZones 1, and 0 for the six fields behind it, which bound instructions.
+const NO_INSTRUCTIONS: [u8; 14] = [0, 1, 0, 0, 0, 0, 0, 0, 0, 0, 0, 0, 0, 0];
+
+/// Writes the fields after numGlyphs, for outlines without instructions.
+fn write_bare(out: &mut Vec<u8>, fields: &[u8]) {
+    if fields.len() < 22 {
+        put(out, fields);
+    } else {
+        put(out, &fields[..8]);
+        put(out, &NO_INSTRUCTIONS);
+        put(out, &fields[22..]);
+    }
+}
+
+/// Writes the fields after numGlyphs, those that bound instructions only where hinting is asked for.
+fn write_fields(out: &mut Vec<u8>, fields: &[u8], hinting: bool) {
+    if hinting {
+        put(out, fields);
+    } else {
+        write_bare(out, fields);
+    }
+}
+
 /// The new table: the version of the outlines, the new number of glyphs, and the source's further fields.
 pub struct NewMaxp<'a> {
     source: &'a [u8],
     flavor: FontFlavor,
     count: u16,
+    hinting: bool,
 }
 
 impl<'a> NewMaxp<'a> {
@@ -44,13 +68,14 @@ impl<'a> NewMaxp<'a> {
     pub fn write(&self, out: &mut Vec<u8>) {
         put(out, &version(self.flavor).to_be_bytes());
         put(out, &self.count.to_be_bytes());
-        put(out, further_fields(self.source, self.flavor));
+        write_fields(out, further_fields(self.source, self.flavor), self.hinting);
     }
 }
 
 /// `maxp` of a subset of `count` glyphs, where the source has it. One under six bytes is `MalformedFont`.
 pub fn subset<'a>(
     maxp: Option<&'a [u8]>,
+    hinting: bool,
     flavor: FontFlavor,
     count: u16,
 ) -> Result<Option<NewMaxp<'a>>, Error> {
@@ -67,5 +92,6 @@ pub fn subset<'a>(
         source: maxp,
         flavor,
         count,
+        hinting,
     }))
 }

@@ -37,6 +37,15 @@ fn glyph_names<'a>(
     }
 }
 
+/// `maxp`, with the fields that bound instructions where hinting is asked for.
+fn max_profile<'a>(
+    face: &Face<'a>,
+    flavor: FontFlavor,
+    count: u16,
+) -> Result<Option<NewMaxp<'a>>, Error> {
+    maxp::subset(face.stored(Tag::MAXP), face.extras.hinting, flavor, count)
+}
+
 impl<'a> SharedTables<'a> {
     /// Makes the shared tables for an order of the glyphs. `long` says whether `loca` has the long format. The errors are
     /// those of `head`, `hmtx`, `maxp`, `name` and `post`, of the first that has one.
@@ -50,7 +59,7 @@ impl<'a> SharedTables<'a> {
         let head = head::subset(face.table(Tag::HEAD), long)?;
         let metrics = hmtx::subset(alloc, face.table(Tag::HHEA), face.table(Tag::HMTX), order)?;
         let count = order.num_gids();
-        let maxp = maxp::subset(face.table(Tag::MAXP), flavor, count)?;
+        let maxp = max_profile(face, flavor, count)?;
         let name = name::subset(alloc, face.table(Tag::NAME))?;
         let post = glyph_names(alloc, face, order)?;
         Ok(Self {

@@ -51,8 +51,8 @@ fn subset_cff(
 /// As `subset_with_limits`, where the new font has only those of its extras that are asked for.
 ///
 /// - Without `hinting` it has no `cvt `, `fpgm` and `prep`, and no outline in `glyf` has instructions. An outline whose
-///   instructions are cut stays as it is. `maxp` stays but for the count of the glyphs, and the hints of charstrings stay.
-///   A font whose instructions draw, as some old fonts for Chinese do, comes to wrong shapes without them.
+///   instructions are cut stays as it is. `maxp` bounds no instructions, and the hints of charstrings stay. A font whose
+///   instructions draw, as some old fonts for Chinese do, comes to wrong shapes without them.
 /// - Without `names` it has no `name`.
 /// - Without `glyph_names` its `post` has version 3.0, which names no glyph.
 ///

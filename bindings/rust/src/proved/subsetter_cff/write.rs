@@ -3,14 +3,14 @@
 
 pub(crate) mod charset;
 pub mod dicts;
-pub(crate) mod entries;
+pub mod entries;
 pub mod flat_index;
 pub(crate) mod font_dict;
 pub(crate) mod font_dict_remapper;
 pub mod front;
 pub mod kept_glyphs;
 pub mod kept_strings;
-pub(crate) mod matrix;
+pub mod matrix;
 pub mod parts;
 pub(crate) mod private_dict;
 pub(crate) mod sid_remapper;

@@ -8,7 +8,7 @@ use crate::proved::subsetter_base::Error;
 use crate::proved::subsetter_instance::components::{
     ends_with_phantoms, read_components, xs_with_phantoms, ys_with_phantoms, Component,
 };
-use crate::proved::subsetter_instance::placing::with_part;
+use crate::proved::subsetter_instance::placing::{with_metrics, with_part};
 use crate::proved::subsetter_instance::simple::{coordinate_at, left_point, moved, right_point};
 use crate::proved::subsetter_instance::source::{Metric, Source};
 use crate::proved::subsetter_instance::unfolding::Unfolded;
@@ -105,7 +105,7 @@ impl Composite {
         })
     }
 
-    /// The components before component k with itself, and the steps that are left.
+    /// The components before component k with itself, the phantom points of the last one with USE_MY_METRICS, and the steps that are left.
     pub fn with_component(
         &self,
         alloc: Global,
@@ -117,6 +117,7 @@ impl Composite {
     ) -> Result<(Unfolded, u32), Error> {
         let x = coordinate_at(&self.xs, k);
         let y = coordinate_at(&self.ys, k);
+        let before = with_metrics(component.flags, before, part);
         with_part(alloc, component, x, y, before, part, steps)
     }
 }

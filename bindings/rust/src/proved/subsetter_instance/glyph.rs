@@ -5,6 +5,7 @@ use crate::rattle::prelude::Vec;
 
 use crate::proved::subsetter_base::Error;
 use crate::proved::subsetter_instance::drawn::Drawn;
+use crate::proved::subsetter_instance::extremes::{glyph_extents, Extents};
 use crate::proved::subsetter_points::write_simple;
 
 impl Drawn {
@@ -16,6 +17,11 @@ impl Drawn {
     /// How many contours it has.
     pub fn contour_count(&self) -> usize {
         self.outline.ends.len()
+    }
+
+    /// Its extents, if it has contours.
+    pub fn extents(&self) -> Option<Extents> {
+        glyph_extents(self.advance, &self.outline.points)
     }
 
     /// Appends its description, of even length, to `glyf`.

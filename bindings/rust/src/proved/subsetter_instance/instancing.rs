@@ -8,7 +8,8 @@ use crate::rattle::prelude::Vec;
 use crate::proved::subsetter_base::{Error, GlyphRemapper, Tag};
 use crate::proved::subsetter_instance::drawn::draw_all;
 use crate::proved::subsetter_instance::file::laid;
-use crate::proved::subsetter_instance::source::{place, source_in};
+use crate::proved::subsetter_instance::lines::lines_of;
+use crate::proved::subsetter_instance::source::{place, source_or_fault};
 use crate::proved::subsetter_sfnt::extras::Extras;
 use crate::proved::subsetter_sfnt::face::Face;
 use crate::proved::subsetter_sfnt::flavor::{flavor, FontFlavor};
@@ -33,9 +34,10 @@ fn make(
     steps: u32,
 ) -> Result<Vec<u8>, Error> {
     let at = place(alloc, face, coordinates)?;
-    let source = source_in(face, at.len()).ok_or(Error::MalformedFont)?;
+    let source = source_or_fault(face, at.len())?;
     let drawn = draw_all(alloc, &source, &at, steps, mapper)?;
-    laid(alloc, face, &source, mapper, &drawn)
+    let lines = lines_of(alloc, face, &at)?;
+    laid(alloc, face, &source, mapper, &drawn, &lines)
 }
 
 /// A static TrueType font: the mapper's glyphs, glyph 0 among them, as a variable font has them at these coordinates, each
@@ -52,12 +54,12 @@ fn make(
 /// memory.
 ///
 /// - `UnknownKind`: the file doesn't begin with a known kind of font, or has none of `glyf`, `CFF ` and `CFF2`.
-/// - `Unimplemented`: the outlines aren't those of `glyf`; `avar` has a major version other than 1; or a glyph is made in a
-///   way that isn't taken.
-/// - `MalformedFont`: the directory, `fvar`, `avar`, `gvar` or `HVAR` is cut, or a table of outlines or metrics is missing or
+/// - `Unimplemented`: the outlines aren't those of `glyf`; `fvar`, `avar`, `gvar`, `HVAR` or `MVAR` has a major version
+///   other than 1; or a glyph is made in a way that isn't taken.
+/// - `MalformedFont`: the directory, `fvar`, `avar`, `gvar`, `HVAR` or `MVAR` is cut, or a table of outlines or metrics is missing or
 ///   cut; a glyph isn't one of the font's, or its description, its metric or its variations can't be read.
-/// - `OverflowError`: a glyph takes more than `steps`; a coordinate, the delta between two points or the advance doesn't fit
-///   its 16 bits; or the file passes 2^32 bytes.
+/// - `OverflowError`: a glyph takes more than `steps`; a coordinate, the delta between two points, the advance or a metric of `hhea`
+///   or `post` doesn't fit its 16 bits; or the file passes 2^32 bytes.
 pub fn instance(
     alloc: Global,
     data: &[u8],

@@ -5,11 +5,13 @@
 pub mod components;
 pub mod composite;
 pub mod drawn;
+pub mod extremes;
 pub mod file;
 pub mod glyph;
 pub mod headers;
 pub mod instancing;
 pub mod kept;
+pub mod lines;
 pub mod placing;
 pub mod simple;
 pub mod source;

@@ -9,8 +9,12 @@ use crate::proved::subsetter_instance::unfolding::Unfolded;
 use crate::proved::subsetter_variation::rounding::{minus, nearest, plus};
 use crate::rattle::alloc::{AllocError, Global};
 
+/// The glyph has the phantom points of the component.
+const USE_MY_METRICS: u16 = 0x0200;
 /// An offset is to be scaled by the matrix.
 const SCALED_COMPONENT_OFFSET: u16 = 0x0800;
+/// It isn't, which is the default.
+const UNSCALED_COMPONENT_OFFSET: u16 = 0x1000;
 
 /// A coordinate times a scale.
 fn product(scale: i16, v: i64) -> i64 {
@@ -55,11 +59,19 @@ fn all_ys(alloc: Global, m: Matrix, xs: &[i64], ys: &[i64]) -> Result<Vec<i64>, 
     Ok(all)
 }
 
-/// Whether an offset is to be scaled.
+/// Whether a matrix changes nothing.
+fn is_identity(m: Matrix) -> bool {
+    m.xx == 16384 && m.yx == 0 && m.xy == 0 && m.yy == 16384
+}
+
+/// Whether an offset is to be scaled. Where the flags say both, it isn't, as by default.
 fn is_scaled(flags: u16, matrix: Option<Matrix>) -> bool {
     match matrix {
         None => false,
-        Some(_) => has(flags, SCALED_COMPONENT_OFFSET),
+        Some(m) => {
+            has(flags, SCALED_COMPONENT_OFFSET)
+                && !(has(flags, UNSCALED_COMPONENT_OFFSET) || is_identity(m))
+        }
     }
 }
 
@@ -203,6 +215,24 @@ fn with_points(
     let scaled = is_scaled(component.flags, component.matrix);
     let (across, up) = shift_by(component.arguments, scaled, x, y, &before, xs, ys)?;
     joined_moved(before, part, across, up, xs, ys, steps)
+}
+
+/// The components before a component, with its phantom points where it has USE_MY_METRICS.
+pub fn with_metrics(flags: u16, before: Unfolded, part: &Unfolded) -> Unfolded {
+    if !has(flags, USE_MY_METRICS) {
+        return before;
+    }
+    let Unfolded {
+        ends, on, xs, ys, ..
+    } = before;
+    Unfolded {
+        ends,
+        on,
+        xs,
+        ys,
+        left: part.left,
+        right: part.right,
+    }
 }
 
 /// The components before a component, and itself, and the steps that are left.

@@ -6,7 +6,7 @@ use crate::rattle::prelude::Vec;
 use crate::proved::subsetter_base::read::Reader;
 use crate::proved::subsetter_base::{Error, Tag};
 use crate::proved::subsetter_sfnt::face::Face;
-use crate::proved::subsetter_variation::coordinates::coordinates;
+use crate::proved::subsetter_variation::coordinates::{coordinates, is_other_version};
 use crate::proved::subsetter_variation::tuples::{gvar_table, Gvar};
 use crate::rattle::alloc::Global;
 
@@ -32,7 +32,7 @@ pub struct Source<'a> {
 }
 
 /// The normalized coordinates for settings of user coordinates, each a tag and a value in 65536ths. A cut table is
-/// `MalformedFont`, a major version of `avar` other than 1 `Unimplemented`.
+/// `MalformedFont`, a major version of `fvar` or `avar` other than 1 `Unimplemented`.
 pub fn place(alloc: Global, face: &Face<'_>, settings: &[(Tag, i32)]) -> Result<Vec<i32>, Error> {
     match face.stored(Tag::new(b"fvar")) {
         None => Ok(Vec::new(alloc)),
@@ -78,6 +78,18 @@ pub fn source_in<'a>(face: &Face<'a>, axes: usize) -> Option<Source<'a>> {
         gvar,
         hvar: face.stored(Tag::new(b"HVAR")),
     })
+}
+
+/// The same. `Unimplemented` where `gvar`, `HVAR` or `MVAR` has a major version other than 1, else `MalformedFont` where a table is missing or
+/// cut.
+pub fn source_or_fault<'a>(face: &Face<'a>, axes: usize) -> Result<Source<'a>, Error> {
+    let gvar = face.stored(Tag::new(b"gvar"));
+    let hvar = face.stored(Tag::new(b"HVAR"));
+    let mvar = face.stored(Tag::new(b"MVAR"));
+    if is_other_version(gvar) || (is_other_version(hvar) || is_other_version(mvar)) {
+        return Err(Error::Unimplemented);
+    }
+    source_in(face, axes).ok_or(Error::MalformedFont)
 }
 
 /// The bytes between two offsets.

@@ -7,6 +7,9 @@ use crate::proved::subsetter_base::Error;
 use crate::proved::subsetter_points::deltas::delta_between;
 use crate::proved::subsetter_points::outline::Point;
 
+/// Contours of the glyph may overlap.
+const OVERLAP_SIMPLE: u8 = 0x40;
+
 /// The bits of a flag that say how a delta in x is encoded, the shortest way. Each is chosen by itself, as deltas come in no
 /// order that a processor could guess.
 fn x_bits(delta: i16) -> u8 {
@@ -30,20 +33,31 @@ fn y_bits(delta: i16) -> u8 {
     }
 }
 
-/// The flag of a point, by whether it is on the curve and its two deltas.
-fn flag_of(on_curve: bool, x: i16, y: i16) -> u8 {
-    u8::from(on_curve) + x_bits(x) + y_bits(y)
+/// The bit of a flag that says whether contours may overlap.
+fn overlap_bit(overlap: bool) -> u8 {
+    if overlap {
+        OVERLAP_SIMPLE
+    } else {
+        0
+    }
 }
 
-/// Writes the flag of each point.
+/// The flag of a point, by whether it says that contours may overlap, whether the point is on the curve, and its two deltas.
+fn flag_of(overlap: bool, on_curve: bool, x: i16, y: i16) -> u8 {
+    overlap_bit(overlap) + u8::from(on_curve) + x_bits(x) + y_bits(y)
+}
+
+/// Writes the flag of each point. The first one says that contours may overlap, as those of a variable font do at some places.
 pub fn write_flags(out: &mut Vec<u8>, points: &[Point]) -> Result<(), Error> {
     out.reserve(points.len())?;
+    let mut overlap = true;
     let mut x = 0;
     let mut y = 0;
     for point in points {
         let by_x = delta_between(x, point.x);
         let by_y = delta_between(y, point.y);
-        out.push_reserved(flag_of(point.on_curve, by_x, by_y));
+        out.push_reserved(flag_of(overlap, point.on_curve, by_x, by_y));
+        overlap = false;
         x = point.x;
         y = point.y;
     }

@@ -2,7 +2,7 @@
 //! Simple glyph descriptions of a `glyf` table as points, both ways: what an instance of a variable font needs, which moves the
 //! points of an outline and writes it anew.
 //!
-//! - [`read_simple`] reads the [`Outline`] of a simple glyph: its points, and the last point of each contour.
+//! - `read_simple` reads the [`Outline`] of a simple glyph: its points, and the last point of each contour.
 //! - [`read_columns`] reads the same as [`Columns`]: the flags and the coordinates, not joined.
 //! - [`fits`] says whether an outline can be written, and [`write_simple`] appends its bytes.
 //!

@@ -122,7 +122,7 @@ fn read_header(bytes: &[u8]) -> Option<(u16, &[u8])> {
     Some((contours, rest))
 }
 
-/// What [`read_simple`] reads, before the points are joined. Four more coordinates have room behind those of the points.
+/// What `read_simple` reads, before the points are joined. Four more coordinates have room behind those of the points.
 pub fn read_columns(alloc: Global, bytes: &[u8]) -> Result<Option<Columns>, Error> {
     if bytes.is_empty() {
         return Ok(Some(Columns::new(alloc)));

@@ -63,7 +63,7 @@ impl<'a> Face<'a> {
             || (!extras.names && tag == Tag::NAME)
     }
 
-    /// The bytes of a table other than `post`, if it is asked for.
+    /// The bytes of a table other than `maxp` and `post`, if it is asked for.
     pub fn table(&self, tag: Tag) -> Option<&'a [u8]> {
         if self.leaves_out(tag) {
             return None;

@@ -83,15 +83,15 @@ fn coordinates_by(
     }
 }
 
-/// Whether `avar` has another major version than 1.
-fn is_other_version(avar: Option<&[u8]>) -> bool {
-    let avar = match avar {
-        Some(avar) => avar,
+/// Whether a table is there and has another major version than 1.
+pub fn is_other_version(table: Option<&[u8]>) -> bool {
+    let table = match table {
+        Some(table) => table,
         _ => {
             return false;
         }
     };
-    let version = match Reader::new(avar).read::<u16>() {
+    let version = match Reader::new(table).read::<u16>() {
         Some(version) => version,
         _ => {
             return false;
@@ -101,14 +101,14 @@ fn is_other_version(avar: Option<&[u8]>) -> bool {
 }
 
 /// The coordinates on the axes of `fvar`, in 16384ths, for settings in 65536ths: the last one of an axis' tag, and else its
-/// default. A major version of `avar` other than 1 is `Unimplemented`, a cut table `MalformedFont`.
+/// default. A major version of `fvar` or `avar` other than 1 is `Unimplemented`, a cut table `MalformedFont`.
 pub fn coordinates(
     alloc: Global,
     fvar: &[u8],
     avar: Option<&[u8]>,
     settings: &[(Tag, i32)],
 ) -> Result<Vec<i32>, Error> {
-    if is_other_version(avar) {
+    if is_other_version(Some(fvar)) || is_other_version(avar) {
         return Err(Error::Unimplemented);
     }
     let axes = axes(alloc, fvar)?;

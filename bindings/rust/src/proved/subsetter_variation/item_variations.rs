@@ -33,6 +33,13 @@ pub struct Store<'a> {
     bytes: &'a [u8],
 }
 
+impl<'a> Store<'a> {
+    /// How many axes a region has.
+    pub fn axis_count(&self) -> u16 {
+        self.axis_count
+    }
+}
+
 /// A row of deltas in a store.
 struct Row<'a> {
     count: u16,
@@ -43,7 +50,7 @@ struct Row<'a> {
 }
 
 /// The signed number of two bytes.
-fn signed_at(bytes: &[u8], at: usize) -> i16 {
+pub fn signed_at(bytes: &[u8], at: usize) -> i16 {
     u16_at(bytes, at).to_signed()
 }
 
@@ -85,7 +92,7 @@ pub fn item_store(bytes: &[u8]) -> Option<Store<'_>> {
 }
 
 /// A region of the list.
-fn region_items<'a>(s: &Store<'a>, index: u16) -> Option<LazyArray16<'a, RegionAxis>> {
+pub fn region_items<'a>(s: &Store<'a>, index: u16) -> Option<LazyArray16<'a, RegionAxis>> {
     if index >= s.region_count {
         return None;
     }
@@ -102,7 +109,7 @@ fn coordinate_in(at: &[i32]) -> Option<(i32, &[i32])> {
 }
 
 /// The scalar of a region at a place, in parts of 2^30. The axes behind one that makes it 0 aren't read.
-fn region_scalar(region: LazyArray16<'_, RegionAxis>, at: &[i32]) -> i64 {
+pub fn region_scalar(region: LazyArray16<'_, RegionAxis>, at: &[i32]) -> i64 {
     let mut whole = 1073741824;
     let mut rest = at;
     for axis in region.iter() {
@@ -306,7 +313,7 @@ fn varied_advance(hvar: &[u8], at: &[i32], glyph: u16) -> Option<i128> {
 }
 
 /// Parts of 2^30 as whole units, unless there are too many.
-fn in_whole_units(d: i128) -> Result<i64, Error> {
+pub(crate) fn in_whole_units(d: i128) -> Result<i64, Error> {
     if d.unsigned_abs() < 1 << 62 {
         Ok(nearest(d as i64, 1 << 30))
     } else {

@@ -5,7 +5,8 @@
 //!
 //! - `coordinates::coordinates` turns user coordinates into normalized ones, by `fvar` and `avar`.
 //! - `tuples::gvar_table` opens `gvar`, and `movement::moved_points` says where the points of a glyph go, in a number of steps.
-//! - `item_variations::advance_delta` says what `HVAR` adds to an advance.
+//! - `item_variations::advance_delta` says what `HVAR` adds to an advance, and `font_metrics::metric_delta` what `MVAR` adds to a metric of
+//!   the whole font.
 //!
 //! ```text
 //! let at = coordinates(alloc, fvar, avar, &[(Tag::new(b"wght"), 650 * 65536)])?;
@@ -18,6 +19,7 @@
 pub mod axes;
 pub mod contour;
 pub mod coordinates;
+pub mod font_metrics;
 pub mod glyph;
 pub mod inference;
 pub mod item_variations;

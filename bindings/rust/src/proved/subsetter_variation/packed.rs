@@ -2,9 +2,9 @@
 //! Packed point numbers and packed deltas (OpenType, "Tuple Variation Store").
 //!
 //! The reading is strict: a run that goes on past its count, data past the glyph's, and a point number that isn't above
-//! the one before it, or not below the count of points, have no reading. `80 00` as a count of point numbers is no
-//! points: OpenType says that a first byte of 0 stands for all points, and that one with the high bit begins a count of
-//! two bytes, so 0 is then the number of points that follow.
+//! the one before it, or not below the count of points, have no reading. A count of 0 point numbers stands for all points,
+//! in one byte or in two (`80 00`), as in HarfBuzz and fontTools: OpenType says so of a first byte of 0 alone, and leaves the
+//! other open, which FreeType reads as no points.
 
 use crate::rattle::prelude::{Cast, Vec};
 
@@ -149,13 +149,7 @@ pub fn deltas(alloc: Global, n: usize, bytes: &[u8]) -> Result<(Vec<i16>, &[u8])
     Ok((list, rest))
 }
 
-/// The numbers that are listed, which ascend and are below the limit, and the bytes behind them.
-fn listed(alloc: Global, limit: u32, bytes: &[u8]) -> Result<(Vec<u32>, &[u8]), Error> {
-    let (count, first) = count_in(bytes).ok_or(Error::MalformedFont)?;
-    points_from(alloc, limit, count, first)
-}
-
-/// So many numbers.
+/// So many numbers, which ascend and are below the limit, and the bytes behind them.
 fn points_from(
     alloc: Global,
     limit: u32,
@@ -184,10 +178,10 @@ pub fn point_numbers(
     limit: u32,
     bytes: &[u8],
 ) -> Result<(Option<Vec<u32>>, &[u8]), Error> {
-    let (first, rest) = byte_in(bytes).ok_or(Error::MalformedFont)?;
-    if first == 0 {
-        return Ok((None, rest));
+    let (count, first) = count_in(bytes).ok_or(Error::MalformedFont)?;
+    if count == 0 {
+        return Ok((None, first));
     }
-    let (numbers, rest) = listed(alloc, limit, bytes)?;
+    let (numbers, rest) = points_from(alloc, limit, count, first)?;
     Ok((Some(numbers), rest))
 }

@@ -48,7 +48,7 @@ loop-point-preserved c =
     let hy = to_z-of_z w16 c.delta_between-by_y.result gy in
     let nx = deltas_next _ p.x (xs_of (drop i all)) (xs_of (drop (i + 1) all)) (ap xs_of d) c.loop-point.invariant.xs_fit in
     let ny = deltas_next _ p.y (ys_of (drop i all)) (ys_of (drop (i + 1) all)) (ap ys_of d) c.loop-point.invariant.ys_fit in
-    let more = flags_written c.loop-point.out.items c.push_reserved.new.self.items (to_z w16 c.loop-point.x-bits) (to_z w16 c.loop-point.y-bits) (drop i all) (drop (i + 1) all) p d (cc (ex, ey, hx, hy, c.push_reserved.ensures.items, c.flag_of.ensures, c.delta_between-by_x.ensures, c.delta_between-by_y.ensures)) in
+    let more = flags_written c.loop-point.out.items c.push_reserved.new.self.items c.loop-point.overlap (to_z w16 c.loop-point.x-bits) (to_z w16 c.loop-point.y-bits) (drop i all) (drop (i + 1) all) p d (cc (ex, ey, hx, hy, c.push_reserved.ensures.items, c.flag_of.ensures, c.delta_between-by_x.ensures, c.delta_between-by_y.ensures)) in
     record {
       written = cc (more, ex, ey, c.loop-point.invariant.written);
       room = omega (arith, c.loop-point.invariant.room, c.push_reserved.ensures.len, c.push_reserved.ensures.capacity);
@@ -60,4 +60,4 @@ pub returns-clause-ok : goal.returns-clause-ok
 returns-clause-ok c =
     let all = c.args.points.now in
     let i = c.loop-point.point-index in
-    sym (c.loop-point.invariant.written ∙ flags_written_end c.loop-point.out.items _ _ (drop i all) (drop_all i all (omega arith)))
+    sym (c.loop-point.invariant.written ∙ flags_written_end c.loop-point.out.items c.loop-point.overlap _ _ (drop i all) (drop_all i all (omega arith)))

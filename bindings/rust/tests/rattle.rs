@@ -1,0 +1,526 @@
+//! The stand-in for Rattle's library, by itself: what it answers, and that a refused request for memory is an error which
+//! leaves a list, a text or a map as it was.
+
+// The stand-in is no part of the crate's interface; what it has for the sources alone goes unused here.
+#[macro_use]
+#[allow(dead_code, unused_imports, unused_macros)]
+#[path = "../src/rattle/mod.rs"]
+mod rattle;
+#[cfg(feature = "program")]
+#[allow(dead_code, unused_imports)]
+#[path = "../src/host/mod.rs"]
+mod host;
+
+extern crate alloc;
+
+use rattle::alloc::{AllocError, Global};
+use rattle::borrow::CowSlice;
+use rattle::collections::HashMap;
+use rattle::prelude::{SliceExt, Vec};
+use std::alloc::{GlobalAlloc, Layout, System};
+use std::cell::Cell;
+use std::ptr::null_mut;
+
+thread_local! {
+    static LEFT: Cell<Option<usize>> = const { Cell::new(None) };
+    static REFUSED: Cell<bool> = const { Cell::new(false) };
+}
+
+/// The system's memory, but for the requests of a thread that it is told to refuse.
+struct Heap;
+
+fn is_refused() -> bool {
+    LEFT.with(|left| match left.get() {
+        Some(0) => {
+            REFUSED.with(|refused| refused.set(true));
+            true
+        }
+        Some(n) => {
+            left.set(Some(n - 1));
+            false
+        }
+        None => false,
+    })
+}
+
+// SAFETY: each call is the system's, or answers that there is no memory.
+unsafe impl GlobalAlloc for Heap {
+    unsafe fn alloc(&self, layout: Layout) -> *mut u8 {
+        if is_refused() {
+            return null_mut();
+        }
+        System.alloc(layout)
+    }
+
+    unsafe fn dealloc(&self, at: *mut u8, layout: Layout) {
+        System.dealloc(at, layout)
+    }
+
+    unsafe fn realloc(&self, at: *mut u8, layout: Layout, size: usize) -> *mut u8 {
+        if is_refused() {
+            return null_mut();
+        }
+        System.realloc(at, layout, size)
+    }
+}
+
+#[global_allocator]
+static HEAP: Heap = Heap;
+
+/// What a call answers where each request for memory but the first so many is refused, and whether one was.
+fn with<T>(requests: usize, call: impl FnOnce() -> T) -> (T, bool) {
+    REFUSED.with(|refused| refused.set(false));
+    LEFT.with(|left| left.set(Some(requests)));
+    let answer = call();
+    LEFT.with(|left| left.set(None));
+    (answer, REFUSED.with(|refused| refused.get()))
+}
+
+/// Calls with no request allowed, one, and so on until none is refused. Each answer must be an error while one is; how many
+/// were refused.
+fn each_refused<T, E>(mut call: impl FnMut() -> Result<T, E>) -> usize {
+    for requests in 0.. {
+        let (answer, was_refused) = with(requests, &mut call);
+        assert_eq!(answer.is_err(), was_refused, "{}", requests);
+        if !was_refused {
+            return requests;
+        }
+    }
+    unreachable!()
+}
+
+fn list(items: &[u8]) -> Vec<u8> {
+    Vec::from_slice(Global, items).unwrap()
+}
+
+#[test]
+fn lists_answer_as_rusts() {
+    let mut items = Vec::new(Global);
+    assert_eq!((items.len(), items.capacity(), items.pop()), (0, 0, None));
+    for item in 0..5u8 {
+        items.push(item).unwrap();
+    }
+    assert_eq!(items.as_slice(), [0, 1, 2, 3, 4]);
+    assert_eq!(items.pop(), Some(4));
+    items.extend_from_slice(&[7, 8]).unwrap();
+    items.resize(8, 9).unwrap();
+    assert_eq!(items.as_slice(), [0, 1, 2, 3, 7, 8, 9, 9]);
+    items.resize(3, 1).unwrap();
+    items.truncate(5);
+    assert_eq!(items.as_slice(), [0, 1, 2]);
+    items.reserve(9).unwrap();
+    assert!(items.capacity() >= 12);
+    items.push_reserved(5);
+    items.remove_front(2);
+    assert_eq!(items, list(&[2, 5]));
+    assert_eq!(items.clone().unwrap(), items);
+    items[0] = 6;
+    assert_eq!((&items).into_iter().copied().sum::<u8>(), 11);
+    for item in &mut items {
+        *item += 1;
+    }
+    assert_eq!(std::format!("{:?}", items), "[7, 6]");
+    items.clear();
+    assert!(items.is_empty() && items.capacity() >= 12);
+    assert_eq!(list(&[3, 4]).into_inner(), std::vec![3, 4]);
+    assert_eq!(
+        list(&[3, 4])
+            .into_iter()
+            .rev()
+            .collect::<std::vec::Vec<_>>(),
+        [4, 3]
+    );
+}
+
+#[test]
+fn lists_are_made_of_items() {
+    let made: Result<Vec<u16>, AllocError> = rattle_vec();
+    assert_eq!(made.unwrap().as_slice(), [5, 5, 5]);
+    assert_eq!(Vec::of(Global, 0u8, 3).unwrap().as_slice(), [0, 0, 0]);
+    assert_eq!(
+        Vec::from_items(Global, [1u8, 2]).unwrap().as_slice(),
+        [1, 2]
+    );
+    assert_eq!([1u8, 2].to_vec_with(Global).unwrap().as_slice(), [1, 2]);
+    assert_eq!(Vec::<u32>::with_capacity(Global, 7).unwrap().capacity(), 7);
+}
+
+fn rattle_vec() -> Result<Vec<u16>, AllocError> {
+    vec![in Global; 5; 3]
+}
+
+#[test]
+fn too_much_is_refused_and_not_a_panic() {
+    for count in [usize::MAX, usize::MAX / 2, usize::MAX / 8] {
+        assert!(Vec::<u64>::with_capacity(Global, count).is_err());
+        assert!(Vec::of(Global, 0u64, count).is_err());
+        let mut items = Vec::<u64>::from_items(Global, [1]).unwrap();
+        assert!(items.reserve(count).is_err());
+        assert!(items.resize(count, 0).is_err());
+        assert_eq!(items.as_slice(), [1]);
+    }
+    let mut much = Vec::of(Global, 0u8, 1 << 20).unwrap();
+    assert!(much.reserve(usize::MAX).is_err());
+    assert!(much.reserve(usize::MAX - (1 << 20)).is_err());
+    assert_eq!(much.len(), 1 << 20);
+}
+
+#[test]
+fn a_refused_request_leaves_a_list_as_it_was() {
+    for len in [0, 1, 4096, 70_000] {
+        let mut items = list(&std::vec![3; len]);
+        let room = items.capacity();
+        let whole = |items: &Vec<u8>| {
+            items.as_slice() == std::vec![3; len].as_slice() && items.capacity() == room
+        };
+        for _ in 0..2 {
+            assert_eq!(
+                with(0, || items.push(9).map_err(|failed| failed.value)),
+                (Err(9), true)
+            );
+            assert!(with(0, || items.reserve(1)).0.is_err() && whole(&items));
+            assert!(with(0, || items.extend_from_slice(&[1])).0.is_err() && whole(&items));
+            assert!(with(0, || items.resize(len + 1, 1)).0.is_err() && whole(&items));
+            assert_eq!(with(0, || items.clone().is_err()), (len > 0, len > 0));
+            assert!(whole(&items));
+        }
+        assert_eq!(with(0, || items.extend_from_slice(&[])), (Ok(()), false));
+        assert_eq!(with(0, || items.resize(len, 1)), (Ok(()), false));
+    }
+}
+
+#[test]
+fn each_request_of_a_list_can_be_refused() {
+    assert_eq!(each_refused(|| Vec::<u8>::with_capacity(Global, 3)), 1);
+    assert_eq!(each_refused(|| Vec::<u8>::with_capacity(Global, 0)), 0);
+    assert_eq!(each_refused(|| Vec::of(Global, 1u8, 3)), 1);
+    assert_eq!(each_refused(|| Vec::from_items(Global, [1u8])), 1);
+    assert_eq!(each_refused(|| Vec::from_slice(Global, &[1u8])), 1);
+    assert_eq!(each_refused(|| [1u8].to_vec_with(Global)), 1);
+    assert_eq!(each_refused(rattle_vec), 1);
+    let pushed = each_refused(|| {
+        let mut items = Vec::new(Global);
+        (0..1000u16).try_for_each(|item| items.push(item).map_err(AllocError::from))
+    });
+    assert!((5..12).contains(&pushed), "{}", pushed);
+    // Room that was reserved takes no request.
+    let mut items = Vec::with_capacity(Global, 3).unwrap();
+    let filled = with(0, || {
+        items.push(1u8).map_err(AllocError::from)?;
+        items.push_reserved(2);
+        items.extend_from_slice(&[3])
+    });
+    assert_eq!(filled, (Ok(()), false));
+    assert_eq!(items.as_slice(), [1, 2, 3]);
+}
+
+#[test]
+fn little_of_a_large_lists_room_is_spare() {
+    let (mut items, mut grown) = (Vec::new(Global), 0);
+    for count in 1..1_000_000usize {
+        let room = items.capacity();
+        items.push(count).unwrap();
+        if items.capacity() == room {
+            continue;
+        }
+        grown += 1;
+        let most = match room * 8 {
+            0..=4095 => (2 * count).max(4),
+            4096..=65535 => count + count / 4,
+            _ => count + count / 8,
+        };
+        assert!(items.capacity() <= most, "{} {}", count, items.capacity());
+    }
+    assert!(grown < 100, "{}", grown);
+    let mut bytes = list(&[1; 100_000]);
+    bytes.extend_from_slice(&[2; 300_000]).unwrap();
+    assert_eq!((bytes.len(), bytes.capacity()), (400_000, 400_000));
+}
+
+#[test]
+fn spare_room_is_given_back() {
+    for (len, room) in [
+        (0, 10),
+        (1, 2),
+        (100, 200),
+        (4000, 8192),
+        (100_000, 200_000),
+    ] {
+        let mut items = Vec::with_capacity(Global, room).unwrap();
+        items.resize(len, 7u8).unwrap();
+        // Where the copy is refused all stays.
+        if len > 0 {
+            assert_eq!(with(0, || items.shrink_to_fit()), ((), true));
+            assert_eq!(items.capacity(), room);
+        }
+        items.shrink_to_fit();
+        assert_eq!(items.capacity(), len);
+        assert_eq!(items.as_slice(), std::vec![7; len].as_slice());
+    }
+    let mut items = Vec::with_capacity(Global, 100).unwrap();
+    items.resize(90, 7u8).unwrap();
+    assert_eq!(with(0, || items.shrink_to_fit()), ((), false));
+    assert_eq!((items.len(), items.capacity()), (90, 100));
+}
+
+#[test]
+fn items_are_dropped_once() {
+    let item = std::rc::Rc::new(());
+    let mut items = Vec::new(Global);
+    for _ in 0..10 {
+        items.push(item.clone()).unwrap();
+    }
+    items.reserve(30).unwrap();
+    items.shrink_to_fit();
+    assert_eq!(std::rc::Rc::strong_count(&item), 11);
+    items.truncate(7);
+    items.remove_front(2);
+    assert_eq!(std::rc::Rc::strong_count(&item), 6);
+    assert!(with(0, || items.push(item.clone())).1 || items.len() == 6);
+    drop(items);
+    assert_eq!(std::rc::Rc::strong_count(&item), 1);
+}
+
+#[test]
+fn slices_are_borrowed_or_owned() {
+    assert_eq!(*CowSlice::Borrowed(&[1u8, 2]), [1, 2]);
+    assert_eq!(*CowSlice::Owned(list(&[3])), [3]);
+}
+
+#[test]
+fn a_refused_request_leaves_a_map_as_it_was() {
+    let mut map = HashMap::new(Global);
+    for key in 0..3000u32 {
+        let (answer, was_refused) = with(0, || map.insert(key, key + 1));
+        if was_refused {
+            assert_eq!(answer.unwrap_err().value, (key, key + 1));
+            assert_eq!(map.get(&key), None);
+            // Of several requests the second is refused, too.
+            let (answer, was_refused) = with(1, || map.insert(key, key + 2));
+            assert_eq!(answer.is_err(), was_refused);
+            if was_refused {
+                assert_eq!(map.get(&key), None);
+                map.insert(key, key + 1).unwrap();
+            } else {
+                assert_eq!(map.insert(key, key + 1).unwrap(), Some(key + 2));
+            }
+        }
+        assert_eq!(map.get(&key), Some(&(key + 1)));
+        assert_eq!(map.get(&(key / 2)), Some(&(key / 2 + 1)));
+    }
+    for key in 0..3000 {
+        assert_eq!(map.get(&key), Some(&(key + 1)));
+    }
+}
+
+#[cfg(feature = "variable-fonts")]
+#[test]
+fn iterators_are_collected() {
+    use rattle::prelude::IteratorExt;
+    assert_eq!(
+        (0..5u8).collect_with(Global).unwrap().as_slice(),
+        [0, 1, 2, 3, 4]
+    );
+    assert_eq!(each_refused(|| (0..500u16).collect_with(Global)), 1);
+    let odd = || (0..500u16).filter(|n| n % 2 == 1);
+    assert_eq!(odd().collect_with(Global).unwrap().len(), 250);
+    assert!(each_refused(|| odd().collect_with(Global)) > 3);
+}
+
+#[test]
+fn casts_keep_the_bits() {
+    use rattle::prelude::Cast;
+    assert_eq!((255u8.to_signed(), (-1i8).to_unsigned()), (-1i8, 255u8));
+    assert_eq!(
+        (0x8000u16.to_signed(), i16::MIN.to_unsigned()),
+        (i16::MIN, 0x8000)
+    );
+    assert_eq!(
+        (u32::MAX.to_signed(), (-2i32).to_unsigned()),
+        (-1, u32::MAX - 1)
+    );
+    assert_eq!(
+        (u64::MAX.to_signed(), (-2i64).to_unsigned()),
+        (-1, u64::MAX - 1)
+    );
+    assert_eq!((7u16.to_unsigned(), 7i16.to_signed()), (7u16, 7i16));
+}
+
+#[cfg(feature = "program")]
+mod program {
+    use super::*;
+    use rattle::io::{BufWriter, Error, ErrorKind, Read, Write};
+    use rattle::prelude::String;
+
+    #[test]
+    fn texts_answer_as_rusts() {
+        let text = String::from_str(Global, "a text").unwrap();
+        assert_eq!((text.as_str(), text.len()), ("a text", 6));
+        assert_eq!(text.clone().unwrap().as_str(), "a text");
+        assert_eq!(std::format!("{:?}", text), "\"a text\"");
+        let made = String::format(Global, format_args!("{}-{:02}", text.as_str(), 7)).unwrap();
+        assert_eq!(made.as_str(), "a text-07");
+    }
+
+    #[test]
+    fn each_request_of_a_text_can_be_refused() {
+        assert_eq!(each_refused(|| String::from_str(Global, "a")), 1);
+        assert_eq!(each_refused(|| String::from_str(Global, "")), 0);
+        let text = String::from_str(Global, "abc").unwrap();
+        assert_eq!(each_refused(|| text.clone()), 1);
+        let long = "x".repeat(500);
+        assert!(each_refused(|| String::format(Global, format_args!("{}{}{}", 1, long, long))) > 1);
+    }
+
+    /// A stream of steps: some bytes, or an error.
+    struct Steps(std::vec::Vec<Result<usize, ErrorKind>>, std::vec::Vec<u8>);
+
+    impl Steps {
+        fn next(&mut self) -> Result<usize, Error> {
+            if self.0.is_empty() {
+                return Ok(usize::MAX);
+            }
+            self.0.remove(0).map_err(Error::from)
+        }
+    }
+
+    impl Read for Steps {
+        fn read(&mut self, buf: &mut [u8]) -> Result<usize, Error> {
+            let count = self.next()?.min(buf.len()).min(self.1.len());
+            buf[..count].copy_from_slice(&self.1[..count]);
+            self.1.drain(..count);
+            Ok(count)
+        }
+    }
+
+    impl Write for Steps {
+        fn write(&mut self, buf: &[u8]) -> Result<usize, Error> {
+            let count = self.next()?.min(buf.len());
+            self.1.extend_from_slice(&buf[..count]);
+            Ok(count)
+        }
+
+        fn flush(&mut self) -> Result<(), Error> {
+            self.next().map(|_| ())
+        }
+    }
+
+    const LONG: usize = 300_000;
+
+    fn bytes(len: usize) -> std::vec::Vec<u8> {
+        (0..len).map(|i| (i % 251) as u8).collect()
+    }
+
+    #[test]
+    fn all_is_read_to_the_end() {
+        for len in [0, 1, 8192, LONG] {
+            let steps = std::vec![
+                Ok(1),
+                Err(ErrorKind::Interrupted),
+                Ok(5000),
+                Err(ErrorKind::Interrupted)
+            ];
+            let mut all = list(b"front");
+            assert_eq!(Steps(steps, bytes(len)).read_to_end(&mut all).unwrap(), len);
+            assert_eq!(all.as_slice(), [b"front".to_vec(), bytes(len)].concat());
+        }
+    }
+
+    #[test]
+    fn a_failure_leaves_what_was_read() {
+        let steps = std::vec![Ok(10), Ok(20), Err(ErrorKind::NotFound), Ok(9)];
+        let mut all = list(b"front");
+        all.reserve(100).unwrap();
+        let failed = Steps(steps, bytes(LONG)).read_to_end(&mut all).unwrap_err();
+        assert_eq!(failed.kind(), ErrorKind::NotFound);
+        assert_eq!(all.as_slice(), [b"front".to_vec(), bytes(30)].concat());
+        for requests in 0..3 {
+            let mut all = Vec::new(Global);
+            let mut steps = Steps(std::vec![], bytes(LONG));
+            let (failed, was_refused) = with(requests, || steps.read_to_end(&mut all));
+            assert!(was_refused);
+            assert_eq!(failed.unwrap_err().kind(), ErrorKind::OutOfMemory);
+            assert_eq!(all.as_slice(), &bytes(LONG)[..all.len()]);
+        }
+    }
+
+    #[test]
+    fn all_is_written() {
+        let mut steps = Steps(
+            std::vec![Ok(3), Err(ErrorKind::Interrupted), Ok(1)],
+            std::vec![],
+        );
+        steps.write_all(&bytes(100)).unwrap();
+        assert_eq!(steps.1, bytes(100));
+        write!(steps, "{}-x", 1).unwrap();
+        assert_eq!(steps.1[100..], *b"1-x");
+        for (step, kind) in [
+            (Ok(0), ErrorKind::Other),
+            (Err(ErrorKind::NotFound), ErrorKind::NotFound),
+        ] {
+            let mut steps = Steps(std::vec![Ok(3), step], std::vec![]);
+            assert_eq!(write!(steps, "12345").unwrap_err().kind(), kind);
+            assert_eq!(steps.1, b"123");
+        }
+    }
+
+    #[test]
+    fn lists_can_be_written_to() {
+        let mut all = list(b"a");
+        write!(all, "{}", 12).unwrap();
+        all.flush().unwrap();
+        assert_eq!(all.as_slice(), b"a12");
+        let long = bytes(LONG);
+        let (failed, was_refused) = with(0, || all.write_all(&long));
+        assert!(was_refused && failed.unwrap_err().kind() == ErrorKind::OutOfMemory);
+        assert_eq!(all.as_slice(), b"a12");
+    }
+
+    #[test]
+    fn what_is_buffered_is_written_in_order() {
+        for piece in [1, 7, 4000, 8191, 8192, 8193, 20_000] {
+            let mut out = Steps(
+                std::vec![Ok(3), Err(ErrorKind::Interrupted), Ok(100)],
+                std::vec![],
+            );
+            let mut writer = BufWriter::new(Global, Lent(&mut out)).unwrap();
+            for part in bytes(LONG / 10).chunks(piece) {
+                writer.write_all(part).unwrap();
+            }
+            writer.flush().unwrap();
+            drop(writer);
+            assert_eq!(out.1, bytes(LONG / 10), "{}", piece);
+        }
+    }
+
+    #[test]
+    fn a_writer_that_goes_writes_what_it_holds() {
+        let mut out = Steps(std::vec![], std::vec![]);
+        let mut writer = BufWriter::new(Global, Lent(&mut out)).unwrap();
+        writer.write_all(b"held").unwrap();
+        drop(writer);
+        assert_eq!(out.1, b"held");
+        let mut out = Steps(std::vec![Err(ErrorKind::Other), Ok(2)], std::vec![]);
+        let mut writer = BufWriter::new(Global, Lent(&mut out)).unwrap();
+        writer.write_all(b"held").unwrap();
+        assert!(writer.flush().is_err());
+        writer.flush().unwrap();
+        drop(writer);
+        assert_eq!(out.1, b"held");
+        let mut out = Steps(std::vec![], std::vec![]);
+        assert!(with(0, || BufWriter::new(Global, Lent(&mut out)).is_err()).0);
+    }
+
+    /// A writer that another has.
+    struct Lent<'a>(&'a mut Steps);
+
+    impl Write for Lent<'_> {
+        fn write(&mut self, buf: &[u8]) -> Result<usize, Error> {
+            self.0.write(buf)
+        }
+
+        fn flush(&mut self) -> Result<(), Error> {
+            self.0.flush()
+        }
+    }
+}
