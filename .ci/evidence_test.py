@@ -1,14 +1,20 @@
 #!/usr/bin/env python3
 """Plants faults in a copy of this repository, one at a time: evidence.py has to fail with each, and to say which. Then it goes
 through a result's life: of the code of today, after a change of the code, after one of documents alone."""
+import concurrent.futures
 import os
 import re
 import subprocess
 import sys
 
 sys.dont_write_bytecode = True
+sys.path.insert(0, os.path.join(os.path.dirname(os.path.dirname(os.path.realpath(__file__))), "compare"))
 
+import comparisons  # noqa: E402
+import figures  # noqa: E402
 import planted  # noqa: E402
+import repository  # noqa: E402
+import results_of  # noqa: E402
 
 CHECK = ".ci/evidence.py"
 ALL = "compare/all"
@@ -44,6 +50,25 @@ PLANTS = [
     ("an unknown figure", "docs/PDF.md", ": sizes -->", ": lengths -->", r"docs/PDF\.md: no figure is called 'lengths'"),
     ("a comment without an end", "docs/PDF.md", "<!-- end -->", "", r"docs/PDF\.md: a comment"),
     ("paths where nothing is", "compare/comparisons.py", '"bindings/c/*"', '"bindings/cobol/*"', r"speaks of bindings/cobol/\*, where no file is"),
+]
+
+# What functions answer.
+ANSWERS = [
+    ("a bound is rounded up", comparisons.at_most(0.4001), "0.41"),
+    ("a bound that is met", comparisons.at_most(0.4), "0.40"),
+    ("a bound in whole numbers", comparisons.at_most(1234.2, 0), "1,235"),
+    ("the middle of four", figures.middle([4, 1, 3, 2]), 2),
+    ("bytes", [figures.amount(it) for it in (480, 10400, 1000000, 96056120)], ["480 bytes", "10 KB", "1 MB", "96.1 MB"]),
+    ("a page's name", comparisons.page_of("damage, TrueType"), "damage-truetype.md"),
+    ("a long cell", len(figures.cut("x" * 300)), figures.MOST),
+    ("two tables", results_of.tables_in(["| a | b |", "|---|---|", "| 1 | 2 |", "", "| c |", "|---|", "| 3 |"]), [[{"a": "1", "b": "2"}], [{"c": "3"}]]),
+    ("lines and a table", results_of.as_body("x\n| a |\n|---|\ny\n"), ["```text", "x", "```", "", "| a |", "|---|", "", "```text", "y", "```"]),
+    ("many lines", results_of.as_body("\n".join("abcdef"), most=4), ["```text", "a", "b", "(2 lines more)", "e", "f", "```"]),
+    ("comments in code", figures.blocks("`<!-- from x: sizes -->` `<!-- end -->`\n```\n<!-- from x: sizes -->\n```\n"), []),
+    *((f"{pattern} and {path}", bool(repository.pattern(pattern).search(f"x\n{path}\ny")), wanted) for pattern, path, wanted in [
+        ("crates/*/src/**", "crates/a/src/b/c.rt", True), ("crates/*/src/**", "crates/a/b/src/c.rt", False), ("crates/*/src/**", "crates/a/src/c.rt", True),
+        ("bindings/c/*", "bindings/c/x.c", True), ("bindings/c/*", "bindings/c/x/y.c", False), ("bindings/c/*", "of/bindings/c/x.c", False),
+        ("bindings/plants", "bindings/plants", True), ("bindings/plants", "bindings/plants2", False)]),
 ]
 
 
@@ -241,17 +266,36 @@ def without(name):
     return {key: value for key, value in planted.ENVIRONMENT.items() if key != name}
 
 
+def planted_in(some):
+    """A part of a test that plants these in turn."""
+    def part(room):
+        return [fault for it in some for fault in planted.plant(room, CHECK, *it)], len(some)
+    return part
+
+
+def single(room):
+    """The plants that take more than an edit."""
+    parts = [strange_file(room), refreshed_by_hand(room), side_commit(room), data_of_another(room)]
+    return [fault for faults in parts for fault in faults], len(parts)
+
+
+def of_copy(part):
+    """A part of the test in a copy of its own."""
+    with planted.copy() as room:
+        return part(room)
+
+
 def main():
     with planted.copy() as room:
         status, said = planted.run(room, CHECK)
-        if status != 0:
-            sys.exit(f"evidence_test: evidence.py fails as it is:\n{said}")
-        faults = [fault for it in PLANTS for fault in planted.plant(room, CHECK, *it)]
-        faults += strange_file(room) + refreshed_by_hand(room) + side_commit(room) + data_of_another(room)
-        parts = [life(room), runs(room), without_history(room)]
-        faults += [fault for more, _ in parts for fault in more]
-        count = sum(number for _, number in parts)
-    return planted.tell(faults, len(PLANTS) + 4 + count)
+    if status != 0:
+        sys.exit(f"evidence_test: evidence.py fails as it is:\n{said}")
+    faults = [f"{name}: {answer!r}, and not {wanted!r}" for name, answer, wanted in ANSWERS if answer != wanted]
+    count = len(ANSWERS)
+    with concurrent.futures.ThreadPoolExecutor(4) as pool:
+        for more, number in pool.map(of_copy, [life, runs, without_history, single, *(planted_in(PLANTS[k::3]) for k in range(3))]):
+            faults, count = faults + more, count + number
+    return planted.tell(faults, count)
 
 
 if __name__ == "__main__":

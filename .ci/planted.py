@@ -98,5 +98,5 @@ def without_git(room, check, name):
 
 def tell(faults, count):
     """Prints the outcome, and answers the status."""
-    print("\n".join([*faults, f"{count} planted, {len(faults)} got through or were misread"]))
+    print("\n".join([*faults, f"{count} planted or looked at, {len(faults)} got through or were misread"]))
     return 1 if faults else 0
