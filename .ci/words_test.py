@@ -44,7 +44,9 @@ In place of it, in its place, written in place; it takes place, to two decimal p
 It asks whether `told` and ``a place`` are there; a [link](docs/told/place.md); <!-- what stands here -->
 
 ```sh
-echo told, asked, said
+echo told, asked
+
+echo said
 ```
 
 <!-- from compare/results/NAME.md: KEY -->it is said, told, and stands there<!-- end -->
