@@ -50,3 +50,24 @@ pub fn give_back() {
         *kept = None;
     }
 }
+
+#[cfg(test)]
+mod tests {
+    use super::*;
+
+    /// How many bytes the smaller one of the two rooms has that are kept.
+    fn kept() -> Option<usize> {
+        let kept = KEPT.lock().unwrap();
+        kept.as_ref()
+            .map(|(one, other)| one.capacity().min(other.capacity()))
+    }
+
+    #[test]
+    fn room_for_two_names_is_kept_until_it_is_given_back() {
+        assert_eq!(kept(), None);
+        keep_for_name("name").unwrap();
+        assert!(kept() >= Some("name\0".len()), "{:?}", kept());
+        give_back();
+        assert_eq!(kept(), None);
+    }
+}
