@@ -2,7 +2,7 @@
 
     <!-- from compare/results/NAME.md: KEY -->..<!-- end -->
 
-around a figure, a sentence or a table; `refreshed` writes what stands between by the function of KEY in BLOCKS. On lines of
+around a figure, a sentence or a table; `refreshed` writes what is between them by the function of KEY in BLOCKS. On lines of
 their own the two comments hold lines, in a line they hold a part of it. In blocks of code, and behind a code mark, they mean
 nothing."""
 import math
@@ -21,7 +21,7 @@ MOST = 200  # characters of a cell
 
 EVIDENCE_HEAD = """# Evidence
 
-What each comparison answered when it was run last. Its page in [compare/results](../compare/results) has the whole output, with the machine and the command; [compare/README.md](../compare/README.md) says what each compares. A row speaks of its commit alone: "code changed since" stands where the code that the comparison runs has changed. `compare/all` writes this page.
+What each comparison answered when it was run last. Its page in [compare/results](../compare/results) has the whole output, with the machine and the command; [compare/README.md](../compare/README.md) says what each compares. A row speaks of its commit alone: it has "code changed since" where the code that the comparison runs has changed. `compare/all` writes this page.
 
 | Comparison | What it asks | Answer | Commit | Date | Whole |
 |---|---|---|---|---|---|
@@ -185,7 +185,7 @@ def under_bounds():
             it = rows[bound]
             size = it["Answer"].replace("a font of ", "").replace(" bytes", "")
             other = it["Bytes of the file"] != rows["1000000"]["Bytes of the file"]
-            small = f" (a file of {amount(it['Bytes of the file'])}, {it['Glyphs']} asked)" if other else ""
+            small = f" (a file of {amount(it['Bytes of the file'])}, {it['Glyphs']} requested)" if other else ""
             cells.append(f"{amount(size) if size.isdigit() else 'refused'}, {float(it['Process, ms']):,.0f}, {amount(it['Held, bytes'])}{small}")
         lines.append(f"| {family} | {int(rows['1000000']['Glyphs']):,} | {amount(rows['1000000']['Bytes of the file'])} | " + " | ".join(cells) + " |")
     return "\n".join(lines)

@@ -56,7 +56,7 @@ def damage():
     said = f"Of {copies} copies the answers differ on {differ}, of which {unexplained} are not explained"
     if said not in found.answer:
         raise repository.Trouble(f"damage.jsonl says: {said}; its page: {found.answer}")
-    return (f"Of {copies:,} damaged fonts {differ:,} are answered otherwise than by the Rust crate. Differences that no [documented rule](docs/DIFFERENCES.md) "
+    return (f"Of {copies:,} damaged fonts {differ:,} give another result than with the Rust crate. Differences that no [documented rule](docs/DIFFERENCES.md) "
             f"explains: **{unexplained}** ([commit](results:{comparisons.page_of(found.name)}) {results_of.mark(found)}).")
 
 
