@@ -34,10 +34,9 @@ fn make(
 ) -> Result<Vec<u8>, Error>
     ensures { IfOk result (λ out. IsMeasured (font_at font.now index all_extras) settings.now mapper.now out.items) }
 {
-    if settings.is_empty() {
-        subset(alloc, font, index, mapper)
-    } else {
-        instance(alloc, font, index, settings, mapper, STEPS)
+    match settings {
+        [] => subset(alloc, font, index, mapper),
+        [_, ..] => instance(alloc, font, index, settings, mapper, STEPS),
     }
 }
 
