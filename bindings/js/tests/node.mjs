@@ -44,7 +44,7 @@ async function packed() {
     const file = `subsetter-proved-${version.replace("+", "-")}.tgz`;
     ok(readdirSync(here("../out")).includes(file), `there is no ${file}`);
     const names = execFileSync("tar", ["tzf", here(`../out/${file}`)], { encoding: "utf8" }).trim().split("\n").sort();
-    equal(names.join(), ["README.md", "package.json", "subsetter.d.mts", "subsetter.mjs", "subsetter.wasm"].map((it) => `package/${it}`).sort().join(), "what is packed");
+    equal(names.join(), ["LICENSE", "NOTICE", "README.md", "package.json", "subsetter.d.mts", "subsetter.mjs", "subsetter.wasm"].map((it) => `package/${it}`).sort().join(), "what is packed");
     const folder = mkdtempSync(join(tmpdir(), "subsetter-package-"));
     try {
         writeFileSync(join(folder, "package.json"), '{"name": "user", "private": true}');
