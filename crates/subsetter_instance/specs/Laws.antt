@@ -1,5 +1,5 @@
 -- What is answered is an instance, and the only one; what is refused has a fault. The box of its header is the least one.
-use Rattle.std.specs.Prelude.{◌≡◌, ℕ, List, ◌∷◌, Ok, Err, ℤ}
+use Rattle.std.specs.Prelude.{◌≡◌, ℕ, List, ◌∷◌, Ok, Err, ℤ, ◌↔◌}
 use Rattle.std.specs.List.{flat_map}
 use Rattle.subsetter_base.specs.Bytes.{IsBytes}
 use Rattle.subsetter_base.specs.declared.tag.Tag.{Tag}
@@ -12,6 +12,9 @@ use Rattle.subsetter_instance.specs.Extremes.{all_extents, box_bytes}
 use Rattle.subsetter_instance.specs.Fault.{HasInstanceFault}
 use Rattle.subsetter_instance.specs.Instance.{IsInstance}
 use Rattle.subsetter_instance.specs.Plain.{instance_of}
+use Rattle.subsetter_instance.specs.Source.{Source}
+use Rattle.subsetter_instance.specs.Unfolded.{unfolded}
+use Rattle.subsetter_instance.specs.WalkFault.{HasWalkFault}
 
 -- the file that the plain way lays out is an instance, read afresh from its bytes
 abbrev pub IsReadAfresh : Type 0
@@ -28,6 +31,10 @@ HasFaultWhereRefused = (font : Font) (settings : List (Tag × ℤ)) (glyphs : Li
 -- where there is a file no fault stands
 abbrev pub HasNoneWhereAnswered : Type 0
 HasNoneWhereAnswered = (font : Font) (settings : List (Tag × ℤ)) (glyphs : List ℕ) (steps : ℕ) (file : List ℕ) → instance_of font settings glyphs steps ≡ Ok file → (e : Error) → ¬ (HasInstanceFault font settings glyphs steps e)
+
+-- a glyph with its components isn't unfolded exactly where it has a fault, under its name
+abbrev pub AreFaultsNamed : Type 0
+AreFaultsNamed = (s : Source) (at : List ℤ) (depth steps g : ℕ) (e : Error) → (unfolded depth s at steps g ≡ Err e) ↔ HasWalkFault s at depth steps g e
 
 -- the box of what is drawn is that of one glyph with the points of all glyphs, which has the least and the greatest of all coordinates
 abbrev pub IsBoxOfAll : Type 0

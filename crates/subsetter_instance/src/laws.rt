@@ -1,6 +1,6 @@
 //! Laws of the definitions, which no code runs.
 
-ghost use Rattle.subsetter_instance.specs.Laws.{IsReadAfresh, IsSameAtAnySteps, HasFaultWhereRefused, HasNoneWhereAnswered, IsBoxOfAll};
+ghost use Rattle.subsetter_instance.specs.Laws.{IsReadAfresh, IsSameAtAnySteps, HasFaultWhereRefused, HasNoneWhereAnswered, IsBoxOfAll, AreFaultsNamed};
 
 /// The file that the plain way lays out is an instance, read afresh from its bytes.
 pub fn is_read_afresh()
@@ -20,6 +20,11 @@ pub fn has_fault_where_refused()
 /// Where there is a file no fault stands.
 pub fn has_none_where_answered()
     ensures { HasNoneWhereAnswered }
+{}
+
+/// A glyph with its components isn't unfolded exactly where it has a fault.
+pub fn are_faults_named()
+    ensures { AreFaultsNamed }
 {}
 
 /// The box of an instance is the least one around all points.

@@ -7,6 +7,7 @@ pub mod Defaults
 pub mod DeltaRuns
 pub mod DeltasOn
 pub mod Given
+pub mod GvarFaults
 pub mod Listed
 pub mod ListedDeltas
 pub mod Lying

@@ -1,6 +1,7 @@
 pub mod Axes
 pub mod Coordinates
 pub mod FontMetrics
+pub mod GvarFault
 pub mod Inferred
 pub mod ItemVariations
 pub mod Movement

@@ -1,7 +1,7 @@
 //! The laws of variations, which name no code: how far a tuple counts, and what it moves the points of a contour by.
 
 ghost use Rattle.subsetter_variation.specs.Moves.{IsShift, IsStill, IsTurned, LiesBetween};
-ghost use Rattle.subsetter_variation.specs.VariationLaws.{AreAscending, IsExactAtPeak, IsFreeOfPlace, IsNothingAtDefault, IsPassedOver, IsSameAtAnySteps, StaysAtDefault};
+ghost use Rattle.subsetter_variation.specs.VariationLaws.{AreAscending, AreFaultsNamed, IsExactAtPeak, IsFreeOfPlace, IsNothingAtDefault, IsPassedOver, IsSameAtAnySteps, StaysAtDefault};
 
 /// At the scalar 0 nothing moves.
 pub fn is_still()
@@ -51,6 +51,11 @@ pub fn is_free_of_place()
 /// The point numbers of a tuple ascend.
 pub fn are_ascending()
     ensures { AreAscending }
+{}
+
+/// Points don't move exactly where the variations of their glyph have a fault.
+pub fn are_faults_named()
+    ensures { AreFaultsNamed }
 {}
 
 /// Points go to the same places at whatever number of steps.
