@@ -8,6 +8,7 @@ pub mod DeltaRuns
 pub mod DeltasOn
 pub mod Given
 pub mod GvarFaults
+pub mod Items
 pub mod Listed
 pub mod ListedDeltas
 pub mod Lying

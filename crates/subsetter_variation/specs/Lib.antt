@@ -3,6 +3,7 @@ pub mod Coordinates
 pub mod FontMetrics
 pub mod GvarFault
 pub mod Inferred
+pub mod ItemLaws
 pub mod ItemVariations
 pub mod Movement
 pub mod Moves

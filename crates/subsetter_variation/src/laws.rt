@@ -1,5 +1,6 @@
 //! The laws of variations, which name no code: how far a tuple counts, and what it moves the points of a contour by.
 
+ghost use Rattle.subsetter_variation.specs.ItemLaws.{IsItemAtDefault, IsItemAtMaster};
 ghost use Rattle.subsetter_variation.specs.Moves.{IsShift, IsStill, IsTurned, LiesBetween};
 ghost use Rattle.subsetter_variation.specs.VariationLaws.{AreAscending, AreFaultsNamed, IsExactAtPeak, IsFreeOfPlace, IsNothingAtDefault, IsPassedOver, IsSameAtAnySteps, StaysAtDefault};
 
@@ -61,4 +62,14 @@ pub fn are_faults_named()
 /// Points go to the same places at whatever number of steps.
 pub fn is_same_at_any_steps()
     ensures { IsSameAtAnySteps }
+{}
+
+/// At the default an item of `HVAR` or `MVAR` varies by nothing.
+pub fn is_item_at_default()
+    ensures { IsItemAtDefault }
+{}
+
+/// At a master it varies by exactly its delta for it.
+pub fn is_item_at_master()
+    ensures { IsItemAtMaster }
 {}
