@@ -12,6 +12,7 @@ pub mod Items
 pub mod Listed
 pub mod ListedDeltas
 pub mod Lying
+pub mod Placing
 pub mod Masters
 pub mod Quotients
 pub mod Regions

@@ -10,6 +10,7 @@ pub mod Moves
 pub mod Nearest
 pub mod Optional
 pub mod Packed
+pub mod PlaceLaws
 pub mod Region
 pub mod Segments
 pub mod Tuples

@@ -1,6 +1,7 @@
 //! The laws of variations, which name no code: how far a tuple counts, and what it moves the points of a contour by.
 
 ghost use Rattle.subsetter_variation.specs.ItemLaws.{IsItemAtDefault, IsItemAtMaster};
+ghost use Rattle.subsetter_variation.specs.PlaceLaws.{IsDefaultAtZero, IsGreatestAtOne, IsKept, IsLeastAtMinusOne};
 ghost use Rattle.subsetter_variation.specs.Moves.{IsShift, IsStill, IsTurned, LiesBetween};
 ghost use Rattle.subsetter_variation.specs.VariationLaws.{AreAscending, AreFaultsNamed, IsExactAtPeak, IsFreeOfPlace, IsNothingAtDefault, IsPassedOver, IsSameAtAnySteps, StaysAtDefault};
 
@@ -72,4 +73,24 @@ pub fn is_item_at_default()
 /// At a master it varies by exactly its delta for it.
 pub fn is_item_at_master()
     ensures { IsItemAtMaster }
+{}
+
+/// A segment map takes each number to itself that it keeps.
+pub fn is_kept()
+    ensures { IsKept }
+{}
+
+/// The default of an axis lies at 0.
+pub fn is_default_at_zero()
+    ensures { IsDefaultAtZero }
+{}
+
+/// The least coordinate of an axis lies at -1, where it is below the default.
+pub fn is_least_at_minus_one()
+    ensures { IsLeastAtMinusOne }
+{}
+
+/// The greatest coordinate of an axis lies at 1, where it is above the default.
+pub fn is_greatest_at_one()
+    ensures { IsGreatestAtOne }
 {}
