@@ -1,4 +1,5 @@
 pub mod Ascending
+pub mod Ascent
 pub mod Between
 pub mod Bounds
 pub mod Contours

@@ -1,9 +1,9 @@
 -- Laws of where a user coordinate lies on its axis.
-use Rattle.std.specs.Prelude.{◌≡◌, ℤ, pos, neg_ℤ, int_lt, int_le, true, List}
+use Rattle.std.specs.Prelude.{◌≡◌, ℤ, pos, neg_ℤ, ◌≤ℤ◌, int_lt, true, List}
 use Rattle.subsetter_base.specs.declared.tag.Tag.{Tag}
 use Rattle.subsetter_variation.specs.Axes.{default_normalized, user_coordinate}
 use Rattle.subsetter_variation.specs.Coordinates.{coordinate}
-use Rattle.subsetter_variation.specs.Segments.{fine, keeps, is_segment_map, mapped}
+use Rattle.subsetter_variation.specs.Segments.{fine, keeps, mapped}
 use Rattle.subsetter_variation.specs.declared.axes.Axis.{Axis}
 use Rattle.subsetter_variation.specs.declared.segments.AxisValueMap.{AxisValueMap}
 
@@ -22,3 +22,7 @@ IsLeastAtMinusOne = (a : Axis) (ends : List AxisValueMap) (settings : List (Tag 
 -- the greatest coordinate lies at 1, where it is above the default
 abbrev pub IsGreatestAtOne : Type 0
 IsGreatestAtOne = (a : Axis) (ends : List AxisValueMap) (settings : List (Tag × ℤ)) → int_lt a.default a.maximum ≡ true → user_coordinate a settings ≡ a.maximum → coordinate a ends settings ≡ pos 16384
+
+-- before the segments a greater coordinate lies no lower
+abbrev pub NeverDescends : Type 0
+NeverDescends = (a : Axis) (c d : ℤ) → c ≤ℤ d → default_normalized a c ≤ℤ default_normalized a d

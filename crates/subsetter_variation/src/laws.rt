@@ -1,7 +1,7 @@
 //! The laws of variations, which name no code: how far a tuple counts, and what it moves the points of a contour by.
 
 ghost use Rattle.subsetter_variation.specs.ItemLaws.{IsItemAtDefault, IsItemAtMaster};
-ghost use Rattle.subsetter_variation.specs.PlaceLaws.{IsDefaultAtZero, IsGreatestAtOne, IsKept, IsLeastAtMinusOne};
+ghost use Rattle.subsetter_variation.specs.PlaceLaws.{IsDefaultAtZero, IsGreatestAtOne, IsKept, IsLeastAtMinusOne, NeverDescends};
 ghost use Rattle.subsetter_variation.specs.Moves.{IsShift, IsStill, IsTurned, LiesBetween};
 ghost use Rattle.subsetter_variation.specs.VariationLaws.{AreAscending, AreFaultsNamed, IsExactAtPeak, IsFreeOfPlace, IsNothingAtDefault, IsPassedOver, IsSameAtAnySteps, StaysAtDefault};
 
@@ -93,4 +93,9 @@ pub fn is_least_at_minus_one()
 /// The greatest coordinate of an axis lies at 1, where it is above the default.
 pub fn is_greatest_at_one()
     ensures { IsGreatestAtOne }
+{}
+
+/// Before the segments a greater coordinate lies no lower on its axis.
+pub fn never_descends()
+    ensures { NeverDescends }
 {}
