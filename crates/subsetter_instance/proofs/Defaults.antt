@@ -9,7 +9,6 @@ use Rattle.subsetter_variation.proofs.Defaults.{stays_at_default}
 use Rattle.subsetter_instance.specs.Source.{Source, description, metric}
 use Rattle.subsetter_instance.specs.Unfolded.{moved}
 use Rattle.subsetter_instance.specs.Laws.{IsDrawnAsItStands, unvaried}
-use Rattle.subsetter_instance.proofs.SameLaws.Simple.{MoveAlike}
 use Rattle.subsetter_instance.proofs.SameLaws.Unfolded.{ReadAlike, unfolded_alike}
 
 stays : (gvar : Option Gvar) (g : ℕ) (o : Outline) (at : List ℤ) (steps : ℕ) (a : List ℤ × List ℤ × ℕ) → All (λ c. c ≡ pos 0) at → ((t : Gvar) → gvar ≡ Some t → HasBoundTuples t g o (length at)) → moved gvar g o at steps ≡ Ok a → (a.0 ≡ in_units o.xs) × (a.1 ≡ in_units o.ys)

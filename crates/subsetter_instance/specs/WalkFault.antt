@@ -1,6 +1,6 @@
 -- What can stand against a glyph with its components at a place, under the name of the error that it is answered by (OpenType, "glyf", "loca",
 -- "hmtx" and "gvar").
-use Rattle.std.specs.Prelude.{◌≡◌, ◌≤◌, ◌<◌, ℕ, zero, suc, ◌+◌, Bool, true, false, ◌&&◌, List, ◌∷◌, ◌++◌, length, slice_index_or, Option, Some, None, Ok, ℤ, pos}
+use Rattle.std.specs.Prelude.{◌≡◌, ◌≤◌, ◌<◌, ℕ, zero, suc, ◌+◌, true, false, ◌&&◌, List, ◌∷◌, ◌++◌, length, slice_index_or, Some, None, Ok, ℤ, pos}
 use Rattle.std.specs.List.{range_with_len}
 use Rattle.subsetter_base.specs.declared.error.Error.{Error}
 use Rattle.subsetter_base.specs.declared.error.Error.TheVariants.{MalformedFont, Unimplemented, OverflowError}

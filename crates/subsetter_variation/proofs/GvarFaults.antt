@@ -1,7 +1,7 @@
 -- The points of a glyph don't move exactly where its variations have a fault.
 --   spent_refused, too_few       steps that don't suffice
 --   moving_refused, moving_stops an error is the name of a fault, and a fault is an error
-use Rattle.std.proofs.Common.{◌≡◌, ℕ, zero, suc, ◌-◌, ◌<◌, ◌≤◌, Bool, true, false, cond, ltb, List, length, ◌==◌, if◌then◌else◌, Option, Some, None, Result, Ok, Err, ℤ, pos, refl, sym, ap, subst, ◌∙◌, inl, inr, arith}
+use Rattle.std.proofs.Common.{◌≡◌, ℕ, zero, suc, ◌-◌, ◌<◌, ◌≤◌, Bool, true, false, cond, List, length, ◌==◌, if◌then◌else◌, Option, Some, None, Result, Ok, Err, ℤ, pos, refl, ap, subst, ◌∙◌, inl, inr, arith}
 use Rattle.std.specs.Prelude.{nat_le}
 use Rattle.std.specs.Option.{ok_or}
 use Rattle.std.specs.Ordering.{int_eq}
@@ -89,9 +89,9 @@ module _ (t : Gvar) (o : Outline) (shared : Option (List ℕ)) (at : List ℤ) w
   pub tuples_refused : (n : ℕ) (w : Walk) (e : Error) → walk_all t o shared at n w ≡ Err e → HasTupleFault t o shared at n w e
   tuples_refused zero w e h = absurd cc
   tuples_refused (suc n) w e h = elim (bind_err (next_walk t o shared at w) (walk_all t o shared at n) e h) [
-      | inl k ↦ next_refused n w e k
-      | inr k ↦ later n w k.0 k.1 (tuples_refused n k.0 e k.2)
-    ]
+    | inl k ↦ next_refused n w e k
+    | inr k ↦ later n w k.0 k.1 (tuples_refused n k.0 e k.2)
+  ]
 
   counted_stops : (left : ℕ) (w : Walk) (h : TupleHeader) (rest : TupleHeaders) (e : Error) → spent 1 w.steps ≡ Ok left → next_header t w.headers ≡ Some (h, rest) → int_eq (scalar h.region at) (pos 0) ≡ false
       → counted_walk o shared (scalar h.region at) h (record w { steps = left; headers = rest }) ≡ Err e → next_walk t o shared at w ≡ Err e

@@ -1,5 +1,5 @@
 -- What items vary by at the default and at a master.
-use Rattle.std.proofs.Common.{◌≡◌, ℕ, zero, suc, ◌+◌, ◌*◌, ◌<◌, ◌≤◌, ◌==◌, ◌&&◌, Bool, true, false, cond, List, length, Option, Some, None, ℤ, pos, ◌+ℤ◌, ◌*ℤ◌, All, refl, sym, ap, subst, ◌∙◌, ◌≢◌, arith}
+use Rattle.std.proofs.Common.{◌≡◌, ℕ, zero, suc, ◌+◌, ◌*◌, ◌<◌, ◌≤◌, ◌==◌, ◌&&◌, Bool, true, false, cond, List, Some, ℤ, pos, ◌+ℤ◌, ◌*ℤ◌, refl, sym, ap, subst, ◌∙◌, ◌≢◌, arith}
 use Rattle.std.proofs.lemmas.Bool.{eqb-false, eqb-true}
 use Rattle.std.proofs.lemmas.Int.{ints}
 use Rattle.std.proofs.Math.IntN.{zero-*ℤ}
@@ -9,7 +9,7 @@ use Rattle.subsetter_base.proofs.Options.{bind_some, just, just_is}
 use Rattle.subsetter_variation.specs.Optional.{◌>>=◌}
 use Rattle.subsetter_variation.specs.Region.{scalar, unit}
 use Rattle.subsetter_variation.specs.ItemVariations.{Row, Store, delta, item_delta, item_row, region_items, region_of, term, terms}
-use Rattle.subsetter_variation.specs.ItemLaws.{HasBoundRegions, IsItemAtDefault, IsItemAtMaster, IsMaster, IsRegion}
+use Rattle.subsetter_variation.specs.ItemLaws.{IsItemAtDefault, IsItemAtMaster, IsMaster, IsRegion}
 use Rattle.subsetter_variation.proofs.Masters.{is_nothing_at_default}
 
 -- ---- the parts of a term

@@ -1,12 +1,11 @@
 -- Where the default and the ends of an axis lie.
-use Rattle.std.proofs.Common.{◌≡◌, ℕ, zero, suc, Bool, true, false, cond, ◌&&◌, ◌||◌, List, [], ◌∷◌, ℤ, pos, negsuc, neg_ℤ, ◌+ℤ◌, ◌-ℤ◌, ◌*ℤ◌, int_lt, int_le, unsigned_abs, refl, sym, ap, ◌∙◌, arith}
+use Rattle.std.proofs.Common.{◌≡◌, Bool, true, false, cond, ◌&&◌, ◌||◌, List, [], ◌∷◌, ℤ, pos, neg_ℤ, ◌-ℤ◌, ◌*ℤ◌, int_lt, int_le, unsigned_abs, refl, sym, ap, ◌∙◌, arith}
 use Rattle.std.specs.Ordering.{int_eq}
 use Rattle.std.proofs.lemmas.Bool.Decides.{Decides-int_eq}
 use Rattle.std.proofs.lemmas.Int.{ints}
 use lib.Signed.{◌<ℤ◌, ◌≤ℤ◌}
 use Rattle.std.proofs.Math.IntN.{zero-*ℤ}
-use Rattle.subsetter_base.specs.declared.tag.Tag.{Tag}
-use Rattle.subsetter_variation.specs.Axes.{above_default, below_default, default_normalized, toward, user_coordinate}
+use Rattle.subsetter_variation.specs.Axes.{default_normalized, user_coordinate}
 use Rattle.subsetter_variation.specs.Coordinates.{coordinate}
 use Rattle.subsetter_variation.specs.Nearest.{nearest, part}
 use Rattle.subsetter_variation.specs.Segments.{ascends, ascends_from, by_segments, fine, follows, is_on, is_segment_map, keeps, mapped, mapped_from, on_segment, passed}

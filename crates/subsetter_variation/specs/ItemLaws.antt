@@ -1,5 +1,5 @@
 -- Laws of what items of `HVAR` and `MVAR` vary by, at the default and at a master.
-use Rattle.std.specs.Prelude.{◌≡◌, ◌<◌, ◌*◌, ◌==◌, ◌&&◌, ℕ, ℤ, pos, ◌*ℤ◌, false, List, length, Option, Some, All}
+use Rattle.std.specs.Prelude.{◌≡◌, ◌<◌, ◌*◌, ◌==◌, ◌&&◌, ℕ, ℤ, pos, ◌*ℤ◌, false, List, length, Some, All}
 use Rattle.subsetter_base.specs.Bytes.{number}
 use Rattle.subsetter_base.specs.Items.{Items}
 use Rattle.subsetter_variation.specs.Region.{scalar, unit}

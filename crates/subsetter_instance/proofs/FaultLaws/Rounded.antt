@@ -1,17 +1,17 @@
 -- An advance and rounded points are refused exactly where they have a fault.
-use Rattle.std.proofs.Common.{◌≡◌, ℕ, ◌≤◌, ◌^◌, Bool, true, false, cond, List, [], ◌∷◌, Option, Some, None, Result, Ok, Err, ℤ, pos, refl, sym, ap, subst, ◌∙◌, inl, inr, ◌⊎◌, arith}
+use Rattle.std.proofs.Common.{◌≡◌, ℕ, ◌≤◌, ◌^◌, Bool, true, false, cond, List, [], ◌∷◌, Option, Some, None, Result, Ok, Err, ℤ, pos, refl, ap, subst, ◌∙◌, inl, inr, ◌⊎◌, arith}
 use Rattle.std.specs.Prelude.{◌&&◌, ◌+ℤ◌, ◌-ℤ◌, int_le, nat_lt, unsigned_abs}
 use Rattle.std.proofs.lemmas.Bool.{ltb-false, ltb-true}
 use Rattle.subsetter_base.specs.Bytes.{◌>>=◌}
 use Rattle.subsetter_base.specs.declared.error.Error.{Error}
 use Rattle.subsetter_base.specs.declared.error.Error.TheVariants.{MalformedFont, OverflowError}
-use Rattle.subsetter_base.proofs.Results.{done, failed_is, bind_err, bind_ok}
+use Rattle.subsetter_base.proofs.Results.{done, failed_is, bind_err}
 use Rattle.subsetter_points.specs.declared.outline.Point.{Point}
 use Rattle.subsetter_points.specs.Simple.{has_16_bits}
 use Rattle.subsetter_variation.specs.Nearest.{nearest}
 use Rattle.subsetter_variation.specs.ItemVariations.{advance_delta, in_whole_units, whole_or_fault}
 use Rattle.subsetter_variation.proofs.GvarFaults.{behind, behind_error}
-use Rattle.subsetter_instance.specs.Drawn.{advance, advance_or_fault, point_or_fault, points_or_fault, whole, word_or_fault}
+use Rattle.subsetter_instance.specs.Drawn.{advance, advance_or_fault, point_or_fault, points_or_fault, whole}
 use Rattle.subsetter_instance.specs.RoundedFault.{HasAdvanceFault, HasFarPoint, IsWide, no_item, large_item, wide_by_item, wide, far_first, far_later}
 
 -- ---- advances

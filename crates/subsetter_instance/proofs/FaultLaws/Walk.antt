@@ -1,7 +1,6 @@
 -- A glyph with its components isn't unfolded exactly where it has a fault.
-use Rattle.std.proofs.Common.{◌≡◌, ℕ, zero, suc, ◌+◌, ◌-◌, ◌<◌, ◌≤◌, Bool, true, false, cond, ltb, List, [], ◌∷◌, ◌++◌, length, Option, Some, None, Result, Ok, Err, ℤ, pos, refl, sym, ap, subst, ◌∙◌, inl, inr, ◌⊎◌, arith}
+use Rattle.std.proofs.Common.{◌≡◌, ℕ, zero, suc, ◌+◌, ◌-◌, ◌<◌, ◌≤◌, Bool, true, false, cond, List, [], ◌∷◌, ◌++◌, length, Option, Some, None, Result, Ok, Err, ℤ, pos, refl, sym, ap, subst, ◌∙◌, inl, inr, ◌⊎◌, arith}
 use Rattle.std.specs.Prelude.{◌&&◌, ◌-ℤ◌, nat_lt, slice_index_or}
-use Rattle.std.specs.List.{range_with_len}
 use Rattle.std.specs.Option.{ok_or}
 use Rattle.std.proofs.lemmas.Bool.{ltb-false, ltb-true}
 use Rattle.subsetter_base.specs.Bytes.{◌>>=◌}
@@ -9,18 +8,18 @@ use Rattle.subsetter_base.specs.declared.error.Error.{Error}
 use Rattle.subsetter_base.specs.declared.error.Error.TheVariants.{MalformedFont, Unimplemented, OverflowError}
 use Rattle.subsetter_base.proofs.Results.{done, failed_is, bind_ok, bind_err, named_ok, named_err}
 use Rattle.subsetter_points.specs.declared.outline.Point.{Point}
-use Rattle.subsetter_points.specs.Simple.{after, has, parts, xs_of, ys_of}
+use Rattle.subsetter_points.specs.Simple.{after, has, parts}
 use Rattle.subsetter_variation.specs.GvarFault.{HasVariationFault}
-use Rattle.subsetter_variation.specs.Movement.{Outline, spent, moved_points}
+use Rattle.subsetter_variation.specs.Movement.{Outline, spent}
 use Rattle.subsetter_variation.specs.Tuples.{Gvar}
 use Rattle.subsetter_variation.proofs.GvarFaults.{behind, behind_error, behind_named, behind_missing, moving_refused, moving_stops, spent_refused, too_few}
 use Rattle.subsetter_instance.specs.declared.components.Arguments.{Arguments}
 use Rattle.subsetter_instance.specs.declared.components.Arguments.TheVariants.{Offset, Points}
 use Rattle.subsetter_instance.specs.declared.components.Component.{Component}
 use Rattle.subsetter_instance.specs.declared.source.Metric.{Metric}
-use Rattle.subsetter_instance.specs.Components.{component_at, components_at, offset_xs, offset_ys}
+use Rattle.subsetter_instance.specs.Components.{component_at, components_at}
 use Rattle.subsetter_instance.specs.Source.{Source, metric}
-use Rattle.subsetter_instance.specs.Unfolded.{Child, Composite, Unfolded, are_near, composite, counted_description, is_composite, is_scaled, joined, joined_or_fault, joined_parts, left_point, matched, moved, near_or_fault, no_points, placed, point_at, right_point, shift_by, shifted, simple_outline, transformed_xs, transformed_ys, unfolded, unfolded_composite, unfolded_simple, with_component, with_metrics, with_part, with_phantoms}
+use Rattle.subsetter_instance.specs.Unfolded.{Child, Composite, Unfolded, are_near, composite, counted_description, is_composite, is_scaled, joined, joined_or_fault, joined_parts, left_point, matched, moved, near_or_fault, no_points, placed, point_at, right_point, shift_by, shifted, simple_outline, transformed_xs, transformed_ys, unfolded, unfolded_composite, unfolded_simple, with_component, with_metrics, with_part}
 use Rattle.subsetter_instance.specs.WalkFault.{HasComponentFault, HasCompositeFault, HasPlacingFault, HasSimpleFault, HasWalkFault, IsAtComponent, IsFar, default_offsets, default_points, cut_component, far_component, far_outline, few_steps_for_glyph, few_steps_for_points, in_component, in_components, in_composite, in_offset_variations, in_place, in_point_variations, in_simple, later_component, many_points, no_child, no_description, no_header, no_metric_for_glyph, no_outline, no_parent, no_step, scaled_offset, too_deep}
 
 -- ---- points that move, and are near
@@ -114,9 +113,9 @@ components_refused (suc steps) rest e h =
         → cond b (components_at steps c.1 >>= in_front c.0) (alone c.0 steps) ≡ Err e → HasComponentFault (suc steps) rest e
     by deeper c is false t k = absurd cc
     by deeper c is true t k = elim (bind_err (components_at steps c.1) (in_front c.0) e k) [
-        | inl l ↦ later_component steps rest c is t (deeper c.1 l)
-        | inr l ↦ let z = l.2 in absurd cc
-      ]
+      | inl l ↦ later_component steps rest c is t (deeper c.1 l)
+      | inr l ↦ let z = l.2 in absurd cc
+    ]
 
 components_stop : (steps : ℕ) (rest : List ℕ) (e : Error) → HasComponentFault steps rest e → components_at steps rest ≡ Err e
 unfolding components_at
@@ -333,8 +332,19 @@ module _ (s : Source) (at : List ℤ) where
   in_joined depth steps g bytes m c e is m_is kind c_is deeper t =
       let here : t.place ≡ length t.before = let p = t.place_is in omega arith in
       let i : IsAtComponent s at depth steps g t.component (slice_index_or c.xs t.place (pos 0)) (slice_index_or c.ys t.place (pos 0)) t.to = record {
-        bytes = bytes; description_is = is; m = m; metric_is = m_is; kind = kind; it = c; it_is = c_is; before = t.before; more = t.more; components_are = t.are;
-        x_is = ap (λ n. slice_index_or c.xs n (pos 0)) (sym here); y_is = ap (λ n. slice_index_or c.ys n (pos 0)) (sym here); all_are = t.to_is;
+        bytes = bytes;
+        description_is = is;
+        m = m;
+        metric_is = m_is;
+        kind = kind;
+        it = c;
+        it_is = c_is;
+        before = t.before;
+        more = t.more;
+        components_are = t.are;
+        x_is = ap (λ n. slice_index_or c.xs n (pos 0)) (sym here);
+        y_is = ap (λ n. slice_index_or c.ys n (pos 0)) (sym here);
+        all_are = t.to_is;
       } in
       elim t.why [
         | inl k ↦ in_component depth steps g t.component (slice_index_or c.xs t.place (pos 0)) (slice_index_or c.ys t.place (pos 0)) t.to i (deeper t.to.1 t.component.glyph k)
@@ -394,7 +404,7 @@ module _ (s : Source) (at : List ℤ) where
   walk_stops _ _ _ e (in_place depth steps g c x y all part i is f) =
       let next = λ (x y : ℤ). with_component c x y all.0 part.0 part.1 in
       component_stops depth steps g c x y all e i (
-        behind (unfolded depth s at all.1 c.glyph) (joined_next (unfolded depth s at) c i.more (length i.before) i.it.xs i.it.ys all) part is
-        ∙ behind_error (next (slice_index_or i.it.xs (length i.before) (pos 0)) (slice_index_or i.it.ys (length i.before) (pos 0))) (joined (unfolded depth s at) i.more (length i.before + 1) i.it.xs i.it.ys) e
-          (ap (λ x. next x (slice_index_or i.it.ys (length i.before) (pos 0))) i.x_is ∙ ap (next x) i.y_is ∙ part_stops c x y (with_metrics c.flags all.0 part.0) part.0 part.1 e f)
+      behind (unfolded depth s at all.1 c.glyph) (joined_next (unfolded depth s at) c i.more (length i.before) i.it.xs i.it.ys all) part is
+      ∙ behind_error (next (slice_index_or i.it.xs (length i.before) (pos 0)) (slice_index_or i.it.ys (length i.before) (pos 0))) (joined (unfolded depth s at) i.more (length i.before + 1) i.it.xs i.it.ys) e
+      (ap (λ x. next x (slice_index_or i.it.ys (length i.before) (pos 0))) i.x_is ∙ ap (next x) i.y_is ∙ part_stops c x y (with_metrics c.flags all.0 part.0) part.0 part.1 e f)
       )
