@@ -1,15 +1,18 @@
 -- What items vary by at the default and at a master.
-use Rattle.std.proofs.Common.{◌≡◌, ℕ, zero, suc, ◌+◌, ◌*◌, ◌<◌, ◌≤◌, ◌==◌, ◌&&◌, Bool, true, false, cond, List, Some, ℤ, pos, ◌+ℤ◌, ◌*ℤ◌, refl, sym, ap, subst, ◌∙◌, ◌≢◌, arith}
-use Rattle.std.proofs.lemmas.Bool.{eqb-false, eqb-true}
-use Rattle.std.proofs.lemmas.Int.{ints}
+use Rattle.std.proofs.Common.{◌≡◌, ℕ, zero, suc, ◌+◌, ◌*◌, ◌<◌, ◌≤◌, ◌==◌, ◌&&◌, Bool, true, false, cond, List, Some, Err, ◌^◌, ℤ, pos, negsuc, unsigned_abs, ◌+ℤ◌, ◌*ℤ◌, refl, sym, ap, subst, ◌∙◌, ◌≢◌, arith}
+use Rattle.std.proofs.lemmas.Bool.{eqb-false, eqb-true, lt-ltb}
+use Rattle.std.proofs.lemmas.Int.{ints, unsigned_abs-mul}
 use Rattle.std.proofs.Math.IntN.{zero-*ℤ}
 use Rattle.subsetter_base.specs.Bytes.{number}
 use Rattle.subsetter_base.specs.Items.{Items}
+use Rattle.subsetter_base.specs.declared.error.Error.TheVariants.{OverflowError}
+use Rattle.subsetter_base.proofs.Results.{done}
 use Rattle.subsetter_base.proofs.Options.{bind_some, just, just_is}
 use Rattle.subsetter_variation.specs.Optional.{◌>>=◌}
+use Rattle.subsetter_variation.specs.Nearest.{nearest}
 use Rattle.subsetter_variation.specs.Region.{scalar, unit}
 use Rattle.subsetter_variation.specs.ItemVariations.{Row, Store, delta, item_delta, item_row, region_items, region_of, term, terms}
-use Rattle.subsetter_variation.specs.ItemLaws.{IsItemAtDefault, IsItemAtMaster, IsMaster, IsRegion}
+use Rattle.subsetter_variation.specs.ItemLaws.{IsItemAtDefault, IsItemAtMaster, IsMaster, IsRegion, IsRoundedAsItIs}
 use Rattle.subsetter_variation.proofs.Masters.{is_nothing_at_default}
 
 -- ---- the parts of a term
@@ -105,3 +108,18 @@ is_item_at_master s at outer inner r k d v marked is m d_is h = by (outer == 655
     by : (b : Bool) → b ≡ false → cond b (just (pos 0)) (item_row s outer inner >>= λ q. terms s at q q.count 0) ≡ Some v → v ≡ unit *ℤ d
     by true e x = absurd cc
     by false e x = sum_of_one s at r r.count 0 k d v m d_is (omega arith) (let t = m.there in omega arith) (row_read s at outer inner r v is x)
+
+-- ---- rounded
+
+nearest_is : (d : ℤ) → nearest (unit *ℤ d) (2 ^ 30) ≡ d
+unfolding nearest
+nearest_is (pos n) = ap pos (omega arith)
+nearest_is (negsuc n) = grind (arith, ints)
+
+size_is : (d : ℤ) → unsigned_abs d < 2 ^ 32 → unsigned_abs (unit *ℤ d) < 2 ^ 62
+size_is d h = omega (arith, unsigned_abs-mul unit d)
+
+pub is_rounded_as_it_is : IsRoundedAsItIs
+is_rounded_as_it_is d h =
+    ap (λ b. cond b (done {A = ℤ} (nearest (unit *ℤ d) (2 ^ 30))) (Err OverflowError)) (lt-ltb (unsigned_abs (unit *ℤ d)) (2 ^ 62) (size_is d h))
+    ∙ ap (λ z. done {A = ℤ} z) (nearest_is d)

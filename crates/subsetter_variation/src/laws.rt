@@ -1,6 +1,6 @@
 //! The laws of variations, which name no code: how far a tuple counts, and what it moves the points of a contour by.
 
-ghost use Rattle.subsetter_variation.specs.ItemLaws.{IsItemAtDefault, IsItemAtMaster};
+ghost use Rattle.subsetter_variation.specs.ItemLaws.{IsItemAtDefault, IsItemAtMaster, IsRoundedAsItIs};
 ghost use Rattle.subsetter_variation.specs.PlaceLaws.{IsDefaultAtZero, IsGreatestAtOne, IsKept, IsLeastAtMinusOne, NeverDescends};
 ghost use Rattle.subsetter_variation.specs.Moves.{IsShift, IsStill, IsTurned, LiesBetween};
 ghost use Rattle.subsetter_variation.specs.VariationLaws.{AreAscending, AreFaultsNamed, IsExactAtPeak, IsFreeOfPlace, IsNothingAtDefault, IsPassedOver, IsSameAtAnySteps, StaysAtDefault};
@@ -68,6 +68,11 @@ pub fn is_same_at_any_steps()
 /// At the default an item of `HVAR` or `MVAR` varies by nothing.
 pub fn is_item_at_default()
     ensures { IsItemAtDefault }
+{}
+
+/// An item that varies by whole units is rounded to them: so advances and metrics are at a master those of the font and the delta.
+pub fn is_rounded_as_it_is()
+    ensures { IsRoundedAsItIs }
 {}
 
 /// At a master it varies by exactly its delta for it.
