@@ -1,5 +1,6 @@
 pub mod Boxes
 pub mod Chains
+pub mod Defaults
 pub mod Ends
 pub mod Glyphs
 pub mod Joins

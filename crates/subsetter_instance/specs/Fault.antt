@@ -12,7 +12,9 @@ use Rattle.subsetter_sfnt.specs.Written.{fits, start_of}
 use Rattle.subsetter_instance.specs.Source.{Source, has_other_version, metric, place, source_in}
 use Rattle.subsetter_instance.specs.declared.source.Metric.{Metric}
 use Rattle.subsetter_instance.specs.Unfolded.{Unfolded, unfolded}
-use Rattle.subsetter_instance.specs.Drawn.{Drawn, levels, advance, points_or_fault}
+use Rattle.subsetter_instance.specs.WalkFault.{HasWalkFault}
+use Rattle.subsetter_instance.specs.RoundedFault.{HasAdvanceFault, HasFarPoint}
+use Rattle.subsetter_instance.specs.Drawn.{Drawn, levels, points_or_fault}
 use Rattle.subsetter_instance.specs.Plain.{drawn_all}
 use Rattle.subsetter_instance.specs.Lines.{Lines, lines_of, with_lines}
 use Rattle.subsetter_instance.specs.Written.{by_glyph, tables}
@@ -23,14 +25,12 @@ pub data HasGlyphFault (s : Source) (at : List ℤ) (steps g : ℕ) : Error → 
   no_glyph : s.count ≤ g → HasGlyphFault s at steps g MalformedFont
   -- no metric in hmtx
   no_metric : metric s g ≡ None → HasGlyphFault s at steps g MalformedFont
-  -- what the walk over the glyph and its components stops at: a description, a metric or variations that can't be read, components of
-  -- components more than 64 levels deep, a matched point that isn't there, an offset that is to be scaled, the end of the steps, a point more
-  -- than 32768 units away, or more than 65535 points
-  stopped : {e : Error} → unfolded levels s at steps g ≡ Err e → HasGlyphFault s at steps g e
-  -- HVAR is cut or has no item for the glyph, or the advance has no 16 bits
-  no_advance : {e : Error} (m : Metric) (u : Unfolded × ℕ) → metric s g ≡ Some m → unfolded levels s at steps g ≡ Ok u → advance s.hvar at g m.advance (u.0.right -ℤ u.0.left) ≡ Err e → HasGlyphFault s at steps g e
-  -- a coordinate has no 16 bits
-  far_point : {e : Error} (u : Unfolded × ℕ) → unfolded levels s at steps g ≡ Ok u → points_or_fault u.0.left u.0.on u.0.xs u.0.ys ≡ Err e → HasGlyphFault s at steps g e
+  -- its description, its variations, or a component's
+  in_walk : {e : Error} → HasWalkFault s at levels steps g e → HasGlyphFault s at steps g e
+  -- its advance
+  in_advance : {e : Error} (m : Metric) (u : Unfolded × ℕ) → metric s g ≡ Some m → unfolded levels s at steps g ≡ Ok u → HasAdvanceFault s.hvar at g m.advance (u.0.right -ℤ u.0.left) e → HasGlyphFault s at steps g e
+  -- a rounded coordinate has no 16 bits
+  far_point : (u : Unfolded × ℕ) → unfolded levels s at steps g ≡ Ok u → HasFarPoint u.0.left u.0.on u.0.xs u.0.ys → HasGlyphFault s at steps g OverflowError
   -- a delta between neighbours has no 16 bits, or there are too many points or contours
   large_outline : (u : Unfolded × ℕ) (points : List Point) → unfolded levels s at steps g ≡ Ok u → points_or_fault u.0.left u.0.on u.0.xs u.0.ys ≡ Ok points → parts_fit u.0.ends points ≡ false → HasGlyphFault s at steps g OverflowError
 

@@ -9,6 +9,8 @@ pub mod Laws
 pub mod Lines
 pub mod Optional
 pub mod Plain
+pub mod RoundedFault
 pub mod Source
 pub mod Unfolded
+pub mod WalkFault
 pub mod Written

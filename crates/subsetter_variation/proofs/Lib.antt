@@ -1,4 +1,5 @@
 pub mod Ascending
+pub mod Ascent
 pub mod Between
 pub mod Bounds
 pub mod Contours
@@ -7,9 +8,12 @@ pub mod Defaults
 pub mod DeltaRuns
 pub mod DeltasOn
 pub mod Given
+pub mod GvarFaults
+pub mod Items
 pub mod Listed
 pub mod ListedDeltas
 pub mod Lying
+pub mod Placing
 pub mod Masters
 pub mod Quotients
 pub mod Regions

@@ -1,13 +1,16 @@
 pub mod Axes
 pub mod Coordinates
 pub mod FontMetrics
+pub mod GvarFault
 pub mod Inferred
+pub mod ItemLaws
 pub mod ItemVariations
 pub mod Movement
 pub mod Moves
 pub mod Nearest
 pub mod Optional
 pub mod Packed
+pub mod PlaceLaws
 pub mod Region
 pub mod Segments
 pub mod Tuples

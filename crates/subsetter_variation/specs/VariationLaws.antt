@@ -1,5 +1,6 @@
 -- Laws of how far tuples count, and of what they move.
-use Rattle.std.specs.Prelude.{◌≡◌, ◌+◌, ◌≤◌, ℕ, zero, suc, ℤ, pos, ◌*ℤ◌, Bool, false, List, [], ◌∷◌, length, map, slice_get, Option, Some, Ok, All}
+use Rattle.std.specs.Prelude.{◌≡◌, ◌+◌, ◌≤◌, ℕ, zero, suc, ℤ, pos, ◌*ℤ◌, Bool, false, List, [], ◌∷◌, length, map, slice_get, Option, Some, Ok, Err, All, ◌↔◌}
+use Rattle.subsetter_base.specs.declared.error.Error.{Error}
 use Rattle.subsetter_variation.specs.declared.inference.Point.{Point}
 use Rattle.subsetter_variation.specs.declared.region.RegionAxis.{RegionAxis}
 use Rattle.subsetter_variation.specs.Inferred.{moved}
@@ -8,6 +9,7 @@ use Rattle.subsetter_variation.specs.Region.{is_ignored, scalar, unit}
 use Rattle.subsetter_variation.specs.Tuples.{Gvar, TupleHeader, TupleHeaders, next_header, shared_numbers, tuple_headers, variations_of}
 use Rattle.subsetter_variation.specs.Movement.{Outline, Walk, next_walk, moved_points}
 use Rattle.subsetter_variation.specs.Varied.{in_units}
+use Rattle.subsetter_variation.specs.GvarFault.{HasVariationFault}
 
 -- at the default a region counts nothing if one of its axes isn't ignored
 abbrev pub IsNothingAtDefault : Type 0
@@ -50,6 +52,10 @@ Ascends least (n ∷ numbers) = (least ≤ n) × Ascends (n + 1) numbers
 -- the point numbers of a tuple ascend
 abbrev pub AreAscending : Type 0
 AreAscending = (limit : ℕ) (bytes rest numbers : List ℕ) → point_numbers limit bytes ≡ Some (Some numbers, rest) → Ascends 0 numbers
+
+-- points don't move exactly where the variations of their glyph have a fault, under its name
+abbrev pub AreFaultsNamed : Type 0
+AreFaultsNamed = (t : Gvar) (g : ℕ) (o : Outline) (at : List ℤ) (steps : ℕ) (e : Error) → (moved_points t g o at steps ≡ Err e) ↔ HasVariationFault t g o at steps e
 
 -- points go to the same places at whatever number of steps
 abbrev pub IsSameAtAnySteps : Type 0

@@ -1,7 +1,9 @@
 //! The laws of variations, which name no code: how far a tuple counts, and what it moves the points of a contour by.
 
+ghost use Rattle.subsetter_variation.specs.ItemLaws.{IsItemAtDefault, IsItemAtMaster, IsRoundedAsItIs};
+ghost use Rattle.subsetter_variation.specs.PlaceLaws.{IsDefaultAtZero, IsGreatestAtOne, IsKept, IsLeastAtMinusOne, NeverDescends};
 ghost use Rattle.subsetter_variation.specs.Moves.{IsShift, IsStill, IsTurned, LiesBetween};
-ghost use Rattle.subsetter_variation.specs.VariationLaws.{AreAscending, IsExactAtPeak, IsFreeOfPlace, IsNothingAtDefault, IsPassedOver, IsSameAtAnySteps, StaysAtDefault};
+ghost use Rattle.subsetter_variation.specs.VariationLaws.{AreAscending, AreFaultsNamed, IsExactAtPeak, IsFreeOfPlace, IsNothingAtDefault, IsPassedOver, IsSameAtAnySteps, StaysAtDefault};
 
 /// At the scalar 0 nothing moves.
 pub fn is_still()
@@ -53,7 +55,52 @@ pub fn are_ascending()
     ensures { AreAscending }
 {}
 
+/// Points don't move exactly where the variations of their glyph have a fault.
+pub fn are_faults_named()
+    ensures { AreFaultsNamed }
+{}
+
 /// Points go to the same places at whatever number of steps.
 pub fn is_same_at_any_steps()
     ensures { IsSameAtAnySteps }
+{}
+
+/// At the default an item of `HVAR` or `MVAR` varies by nothing.
+pub fn is_item_at_default()
+    ensures { IsItemAtDefault }
+{}
+
+/// An item that varies by whole units is rounded to them: so advances and metrics are at a master those of the font and the delta.
+pub fn is_rounded_as_it_is()
+    ensures { IsRoundedAsItIs }
+{}
+
+/// At a master it varies by exactly its delta for it.
+pub fn is_item_at_master()
+    ensures { IsItemAtMaster }
+{}
+
+/// A segment map takes each number to itself that it keeps.
+pub fn is_kept()
+    ensures { IsKept }
+{}
+
+/// The default of an axis lies at 0.
+pub fn is_default_at_zero()
+    ensures { IsDefaultAtZero }
+{}
+
+/// The least coordinate of an axis lies at -1, where it is below the default.
+pub fn is_least_at_minus_one()
+    ensures { IsLeastAtMinusOne }
+{}
+
+/// The greatest coordinate of an axis lies at 1, where it is above the default.
+pub fn is_greatest_at_one()
+    ensures { IsGreatestAtOne }
+{}
+
+/// Before the segments a greater coordinate lies no lower on its axis.
+pub fn never_descends()
+    ensures { NeverDescends }
 {}

@@ -16,7 +16,9 @@ use Rattle.subsetter_instance.specs.Source.{Source, metric}
 use Rattle.subsetter_instance.specs.Unfolded.{Unfolded, unfolded}
 use Rattle.subsetter_instance.specs.Drawn.{Drawn, advance, bearing, points_or_fault, drawn_if_fit, rounded, levels, drawn}
 use Rattle.subsetter_instance.specs.Plain.{drawn_if, drawn_all}
-use Rattle.subsetter_instance.specs.Fault.{HasGlyphFault, no_glyph, no_metric, stopped, no_advance, far_point, large_outline}
+use Rattle.subsetter_instance.specs.Fault.{HasGlyphFault, no_glyph, no_metric, in_walk, in_advance, far_point, large_outline}
+use Rattle.subsetter_instance.proofs.FaultLaws.Walk.{walk_refused, walk_stops}
+use Rattle.subsetter_instance.proofs.FaultLaws.Rounded.{advance_refused, advance_stops, points_refused, points_stop}
 
 -- ---- what isn't drawn
 
@@ -32,9 +34,9 @@ module _ (s : Source) (at : List ℤ) (steps g : ℕ) where
   unfolding rounded
   unrounded m u e is there h =
       elim (bind_err (advance s.hvar at g m.advance (u.0.right -ℤ u.0.left)) (λ width. points_or_fault u.0.left u.0.on u.0.xs u.0.ys >>= λ points. drawn_if_fit u.0.ends points width) e h) [
-        | inl k ↦ no_advance m u is there k
+        | inl k ↦ in_advance m u is there (advance_refused s.hvar at g m.advance (u.0.right -ℤ u.0.left) e k)
         | inr k ↦ elim (bind_err (points_or_fault u.0.left u.0.on u.0.xs u.0.ys) (λ points. drawn_if_fit u.0.ends points k.0) e k.2) [
-          | inl l ↦ far_point u there l
+          | inl l ↦ let f = points_refused u.0.left u.0.on u.0.xs u.0.ys e l in subst (HasGlyphFault s at steps g) f.1 (far_point u there f.0)
           | inr l ↦ let f = unfit u.0.ends l.0 k.0 e l.2 in subst (HasGlyphFault s at steps g) f.1 (large_outline u l.0 there l.1 f.0)
         ]
       ]
@@ -45,7 +47,7 @@ module _ (s : Source) (at : List ℤ) (steps g : ℕ) where
       elim (bind_err (ok_or (metric s g) MalformedFont) (λ m. unfolded levels s at steps g >>= λ u. rounded s at g m u.0) e h) [
         | inl k ↦ let n = named_err (metric s g) MalformedFont e k in subst (HasGlyphFault s at steps g) n.1 (no_metric n.0)
         | inr k ↦ elim (bind_err (unfolded levels s at steps g) (λ u. rounded s at g k.0 u.0) e k.2) [
-          | inl l ↦ stopped l
+          | inl l ↦ in_walk (walk_refused s at levels steps g e l)
           | inr l ↦ unrounded k.0 l.0 e (named_ok (metric s g) MalformedFont k.0 k.1) l.1 l.2
         ]
       ]
@@ -110,12 +112,12 @@ same_unfolded s at steps g t u h = done_is t.u u (sym t.u_is ∙ h)
 no_glyph_fault : (s : Source) (at : List ℤ) (steps g : ℕ) (e : Error) → DrawnSteps s at steps g → HasGlyphFault s at steps g e → ⊥
 no_glyph_fault s at steps g e t (no_glyph le) = let lt = t.counted in omega arith
 no_glyph_fault s at steps g e t (no_metric none) = some_not_none (metric s g) t.m t.m_is none
-no_glyph_fault s at steps g e t (stopped h) = ok_not_err (unfolded levels s at steps g) t.u e t.u_is h
-no_glyph_fault s at steps g e t (no_advance m u m_is u_is h) =
+no_glyph_fault s at steps g e t (in_walk f) = ok_not_err (unfolded levels s at steps g) t.u e t.u_is (walk_stops s at levels steps g e f)
+no_glyph_fault s at steps g e t (in_advance m u m_is u_is f) =
     ok_not_err (advance s.hvar at g m.advance (u.0.right -ℤ u.0.left)) t.width e
-    (ap (λ (x : Unfolded × ℕ). advance s.hvar at g m.advance (x.0.right -ℤ x.0.left)) (sym (same_unfolded s at steps g t u u_is)) ∙ ap (λ (k : Metric). advance s.hvar at g k.advance (t.u.0.right -ℤ t.u.0.left)) (just_is m t.m (sym m_is ∙ t.m_is)) ∙ t.width_is) h
-no_glyph_fault s at steps g e t (far_point u u_is h) =
-    ok_not_err (points_or_fault u.0.left u.0.on u.0.xs u.0.ys) t.points e (ap (λ (x : Unfolded × ℕ). points_or_fault x.0.left x.0.on x.0.xs x.0.ys) (sym (same_unfolded s at steps g t u u_is)) ∙ t.points_is) h
+    (ap (λ (x : Unfolded × ℕ). advance s.hvar at g m.advance (x.0.right -ℤ x.0.left)) (sym (same_unfolded s at steps g t u u_is)) ∙ ap (λ (k : Metric). advance s.hvar at g k.advance (t.u.0.right -ℤ t.u.0.left)) (just_is m t.m (sym m_is ∙ t.m_is)) ∙ t.width_is) (advance_stops s.hvar at g m.advance (u.0.right -ℤ u.0.left) e f)
+no_glyph_fault s at steps g e t (far_point u u_is f) =
+    ok_not_err (points_or_fault u.0.left u.0.on u.0.xs u.0.ys) t.points e (ap (λ (x : Unfolded × ℕ). points_or_fault x.0.left x.0.on x.0.xs x.0.ys) (sym (same_unfolded s at steps g t u u_is)) ∙ t.points_is) (points_stop u.0.left u.0.on u.0.xs u.0.ys f)
 no_glyph_fault s at steps g e t (large_outline u points u_is points_is h) =
     let same = same_unfolded s at steps g t u u_is in
     let also : t.points ≡ points = done_is t.points points (sym t.points_is ∙ ap (λ (x : Unfolded × ℕ). points_or_fault x.0.left x.0.on x.0.xs x.0.ys) same ∙ points_is) in

@@ -1,5 +1,5 @@
 -- Instances that are made in two numbers of steps are the same file.
-use Rattle.std.proofs.Common.{◌≡◌, ℕ, List, [], ◌∷◌, length, Option, Ok, ℤ, sym, ap, ◌∙◌}
+use Rattle.std.proofs.Common.{◌≡◌, ℕ, List, [], ◌∷◌, length, Option, Ok, ℤ, refl, sym, ap, ◌∙◌}
 use Rattle.std.specs.Option.{ok_or}
 use Rattle.subsetter_base.specs.Bytes.{◌>>=◌}
 use Rattle.subsetter_base.specs.declared.tag.Tag.{Tag}
@@ -19,6 +19,7 @@ use Rattle.subsetter_instance.specs.Answer.{IsTheAnswer}
 use Rattle.subsetter_instance.proofs.FileLaws.Among.{drawn_one}
 use Rattle.subsetter_instance.proofs.FileLaws.Steps.{laid_tables, InstanceSteps, font_steps}
 use Rattle.subsetter_instance.proofs.SameLaws.Simple.{one_answer}
+use Rattle.subsetter_instance.proofs.SameLaws.Simple.{moved_alike}
 use Rattle.subsetter_instance.proofs.SameLaws.Unfolded.{unfolded_alike}
 
 -- a glyph
@@ -30,7 +31,7 @@ drawn_alike s at m n g a b e f =
     let p2 = bind_ok (unfolded levels s at m g) (λ u. rounded s at g p.0 u.0) a p.2 in
     let q2 = bind_ok (unfolded levels s at n g) (λ u. rounded s at g q.0 u.0) b q.2 in
     let metrics : q.0 ≡ p.0 = one_answer (ok_or (metric s g) MalformedFont) q.0 p.0 q.1 p.1 in
-    let glyphs = unfolded_alike levels s at m n g p2.0 q2.0 p2.1 q2.1 in
+    let glyphs = unfolded_alike levels s s at (λ h. (refl, refl)) (λ h o i j a b x y. moved_alike s.gvar h o at i j a b x y) m n g p2.0 q2.0 p2.1 q2.1 in
     done_is a b (sym p2.2 ∙ ap (λ (u : Unfolded). rounded s at g p.0 u) glyphs ∙ ap (λ (k : Metric). rounded s at g k q2.0.0) (sym metrics) ∙ q2.2)
 
 -- all glyphs

@@ -1,0 +1,5 @@
+use Rattle.subsetter_variation.proofs.Items.{is_item_at_default}
+use Rattle.subsetter_variation.proofs.laws.is_item_at_default.Goals as goal
+
+pub returns : goal.returns
+returns c = is_item_at_default

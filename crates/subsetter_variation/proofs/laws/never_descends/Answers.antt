@@ -1,0 +1,5 @@
+use Rattle.subsetter_variation.proofs.Ascent.{never_descends}
+use Rattle.subsetter_variation.proofs.laws.never_descends.Goals as goal
+
+pub returns : goal.returns
+returns c = never_descends
