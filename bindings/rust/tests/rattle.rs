@@ -295,11 +295,13 @@ fn a_refused_request_leaves_a_map_as_it_was() {
         if was_refused {
             assert_eq!(answer.unwrap_err().value, (key, key + 1));
             assert_eq!(map.get(&key), None);
+            assert!((0..key).all(|known| map.get(&known) == Some(&(known + 1))));
             // Of several requests the second is refused, too.
             let (answer, was_refused) = with(1, || map.insert(key, key + 2));
             assert_eq!(answer.is_err(), was_refused);
             if was_refused {
                 assert_eq!(map.get(&key), None);
+                assert!((0..key).all(|known| map.get(&known) == Some(&(known + 1))));
                 map.insert(key, key + 1).unwrap();
             } else {
                 assert_eq!(map.insert(key, key + 1).unwrap(), Some(key + 2));
@@ -461,6 +463,18 @@ mod program {
             let mut steps = Steps(std::vec![Ok(3), step], std::vec![]);
             assert_eq!(write!(steps, "12345").unwrap_err().kind(), kind);
             assert_eq!(steps.1, b"123");
+        }
+    }
+
+    #[test]
+    fn refused_memory_has_its_own_error() {
+        use super::rattle::alloc::{AllocError, AllocFailed};
+        let errors = [
+            Error::from(AllocError),
+            Error::from(AllocFailed { value: 0 }),
+        ];
+        for error in errors {
+            assert_eq!(error.kind(), ErrorKind::OutOfMemory);
         }
     }
 
