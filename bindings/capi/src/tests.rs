@@ -212,7 +212,7 @@ fn the_version_is_that_of_the_repository() {
     let version = include_str!("../../../VERSION").trim();
     assert_eq!(env!("CARGO_PKG_VERSION"), version);
     let numbers: Vec<u32> = version
-        .split(|it| it == '.' || it == '+')
+        .split(['.', '+'])
         .map(|it| it.parse().unwrap())
         .collect();
     let wanted = numbers.iter().fold(0, |all, it| all << 8 | it);
