@@ -1,7 +1,12 @@
 -- Where there is no instance a fault stands, and where a fault stands there is none.
 pub mod Opening
+pub mod Parts
+pub mod Place
+pub mod Source
+pub mod Item
 pub mod Walk
 pub mod Rounded
+pub mod Lines
 pub mod Glyph
 pub mod Refused
 pub mod Clean

@@ -4,13 +4,17 @@ pub mod Drawn
 pub mod Extremes
 pub mod Fault
 pub mod Instance
+pub mod ItemFault
 pub mod Kept
 pub mod Laws
 pub mod Lines
+pub mod LinesFault
 pub mod Optional
+pub mod PlaceFault
 pub mod Plain
 pub mod RoundedFault
 pub mod Source
+pub mod SourceFault
 pub mod Unfolded
 pub mod WalkFault
 pub mod Written

@@ -38,7 +38,7 @@ fn is_at_default(
     coordinates: &[(Tag, i32)],
 ) -> Result<bool, Error>
     ensures ok { IfOk result (λ yes. IsTrue yes ↔ IsAtDefault (font_at «data».now index all_extras) coordinates.now) }
-    ensures err { IfErr result (λ e. (e ≡ OutOfMemory) ⊎ HasNoPlace (font_at «data».now index all_extras) coordinates.now e) }
+    ensures err { IfErr result (λ e. (e ≡ OutOfMemory) ⊎ HasNoPlace (font_at «data».now index all_extras) e) }
     ensures without_memory { stored (font_at «data».now index all_extras) (codes "glyf") ≡ None → result ≡ Ok true }
 {
     let Ok(face) = parse(data, index, Extras::ALL) else {
