@@ -5,6 +5,7 @@ pub mod Ends
 pub mod Glyphs
 pub mod Joins
 pub mod KeptLemmas
+pub mod MetricLaws
 pub mod PartLemmas
 pub mod Points
 pub mod Reach

@@ -9,6 +9,7 @@ pub mod Kept
 pub mod Laws
 pub mod Lines
 pub mod LinesFault
+pub mod MetricLaws
 pub mod Optional
 pub mod PlaceFault
 pub mod Plain

@@ -690,13 +690,13 @@ module _ (hvar : List ℕ) (axes : ℕ) where
             inr (p.0, ap (λ map. mapped_index map g) p.1 ∙ m.2)
 
 module _ (hvar : List ℕ) (at : List ℤ) (g : ℕ) where
-  abbrev with_indexes : Store → ℕ × ℕ → Option ℤ
+  abbrev pub with_indexes : Store → ℕ × ℕ → Option ℤ
   with_indexes s index = item_delta s at index.0 index.1
 
-  abbrev with_store : Store → Option ℤ
+  abbrev pub with_store : Store → Option ℤ
   with_store s = advance_index hvar g >>= with_indexes s
 
-  advance_in_turn : advance_delta hvar at g ≡ (store_of hvar (length at) >>= with_store)
+  pub advance_in_turn : advance_delta hvar at g ≡ (store_of hvar (length at) >>= with_store)
   unfolding advance_delta
   advance_in_turn = refl
 
@@ -866,7 +866,7 @@ module _ (mvar : List ℕ) (axes : ℕ) where
       }
 
 module _ (mvar : List ℕ) (at : List ℤ) (tag : List ℕ) where
-  metric_delta_in_turn : metric_delta mvar at tag ≡ (value_of mvar tag >>= value_delta mvar at)
+  pub metric_delta_in_turn : metric_delta mvar at tag ≡ (value_of mvar tag >>= value_delta mvar at)
   unfolding metric_delta
   metric_delta_in_turn = refl
 

@@ -84,21 +84,22 @@ module _ (mvar : List ℕ) (at : List ℤ) where
           ]
         ]
 
-    record ThreeSteps : Type 0 where
-      first : ℤ
-      first_is : varied mvar at a (signed_at hhea place) ≡ Ok first
-      second : ℤ
-      second_is : varied mvar at b (signed_at hhea (place + 2)) ≡ Ok second
-      third : ℤ
-      third_is : varied mvar at c (signed_at hhea (place + 4)) ≡ Ok third
+    pub record ThreeSteps (l : ℤ × ℤ × ℤ) : Type 0 where
+      pub first : ℤ
+      pub first_is : varied mvar at a (signed_at hhea place) ≡ Ok first
+      pub second : ℤ
+      pub second_is : varied mvar at b (signed_at hhea (place + 2)) ≡ Ok second
+      pub third : ℤ
+      pub third_is : varied mvar at c (signed_at hhea (place + 4)) ≡ Ok third
+      pub same : l ≡ (first, second, third)
 
-    three_steps : (l : ℤ × ℤ × ℤ) → three_lines mvar at hhea place a b c ≡ Ok l → ThreeSteps
+    pub three_steps : (l : ℤ × ℤ × ℤ) → three_lines mvar at hhea place a b c ≡ Ok l → ThreeSteps l
     unfolding three_lines
     three_steps l h =
         let x = bind_ok (varied mvar at a (signed_at hhea place)) second_of l h in
         let y = bind_ok (varied mvar at b (signed_at hhea (place + 2))) (third_of x.0) l x.2 in
         let z = bind_ok (varied mvar at c (signed_at hhea (place + 4))) (λ third. Ok (x.0, y.0, third)) l y.2 in
-        record { first = x.0; first_is = x.1; second = y.0; second_is = y.1; third = z.0; third_is = z.1 }
+        record { first = x.0; first_is = x.1; second = y.0; second_is = y.1; third = z.0; third_is = z.1; same = sym (done_is (x.0, y.0, z.0) l z.2) }
 
   module _ (hhea : List ℕ) where
     record HasLineFault (e : Error) : Type 0 where
@@ -107,13 +108,13 @@ module _ (mvar : List ℕ) (at : List ℤ) where
       line : IsLineOfHhea tag offset
       fault : HasMetricFault mvar at tag hhea offset e
 
-    abbrev lines : Result (ℤ × ℤ × ℤ) Error
+    abbrev pub lines : Result (ℤ × ℤ × ℤ) Error
     lines = three_lines mvar at hhea 4 (codes "hasc") (codes "hdsc") (codes "hlgp")
 
-    abbrev caret : Result (ℤ × ℤ × ℤ) Error
+    abbrev pub caret : Result (ℤ × ℤ × ℤ) Error
     caret = three_lines mvar at hhea 18 (codes "hcrs") (codes "hcrn") (codes "hcof")
 
-    abbrev with_caret : ℤ × ℤ × ℤ → Result (List ℕ) Error
+    abbrev pub with_caret : ℤ × ℤ × ℤ → Result (List ℕ) Error
     with_caret l = caret >>= λ c. Ok (moved_hhea hhea l c)
 
     hhea_refused : (e : Error) → varied_hhea (Some mvar) at hhea ≡ Err e → HasLineFault e
@@ -138,15 +139,15 @@ module _ (mvar : List ℕ) (at : List ℤ) where
     hhea_stands new tag offset e h line f =
         let x = bind_ok lines with_caret new h in
         let y = bind_ok caret (λ c. Ok (moved_hhea hhea x.0 c)) new x.2 in
-        by tag offset (three_steps hhea 4 (codes "hasc") (codes "hdsc") (codes "hlgp") x.0 x.1) (three_steps hhea 18 (codes "hcrs") (codes "hcrn") (codes "hcof") y.0 y.1) line f
+        by tag offset x.0 y.0 (three_steps hhea 4 (codes "hasc") (codes "hdsc") (codes "hlgp") x.0 x.1) (three_steps hhea 18 (codes "hcrs") (codes "hcrn") (codes "hcof") y.0 y.1) line f
       where
-        by : (tag : List ℕ) (offset : ℕ) → ThreeSteps hhea 4 (codes "hasc") (codes "hdsc") (codes "hlgp") → ThreeSteps hhea 18 (codes "hcrs") (codes "hcrn") (codes "hcof") → IsLineOfHhea tag offset → HasMetricFault mvar at tag hhea offset e → ⊥
-        by _ _ s t ascender f = metric_stands (codes "hasc") hhea 4 s.first e s.first_is f
-        by _ _ s t descender f = metric_stands (codes "hdsc") hhea 6 s.second e s.second_is f
-        by _ _ s t line_gap f = metric_stands (codes "hlgp") hhea 8 s.third e s.third_is f
-        by _ _ s t caret_slope_rise f = metric_stands (codes "hcrs") hhea 18 t.first e t.first_is f
-        by _ _ s t caret_slope_run f = metric_stands (codes "hcrn") hhea 20 t.second e t.second_is f
-        by _ _ s t caret_offset f = metric_stands (codes "hcof") hhea 22 t.third e t.third_is f
+        by : (tag : List ℕ) (offset : ℕ) (l c : ℤ × ℤ × ℤ) → ThreeSteps hhea 4 (codes "hasc") (codes "hdsc") (codes "hlgp") l → ThreeSteps hhea 18 (codes "hcrs") (codes "hcrn") (codes "hcof") c → IsLineOfHhea tag offset → HasMetricFault mvar at tag hhea offset e → ⊥
+        by _ _ l c s t ascender f = metric_stands (codes "hasc") hhea 4 s.first e s.first_is f
+        by _ _ l c s t descender f = metric_stands (codes "hdsc") hhea 6 s.second e s.second_is f
+        by _ _ l c s t line_gap f = metric_stands (codes "hlgp") hhea 8 s.third e s.third_is f
+        by _ _ l c s t caret_slope_rise f = metric_stands (codes "hcrs") hhea 18 t.first e t.first_is f
+        by _ _ l c s t caret_slope_run f = metric_stands (codes "hcrn") hhea 20 t.second e t.second_is f
+        by _ _ l c s t caret_offset f = metric_stands (codes "hcof") hhea 22 t.third e t.third_is f
 
   -- ---- post
 
@@ -158,7 +159,7 @@ module _ (mvar : List ℕ) (at : List ℤ) where
       long : 12 ≤ length post
       fault : HasMetricFault mvar at tag post offset e
 
-    abbrev with_position : ℤ → Result (List ℕ) Error
+    abbrev pub with_position : ℤ → Result (List ℕ) Error
     with_position position = varied mvar at (codes "unds") (signed_at post 10) >>= λ thickness. Ok (moved_post post position thickness)
 
     underline_refused : (e : Error) → 12 ≤ length post → varied_underline mvar at post ≡ Err e → HasUnderlineFault e
