@@ -18,9 +18,9 @@ use Rattle.subsetter_instance.specs.Fault.{HasGlyphFault, HasInstanceFault, in_o
 use Rattle.subsetter_instance.specs.Answer.{IsAnswer}
 use Rattle.subsetter_instance.proofs.FaultLaws.Opening.{no_opening_fault}
 use Rattle.subsetter_instance.proofs.FaultLaws.Glyph.{drawn_clean}
-use Rattle.subsetter_instance.proofs.FaultLaws.Lines.{lines_stand}
-use Rattle.subsetter_instance.proofs.FaultLaws.Place.{place_stands}
-use Rattle.subsetter_instance.proofs.FaultLaws.Source.{tables_stand, versions_stand}
+use Rattle.subsetter_instance.proofs.FaultLaws.Lines.{lines_clean}
+use Rattle.subsetter_instance.proofs.FaultLaws.Place.{place_clean}
+use Rattle.subsetter_instance.proofs.FaultLaws.Source.{tables_clean, other_version_of}
 use Rattle.subsetter_instance.proofs.FileLaws.Among.{is_among, drawn_one}
 use Rattle.subsetter_instance.proofs.FileLaws.Instance.{is_instance}
 use Rattle.subsetter_instance.proofs.FileLaws.Steps.{laid_tables, source_glyf, InstanceSteps, font_steps}
@@ -51,11 +51,11 @@ module _ (font : Font) (settings : List (Tag × ℤ)) (glyphs : List ℕ) (steps
   no_fault : (e : Error) → (HasOpeningFault font e → ⊥) → HasInstanceFault font settings glyphs steps e → ⊥
   no_fault e opening (in_opening f) = opening f
   no_fault e opening (no_glyf none cff) = let g = source_glyf (stored font) (length i.at) i.source i.source_is in some_not_none (stored font (codes "glyf")) g.0 g.1 none
-  no_fault e opening (in_place f) = place_stands (stored font) settings i.at e i.place_is f
-  no_fault e opening (in_versions f) = let clash : true ≡ false = sym (versions_stand (stored font) e f) ∙ i.known in cc
-  no_fault e opening (in_source at p f) = tables_stand (stored font) (length at) i.source (ap (λ (l : List ℤ). source_in (stored font) (length l)) (sym (same_place at p)) ∙ i.source_is) f
+  no_fault e opening (in_place f) = place_clean (stored font) settings i.at e i.place_is f
+  no_fault e opening (in_versions f) = let clash : true ≡ false = sym (other_version_of (stored font) e f) ∙ i.known in cc
+  no_fault e opening (in_source at p f) = tables_clean (stored font) (length at) i.source (ap (λ (l : List ℤ). source_in (stored font) (length l)) (sym (same_place at p)) ∙ i.source_is) f
   no_fault e opening (in_glyph at s g p h there f) = no_fault_in e at s g (same_place at p) (same_source at s p h) there f
-  no_fault e opening (in_lines at p f) = lines_stand (stored font) at i.lines e (ap (lines_of (stored font)) (sym (same_place at p)) ∙ i.lines_are) f
+  no_fault e opening (in_lines at p f) = lines_clean (stored font) at i.lines e (ap (lines_of (stored font)) (sym (same_place at p)) ∙ i.lines_are) f
   no_fault e opening (large_file at s ds l head p h drawn varies at_head f) = not_large at s ds l head (same_place at p) (same_source at s p h) drawn varies at_head f
 
 -- a font that was opened, and whose outlines are of a known kind

@@ -1,6 +1,6 @@
 -- An item of HVAR or MVAR is refused exactly where it has a fault.
---   hvar_refused, hvar_stands    of the advance of a glyph
---   mvar_refused, mvar_stands    of the metric of a tag
+--   hvar_refused, hvar_clean    of the advance of a glyph
+--   mvar_refused, mvar_clean    of the metric of a tag
 use Rattle.std.proofs.Common.{◌≡◌, ◌≢◌, ℕ, zero, suc, ◌+◌, ◌*◌, ◌<◌, ◌≤◌, Bool, true, false, cond, List, length, take, drop, Option, Some, None, ℤ, pos, refl, sym, ap, subst, ◌∙◌, ◌⊎◌, inl, inr, arith}
 use Rattle.std.specs.Prelude.{◌&&◌, ◌/◌, ◌%◌, ◌==◌, ◌+ℤ◌, ◌*ℤ◌, nat_le, nat_lt, if◌then◌else◌}
 use Rattle.std.specs.Int.{w8, w16, w32, cast_signed}
@@ -133,8 +133,8 @@ module _ (bytes : List ℕ) where
     other_store : (s : Store) → item_store bytes ≡ Some s → s.axis_count ≢ axes → HasStoreFault axes bytes
     other_store s h other = let t = store_steps s h in other_region_axes t.at s.axis_count t.at_is t.axes_are other
 
-    store_stands : (s : Store) → item_store bytes ≡ Some s → s.axis_count ≡ axes → HasStoreFault axes bytes → ⊥
-    store_stands s h same f = by (store_steps s h) f
+    store_clean : (s : Store) → item_store bytes ≡ Some s → s.axis_count ≡ axes → HasStoreFault axes bytes → ⊥
+    store_clean s h same f = by (store_steps s h) f
       where
         by : StoreSteps s → HasStoreFault axes bytes → ⊥
         by t (cut_store less) = not_long bytes 2 4 t.at less t.at_is
@@ -262,8 +262,8 @@ module _ (bytes : List ℕ) (at inner : ℕ) where
         ]
       ]
 
-  row_stands : (r : Row) → row_in bytes at inner ≡ Some r → HasRowFault bytes at inner → ⊥
-  row_stands r h f = by (row_steps r h) f
+  row_clean : (r : Row) → row_in bytes at inner ≡ Some r → HasRowFault bytes at inner → ⊥
+  row_clean r h f = by (row_steps r h) f
     where
       by : RowSteps r → HasRowFault bytes at inner → ⊥
       by t (cut_counts less) = let fits = number-fits bytes (at + 4) 2 r.count t.count_is in omega arith
@@ -406,8 +406,8 @@ module _ (s : Store) (at : List ℤ) (r : Row) where
         ]
       ]
 
-  term_stands : (k index : ℕ) (v : ℤ) → term s at r k ≡ Some v → number r.indexes (k * 2) 2 ≡ Some index → s.region_count ≤ index → ⊥
-  term_stands k index v h is le =
+  term_clean : (k index : ℕ) (v : ℤ) → term s at r k ≡ Some v → number r.indexes (k * 2) 2 ≡ Some index → s.region_count ≤ index → ⊥
+  term_clean k index v h is le =
       let a = bind_some (number r.indexes (k * 2) 2) (with_index k) v (sym (term_in_turn k) ∙ h) in
       let b = bind_some (region_items s a.0) (with_region k) v a.2 in
       let same : a.0 ≡ index = just_is a.0 index (sym a.1 ∙ is) in
@@ -463,9 +463,9 @@ module _ (s : Store) (bytes : List ℕ) (read : item_store bytes ≡ Some s) (at
       unless_marked true o k = absurd cc
       unless_marked false o k = inr (refl, k)
 
-  item_stands : (v : ℤ) → item_delta s at outer inner ≡ Some v → HasIndexedFault s outer inner → ⊥
+  item_clean : (v : ℤ) → item_delta s at outer inner ≡ Some v → HasIndexedFault s outer inner → ⊥
   unfolding item_delta
-  item_stands v h f =
+  item_clean v h f =
       let k = unmarked (outer == 65535 && inner == 65535) (item_row s outer inner >>= all_terms) f.0 h in
       let a = bind_some (item_row s outer inner) all_terms v k in
       by a.0 a.1 (item_steps s outer inner a.0 a.1) a.2 f.1
@@ -479,12 +479,12 @@ module _ (s : Store) (bytes : List ℕ) (read : item_store bytes ≡ Some s) (at
       by r is t read (no_data count count_is le) = let x : count ≡ t.count = just_is count t.count (sym count_is ∙ t.count_is) in let there = t.there in omega arith
       by r is t read (cut_data_offset count count_is there less) = not_long s.bytes (8 + outer * 4) 4 t.at less t.at_is
       by r is t read (null_data count count_is there null) = t.not_null (just_is t.at 0 (sym t.at_is ∙ null))
-      by r is t read (in_row count at count_is there at_is g) = row_stands s.bytes t.at inner r t.row_is (subst (λ (n : ℕ). HasRowFault s.bytes n inner) (just_is at t.at (sym at_is ∙ t.at_is)) g)
+      by r is t read (in_row count at count_is there at_is g) = row_clean s.bytes t.at inner r t.row_is (subst (λ (n : ℕ). HasRowFault s.bytes n inner) (just_is at t.at (sym at_is ∙ t.at_is)) g)
       by r is t read (no_region q k index q_is less index_is le) =
           let same : q ≡ r = just_is q r (sym q_is ∙ is) in
           let inside : k < r.count = subst (λ (x : Row). k < x.count) same less in
           let there = terms_there s at r r.count 0 k v read (omega arith) (omega arith) in
-          term_stands s at r k index there.0 there.1 (ap (λ (x : Row). number x.indexes (k * 2) 2) (sym same) ∙ index_is) le
+          term_clean s at r k index there.0 there.1 (ap (λ (x : Row). number x.indexes (k * 2) 2) (sym same) ∙ index_is) le
 
 -- ---- maps of indexes
 
@@ -561,8 +561,8 @@ module _ (map : List ℕ) where
           ]
         ]
 
-    map_stands : (index : ℕ × ℕ) → mapped_index map g ≡ Some index → HasMapFault map g → ⊥
-    map_stands index h f =
+    map_clean : (index : ℕ × ℕ) → mapped_index map g ≡ Some index → HasMapFault map g → ⊥
+    map_clean index h f =
         let a = bind_some (map_head map) after_head index (sym map_in_turn ∙ h) in
         let b = bind_some (number map 1 1) (after_form a.0) index a.2 in
         let c = bind_some (entry_in a.0 b.0) (last_index b.0) index b.2 in
@@ -710,8 +710,8 @@ module _ (hvar : List ℕ) (at : List ℤ) (g : ℕ) where
         ]
       ]
 
-  pub hvar_stands : (v : ℤ) → advance_delta hvar at g ≡ Some v → HasHvarFault hvar (length at) g → ⊥
-  hvar_stands v h f =
+  pub hvar_clean : (v : ℤ) → advance_delta hvar at g ≡ Some v → HasHvarFault hvar (length at) g → ⊥
+  hvar_clean v h f =
       let a = bind_some (store_of hvar (length at)) with_store v (sym advance_in_turn ∙ h) in
       let b = bind_some (advance_index hvar g) (with_indexes a.0) v a.2 in
       by a.0 a.1 (hvar_steps hvar (length at) a.0 a.1) b.0 b.1 (index_steps hvar (length at) g b.0 b.1) b.2 f
@@ -720,17 +720,17 @@ module _ (hvar : List ℕ) (at : List ℤ) (g : ℕ) where
       by s s_is t index i_is u read (cut_hvar less) = not_long hvar 8 4 u.at less u.at_is
       by s s_is t index i_is u read (no_store null) = t.not_null (just_is t.at 0 (sym t.at_is ∙ null))
       by s s_is t index i_is u read (far_store place is less) = let x : place ≡ t.at = just_is place t.at (sym is ∙ t.at_is) in let inside = t.inside in omega arith
-      by s s_is t index i_is u read (in_store place is c) = store_stands (drop t.at hvar) (length at) s t.store_is t.same (subst (λ (n : ℕ). HasStoreFault (length at) (drop n hvar)) (just_is place t.at (sym is ∙ t.at_is)) c)
+      by s s_is t index i_is u read (in_store place is c) = store_clean (drop t.at hvar) (length at) s t.store_is t.same (subst (λ (n : ℕ). HasStoreFault (length at) (drop n hvar)) (just_is place t.at (sym is ∙ t.at_is)) c)
       by s s_is t index i_is u read (far_map place is less) =
           let x : place ≡ u.at = just_is place u.at (sym is ∙ u.at_is) in
           elim u.by_map [ inl k ↦ omega arith | inr k ↦ let inside = k.0 in omega arith ]
       by s s_is t index i_is u read (in_map place is some c) =
           let x : place ≡ u.at = just_is place u.at (sym is ∙ u.at_is) in
-          elim u.by_map [ inl k ↦ absurd (some (x ∙ k)) | inr k ↦ map_stands (drop u.at hvar) g index k.1 (subst (λ (n : ℕ). HasMapFault (drop n hvar) g) x c) ]
+          elim u.by_map [ inl k ↦ absurd (some (x ∙ k)) | inr k ↦ map_clean (drop u.at hvar) g index k.1 (subst (λ (n : ℕ). HasMapFault (drop n hvar) g) x c) ]
       by s s_is t index i_is u read (in_item other outer inner o_is x_is c) =
           let x : other ≡ s = just_is other s (sym o_is ∙ s_is) in
           let y : index ≡ (outer, inner) = just_is index (outer, inner) (sym i_is ∙ x_is) in
-          item_stands s (drop t.at hvar) t.store_is at outer inner v (ap (λ (p : ℕ × ℕ). item_delta s at p.0 p.1) (sym y) ∙ read) (subst (λ (q : Store). HasIndexedFault q outer inner) x c)
+          item_clean s (drop t.at hvar) t.store_is at outer inner v (ap (λ (p : ℕ × ℕ). item_delta s at p.0 p.1) (sym y) ∙ read) (subst (λ (q : Store). HasIndexedFault q outer inner) x c)
 
 -- ---- MVAR
 
@@ -754,12 +754,12 @@ module _ (mvar : List ℕ) (size : ℕ) (tag : List ℕ) where
       by bytes is deeper true t m = absurd cc
       by bytes is deeper false t m = later_record n k bytes is (differs (take 4 bytes) tag t) (deeper m)
 
-  records_stand : (n k : ℕ) (found : Option (ℕ × ℕ)) → value_from n k size mvar tag ≡ Some found → HasRecordFault mvar size tag n k → ⊥
-  records_stand _ _ found h (cut_record n k less) = let a = bind_some (range mvar (12 + k * size) 8) (by_tag n k) found h in let fits = range-fits mvar a.0 (12 + k * size) 8 a.1 in omega arith
-  records_stand _ _ found h (later_record n k bytes is other f) =
+  records_clean : (n k : ℕ) (found : Option (ℕ × ℕ)) → value_from n k size mvar tag ≡ Some found → HasRecordFault mvar size tag n k → ⊥
+  records_clean _ _ found h (cut_record n k less) = let a = bind_some (range mvar (12 + k * size) 8) (by_tag n k) found h in let fits = range-fits mvar a.0 (12 + k * size) 8 a.1 in omega arith
+  records_clean _ _ found h (later_record n k bytes is other f) =
       let a = bind_some (range mvar (12 + k * size) 8) (by_tag n k) found h in
       let same : a.0 ≡ bytes = just_is a.0 bytes (sym a.1 ∙ is) in
-      records_stand n (k + 1) found (by (bytes_eq (take 4 bytes) tag) refl (ap (by_tag n k) (sym same) ∙ a.2)) f
+      records_clean n (k + 1) found (by (bytes_eq (take 4 bytes) tag) refl (ap (by_tag n k) (sym same) ∙ a.2)) f
     where
       by : (b : Bool) → bytes_eq (take 4 bytes) tag ≡ b → cond b (Some (Some (value_indexes bytes))) (value_from n (k + 1) size mvar tag) ≡ Some found → value_from n (k + 1) size mvar tag ≡ Some found
       by true t m = absurd (other (bytes_eq_is (take 4 bytes) tag t))
@@ -892,8 +892,8 @@ module _ (mvar : List ℕ) (at : List ℤ) (tag : List ℕ) where
       let a = bind_some (metric_store mvar (length at)) (item_of (outer, inner)) v (ap (λ o. o >>= value_delta mvar at) (sym is) ∙ sym metric_delta_in_turn ∙ h) in
       (a.0, (a.1, a.2))
 
-  pub mvar_stands : (v : ℤ) → metric_delta mvar at tag ≡ Some v → HasMvarFault mvar (length at) tag → ⊥
-  mvar_stands v h f =
+  pub mvar_clean : (v : ℤ) → metric_delta mvar at tag ≡ Some v → HasMvarFault mvar (length at) tag → ⊥
+  mvar_clean v h f =
       let a = bind_some (value_of mvar tag) (value_delta mvar at) v (sym metric_delta_in_turn ∙ h) in
       by a.0 (value_steps mvar tag a.0 a.1) f
     where
@@ -903,7 +903,7 @@ module _ (mvar : List ℕ) (at : List ℤ) (tag : List ℕ) where
       by found t (in_records size count size_is count_is c) =
           let x : size ≡ t.size = just_is size t.size (sym size_is ∙ t.size_is) in
           let y : count ≡ t.count = just_is count t.count (sym count_is ∙ t.count_is) in
-          records_stand mvar t.size tag t.count 0 found t.read (subst (λ (n : ℕ). HasRecordFault mvar t.size tag n 0) y (subst (λ (n : ℕ). HasRecordFault mvar n tag count 0) x c))
+          records_clean mvar t.size tag t.count 0 found t.read (subst (λ (n : ℕ). HasRecordFault mvar t.size tag n 0) y (subst (λ (n : ℕ). HasRecordFault mvar n tag count 0) x c))
       by found t (cut_store_offset outer inner is less) = let i = item_there outer inner v is h in let m = mvar_steps mvar (length at) i.0 i.1.0 in not_long mvar 10 2 m.at less m.at_is
       by found t (no_metric_store outer inner is null) = let i = item_there outer inner v is h in let m = mvar_steps mvar (length at) i.0 i.1.0 in m.not_null (just_is m.at 0 (sym m.at_is ∙ null))
       by found t (far_metric_store outer inner place is place_is less) =
@@ -915,9 +915,9 @@ module _ (mvar : List ℕ) (at : List ℤ) (tag : List ℕ) where
       by found t (in_metric_store outer inner place is place_is c) =
           let i = item_there outer inner v is h in
           let m = mvar_steps mvar (length at) i.0 i.1.0 in
-          store_stands (drop m.at mvar) (length at) i.0 m.store_is m.same (subst (λ (n : ℕ). HasStoreFault (length at) (drop n mvar)) (just_is place m.at (sym place_is ∙ m.at_is)) c)
+          store_clean (drop m.at mvar) (length at) i.0 m.store_is m.same (subst (λ (n : ℕ). HasStoreFault (length at) (drop n mvar)) (just_is place m.at (sym place_is ∙ m.at_is)) c)
       by found t (in_metric_item outer inner s is s_is c) =
           let i = item_there outer inner v is h in
           let m = mvar_steps mvar (length at) i.0 i.1.0 in
           let x : s ≡ i.0 = just_is s i.0 (sym s_is ∙ i.1.0) in
-          item_stands i.0 (drop m.at mvar) m.store_is at outer inner v i.1.1 (subst (λ (q : Store). HasIndexedFault q outer inner) x c)
+          item_clean i.0 (drop m.at mvar) m.store_is at outer inner v i.1.1 (subst (λ (q : Store). HasIndexedFault q outer inner) x c)

@@ -1,5 +1,5 @@
 -- The metrics of hhea and post that vary are refused exactly where one of them has a fault.
---   lines_refused, lines_stand   where they aren't made a fault stands, and where they are none does
+--   lines_refused, lines_clean   where they aren't made there is a fault, and where they are there is none
 use Rattle.std.proofs.Common.{◌≡◌, ℕ, ◌+◌, ◌<◌, ◌≤◌, ◌^◌, Bool, true, false, cond, List, length, Option, Some, None, Result, Ok, Err, ℤ, refl, sym, ap, subst, ◌∙◌, ◌⊎◌, inl, inr, arith}
 use Rattle.std.specs.Prelude.{codes, ◌+ℤ◌, nat_lt, unsigned_abs}
 use Rattle.std.specs.Option.{ok_or}
@@ -15,7 +15,7 @@ use Rattle.subsetter_variation.specs.ItemVariations.{signed_at, whole_or_fault}
 use Rattle.subsetter_instance.specs.Drawn.{word_or_fault}
 use Rattle.subsetter_instance.specs.Lines.{Lines, lines_of, moved_hhea, moved_post, three_lines, varied, varied_hhea, varied_post, varied_post_if, varied_underline}
 use Rattle.subsetter_instance.specs.LinesFault.{HasMetricFault, HasLinesFault, IsLineOfHhea, IsLineOfPost, in_mvar, large_delta, wide_metric, in_hhea, in_post, ascender, descender, line_gap, caret_slope_rise, caret_slope_run, caret_offset, underline_position, underline_thickness}
-use Rattle.subsetter_instance.proofs.FaultLaws.Item.{mvar_refused, mvar_stands}
+use Rattle.subsetter_instance.proofs.FaultLaws.Item.{mvar_refused, mvar_clean}
 use Rattle.subsetter_instance.proofs.FaultLaws.Rounded.{large_refused, large_stops}
 use Rattle.subsetter_instance.proofs.FileLaws.Lines.{LineSteps, line_steps}
 
@@ -44,8 +44,8 @@ module _ (mvar : List ℕ) (at : List ℤ) where
           | inr k ↦ let f = wide_refused (signed_at table offset +ℤ k.0) e k.2 in subst (HasMetricFault mvar at tag table offset) f.1 (wide_metric k.0 k.1 f.0)
         ]
 
-    metric_stands : (v : ℤ) (e : Error) → varied mvar at tag (signed_at table offset) ≡ Ok v → HasMetricFault mvar at tag table offset e → ⊥
-    metric_stands v e h f =
+    metric_clean : (v : ℤ) (e : Error) → varied mvar at tag (signed_at table offset) ≡ Ok v → HasMetricFault mvar at tag table offset e → ⊥
+    metric_clean v e h f =
         let a = bind_ok (whole_or_fault (metric_delta mvar at tag)) (moved_by (signed_at table offset)) v h in
         by e a.0 a.1 a.2 f
       where
@@ -54,7 +54,7 @@ module _ (mvar : List ℕ) (at : List ℤ) where
         read (Some x) d k = (x, refl)
 
         by : (e : Error) (d : ℤ) → whole_or_fault (metric_delta mvar at tag) ≡ Ok d → word_or_fault (signed_at table offset +ℤ d) ≡ Ok v → HasMetricFault mvar at tag table offset e → ⊥
-        by _ d is fits (in_mvar f) = let x = read (metric_delta mvar at tag) d is in mvar_stands mvar at tag x.0 x.1 f
+        by _ d is fits (in_mvar f) = let x = read (metric_delta mvar at tag) d is in mvar_clean mvar at tag x.0 x.1 f
         by _ d is fits (large_delta x there large) = ok_not_err (whole_or_fault (metric_delta mvar at tag)) d OverflowError is (ap whole_or_fault there ∙ large_stops x large)
         by _ d is fits (wide_metric x there wide) =
             let same : x ≡ d = done_is x d (sym there ∙ is) in
@@ -134,20 +134,20 @@ module _ (mvar : List ℕ) (at : List ℤ) where
           ]
         ]
 
-    hhea_stands : (new tag : List ℕ) (offset : ℕ) (e : Error) → varied_hhea (Some mvar) at hhea ≡ Ok new → IsLineOfHhea tag offset → HasMetricFault mvar at tag hhea offset e → ⊥
+    hhea_clean : (new tag : List ℕ) (offset : ℕ) (e : Error) → varied_hhea (Some mvar) at hhea ≡ Ok new → IsLineOfHhea tag offset → HasMetricFault mvar at tag hhea offset e → ⊥
     unfolding varied_hhea
-    hhea_stands new tag offset e h line f =
+    hhea_clean new tag offset e h line f =
         let x = bind_ok lines with_caret new h in
         let y = bind_ok caret (λ c. Ok (moved_hhea hhea x.0 c)) new x.2 in
         by tag offset x.0 y.0 (three_steps hhea 4 (codes "hasc") (codes "hdsc") (codes "hlgp") x.0 x.1) (three_steps hhea 18 (codes "hcrs") (codes "hcrn") (codes "hcof") y.0 y.1) line f
       where
         by : (tag : List ℕ) (offset : ℕ) (l c : ℤ × ℤ × ℤ) → ThreeSteps hhea 4 (codes "hasc") (codes "hdsc") (codes "hlgp") l → ThreeSteps hhea 18 (codes "hcrs") (codes "hcrn") (codes "hcof") c → IsLineOfHhea tag offset → HasMetricFault mvar at tag hhea offset e → ⊥
-        by _ _ l c s t ascender f = metric_stands (codes "hasc") hhea 4 s.first e s.first_is f
-        by _ _ l c s t descender f = metric_stands (codes "hdsc") hhea 6 s.second e s.second_is f
-        by _ _ l c s t line_gap f = metric_stands (codes "hlgp") hhea 8 s.third e s.third_is f
-        by _ _ l c s t caret_slope_rise f = metric_stands (codes "hcrs") hhea 18 t.first e t.first_is f
-        by _ _ l c s t caret_slope_run f = metric_stands (codes "hcrn") hhea 20 t.second e t.second_is f
-        by _ _ l c s t caret_offset f = metric_stands (codes "hcof") hhea 22 t.third e t.third_is f
+        by _ _ l c s t ascender f = metric_clean (codes "hasc") hhea 4 s.first e s.first_is f
+        by _ _ l c s t descender f = metric_clean (codes "hdsc") hhea 6 s.second e s.second_is f
+        by _ _ l c s t line_gap f = metric_clean (codes "hlgp") hhea 8 s.third e s.third_is f
+        by _ _ l c s t caret_slope_rise f = metric_clean (codes "hcrs") hhea 18 t.first e t.first_is f
+        by _ _ l c s t caret_slope_run f = metric_clean (codes "hcrn") hhea 20 t.second e t.second_is f
+        by _ _ l c s t caret_offset f = metric_clean (codes "hcof") hhea 22 t.third e t.third_is f
 
   -- ---- post
 
@@ -180,9 +180,9 @@ module _ (mvar : List ℕ) (at : List ℤ) where
         by true t k = absurd cc
         by false t k = underline_refused e (ltb-false (length post) 12 t) k
 
-    post_stands : (new tag : List ℕ) (offset : ℕ) (e : Error) → varied_post (Some mvar) at post ≡ Ok new → 12 ≤ length post → IsLineOfPost tag offset → HasMetricFault mvar at tag post offset e → ⊥
+    post_clean : (new tag : List ℕ) (offset : ℕ) (e : Error) → varied_post (Some mvar) at post ≡ Ok new → 12 ≤ length post → IsLineOfPost tag offset → HasMetricFault mvar at tag post offset e → ⊥
     unfolding varied_underline
-    post_stands new tag offset e h long line f =
+    post_clean new tag offset e h long line f =
         let k = not_shorter (nat_lt (length post) 12) refl h in
         let x = bind_ok (varied mvar at (codes "undo") (signed_at post 8)) with_position new k in
         let y = bind_ok (varied mvar at (codes "unds") (signed_at post 10)) (λ thickness. Ok (moved_post post x.0 thickness)) new x.2 in
@@ -193,8 +193,8 @@ module _ (mvar : List ℕ) (at : List ℤ) where
         not_shorter false t k = k
 
         by : (tag : List ℕ) (offset : ℕ) (p : ℤ) → varied mvar at (codes "undo") (signed_at post 8) ≡ Ok p → (q : ℤ) → varied mvar at (codes "unds") (signed_at post 10) ≡ Ok q → IsLineOfPost tag offset → HasMetricFault mvar at tag post offset e → ⊥
-        by _ _ p p_is q q_is underline_position f = metric_stands (codes "undo") post 8 p e p_is f
-        by _ _ p p_is q q_is underline_thickness f = metric_stands (codes "unds") post 10 q e q_is f
+        by _ _ p p_is q q_is underline_position f = metric_clean (codes "undo") post 8 p e p_is f
+        by _ _ p p_is q q_is underline_thickness f = metric_clean (codes "unds") post 10 q e q_is f
 
 -- ---- both
 
@@ -232,13 +232,13 @@ module _ (find : List ℕ → Option (List ℕ)) (at : List ℤ) where
         ]
       ]
 
-  pub lines_stand : (l : Lines) (e : Error) → lines_of find at ≡ Ok l → HasLinesFault find at e → ⊥
-  lines_stand l e h (in_hhea mvar hhea tag offset m is line f) =
+  pub lines_clean : (l : Lines) (e : Error) → lines_of find at ≡ Ok l → HasLinesFault find at e → ⊥
+  lines_clean l e h (in_hhea mvar hhea tag offset m is line f) =
       let s = line_steps find at l h in
       let same : s.hhea ≡ hhea = just_is s.hhea hhea (sym s.hhea_is ∙ is) in
-      hhea_stands mvar at hhea l.hhea tag offset e (ap (λ (x : List ℕ). varied_hhea (Some mvar) at x) (sym same) ∙ ap (λ o. varied_hhea o at s.hhea) (sym m) ∙ s.new_is) line f
-  lines_stand l e h (in_post mvar post tag offset m is long line f) =
+      hhea_clean mvar at hhea l.hhea tag offset e (ap (λ (x : List ℕ). varied_hhea (Some mvar) at x) (sym same) ∙ ap (λ o. varied_hhea o at s.hhea) (sym m) ∙ s.new_is) line f
+  lines_clean l e h (in_post mvar post tag offset m is long line f) =
       let s = line_steps find at l h in
       let k : varied_post_if (Some mvar) at (Some post) ≡ Ok l.post = ap (λ o. varied_post_if o at (Some post)) (sym m) ∙ ap (λ o. varied_post_if (find (codes "MVAR")) at o) (sym is) ∙ s.post_is in
       let new = bind_ok (varied_post (Some mvar) at post) (λ new. Ok (Some new)) l.post k in
-      post_stands mvar at post new.0 tag offset e new.1 long line f
+      post_clean mvar at post new.0 tag offset e new.1 long line f

@@ -1,6 +1,6 @@
 -- The coordinates of an instance are refused exactly where fvar or avar has a fault.
 --   other_is, is_other_of        tables of another version
---   place_refused, place_stands  where there are no coordinates a fault stands, and where there are none does
+--   place_refused, place_clean   where there are no coordinates there is a fault, and where there are some there is none
 use Rattle.std.proofs.Common.{◌≡◌, ◌≢◌, ℕ, zero, suc, ◌+◌, ◌*◌, ◌<◌, ◌≤◌, Bool, true, false, cond, List, [], ◌∷◌, length, Option, Some, None, Result, Ok, Err, ℤ, refl, sym, ap, subst, ◌∙◌, ◌⊎◌, inl, inr, arith}
 use Rattle.std.specs.Prelude.{codes, not, ◌||◌, ◌==◌, nat_lt, IsSome}
 use Rattle.std.specs.Option.{ok_or}
@@ -117,10 +117,10 @@ axes_refused fvar h =
       ]
     ]
 
-axes_stand : (fvar : List ℕ) (l : List Axis) → axes fvar ≡ Some l → HasAxesFault fvar → ⊥
-axes_stand fvar l h (cut_fvar cut) = let p = axes_parts fvar l h in not_long fvar 10 2 p.size cut p.size_is
-axes_stand fvar l h (short_axis size is less) = let p = axes_parts fvar l h in let same : p.size ≡ size = just_is p.size size (sym p.size_is ∙ is) in let long = p.long in omega arith
-axes_stand fvar l h (cut_axis at count size k at_is count_is size_is less cut) =
+axes_clean : (fvar : List ℕ) (l : List Axis) → axes fvar ≡ Some l → HasAxesFault fvar → ⊥
+axes_clean fvar l h (cut_fvar cut) = let p = axes_parts fvar l h in not_long fvar 10 2 p.size cut p.size_is
+axes_clean fvar l h (short_axis size is less) = let p = axes_parts fvar l h in let same : p.size ≡ size = just_is p.size size (sym p.size_is ∙ is) in let long = p.long in omega arith
+axes_clean fvar l h (cut_axis at count size k at_is count_is size_is less cut) =
     let p = axes_parts fvar l h in
     let records : axes_at count size fvar at ≡ Some l =
       ap (λ (n : ℕ). axes_at n size fvar at) (just_is count p.count (sym count_is ∙ p.count_is)) ∙ ap (λ (n : ℕ). axes_at p.count n fvar at) (just_is size p.size (sym size_is ∙ p.size_is)) ∙ ap (λ (n : ℕ). axes_at p.count p.size fvar n) (just_is at p.at (sym at_is ∙ p.at_is)) ∙ p.records in
@@ -176,20 +176,20 @@ module _ (settings : List (Tag × ℤ)) (avar : List ℕ) where
       let same = items_is m.0 n.0 s.0 m.2 in
       record { count = n.0; count_is = n.1; fits = range-fits avar m.0 (at + 2) (n.0 * 4) m.1; rest = r.0; rest_is = ap (λ (c : ℕ). coordinates_at axes settings avar (at + 2 + c * 4)) same ∙ r.1 }
 
-  segments_stand : (axes : List Axis) (n at : ℕ) (l : List ℤ) → n ≡ length axes → coordinates_at axes settings avar at ≡ Some l → HasSegmentFault avar n at → ⊥
-  segments_stand [] _ _ l e h (cut_count n at less) = omega arith
-  segments_stand [] _ _ l e h (cut_map n at count is less) = omega arith
-  segments_stand [] _ _ l e h (later_map n at count is f) = omega arith
-  segments_stand (a ∷ axes) _ _ l e h (cut_count n at less) = let s = map_steps a axes at l h in not_long avar at 2 s.count less s.count_is
-  segments_stand (a ∷ axes) _ _ l e h (cut_map n at count is less) =
+  segments_clean : (axes : List Axis) (n at : ℕ) (l : List ℤ) → n ≡ length axes → coordinates_at axes settings avar at ≡ Some l → HasSegmentFault avar n at → ⊥
+  segments_clean [] _ _ l e h (cut_count n at less) = omega arith
+  segments_clean [] _ _ l e h (cut_map n at count is less) = omega arith
+  segments_clean [] _ _ l e h (later_map n at count is f) = omega arith
+  segments_clean (a ∷ axes) _ _ l e h (cut_count n at less) = let s = map_steps a axes at l h in not_long avar at 2 s.count less s.count_is
+  segments_clean (a ∷ axes) _ _ l e h (cut_map n at count is less) =
       let s = map_steps a axes at l h in
       let same : count ≡ s.count = just_is count s.count (sym is ∙ s.count_is) in
       let fits = s.fits in
       omega arith
-  segments_stand (a ∷ axes) _ _ l e h (later_map n at count is f) =
+  segments_clean (a ∷ axes) _ _ l e h (later_map n at count is f) =
       let s = map_steps a axes at l h in
       let same : s.count ≡ count = just_is s.count count (sym s.count_is ∙ is) in
-      segments_stand axes n (at + 2 + count * 4) s.rest (omega arith) (ap (λ (c : ℕ). coordinates_at axes settings avar (at + 2 + c * 4)) (sym same) ∙ s.rest_is) f
+      segments_clean axes n (at + 2 + count * 4) s.rest (omega arith) (ap (λ (c : ℕ). coordinates_at axes settings avar (at + 2 + c * 4)) (sym same) ∙ s.rest_is) f
 
   abbrev by_count : List Axis → ℕ → Option (List ℤ)
   by_count axes count = cond (count == length axes) (coordinates_at axes settings avar 8) None
@@ -205,9 +205,9 @@ module _ (settings : List (Tag × ℤ)) (avar : List ℕ) where
         ]
       ]
 
-  avar_stands : (axes : List Axis) (l : List ℤ) → mapped_coordinates axes settings avar ≡ Some l → HasAvarFault (length axes) avar → ⊥
+  avar_clean : (axes : List Axis) (l : List ℤ) → mapped_coordinates axes settings avar ≡ Some l → HasAvarFault (length axes) avar → ⊥
   unfolding mapped_coordinates
-  avar_stands axes l h f =
+  avar_clean axes l h f =
       let a = bind_some (number avar 6 2) (by_count axes) l h in
       let b = if_some (a.0 == length axes) (coordinates_at axes settings avar 8) l a.2 in
       by a.0 a.1 (eqb-true a.0 (length axes) b.0) b.1 f
@@ -215,7 +215,7 @@ module _ (settings : List (Tag × ℤ)) (avar : List ℕ) where
       by : (n : ℕ) → number avar 6 2 ≡ Some n → n ≡ length axes → coordinates_at axes settings avar 8 ≡ Some l → HasAvarFault (length axes) avar → ⊥
       by n is same read (cut_avar less) = not_long avar 6 2 n less is
       by n is same read (other_axis_count count count_is other) = other (just_is count n (sym count_is ∙ is) ∙ same)
-      by n is same read (in_segments g) = segments_stand axes (length axes) 8 l refl read g
+      by n is same read (in_segments g) = segments_clean axes (length axes) 8 l refl read g
 
 -- ---- the tables that a look-up finds
 
@@ -279,18 +279,18 @@ module _ (find : List ℕ → Option (List ℕ)) (settings : List (Tag × ℤ)) 
   avar_read fvar avar at n is n_is s f =
       let p = axes_parts fvar s.axes_read s.axes_are in
       let same : n ≡ length s.axes_read = just_is n p.count (sym n_is ∙ p.count_is) ∙ sym (axes_count p.count p.size fvar p.at s.axes_read p.records) in
-      avar_stands settings avar s.axes_read at (ap (λ o. coordinates_by o settings s.axes_read) (sym is) ∙ s.read) (subst (λ (k : ℕ). HasAvarFault k avar) same f)
+      avar_clean settings avar s.axes_read at (ap (λ o. coordinates_by o settings s.axes_read) (sym is) ∙ s.read) (subst (λ (k : ℕ). HasAvarFault k avar) same f)
 
-  pub place_stands : (at : List ℤ) (e : Error) → place find settings ≡ Ok at → HasPlaceFault find e → ⊥
-  place_stands at _ h (other_fvar f) =
+  pub place_clean : (at : List ℤ) (e : Error) → place find settings ≡ Ok at → HasPlaceFault find e → ⊥
+  place_clean at _ h (other_fvar f) =
       let s = place_steps f.table at f.table_is h in
       let t : is_other_version (Some f.table) ≡ true = ap is_other_version (sym f.table_is) ∙ is_other_of find (codes "fvar") f in
       let clash = sym (or_left (is_other_version (Some f.table)) (is_other_version (find (codes "avar"))) t) ∙ s.versions in
       cc
-  place_stands at _ h (other_avar there f) =
+  place_clean at _ h (other_avar there f) =
       let t = some_of (find (codes "fvar")) there in
       let s = place_steps t.0 at t.1 h in
       let clash = sym (or_right (is_other_version (Some t.0)) (is_other_version (find (codes "avar"))) (is_other_of find (codes "avar") f)) ∙ s.versions in
       cc
-  place_stands at _ h (in_axes fvar is f) = let s = place_steps fvar at is h in axes_stand fvar s.axes_read s.axes_are f
-  place_stands at _ h (in_avar fvar avar n is avar_is n_is f) = avar_read fvar avar at n avar_is n_is (place_steps fvar at is h) f
+  place_clean at _ h (in_axes fvar is f) = let s = place_steps fvar at is h in axes_clean fvar s.axes_read s.axes_are f
+  place_clean at _ h (in_avar fvar avar n is avar_is n_is f) = avar_read fvar avar at n avar_is n_is (place_steps fvar at is h) f

@@ -12,7 +12,7 @@ use Rattle.subsetter_variation.specs.Nearest.{nearest}
 use Rattle.subsetter_variation.specs.ItemVariations.{advance_delta, in_whole_units, whole_or_fault}
 use Rattle.subsetter_variation.proofs.GvarFaults.{behind, behind_error}
 use Rattle.subsetter_instance.specs.Drawn.{advance, advance_or_fault, point_or_fault, points_or_fault, whole}
-use Rattle.subsetter_instance.proofs.FaultLaws.Item.{hvar_refused, hvar_stands}
+use Rattle.subsetter_instance.proofs.FaultLaws.Item.{hvar_refused, hvar_clean}
 use Rattle.subsetter_instance.specs.RoundedFault.{HasAdvanceFault, HasFarPoint, IsWide, in_hvar, large_item, wide_by_item, wide, far_first, far_later}
 
 -- ---- advances
@@ -62,7 +62,7 @@ advance_stops hvar at g before width _ (in_hvar bytes is f) =
   where
     missing : (o : Option ℤ) → advance_delta bytes at g ≡ o → o ≡ None
     missing None is = refl
-    missing (Some d) is = absurd (hvar_stands bytes at g d is f)
+    missing (Some d) is = absurd (hvar_clean bytes at g d is f)
 advance_stops hvar at g before width _ (large_item bytes d is there large) =
     ap (λ h. advance h at g before width) is ∙ ap (λ o. whole_or_fault o >>= λ d. advance_or_fault (pos before +ℤ d)) there
     ∙ behind_error (in_whole_units d) (λ d. advance_or_fault (pos before +ℤ d)) OverflowError (large_stops d large)

@@ -1,6 +1,6 @@
 -- The tables of an instance are refused exactly where one of them has a fault.
---   versions_refused, versions_stand   tables of another version
---   tables_refused, tables_stand       where the tables aren't read a fault stands, and where they are none does
+--   versions_refused, other_version_of   tables of another version
+--   tables_refused, tables_clean         where the tables aren't read there is a fault, and where they are there is none
 use Rattle.std.proofs.Common.{◌≡◌, ◌≢◌, ℕ, ◌+◌, ◌*◌, ◌<◌, ◌≤◌, Bool, true, false, cond, List, length, take, drop, Option, Some, None, refl, sym, ap, subst, ◌∙◌, ◌⊎◌, inl, inr, arith}
 use Rattle.std.specs.Prelude.{codes, ◌||◌, ◌%◌, ◌==◌, nat_le, if◌then◌else◌}
 use Rattle.std.proofs.lemmas.Bool.{cases_lt, eqb-false, eqb-true, leb-false, leb-true, or_cases, or_left, or_right}
@@ -30,12 +30,12 @@ module _ (find : List ℕ → Option (List ℕ)) where
     ]
   ]
 
-  pub versions_stand : (e : Error) → HasVersionFault find e → has_other_version find ≡ true
-  versions_stand _ (other_gvar f) = or_left (is_other_version (find (codes "gvar"))) (is_other_version (find (codes "HVAR")) || is_other_version (find (codes "MVAR"))) (is_other_of find (codes "gvar") f)
-  versions_stand _ (other_hvar f) =
+  pub other_version_of : (e : Error) → HasVersionFault find e → has_other_version find ≡ true
+  other_version_of _ (other_gvar f) = or_left (is_other_version (find (codes "gvar"))) (is_other_version (find (codes "HVAR")) || is_other_version (find (codes "MVAR"))) (is_other_of find (codes "gvar") f)
+  other_version_of _ (other_hvar f) =
       or_right (is_other_version (find (codes "gvar"))) (is_other_version (find (codes "HVAR")) || is_other_version (find (codes "MVAR")))
       (or_left (is_other_version (find (codes "HVAR"))) (is_other_version (find (codes "MVAR"))) (is_other_of find (codes "HVAR") f))
-  versions_stand _ (other_mvar f) =
+  other_version_of _ (other_mvar f) =
       or_right (is_other_version (find (codes "gvar"))) (is_other_version (find (codes "HVAR")) || is_other_version (find (codes "MVAR")))
       (or_right (is_other_version (find (codes "HVAR"))) (is_other_version (find (codes "MVAR"))) (is_other_of find (codes "MVAR") f))
 
@@ -182,8 +182,8 @@ module _ (axes : ℕ) (gvar : List ℕ) where
     ]
   ]
 
-  gvar_stands : (g : Option Gvar) → variations_in (Some gvar) axes ≡ Some g → HasGvarFault axes gvar → ⊥
-  gvar_stands g h f =
+  gvar_clean : (g : Option Gvar) → variations_in (Some gvar) axes ≡ Some g → HasGvarFault axes gvar → ⊥
+  gvar_clean g h f =
       let a = bind_some (gvar_table gvar) for_axes g h in
       let b = if_some (a.0.axis_count == axes) (Some (Some a.0)) g a.2 in
       by a.0 (table_steps a.0 a.1) (eqb-true a.0.axis_count axes b.0) f
@@ -262,8 +262,8 @@ module _ (find : List ℕ → Option (List ℕ)) (axes : ℕ) where
       let same : bytes ≡ other = just_is bytes other (sym there ∙ is) in
       not_long bytes at 2 n less (ap (λ (b : List ℕ). number b at 2) same ∙ read)
 
-  pub tables_stand : (s : Source) → source_in find axes ≡ Some s → HasSourceFault find axes → ⊥
-  tables_stand s h f = by (source_steps find axes s h) f
+  pub tables_clean : (s : Source) → source_in find axes ≡ Some s → HasSourceFault find axes → ⊥
+  tables_clean s h f = by (source_steps find axes s h) f
     where
       by : SourceSteps find axes s → HasSourceFault find axes → ⊥
       by t (no_glyf none) = let g = source_glyf find axes s h in some_not_none (find (codes "glyf")) g.0 g.1 none
@@ -275,4 +275,4 @@ module _ (find : List ℕ → Option (List ℕ)) (axes : ℕ) where
       by t (cut_head head is less) = long_enough (codes "head") head t.head 50 t.format t.head_is t.format_is is less
       by t (cut_maxp maxp is less) = long_enough (codes "maxp") maxp t.maxp 4 s.count t.maxp_is t.count_is is less
       by t (cut_hhea hhea is less) = long_enough (codes "hhea") hhea t.hhea 34 s.pairs t.hhea_is t.pairs_is is less
-      by t (in_gvar gvar is g) = gvar_stands axes gvar t.gvar (ap (λ o. variations_in o axes) (sym is) ∙ t.gvar_is) g
+      by t (in_gvar gvar is g) = gvar_clean axes gvar t.gvar (ap (λ o. variations_in o axes) (sym is) ∙ t.gvar_is) g
