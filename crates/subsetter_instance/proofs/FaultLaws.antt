@@ -4,6 +4,7 @@ pub mod Parts
 pub mod Place
 pub mod Source
 pub mod Item
+pub mod Tables
 pub mod Walk
 pub mod Rounded
 pub mod Lines

@@ -12,6 +12,7 @@ use Rattle.subsetter_sfnt.specs.Written.{fits, start_of}
 use Rattle.subsetter_instance.specs.Source.{Source, metric, place, source_in}
 use Rattle.subsetter_instance.specs.declared.source.Metric.{Metric}
 use Rattle.subsetter_instance.specs.Unfolded.{Unfolded, unfolded}
+use Rattle.subsetter_instance.specs.GlyphFault.{HasHmtxFault}
 use Rattle.subsetter_instance.specs.PlaceFault.{HasPlaceFault}
 use Rattle.subsetter_instance.specs.SourceFault.{HasSourceFault, HasVersionFault}
 use Rattle.subsetter_instance.specs.WalkFault.{HasWalkFault}
@@ -26,8 +27,8 @@ use Rattle.subsetter_instance.specs.Written.{by_glyph, tables}
 pub data HasGlyphFault (s : Source) (at : List ℤ) (steps g : ℕ) : Error → Type 0 where
   -- maxp has fewer glyphs
   no_glyph : s.count ≤ g → HasGlyphFault s at steps g MalformedFont
-  -- no metric in hmtx
-  no_metric : metric s g ≡ None → HasGlyphFault s at steps g MalformedFont
+  -- its metric: hhea and hmtx
+  no_metric : HasHmtxFault s g → HasGlyphFault s at steps g MalformedFont
   -- its description, its variations, or a component's
   in_walk : {e : Error} → HasWalkFault s at levels steps g e → HasGlyphFault s at steps g e
   -- its advance

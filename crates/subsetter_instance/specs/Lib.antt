@@ -3,6 +3,7 @@ pub mod Components
 pub mod Drawn
 pub mod Extremes
 pub mod Fault
+pub mod GlyphFault
 pub mod Instance
 pub mod ItemFault
 pub mod Kept
