@@ -3,7 +3,11 @@ pub mod Opening
 pub mod Parts
 pub mod Place
 pub mod Source
-pub mod Item
+pub mod Stores
+pub mod Rows
+pub mod Maps
+pub mod Hvar
+pub mod Mvar
 pub mod Tables
 pub mod Walk
 pub mod Rounded

@@ -23,7 +23,8 @@ use Rattle.subsetter_variation.proofs.Items.{is_item_at_default, is_item_at_mast
 use Rattle.subsetter_instance.specs.Drawn.{advance, advance_or_fault, word_or_fault}
 use Rattle.subsetter_instance.specs.Lines.{Lines, line_bytes, lines_of, moved_hhea, moved_post, varied, varied_hhea, varied_post, varied_post_if, varied_underline}
 use Rattle.subsetter_instance.specs.MetricLaws.{IsRow, IsAdvanceRow, IsMetricRow, IsAdvanceAtMaster, IsAdvanceAtDefault, IsMetricAtMaster, IsMetricAtDefault, AreLinesAtDefault}
-use Rattle.subsetter_instance.proofs.FaultLaws.Item.{advance_in_turn, metric_delta_in_turn, with_indexes, with_store}
+use Rattle.subsetter_instance.proofs.FaultLaws.Hvar.{advance_in_turn, with_indexes, with_store}
+use Rattle.subsetter_instance.proofs.FaultLaws.Mvar.{metric_delta_in_turn}
 use Rattle.subsetter_instance.proofs.FaultLaws.Lines.{ThreeSteps, three_steps, lines, caret, with_caret, with_position}
 use Rattle.subsetter_instance.proofs.FileLaws.Lines.{LineSteps, line_steps}
 

@@ -94,10 +94,10 @@ low_from : (p : AxisValueMap) (ends : List AxisValueMap) (n : ℤ) → ascends_f
 low_from p [] n up h low high =
     either (int_eq p.from (pos 16384) && int_eq p.to (pos 16384)) false h
     (λ k.
-        let a = both_of (int_eq p.from (pos 16384)) (int_eq p.to (pos 16384)) k in
-        let from : p.from ≡ pos 16384 = (Decides-int_eq p.from (pos 16384)).0 a.0 in
-        let to : p.to ≡ pos 16384 = (Decides-int_eq p.to (pos 16384)).0 a.1 in
-        omega (arith, ints))
+    let a = both_of (int_eq p.from (pos 16384)) (int_eq p.to (pos 16384)) k in
+    let from : p.from ≡ pos 16384 = (Decides-int_eq p.from (pos 16384)).0 a.0 in
+    let to : p.to ≡ pos 16384 = (Decides-int_eq p.to (pos 16384)).0 a.1 in
+    omega (arith, ints))
     (λ k. absurd cc)
 low_from p (q ∷ ends) n up h low high = by (λ u k l. low_from q ends n u k l high) (is_on p q n) refl
   where

@@ -15,7 +15,7 @@ use Rattle.subsetter_variation.specs.ItemVariations.{signed_at, whole_or_fault}
 use Rattle.subsetter_instance.specs.Drawn.{word_or_fault}
 use Rattle.subsetter_instance.specs.Lines.{Lines, lines_of, moved_hhea, moved_post, three_lines, varied, varied_hhea, varied_post, varied_post_if, varied_underline}
 use Rattle.subsetter_instance.specs.LinesFault.{HasMetricFault, HasLinesFault, IsLineOfHhea, IsLineOfPost, in_mvar, large_delta, wide_metric, in_hhea, in_post, ascender, descender, line_gap, caret_slope_rise, caret_slope_run, caret_offset, underline_position, underline_thickness}
-use Rattle.subsetter_instance.proofs.FaultLaws.Item.{mvar_refused, mvar_clean}
+use Rattle.subsetter_instance.proofs.FaultLaws.Mvar.{mvar_refused, mvar_clean}
 use Rattle.subsetter_instance.proofs.FaultLaws.Rounded.{large_refused, large_stops}
 use Rattle.subsetter_instance.proofs.FileLaws.Lines.{LineSteps, line_steps}
 

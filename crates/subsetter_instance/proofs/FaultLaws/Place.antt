@@ -123,7 +123,7 @@ axes_clean fvar l h (short_axis size is less) = let p = axes_parts fvar l h in l
 axes_clean fvar l h (cut_axis at count size k at_is count_is size_is less cut) =
     let p = axes_parts fvar l h in
     let records : axes_at count size fvar at ≡ Some l =
-      ap (λ (n : ℕ). axes_at n size fvar at) (just_is count p.count (sym count_is ∙ p.count_is)) ∙ ap (λ (n : ℕ). axes_at p.count n fvar at) (just_is size p.size (sym size_is ∙ p.size_is)) ∙ ap (λ (n : ℕ). axes_at p.count p.size fvar n) (just_is at p.at (sym at_is ∙ p.at_is)) ∙ p.records in
+    ap (λ (n : ℕ). axes_at n size fvar at) (just_is count p.count (sym count_is ∙ p.count_is)) ∙ ap (λ (n : ℕ). axes_at p.count n fvar at) (just_is size p.size (sym size_is ∙ p.size_is)) ∙ ap (λ (n : ℕ). axes_at p.count p.size fvar n) (just_is at p.at (sym at_is ∙ p.at_is)) ∙ p.records in
     let inside = axis_inside count size fvar at k l records less in
     omega arith
 
