@@ -18,7 +18,7 @@ use Rattle.subsetter_instance.specs.Unfolded.{Unfolded, moved, unfolded}
 use Rattle.subsetter_instance.specs.Laws.{IsDrawnAsItStands, unvaried}
 use Rattle.subsetter_instance.proofs.SameLaws.Unfolded.{ReadAlike, unfolded_alike}
 
-stays : (gvar : Option Gvar) (g : ℕ) (o : Outline) (at : List ℤ) (steps : ℕ) (a : List ℤ × List ℤ × ℕ) → All (λ c. c ≡ pos 0) at → ((t : Gvar) → gvar ≡ Some t → HasBoundTuples t g o (length at)) → moved gvar g o at steps ≡ Ok a → (a.0 ≡ in_units o.xs) × (a.1 ≡ in_units o.ys)
+pub stays : (gvar : Option Gvar) (g : ℕ) (o : Outline) (at : List ℤ) (steps : ℕ) (a : List ℤ × List ℤ × ℕ) → All (λ c. c ≡ pos 0) at → ((t : Gvar) → gvar ≡ Some t → HasBoundTuples t g o (length at)) → moved gvar g o at steps ≡ Ok a → (a.0 ≡ in_units o.xs) × (a.1 ≡ in_units o.ys)
 stays None g o at steps a zeros bound h =
     let i = done_is (in_units o.xs, in_units o.ys, steps) a h in
     (ap (λ (p : List ℤ × List ℤ × ℕ). p.0) (sym i), ap (λ (p : List ℤ × List ℤ × ℕ). p.1) (sym i))
@@ -34,14 +34,14 @@ is_drawn_as_it_stands s at depth m n g u v zeros bound e f =
     (λ h o i j a b x y. let p = stays s.gvar h o at i a zeros (λ t is. bound t h o is) x in let q = stays None h o at j b zeros (λ t is. absurd cc) y in (p.0 ∙ sym q.0, p.1 ∙ sym q.1)) m n g u v e f
 
 -- the parts of what is drawn: the metric, and what the glyph unfolds to
-record DrawnParts (s : Source) (at : List ℤ) (steps g : ℕ) (d : Drawn) : Type 0 where
-  m : Metric
-  m_is : metric s g ≡ Some m
-  u : Unfolded × ℕ
-  u_is : unfolded levels s at steps g ≡ Ok u
-  d_is : rounded s at g m u.0 ≡ Ok d
+pub record DrawnParts (s : Source) (at : List ℤ) (steps g : ℕ) (d : Drawn) : Type 0 where
+  pub m : Metric
+  pub m_is : metric s g ≡ Some m
+  pub u : Unfolded × ℕ
+  pub u_is : unfolded levels s at steps g ≡ Ok u
+  pub d_is : rounded s at g m u.0 ≡ Ok d
 
-drawn_parts : (s : Source) (at : List ℤ) (steps g : ℕ) (d : Drawn) → drawn s at steps g ≡ Ok d → DrawnParts s at steps g d
+pub drawn_parts : (s : Source) (at : List ℤ) (steps g : ℕ) (d : Drawn) → drawn s at steps g ≡ Ok d → DrawnParts s at steps g d
 unfolding drawn
 drawn_parts s at steps g d h =
     let a = bind_ok (ok_or (metric s g) MalformedFont) (λ m. unfolded levels s at steps g >>= λ u. rounded s at g m u.0) d h in

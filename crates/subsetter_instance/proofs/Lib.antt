@@ -7,6 +7,7 @@ pub mod Joins
 pub mod KeptLemmas
 pub mod MetricLaws
 pub mod PartLemmas
+pub mod Phantoms
 pub mod Points
 pub mod Reach
 pub mod Wholes

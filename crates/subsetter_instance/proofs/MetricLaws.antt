@@ -71,7 +71,7 @@ rounded_of (Some x) w h = (x, refl, h)
 
 -- ---- advances
 
-advance_is : (v : ℤ) (a : ℕ) → pos 0 ≤ℤ v → advance_or_fault v ≡ Ok a → pos a ≡ v
+pub advance_is : (v : ℤ) (a : ℕ) → pos 0 ≤ℤ v → advance_or_fault v ≡ Ok a → pos a ≡ v
 advance_is v a up h = by (int_le v (pos 0)) (nat_lt (unsigned_abs v) (2 ^ 16)) refl h
   where
     by : (b c : Bool) → int_le v (pos 0) ≡ b → cond b (done {A = ℕ} 0) (cond c (done {A = ℕ} (unsigned_abs v)) (Err OverflowError)) ≡ Ok a → pos a ≡ v

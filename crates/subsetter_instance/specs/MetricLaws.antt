@@ -1,6 +1,6 @@
 -- Laws of advances and of the metrics of `hhea` and `post`, at a master and at the default (OpenType, "HVAR" and "MVAR"), and of what is drawn at
 -- the default.
-use Rattle.std.specs.Prelude.{◌≡◌, ◌≤◌, ℕ, ◌==◌, ◌&&◌, false, List, length, codes, Option, Some, Ok, All, ℤ, pos, ◌+ℤ◌, ◌≤ℤ◌}
+use Rattle.std.specs.Prelude.{◌≡◌, ◌≤◌, ℕ, ◌==◌, ◌&&◌, false, List, length, codes, Option, Some, None, Ok, All, ℤ, pos, ◌+ℤ◌, ◌≤ℤ◌}
 use Rattle.subsetter_base.specs.Bytes.{IsBytes}
 use Rattle.subsetter_variation.specs.FontMetrics.{metric_store, value_of}
 use Rattle.subsetter_variation.specs.ItemLaws.{HasBoundRegions, IsMaster}
@@ -11,7 +11,9 @@ use Rattle.subsetter_variation.specs.VariationLaws.{HasBoundTuples}
 use Rattle.subsetter_instance.specs.Drawn.{Drawn, advance, drawn}
 use Rattle.subsetter_instance.specs.Laws.{unvaried}
 use Rattle.subsetter_instance.specs.Lines.{Lines, lines_of, varied}
-use Rattle.subsetter_instance.specs.Source.{Source}
+use Rattle.subsetter_instance.specs.Source.{Source, metric}
+use Rattle.subsetter_instance.specs.Unfolded.{counted_description, is_composite}
+use Rattle.subsetter_instance.specs.declared.source.Metric.{Metric}
 
 -- ---- items
 
@@ -45,6 +47,11 @@ IsAdvanceAtMaster = (hvar : List ℕ) (at : List ℤ) (g before a : ℕ) (width 
 abbrev pub IsAdvanceAtDefault : Type 0
 IsAdvanceAtDefault = (hvar : List ℕ) (at : List ℤ) (g before a : ℕ) (width : ℤ) → All (λ c. c ≡ pos 0) at → ((s : Store) (r : Row) → IsAdvanceRow hvar (length at) g s r → HasBoundRegions s r (length at))
     → advance (Some hvar) at g before width ≡ Ok a → a ≡ before
+
+-- without HVAR too, of a simple glyph, if each tuple has such an axis
+abbrev pub IsSimpleAdvanceAtDefault : Type 0
+IsSimpleAdvanceAtDefault = (s : Source) (at : List ℤ) (steps g : ℕ) (bytes : List ℕ) (m : Metric) (d : Drawn) → All (λ c. c ≡ pos 0) at → ((t : Gvar) (h : ℕ) (o : Outline) → s.gvar ≡ Some t → HasBoundTuples t h o (length at)) → s.hvar ≡ None
+    → counted_description s g ≡ Some bytes → is_composite bytes ≡ false → metric s g ≡ Some m → drawn s at steps g ≡ Ok d → d.advance ≡ m.advance
 
 -- ---- metrics
 

@@ -1,7 +1,7 @@
 //! Laws of the definitions, which no code runs.
 
 ghost use Rattle.subsetter_instance.specs.Laws.{IsReadAfresh, IsSameAtAnySteps, HasFaultWhereRefused, HasNoneWhereAnswered, IsBoxOfAll, AreFaultsNamed, IsDrawnAsItStands};
-ghost use Rattle.subsetter_instance.specs.MetricLaws.{AreLinesAtDefault, IsAdvanceAtDefault, IsAdvanceAtMaster, IsDrawnAsUnvaried, IsMetricAtDefault, IsMetricAtMaster};
+ghost use Rattle.subsetter_instance.specs.MetricLaws.{AreLinesAtDefault, IsAdvanceAtDefault, IsAdvanceAtMaster, IsDrawnAsUnvaried, IsMetricAtDefault, IsMetricAtMaster, IsSimpleAdvanceAtDefault};
 
 /// The file that the plain way lays out is an instance, read afresh from its bytes.
 pub fn is_read_afresh()
@@ -46,6 +46,11 @@ pub fn is_advance_at_master()
 /// At the default it is what `hmtx` has.
 pub fn is_advance_at_default()
     ensures { IsAdvanceAtDefault }
+{}
+
+/// Without `HVAR` too, of a simple glyph.
+pub fn is_simple_advance_at_default()
+    ensures { IsSimpleAdvanceAtDefault }
 {}
 
 /// By `MVAR` a metric of the font is at a master what its table has and the delta for it.
