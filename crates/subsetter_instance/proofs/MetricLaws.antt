@@ -1,14 +1,13 @@
 -- Advances and the metrics of hhea and post at a master and at the default.
-use Rattle.std.proofs.Common.{◌≡◌, ℕ, ◌+◌, ◌<◌, ◌≤◌, ◌^◌, ◌==◌, ◌&&◌, Bool, true, false, cond, List, [], ◌∷◌, ◌++◌, length, take, drop, Option, Some, None, Result, Ok, Err, All, ℤ, pos, refl, sym, ap, ◌∙◌, append_assoc, arith}
+use Rattle.std.proofs.Common.{◌≡◌, ℕ, ◌+◌, ◌<◌, ◌≤◌, ◌^◌, ◌==◌, ◌&&◌, Bool, true, false, cond, List, [], ◌∷◌, ◌++◌, length, take, drop, Option, Some, None, Ok, Err, All, ℤ, pos, refl, sym, ap, ◌∙◌, append_assoc, arith}
 use Rattle.std.specs.Prelude.{codes, slice_range, ◌+ℤ◌, ◌*ℤ◌, ◌≤ℤ◌, int_le, nat_lt, unsigned_abs}
-use Rattle.std.specs.Int.{w16, cast_signed, cast_unsigned, to_be_bytes}
+use Rattle.std.specs.Int.{w16, cast_signed, to_be_bytes}
 use Rattle.std.proofs.lemmas.Bool.{ltb-false}
 use Rattle.std.proofs.lemmas.Int.{ints, of_z-to_z}
 use Rattle.std.proofs.lemmas.List.{drop-drop, length-drop, length-take-le, take-append-drop}
 use Rattle.std.proofs.lemmas.Nat.{be_bytes_2}
-use Rattle.subsetter_base.specs.Bytes.{IsBytes, be, ◌>>=◌}
-use Rattle.subsetter_base.specs.declared.error.Error.{Error}
-use Rattle.subsetter_base.specs.declared.error.Error.TheVariants.{MalformedFont, OverflowError}
+use Rattle.subsetter_base.specs.Bytes.{IsBytes, be}
+use Rattle.subsetter_base.specs.declared.error.Error.TheVariants.{OverflowError}
 use Rattle.subsetter_base.proofs.ByteLemmas.{IsBytes-drop, IsBytes-take, be-fits}
 use Rattle.subsetter_base.proofs.Options.{bind_some, just, just_is}
 use Rattle.subsetter_base.proofs.Results.{bind_ok, done, done_is}
@@ -21,12 +20,12 @@ use Rattle.subsetter_variation.specs.Nearest.{nearest}
 use Rattle.subsetter_variation.specs.Region.{unit}
 use Rattle.subsetter_variation.proofs.Items.{is_item_at_default, is_item_at_master, nearest_is}
 use Rattle.subsetter_instance.specs.Drawn.{advance, advance_or_fault, word_or_fault}
-use Rattle.subsetter_instance.specs.Lines.{Lines, line_bytes, lines_of, moved_hhea, moved_post, varied, varied_hhea, varied_post, varied_post_if, varied_underline}
-use Rattle.subsetter_instance.specs.MetricLaws.{IsRow, IsAdvanceRow, IsMetricRow, IsAdvanceAtMaster, IsAdvanceAtDefault, IsMetricAtMaster, IsMetricAtDefault, AreLinesAtDefault}
+use Rattle.subsetter_instance.specs.Lines.{moved_hhea, moved_post, varied, varied_hhea, varied_post, varied_post_if, varied_underline}
+use Rattle.subsetter_instance.specs.MetricLaws.{IsRow, IsMetricRow, IsAdvanceAtMaster, IsAdvanceAtDefault, IsMetricAtMaster, IsMetricAtDefault, AreLinesAtDefault}
 use Rattle.subsetter_instance.proofs.FaultLaws.Hvar.{advance_in_turn, with_indexes, with_store}
 use Rattle.subsetter_instance.proofs.FaultLaws.Mvar.{metric_delta_in_turn}
-use Rattle.subsetter_instance.proofs.FaultLaws.Lines.{ThreeSteps, three_steps, lines, caret, with_caret, with_position}
-use Rattle.subsetter_instance.proofs.FileLaws.Lines.{LineSteps, line_steps}
+use Rattle.subsetter_instance.proofs.FaultLaws.Lines.{three_steps, lines, caret, with_caret, with_position}
+use Rattle.subsetter_instance.proofs.FileLaws.Lines.{line_steps}
 
 -- ---- whole units
 

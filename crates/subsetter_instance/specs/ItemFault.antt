@@ -1,6 +1,6 @@
 -- What can stand against an item of HVAR or MVAR (OpenType, "Item Variation Store", "Associating Target Items to Variation Data", "HVAR" and "MVAR").
 -- Each is answered by `MalformedFont`.
-use Rattle.std.specs.Prelude.{◌≡◌, ◌≢◌, ◌<◌, ◌≤◌, ℕ, suc, ◌+◌, ◌*◌, ◌/◌, ◌%◌, ◌==◌, ◌&&◌, true, false, List, length, take, drop, Some, None, nat_le, ℤ}
+use Rattle.std.specs.Prelude.{◌≡◌, ◌≢◌, ◌<◌, ◌≤◌, ℕ, suc, ◌+◌, ◌*◌, ◌/◌, ◌%◌, ◌==◌, ◌&&◌, false, List, length, take, drop, Some, nat_le}
 use Rattle.subsetter_base.specs.Bytes.{number, range}
 use Rattle.subsetter_variation.specs.FontMetrics.{metric_store, value_of}
 use Rattle.subsetter_variation.specs.ItemVariations.{Row, Store, advance_index, entry_place, item_row, map_head, row_size, store_of}

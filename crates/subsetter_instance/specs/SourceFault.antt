@@ -1,9 +1,9 @@
 -- What can stand in a font against the tables that an instance is made from, under the name of the error that it is answered by (OpenType, "head",
 -- "hhea", "hmtx", "maxp", "loca", "glyf", "gvar", "HVAR" and "MVAR").
-use Rattle.std.specs.Prelude.{◌≡◌, ◌≢◌, ◌<◌, ◌⊎◌, ℕ, ◌+◌, ◌*◌, ◌%◌, ◌==◌, List, length, codes, Option, Some, None, if◌then◌else◌}
+use Rattle.std.specs.Prelude.{◌≡◌, ◌≢◌, ◌<◌, ℕ, ◌+◌, ◌*◌, ◌%◌, ◌==◌, List, length, codes, Option, Some, None, if◌then◌else◌}
 use Rattle.subsetter_base.specs.Bytes.{number}
 use Rattle.subsetter_base.specs.declared.error.Error.{Error}
-use Rattle.subsetter_base.specs.declared.error.Error.TheVariants.{MalformedFont, Unimplemented}
+use Rattle.subsetter_base.specs.declared.error.Error.TheVariants.{Unimplemented}
 use Rattle.subsetter_variation.specs.Tuples.{tuple_size}
 use Rattle.subsetter_instance.specs.PlaceFault.{HasOtherVersion}
 

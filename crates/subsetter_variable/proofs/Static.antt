@@ -12,7 +12,6 @@ use Rattle.subsetter.specs.Bound.{IsWithin, HasFaultWithin, HasNoAnswerWithin, i
 use Rattle.subsetter.specs.Subset.{IsSubset}
 use Rattle.subsetter_instance.specs.Fault.{HasInstanceFault, in_place}
 use Rattle.subsetter_instance.specs.Instance.{IsInstance}
-use Rattle.subsetter_instance.specs.Source.{place}
 use Rattle.subsetter_instance.proofs.FaultLaws.Place.{place_clean}
 use Rattle.subsetter_instance.proofs.SameLaws.Answer.{one_file}
 use Rattle.subsetter_variable.specs.Standing.{IsAtDefault, HasNoPlace, no_outlines, no_move}

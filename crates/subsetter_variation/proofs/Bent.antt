@@ -1,18 +1,18 @@
 -- A greater user coordinate lies no lower on its axis, through the segments too.
-use Rattle.std.proofs.Common.{◌≡◌, ℕ, ◌*◌, ◌<◌, ◌≤◌, Bool, true, false, cond, ◌&&◌, ◌||◌, List, [], ◌∷◌, ℤ, pos, negsuc, neg_ℤ, ◌+ℤ◌, ◌-ℤ◌, ◌*ℤ◌, int_lt, int_le, unsigned_abs, refl, arith, mul-le-mul_right}
+use Rattle.std.proofs.Common.{◌≡◌, ℕ, ◌*◌, ◌<◌, ◌≤◌, Bool, true, false, cond, ◌&&◌, List, [], ◌∷◌, ℤ, pos, negsuc, neg_ℤ, ◌+ℤ◌, ◌-ℤ◌, ◌*ℤ◌, int_lt, int_le, unsigned_abs, refl, arith, mul-le-mul_right}
 use Rattle.std.specs.Ordering.{int_eq}
 use Rattle.std.proofs.lemmas.Bool.Decides.{Decides-int_eq}
 use Rattle.std.proofs.lemmas.Int.{ints}
 use lib.Signed.{◌<ℤ◌, ◌≤ℤ◌}
 use Rattle.subsetter_variation.specs.Axes.{above_default, below_default, default_normalized, toward, user_coordinate}
 use Rattle.subsetter_variation.specs.Coordinates.{coordinate}
-use Rattle.subsetter_variation.specs.Nearest.{nearest, part}
+use Rattle.subsetter_variation.specs.Nearest.{part}
 use Rattle.subsetter_variation.specs.PlaceLaws.{NeverDescendsBent}
 use Rattle.subsetter_variation.specs.Segments.{ascends, ascends_from, by_segments, fine, follows, is_on, is_segment_map, keeps, mapped, mapped_from, on_segment, passed}
 use Rattle.subsetter_variation.specs.declared.axes.Axis.{Axis}
 use Rattle.subsetter_variation.specs.declared.segments.AxisValueMap.{AxisValueMap}
 use Rattle.subsetter_variation.proofs.Ascent.{apart_is, apart_too, closer_above, closer_below, le_false, le_true, lt_false, lt_true, nearest_up, never_descends, through, toward_within}
-use Rattle.subsetter_variation.proofs.Placing.{at_least, both_of, either, fine_le, fine_lt}
+use Rattle.subsetter_variation.proofs.Placing.{at_least, both_of, either, fine_le}
 use Rattle.subsetter_variation.proofs.Quotients.{is_not_negative, part_within}
 
 -- ---- on a segment

@@ -1,9 +1,9 @@
 -- A region counts between nothing and in full.
-use Rattle.std.proofs.Common.{◌≡◌, ℕ, ◌<◌, ◌≤◌, Bool, true, false, cond, List, [], ◌∷◌, ℤ, pos, ◌-ℤ◌, int_lt, int_le, unsigned_abs, refl, arith}
+use Rattle.std.proofs.Common.{◌≡◌, ◌<◌, ◌≤◌, Bool, true, false, cond, List, [], ◌∷◌, ℤ, pos, ◌-ℤ◌, int_lt, int_le, unsigned_abs, refl, arith}
 use Rattle.std.proofs.lemmas.Int.{ints}
 use lib.Signed.{◌<ℤ◌, ◌≤ℤ◌}
 use Rattle.subsetter_variation.specs.Nearest.{part}
-use Rattle.subsetter_variation.specs.Region.{counted, is_ignored, proportion, scalar, scalar_of, unit}
+use Rattle.subsetter_variation.specs.Region.{counted, is_ignored, proportion, scalar_of, unit}
 use Rattle.subsetter_variation.specs.VariationLaws.{IsBetweenNothingAndFull}
 use Rattle.subsetter_variation.specs.declared.region.RegionAxis.{RegionAxis}
 use Rattle.subsetter_variation.proofs.Ascent.{le_false, lt_true}

@@ -1,7 +1,7 @@
 -- The metrics of hhea and post that vary are refused exactly where one of them has a fault.
 --   lines_refused, lines_clean   where they aren't made there is a fault, and where they are there is none
-use Rattle.std.proofs.Common.{◌≡◌, ℕ, ◌+◌, ◌<◌, ◌≤◌, ◌^◌, Bool, true, false, cond, List, length, Option, Some, None, Result, Ok, Err, ℤ, refl, sym, ap, subst, ◌∙◌, ◌⊎◌, inl, inr, arith}
-use Rattle.std.specs.Prelude.{codes, ◌+ℤ◌, nat_lt, unsigned_abs}
+use Rattle.std.proofs.Common.{◌≡◌, ℕ, ◌+◌, ◌≤◌, Bool, true, false, cond, List, length, Option, Some, None, Result, Ok, Err, ℤ, refl, sym, ap, subst, ◌∙◌, ◌⊎◌, inl, inr, arith}
+use Rattle.std.specs.Prelude.{codes, ◌+ℤ◌, nat_lt}
 use Rattle.std.specs.Option.{ok_or}
 use Rattle.std.proofs.lemmas.Bool.{ltb-false, ltb-true}
 use Rattle.subsetter_base.specs.Bytes.{◌>>=◌}
@@ -17,7 +17,7 @@ use Rattle.subsetter_instance.specs.Lines.{Lines, lines_of, moved_hhea, moved_po
 use Rattle.subsetter_instance.specs.LinesFault.{HasMetricFault, HasLinesFault, IsLineOfHhea, IsLineOfPost, in_mvar, large_delta, wide_metric, in_hhea, in_post, ascender, descender, line_gap, caret_slope_rise, caret_slope_run, caret_offset, underline_position, underline_thickness}
 use Rattle.subsetter_instance.proofs.FaultLaws.Mvar.{mvar_refused, mvar_clean}
 use Rattle.subsetter_instance.proofs.FaultLaws.Rounded.{large_refused, large_stops}
-use Rattle.subsetter_instance.proofs.FileLaws.Lines.{LineSteps, line_steps}
+use Rattle.subsetter_instance.proofs.FileLaws.Lines.{line_steps}
 
 module _ (mvar : List ℕ) (at : List ℤ) where
   -- ---- one metric

@@ -1,10 +1,10 @@
 -- The coordinates of an instance are refused exactly where fvar or avar has a fault.
 --   other_is, is_other_of        tables of another version
 --   place_refused, place_clean   where there are no coordinates there is a fault, and where there are some there is none
-use Rattle.std.proofs.Common.{◌≡◌, ◌≢◌, ℕ, zero, suc, ◌+◌, ◌*◌, ◌<◌, ◌≤◌, Bool, true, false, cond, List, [], ◌∷◌, length, Option, Some, None, Result, Ok, Err, ℤ, refl, sym, ap, subst, ◌∙◌, ◌⊎◌, inl, inr, arith}
-use Rattle.std.specs.Prelude.{codes, not, ◌||◌, ◌==◌, nat_lt, IsSome}
+use Rattle.std.proofs.Common.{◌≡◌, ℕ, zero, suc, ◌+◌, ◌*◌, ◌<◌, ◌≤◌, Bool, true, false, cond, List, [], ◌∷◌, length, Option, Some, None, Result, Ok, Err, ℤ, refl, sym, ap, subst, ◌∙◌, inl, inr, arith}
+use Rattle.std.specs.Prelude.{codes, not, ◌||◌, ◌==◌, nat_lt}
 use Rattle.std.specs.Option.{ok_or}
-use Rattle.std.proofs.lemmas.Bool.{cases_lt, eq-eqb, eqb-false, eqb-true, lt-ltb, ltb-false, ltb-true, ne_eqb, or_cases, or_left, or_right}
+use Rattle.std.proofs.lemmas.Bool.{eqb-false, eqb-true, ltb-false, ltb-true, ne_eqb, or_cases, or_left, or_right}
 use Rattle.std.proofs.Math.Nat.{add-mul}
 use Rattle.subsetter_base.specs.Bytes.{number, range}
 use Rattle.subsetter_base.specs.Items.{Items}

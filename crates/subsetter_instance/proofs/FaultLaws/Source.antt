@@ -1,14 +1,14 @@
 -- The tables of an instance are refused exactly where one of them has a fault.
 --   versions_refused, other_version_of   tables of another version
 --   tables_refused, tables_clean         where the tables aren't read there is a fault, and where they are there is none
-use Rattle.std.proofs.Common.{◌≡◌, ◌≢◌, ℕ, ◌+◌, ◌*◌, ◌<◌, ◌≤◌, Bool, true, false, cond, List, length, take, drop, Option, Some, None, refl, sym, ap, subst, ◌∙◌, ◌⊎◌, inl, inr, arith}
+use Rattle.std.proofs.Common.{◌≡◌, ℕ, ◌+◌, ◌*◌, ◌<◌, ◌≤◌, Bool, true, false, cond, List, length, drop, Option, Some, None, refl, sym, ap, subst, ◌∙◌, inl, inr, arith}
 use Rattle.std.specs.Prelude.{codes, ◌||◌, ◌%◌, ◌==◌, nat_le, if◌then◌else◌}
 use Rattle.std.proofs.lemmas.Bool.{cases_lt, eqb-false, eqb-true, leb-false, leb-true, or_cases, or_left, or_right}
 use Rattle.subsetter_base.specs.Bytes.{number, range}
 use Rattle.subsetter_base.specs.declared.error.Error.{Error}
 use Rattle.subsetter_base.specs.declared.error.Error.TheVariants.{Unimplemented}
 use Rattle.subsetter_base.proofs.ByteLemmas.{number-short, range-fits, range-short}
-use Rattle.subsetter_base.proofs.Options.{bind_some, just, just_is, some_not_none}
+use Rattle.subsetter_base.proofs.Options.{bind_some, just_is, some_not_none}
 use Rattle.subsetter_variation.specs.Optional.{◌>>=◌}
 use Rattle.subsetter_variation.specs.Coordinates.{is_other_version}
 use Rattle.subsetter_variation.specs.Tuples.{Gvar, gvar_table, parts, tail, tuple_size}

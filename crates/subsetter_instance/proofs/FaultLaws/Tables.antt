@@ -1,10 +1,10 @@
 -- The description and the metric of a glyph are missing exactly where they have a fault.
 --   description_refused, description_missing
 --   hmtx_refused, hmtx_missing
-use Rattle.std.proofs.Common.{◌≡◌, ◌≢◌, ℕ, ◌+◌, ◌-◌, ◌*◌, ◌<◌, ◌≤◌, Bool, true, false, cond, List, length, Option, Some, None, refl, sym, ap, ◌∙◌, ◌⊎◌, inl, inr, arith}
+use Rattle.std.proofs.Common.{◌≡◌, ℕ, ◌+◌, ◌-◌, ◌*◌, ◌<◌, ◌≤◌, Bool, true, false, cond, List, length, Option, Some, None, refl, sym, ◌∙◌, inl, inr, arith}
 use Rattle.std.specs.Prelude.{◌==◌, nat_le, nat_lt, if◌then◌else◌}
 use Rattle.std.specs.Option.{option_map}
-use Rattle.std.proofs.lemmas.Bool.{cases_lt, eqb-false, eqb-true, leb-false, leb-true, ltb-false, ltb-true}
+use Rattle.std.proofs.lemmas.Bool.{eqb-false, eqb-true, leb-false, leb-true, ltb-false, ltb-true}
 use Rattle.subsetter_base.specs.Bytes.{number, range}
 use Rattle.subsetter_base.proofs.ByteLemmas.{number-fits, number-short, range-fits, range-short}
 use Rattle.subsetter_base.proofs.Options.{bind_some, just_is, map_none, map_some}
@@ -13,7 +13,7 @@ use Rattle.subsetter_instance.specs.Source.{Source, between_offsets, description
 use Rattle.subsetter_instance.specs.Unfolded.{counted_description}
 use Rattle.subsetter_instance.specs.Optional.{◌>>=◌}
 use Rattle.subsetter_instance.specs.GlyphFault.{HasDescriptionFault, HasHmtxFault, past_count, cut_loca, descending, past_glyf, no_pairs, cut_pair, cut_bearing}
-use Rattle.subsetter_instance.proofs.FaultLaws.Parts.{bind_none, if_none, if_some, some_is_not}
+use Rattle.subsetter_instance.proofs.FaultLaws.Parts.{bind_none, if_none, if_some}
 
 module _ (s : Source) (g : ℕ) where
   -- ---- descriptions
