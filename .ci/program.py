@@ -918,6 +918,20 @@ def check_little_room(table, room):
         table.demand(rooms > 8000 and got.answer[0] == 0, f"{words} with {rooms} bytes of room", got)
 
 
+def check_kept_room(table, room):
+    """Where no memory is left once OUT.part0 is made, the build by Cargo still gives it its name, a long one too."""
+    library = refuser(table, room)
+    if not library or not table.is_cargo:
+        return
+    put(room, "in", FONTS["both"])
+    for folder in ("short", "/".join(["folder" * 20] * 4)):
+        os.makedirs(os.path.join(room, folder))
+        words, out = ["--quiet", "in", f"{folder}/out", "0", "2"], f"{folder}/out"
+        base = start_refused(table, room, library, words, out=out)
+        got = start_refused(table, room, library, words, out=out, SPARE=0)
+        table.demand(base.answer == (0, b"", b"") and base.out != OLD and is_whole_run(got, base), f"{words} with no room once OUT.part0 is made", got)
+
+
 # How a run may end where a call for files fails, and has to in one of them. (The program does without a file beside OUT, and without
 # a look at some files.)
 FAILED_CALLS = {"open": {"unread", "unwritten", "whole"}, "size": {"unread", "whole"}, "read": {"unread"}, "write": {"unwritten"},
@@ -991,7 +1005,7 @@ def main():
             with tempfile.TemporaryDirectory(prefix="program-") as room:
                 table.run_row(row, room)
     for check in (check_words, check_places, check_links, check_rights, check_streams, check_closed, check_many, check_memory,
-                  check_refused_memory, check_refused_names, check_little_room, check_failed_calls):
+                  check_refused_memory, check_refused_names, check_little_room, check_kept_room, check_failed_calls):
         with tempfile.TemporaryDirectory(prefix="program-") as room:
             check(table, room)
     check_contents(table)
