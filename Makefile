@@ -14,7 +14,7 @@ demo: # builds the program by Cargo, subsets a line of text, draws it; no kit, n
 	@.ci/install demo
 	@demo/run
 
-test: # the whole gate: proves everything from nothing, tests what no proof covers; SKIP=NAME,.. | 60 min
+test: # the whole gate: proves what has changed on this machine (at first all), tests the rest; SKIP=NAME,.. | 60 min at first
 	@.ci/gate $(skip)
 
 quick: # the tests that need no proof and no kit; SKIP=NAME,.. | 4 min

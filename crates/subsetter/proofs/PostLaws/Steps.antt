@@ -1,7 +1,7 @@
 -- Names of one length behind each other.
-use Rattle.std.proofs.Common.{◌≡◌, ℕ, zero, suc, ◌+◌, ◌*◌, ◌<◌, ◌≤◌, List, [], ◌∷◌, ltb, Bool, true, false, length, take, drop, cond, refl, sym, ap, ◌∙◌, arith}
-use Rattle.std.specs.Prelude.{get_or, min}
-use Rattle.std.proofs.lemmas.Bool.{le-leb, ltb-true, ltb-false}
+use Rattle.std.proofs.Common.{◌≡◌, ℕ, zero, suc, ◌+◌, ◌*◌, ◌<◌, ◌≤◌, List, [], ◌∷◌, length, take, drop, cond, sym, ap, ◌∙◌, arith}
+use Rattle.std.specs.Prelude.{get_or}
+use Rattle.std.proofs.lemmas.Bool.{le-leb}
 use Rattle.std.proofs.lemmas.List.{drop-drop, length-drop, drop_more}
 use Rattle.subsetter.specs.Post.Read.{pascal_strings, names_in}
 use Rattle.subsetter.proofs.PostLaws.Indexes.{enough}
@@ -28,28 +28,27 @@ one_more_alike bytes len step k is room lt here before =
     sum : (k step len : ℕ) → step ≡ len + 1 → k * step + 1 + len ≡ (k + 1) * step
     sum k step len is = grind arith
 
-pub upto : (n k step : ℕ) → k ≤ n → k * step ≤ n * step
-upto n zero step le = omega arith
-upto zero (suc k) step le = absurd (omega arith)
-upto (suc n) (suc k) step le = omega (arith, upto n k step (omega arith))
+no_step : (step : ℕ) → 0 * step ≡ 0
+no_step step = omega arith
 
--- the same up to a number of names
-pub one_more_upto : (bytes : List ℕ) (len step count k : ℕ) → step ≡ len + 1 → 8 * step ≤ length bytes → k < 8 → get_or bytes (k * step) 0 ≡ len → names_in (drop (min k count * step) bytes) ≡ drop (min k count) (names_in bytes) → names_in (drop (min (k + 1) count * step) bytes) ≡ drop (min (k + 1) count) (names_in bytes)
-one_more_upto bytes len step count k is room lt here before = by (ltb k count) refl
-  where
-    by : (b : Bool) → ltb k count ≡ b → names_in (drop (min (k + 1) count * step) bytes) ≡ drop (min (k + 1) count) (names_in bytes)
-    by true e =
-        let below = ltb-true k count e in
-        let now : min k count ≡ k = omega (arith, below) in
-        let next : min (k + 1) count ≡ k + 1 = omega (arith, below) in
-        let so_far : names_in (drop (k * step) bytes) ≡ drop k (names_in bytes) = ap (λ (n : ℕ). names_in (drop (n * step) bytes)) (sym now) ∙ before ∙ ap (λ (n : ℕ). drop n (names_in bytes)) now in
-        ap (λ (n : ℕ). names_in (drop (n * step) bytes)) next ∙ one_more_alike bytes len step k is room lt here so_far ∙ ap (λ (n : ℕ). drop n (names_in bytes)) (sym next)
-    by false e =
-        let past = ltb-false k count e in
-        let same : min (k + 1) count ≡ min k count = omega (arith, past) in
-        ap (λ (n : ℕ). names_in (drop (n * step) bytes)) same ∙ before ∙ ap (λ (n : ℕ). drop n (names_in bytes)) (sym same)
+one_step : (step : ℕ) → 1 * step ≡ step
+one_step step = omega arith
 
-pub all_upto : (bytes : List ℕ) (step count k : ℕ) → count ≤ k → names_in (drop (min k count * step) bytes) ≡ drop (min k count) (names_in bytes) → names_in (drop (count * step) bytes) ≡ drop count (names_in bytes)
-all_upto bytes step count k le h =
-    let same : count ≡ min k count = omega (arith, le) in
-    ap (λ (n : ℕ). names_in (drop (n * step) bytes)) same ∙ h ∙ ap (λ (n : ℕ). drop n (names_in bytes)) (sym same)
+-- so many of eight names of a length are passed over, where eight looks a step apart find that length
+pub eight_alike : (bytes : List ℕ) (len step count : ℕ) → step ≡ len + 1 → 8 * step ≤ length bytes → count ≤ 8 → ((k : ℕ) → k < 8 → get_or bytes (k * step) 0 ≡ len) → names_in (drop (count * step) bytes) ≡ drop count (names_in bytes)
+eight_alike bytes len step zero is room le here = ap (λ (n : ℕ). names_in (drop n bytes)) (no_step step)
+eight_alike bytes len step (suc k) is room le here =
+    let more : k + 1 ≡ suc k = omega arith in
+    ap (λ (n : ℕ). names_in (drop (n * step) bytes)) (sym more) ∙ one_more_alike bytes len step k is room (omega arith) (here k (omega arith)) (eight_alike bytes len step k is room (omega arith) here) ∙ ap (λ (n : ℕ). drop n (names_in bytes)) more
+
+-- the same of eight looks in a row
+pub eight_looks : (bytes : List ℕ) (len step : ℕ) → get_or bytes 0 0 ≡ len → get_or bytes step 0 ≡ len → get_or bytes (2 * step) 0 ≡ len → get_or bytes (3 * step) 0 ≡ len → get_or bytes (4 * step) 0 ≡ len → get_or bytes (5 * step) 0 ≡ len → get_or bytes (6 * step) 0 ≡ len → get_or bytes (7 * step) 0 ≡ len → (k : ℕ) → k < 8 → get_or bytes (k * step) 0 ≡ len
+eight_looks bytes len step a b c d e f g h zero lt = ap (λ (n : ℕ). get_or bytes n 0) (no_step step) ∙ a
+eight_looks bytes len step a b c d e f g h (suc zero) lt = ap (λ (n : ℕ). get_or bytes n 0) (one_step step) ∙ b
+eight_looks bytes len step a b c d e f g h (suc (suc zero)) lt = c
+eight_looks bytes len step a b c d e f g h (suc (suc (suc zero))) lt = d
+eight_looks bytes len step a b c d e f g h (suc (suc (suc (suc zero)))) lt = e
+eight_looks bytes len step a b c d e f g h (suc (suc (suc (suc (suc zero))))) lt = f
+eight_looks bytes len step a b c d e f g h (suc (suc (suc (suc (suc (suc zero)))))) lt = g
+eight_looks bytes len step a b c d e f g h (suc (suc (suc (suc (suc (suc (suc zero))))))) lt = h
+eight_looks bytes len step a b c d e f g h (suc (suc (suc (suc (suc (suc (suc (suc k)))))))) lt = absurd (omega arith)

@@ -114,12 +114,19 @@ fn alike_len(bytes: &[u8], count: usize, len: u8) -> Option<usize> {
     if bytes.len() < 8 * step {
         return None;
     }
-    for place in 0..8 {
-        if bytes[place * step] != len {
-            return None;
-        }
+    if bytes[0] == len
+        && bytes[step] == len
+        && bytes[2 * step] == len
+        && bytes[3 * step] == len
+        && bytes[4 * step] == len
+        && bytes[5 * step] == len
+        && bytes[6 * step] == len
+        && bytes[7 * step] == len
+    {
+        Some(count * step)
+    } else {
+        None
     }
-    Some(count * step)
 }
 
 /// The length byte at a place, 0 behind the last one.
