@@ -661,13 +661,14 @@ def check_links(table, room):
     """Links and second names stay, and what they lead to is written; a pipe is written."""
     wanted = table.same["simple 2"]
     put(room, "in", SIMPLE)
-    put(room, "real", OLD)
+    # (longer than the font that takes its place)
+    put(room, "real", OLD * 1000)
     os.symlink("real", os.path.join(room, "link"))
     os.symlink("nowhere", os.path.join(room, "hanging"))
     for name, real in (("link", "real"), ("hanging", "nowhere")):
         got = table.start(["in", name, "0", "2"], room)
         table.demand(os.path.islink(os.path.join(room, name)) and take(os.path.join(room, real)) == wanted, "OUT a link", got)
-    one = put(room, "one", OLD)
+    one = put(room, "one", OLD * 1000)
     os.link(one, os.path.join(room, "other"))
     got = table.start(["in", "one", "0", "2"], room)
     table.demand(take(os.path.join(room, "other")) == wanted and os.stat(one).st_nlink == 2, "OUT has a second name", got)
