@@ -11,6 +11,7 @@ that are there afterwards. The options are also compared with `--help`, docs/CLI
 the file VERSION. The last line is `program: N rows, M differ`, and the status 1 where one differs.
 """
 import argparse
+import errno
 import os
 import re
 import shutil
@@ -968,6 +969,13 @@ def check_failed_calls(table, room):
             ends.add(failed_end(got, base))
             table.demand(failed_end(got, base) in wanted, f"{what} {number} fails", str(got)[-400:])
         table.demand(ends == wanted, f"{what} fails", f"{ends}, wanted {wanted}")
+    if table.is_cargo:
+        got = start_refused(table, room, library, words, FAIL="sync:1", ERROR=errno.ENOSYS)
+        table.demand(is_whole_run(got, base), "a file system without sync", str(got)[-400:])
+        for what in ("read", "write"):
+            for number in range(1, base.calls[what] + 1):
+                got = start_refused(table, room, library, words, FAIL=f"{what}:{number}", ERROR=errno.EINTR)
+                table.demand(is_whole_run(got, base), f"a signal in {what} {number}", str(got)[-400:])
     fail = "write:1" if table.is_cargo else "write2:1"
     got = start_refused(table, room, library, ["none", "out", "0", "2"], FAIL=fail)
     table.demand(got.answer == (3, b"", b"") and got.out == OLD, "standard error fails, too", got)
