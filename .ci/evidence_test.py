@@ -36,6 +36,9 @@ PLANTS = [
     ("a commit of a data file", f"{RESULTS}/damage.jsonl", re.compile(f'"commit": "{COMMIT}"'), '"commit": "e0a8a3f"', r"damage\.jsonl names the commit e0a8a3f, which"),
     ("a changed tree", f"{RESULTS}/instance.csv", re.compile(f"(commit {COMMIT})"), r"\1, changed", rf"instance\.csv rests on {COMMIT} with changes"),
     ("a changed tree in a document", "docs/PERFORMANCE.md", None, "\nOf commit `077cb95` with changes.\n", r"PERFORMANCE\.md rests on 077cb95 with changes"),
+    ("a dirty tree", "docs/PDF.md", None, "\nOf commit `077cb95-dirty`.\n", r"docs/PDF\.md rests on 077cb95 with changes"),
+    ("changes of no commit", "docs/WALK.md", None, "\nOf 077cb95 and changes that no commit holds.\n", r"docs/WALK\.md rests on 077cb95 with changes"),
+    ("a commit below a page's sum", f"{RESULTS}/hostile.md", None, "\nMeasured at `e0a8a3f`.\n", r"results/hostile\.md names the commit e0a8a3f, which"),
     ("a page that goes", f"{RESULTS}/widths.md", None, None, r"docs/EVIDENCE\.md names compare/results/widths\.md, which isn't there"),
     ("a page of a block that goes", f"{RESULTS}/times.md", None, None, r"docs/PERFORMANCE\.md: compare/results/times\.md isn't there"),
     ("a data file that goes", f"{RESULTS}/cff.csv", None, None, r"results/times\.md: its data file cff\.csv isn't there"),
@@ -47,6 +50,9 @@ PLANTS = [
     ("a file of no comparison", f"{RESULTS}/instance.csv", None, None, r"its data file instance\.csv isn't there"),
     ("a figure that no script wrote", "docs/PERFORMANCE.md", None, "\nIt takes 3.5 ms.\n", r"docs/PERFORMANCE\.md: '3\.5 ms' is a figure"),
     ("a size that no script wrote", "README.md", None, "\nIt has 12 MB.\n", r"README\.md: '12 MB' is a figure"),
+    ("minutes that no script wrote", "docs/PDF.md", None, "\nIt takes 7 min.\n", r"docs/PDF\.md: '7 min' is a figure"),
+    ("a figure of the JavaScript README that no script wrote", "bindings/js/README.md", None, "\nIt takes 2 ms.\n", r"bindings/js/README\.md: '2 ms' is a figure"),
+    ("a long cell of EVIDENCE", "docs/EVIDENCE.md", "| widths |", f"| widths {'x' * 300} |", r"docs/EVIDENCE\.md: a cell of 3\d\d characters"),
     ("an unknown figure", "docs/PDF.md", ": sizes -->", ": lengths -->", r"docs/PDF\.md: no figure is called 'lengths'"),
     ("a comment without an end", "docs/PDF.md", "<!-- end -->", "", r"docs/PDF\.md: a comment"),
     ("paths where nothing is", "compare/comparisons.py", '"bindings/c/*"', '"bindings/cobol/*"', r"speaks of bindings/cobol/\*, where no file is"),
@@ -109,6 +115,7 @@ def refreshed_by_hand(room):
 
 def without_history(room):
     """evidence.py in a clone with a part of the history, and where git can't answer."""
+    planted.git(room, "commit", "-q", "-m", "as it is", "--allow-empty")
     shallow = room + "-shallow"
     subprocess.run(["git", "clone", "-q", "--depth", "1", f"file://{room}", shallow], check=True, env=planted.ENVIRONMENT)
     faults = planted.faults_of_run("a shallow clone", planted.run(shallow, CHECK), r"^evidence: this clone is shallow: git fetch --unshallow$")

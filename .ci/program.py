@@ -11,6 +11,7 @@ that are there afterwards. The options are also compared with `--help`, docs/CLI
 the file VERSION. The last line is `program: N rows, M differ`, and the status 1 where one differs.
 """
 import argparse
+import errno
 import os
 import re
 import shutil
@@ -661,13 +662,14 @@ def check_links(table, room):
     """Links and second names stay, and what they lead to is written; a pipe is written."""
     wanted = table.same["simple 2"]
     put(room, "in", SIMPLE)
-    put(room, "real", OLD)
+    # (longer than the font that takes its place)
+    put(room, "real", OLD * 1000)
     os.symlink("real", os.path.join(room, "link"))
     os.symlink("nowhere", os.path.join(room, "hanging"))
     for name, real in (("link", "real"), ("hanging", "nowhere")):
         got = table.start(["in", name, "0", "2"], room)
         table.demand(os.path.islink(os.path.join(room, name)) and take(os.path.join(room, real)) == wanted, "OUT a link", got)
-    one = put(room, "one", OLD)
+    one = put(room, "one", OLD * 1000)
     os.link(one, os.path.join(room, "other"))
     got = table.start(["in", "one", "0", "2"], room)
     table.demand(take(os.path.join(room, "other")) == wanted and os.stat(one).st_nlink == 2, "OUT has a second name", got)
@@ -918,6 +920,20 @@ def check_little_room(table, room):
         table.demand(rooms > 8000 and got.answer[0] == 0, f"{words} with {rooms} bytes of room", got)
 
 
+def check_kept_room(table, room):
+    """Where no memory is left once OUT.part0 is made, the build by Cargo still gives it its name, a long one too."""
+    library = refuser(table, room)
+    if not library or not table.is_cargo:
+        return
+    put(room, "in", FONTS["both"])
+    for folder in ("short", "/".join(["folder" * 20] * 4)):
+        os.makedirs(os.path.join(room, folder))
+        words, out = ["--quiet", "in", f"{folder}/out", "0", "2"], f"{folder}/out"
+        base = start_refused(table, room, library, words, out=out)
+        got = start_refused(table, room, library, words, out=out, SPARE=0)
+        table.demand(base.answer == (0, b"", b"") and base.out != OLD and is_whole_run(got, base), f"{words} with no room once OUT.part0 is made", got)
+
+
 # How a run may end where a call for files fails, and has to in one of them. (The program does without a file beside OUT, and without
 # a look at some files.)
 FAILED_CALLS = {"open": {"unread", "unwritten", "whole"}, "size": {"unread", "whole"}, "read": {"unread"}, "write": {"unwritten"},
@@ -953,6 +969,13 @@ def check_failed_calls(table, room):
             ends.add(failed_end(got, base))
             table.demand(failed_end(got, base) in wanted, f"{what} {number} fails", str(got)[-400:])
         table.demand(ends == wanted, f"{what} fails", f"{ends}, wanted {wanted}")
+    if table.is_cargo:
+        got = start_refused(table, room, library, words, FAIL="sync:1", ERROR=errno.ENOSYS)
+        table.demand(is_whole_run(got, base), "a file system without sync", str(got)[-400:])
+        for what in ("read", "write"):
+            for number in range(1, base.calls[what] + 1):
+                got = start_refused(table, room, library, words, FAIL=f"{what}:{number}", ERROR=errno.EINTR)
+                table.demand(is_whole_run(got, base), f"a signal in {what} {number}", str(got)[-400:])
     fail = "write:1" if table.is_cargo else "write2:1"
     got = start_refused(table, room, library, ["none", "out", "0", "2"], FAIL=fail)
     table.demand(got.answer == (3, b"", b"") and got.out == OLD, "standard error fails, too", got)
@@ -991,7 +1014,7 @@ def main():
             with tempfile.TemporaryDirectory(prefix="program-") as room:
                 table.run_row(row, room)
     for check in (check_words, check_places, check_links, check_rights, check_streams, check_closed, check_many, check_memory,
-                  check_refused_memory, check_refused_names, check_little_room, check_failed_calls):
+                  check_refused_memory, check_refused_names, check_little_room, check_kept_room, check_failed_calls):
         with tempfile.TemporaryDirectory(prefix="program-") as room:
             check(table, room)
     check_contents(table)

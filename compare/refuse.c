@@ -1,11 +1,15 @@
 /* Refuses requests for memory and fails calls for files, one at a time, and counts them. Loaded before the C library:
- * LD_PRELOAD=refuse.so TOLD=FILE [REFUSE=N | REFUSE=all] [ROOM=BYTES] [WITHIN=clock] [FAIL=WHAT:N] PROGRAM WORDS.
+ * LD_PRELOAD=refuse.so TOLD=FILE [REFUSE=N | REFUSE=all] [ROOM=BYTES] [SPARE=BYTES] [WITHIN=clock] [FAIL=WHAT:N [ERROR=E]]
+ * PROGRAM WORDS.
  *
  *     REFUSE=N       the Nth request for memory is refused; with `all` each is
  *     ROOM=BYTES     a request is refused where more than so many bytes would be held
+ *     SPARE=BYTES    from when a file is made on, a request is refused where more than so many bytes above what is held
+ *                    then would be held
  *     WITHIN=clock   requests count from the first reading of the clock to the second: what a program times
  *     FAIL=WHAT:N    the Nth call of WHAT fails: open, size, read, write, write1 and write2 for the standard streams,
  *                    rename, or sync
+ *     ERROR=E        it says the error of that number, and not EIO
  *     TOLD=FILE      gets the counts at the end, where the last refused request stood, and whether it gave back a part of a
  *                    block (`less`) or asked for memory (`more`)
  *
@@ -28,17 +32,21 @@ static const char *const names[CALLS] = {"open", "size", "read", "write", "write
 enum stage { BEFORE, READING, AFTER, WRITING };
 static const char *const stages[] = {"before", "reading", "after", "writing"};
 
-static size_t requests, refused, calls[CALLS], wanted_request, wanted_call, room = SIZE_MAX;
+static size_t requests, refused, calls[CALLS], wanted_request, wanted_call, room = SIZE_MAX, spare = SIZE_MAX;
 static int refuses_all, within_clock, clock_readings, is_ready, is_ended, refused_less;
 static enum call wanted = CALLS;
+static int error_said = EIO;
 static enum stage stage = BEFORE, refused_in = BEFORE;
 
 static void read_wishes(void) {
-    const char *refuse = getenv("REFUSE"), *within = getenv("WITHIN"), *fail = getenv("FAIL"), *most = getenv("ROOM");
+    const char *refuse = getenv("REFUSE"), *within = getenv("WITHIN"), *fail = getenv("FAIL"), *most = getenv("ROOM"),
+               *more = getenv("SPARE"), *error = getenv("ERROR");
     is_ready = 1;
     refuses_all = refuse && !strcmp(refuse, "all");
     wanted_request = refuse && !refuses_all ? strtoul(refuse, NULL, 10) : 0;
     if (most) room = strtoul(most, NULL, 10);
+    if (more) spare = strtoul(more, NULL, 10);
+    if (error) error_said = atoi(error);
     within_clock = within && !strcmp(within, "clock");
     const char *colon = fail ? strchr(fail, ':') : NULL;
     for (int k = 0; colon && k < CALLS; k++)
@@ -63,7 +71,7 @@ static int is_refused(size_t asked) {
 /* Whether a call is to fail. */
 static int fails(enum call what) {
     if (!is_ready || is_ended || ++calls[what] != wanted_call || what != wanted) return 0;
-    errno = EIO;
+    errno = error_said;
     return 1;
 }
 
@@ -101,6 +109,7 @@ static int opened(int folder, const char *name, int how, mode_t rights) {
     if (fails(OPEN)) return -1;
     int writes = (how & O_ACCMODE) != O_RDONLY;
     stage = writes ? WRITING : stage == BEFORE ? READING : stage;
+    if ((how & O_CREAT) && spare != SIZE_MAX) room = held + spare;
     return syscall(SYS_openat, folder, name, how, rights);
 }
 
