@@ -1,0 +1,4 @@
+pub mod Request
+pub mod Units
+pub mod Plain
+pub mod View
