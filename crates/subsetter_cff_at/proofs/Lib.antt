@@ -1,0 +1,6 @@
+pub mod Steps
+pub mod Found
+pub mod Promised
+pub mod Faults
+pub mod Excluded
+pub mod Agreeing

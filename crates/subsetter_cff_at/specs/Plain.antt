@@ -1,5 +1,6 @@
 -- The plain way to make a CFF table of a CFF2 table at coordinates: its parts, with the error that is answered where they can't be made.
-use Rattle.std.specs.Prelude.{ℕ, ◌+◌, ◌<◌, nat_lt, min, ℤ, pos, List, [], ◌∷◌, ◌++◌, length, map, slice_get, unwrap_or, Option, Some, None, Result, Ok}
+use Rattle.std.specs.Prelude.{ℕ, ◌+◌, nat_lt, min, Bool, is_some, pos, List, [], ◌∷◌, ◌++◌, length, map, slice_get, unwrap_or, Option, Some, None, Result, Ok}
+use Rattle.std.specs.List.{list_any}
 use Rattle.std.specs.Option.{ok_or}
 use Rattle.subsetter_base.specs.Bytes.{◌>>=◌}
 use Rattle.subsetter_base.specs.declared.error.Error.{Error}
@@ -17,11 +18,15 @@ use Rattle.subsetter_cff_at.specs.Request.{Request}
 use Rattle.subsetter_cff_at.specs.Units.{top_matrix}
 
 -- ---- the font dicts of the requested glyphs (OpenType, "CFF2": "FDSelect")
+-- how many font dicts there are; FDSelect names those below 65536
+abbrev pub dict_bound : Cff2 → ℕ
+dict_bound cff = min (length cff.dicts) 65536
+
 -- the number of a glyph's font dict, if there is that font dict
 unfoldable pub dict_number : Cff2 → ℕ → Result ℕ Error
 dict_number cff glyph = do
   number ← ok_or (font_dict_number cff glyph) MalformedFont
-  check (nat_lt number (length cff.dicts)) MalformedFont (Ok number)
+  check (nat_lt number (dict_bound cff)) MalformedFont (Ok number)
 
 -- a glyph that isn't requested has none
 abbrev pub number_if : Cff2 → ℕ → Option ℕ → Result (Option ℕ) Error
@@ -45,20 +50,16 @@ abbrev pub present : List (Option ℕ) → List ℕ
 present [] = []
 present (one ∷ more) = with_number one (present more)
 
--- FDSelect names font dicts below 65536
-abbrev pub dict_bound : Cff2 → ℕ
-dict_bound cff = min (length cff.dicts) 65536
-
 -- ---- charstrings (OpenType, "CFF2 CharString Format")
 -- what a charstring under a private dict may call, and the scalars of regions
-abbrev pub setting : Cff2 → Option Variation → NewDict → Setting
-setting cff v dict = record { library = record { global = cff.subroutines; local = dict.subroutines }; scalars = font_scalars v }
+abbrev pub setting : Cff2 → Option Variation → List (Option (List ℕ)) → Setting
+setting cff v locals = record { library = record { global = cff.subroutines; local = locals }; scalars = font_scalars v }
 
 -- of a glyph under a private dict, with its advance: a number of a charstring has 16 bits
 unfoldable pub glyph_text : Cff2 → Option Variation → ℕ → ℕ → NewDict → ℕ → ℕ → Result (List ℕ) Error
 glyph_text cff v tokens depth dict glyph advance =
     check (nat_lt advance 32768) OverflowError
-    (ok_or (char_string cff glyph) MalformedFont >>= resolved (setting cff v dict) tokens depth dict.data_index (pos advance))
+    (ok_or (char_string cff glyph) MalformedFont >>= resolved (setting cff v dict.subroutines) tokens depth dict.data_index (pos advance))
 
 -- of one of the new private dicts
 unfoldable pub placed_text : Cff2 → Option Variation → ℕ → ℕ → List NewDict → ℕ → ℕ → ℕ → Result (List ℕ) Error
@@ -132,8 +133,12 @@ drawn_of bytes r tokens depth = opened bytes r >>= λ o. drawn o.cff o.variation
 abbrev pub parts_of : Opened → Request → Drawn → Result (List ℕ) Error
 parts_of o r d = made_of (new_parts o.matrix r.box d.dicts d.places (all_filled d.texts))
 
--- the table; a font has a glyph
+-- a glyph is requested
+unfoldable pub some_requested : List (Option ℕ) → Bool
+some_requested glyphs = list_any is_some glyphs
+
+-- the table, where a glyph is requested
 unfoldable pub made_table : List ℕ → Request → ℕ → ℕ → Result (List ℕ) Error
 made_table bytes r tokens depth =
-    check (nat_lt 0 (length r.glyphs)) MalformedFont
+    check (some_requested r.glyphs) MalformedFont
     (opened bytes r >>= λ o. drawn o.cff o.variation tokens depth r.glyphs >>= parts_of o r)

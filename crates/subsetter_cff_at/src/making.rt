@@ -3,7 +3,7 @@
 ghost use Rattle.std.specs.Prelude.{◌≡◌, ◌≤◌, length, Ok, IfOk, IfErr};
 ghost use Rattle.subsetter_base.specs.Within.{FailsWithin};
 ghost use Rattle.subsetter_cff.specs.Write.TableBy.{table_bytes};
-ghost use Rattle.subsetter_cff_at.specs.Plain.{made_table};
+ghost use Rattle.subsetter_cff_at.specs.Plain.{made_table, some_requested};
 ghost use Rattle.subsetter_cff_at.specs.View.{request_of, FailsMaking};
 
 use crate::drawing::draw;
@@ -14,6 +14,14 @@ use subsetter_base::error::Error;
 use subsetter_cff::CffPieces;
 use subsetter_cff2::made::write_made;
 use subsetter_type2::limits::Limits;
+
+/// Whether a glyph is requested.
+#[tactic(auto, unfolding(crate::specs::Plain::some_requested))]
+fn some_requested(glyphs: &[Option<u16>]) -> bool
+    ensures { result ≡ some_requested glyphs.now }
+{
+    glyphs.iter().any(|glyph| glyph.is_some())
+}
 
 /// Makes the table.
 #[tactic(auto, unfolding(crate::specs::Plain::made_table))]
@@ -27,7 +35,7 @@ pub fn make_table(
     ensures ok { IfOk result (λ t. made_table bytes.now (request_of request.now) limits.tokens limits.depth ≡ Ok (table_bytes t)) }
     ensures err { IfErr result (λ e. FailsMaking bytes.now (request_of request.now) limits.tokens limits.depth limits.bytes e) }
 {
-    if request.glyphs.is_empty() {
+    if !some_requested(request.glyphs) {
         return Err(Error::MalformedFont);
     }
     let opened = open_table(alloc, bytes, request)?;

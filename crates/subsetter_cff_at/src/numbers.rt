@@ -11,6 +11,14 @@ use subsetter_base::error::Error;
 use subsetter_cff2::search::FontDictSelect;
 use subsetter_cff2::table::Table2;
 
+/// How many font dicts there are; FDSelect names those below 65536.
+pub fn dict_bound(table: &Table2<'_>) -> usize
+    ensures value { result ≡ dict_bound (cff2_of table.now) }
+    ensures small { result ≤ 65536 }
+{
+    table.font_dicts.len().min(65536) as usize
+}
+
 /// The number of a glyph's font dict. Where there is none, or no font dict of that number, it is `MalformedFont`.
 #[tactic(auto, unfolding(crate::specs::Plain::dict_number))]
 fn dict_number(table: &Table2<'_>, select: &FontDictSelect<'_>, glyph: u16) -> Result<u16, Error>
@@ -20,7 +28,7 @@ fn dict_number(table: &Table2<'_>, select: &FontDictSelect<'_>, glyph: u16) -> R
     let number = select
         .font_dict_number(glyph)
         .ok_or(Error::MalformedFont)?;
-    if u32::from(number) < table.font_dicts.len() {
+    if usize::from(number) < dict_bound(table) {
         Ok(number)
     } else {
         Err(Error::MalformedFont)
@@ -76,12 +84,4 @@ pub fn present(alloc: Global, numbers: &[Option<u16>]) -> Result<Vec<u16>, Error
         }
     }
     Ok(found)
-}
-
-/// How many font dicts FDSelect can name.
-pub fn dict_bound(table: &Table2<'_>) -> usize
-    ensures value { result ≡ dict_bound (cff2_of table.now) }
-    ensures small { result ≤ 65536 }
-{
-    table.font_dicts.len().min(65536) as usize
 }
