@@ -4,3 +4,4 @@ pub mod Promised
 pub mod Faults
 pub mod Excluded
 pub mod Agreeing
+pub mod Promises
