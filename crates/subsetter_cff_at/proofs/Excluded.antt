@@ -29,7 +29,7 @@ use Rattle.subsetter_cff2.specs.PrivateText.{PlacedText, private_text}
 use Rattle.subsetter_cff2.specs.UsedDicts.{counted_dicts, used_dicts}
 use Rattle.subsetter_cff2.specs.Variation.{Variation, optional_variation}
 use Rattle.subsetter_cff2.proofs.MadeFits.{new_dict_is_placed}
-use Rattle.subsetter_cff_at.specs.Fault.{HasOpeningFault, HasGlyphFault, HasLimitFault, HasFault, MadeExcludes}
+use Rattle.subsetter_cff_at.specs.Fault.{HasOpeningFault, HasGlyphFault, HasLimitFault, HasFault, MadeExcludes, bad_front, bad_subroutines, bad_char_strings, bad_font_dicts, bad_store_offset, bad_store, bad_select, bad_matrix, bad_region, no_number, no_font_dict, no_private, bad_private, long_private, no_char_string, stops, wide_advance, many_font_dicts, long_matrix, large_char_strings, large_offset, none_requested, in_opening, in_glyph, in_limits}
 use Rattle.subsetter_cff_at.specs.Plain.{dict_bound, numbers_from, present, setting, all_filled, Drawn, drawn, Opened, opened, parts_of, some_requested, made_table}
 use Rattle.subsetter_cff_at.specs.Request.{Request}
 use Rattle.subsetter_cff_at.specs.Units.{top_matrix}
@@ -41,7 +41,7 @@ both : {A : Type 0} (o : Option A) (x : A) → o ≡ None → o ≡ Some x → �
 both o x none some = none-some x (sym none ∙ some)
 
 refused_and_made : {A : Type 0} (r : Result A Error) (e : Error) (x : A) → r ≡ Err e → r ≡ Ok x → ⊥
-refused_and_made r e x h k = let bad : ◌≡◌ {A = Result A Error} (Err e) (Ok x) = sym h ∙ k in cc
+refused_and_made {A = A} r e x h k = let bad : ◌≡◌ {A = Result A Error} (Err e) (Ok x) = sym h ∙ k in cc
 
 -- ---- the table as a whole
 record PartsFound (bytes : List ℕ) (axes : ℕ) (top : List ℕ) (behind : ℕ) : Type 0 where

@@ -31,11 +31,11 @@ use Rattle.subsetter_cff2.specs.PrivateText.{PlacedText, private_text}
 use Rattle.subsetter_cff2.specs.UsedDicts.{counted_dicts, place_in, used_dicts}
 use Rattle.subsetter_cff2.specs.Variation.{Variation, optional_variation}
 use Rattle.subsetter_cff2.proofs.MadeFits.{new_dict_is_placed}
-use Rattle.subsetter_cff_at.specs.Fault.{HasOpeningFault, HasGlyphFault, HasLimitFault, HasFault, RefusedStands}
+use Rattle.subsetter_cff_at.specs.Fault.{HasOpeningFault, HasGlyphFault, HasLimitFault, HasFault, RefusedStands, bad_front, bad_subroutines, bad_char_strings, bad_font_dicts, bad_store_offset, bad_store, bad_select, bad_matrix, bad_region, no_number, no_font_dict, no_private, bad_private, long_private, no_char_string, stops, wide_advance, many_font_dicts, long_matrix, large_char_strings, large_offset, none_requested, in_opening, in_glyph, in_limits}
 use Rattle.subsetter_cff_at.specs.Plain.{dict_bound, dict_number, number_if, numbers_from, with_number, present, setting, glyph_text, placed_text, text_if, texts_from, all_filled, Drawn, drawn, Opened, opened, parts_of, some_requested, made_table}
 use Rattle.subsetter_cff_at.specs.Request.{Request}
 use Rattle.subsetter_cff_at.specs.Units.{top_matrix}
-use Rattle.subsetter_cff_at.proofs.Found.{NumberAt, number_at, length-numbers, has_number, numbered, dict_at, length-dicts, dict_steps, few_used}
+use Rattle.subsetter_cff_at.proofs.Found.{number_here, length-numbers, has_number, numbered, dict_at, length-dicts, dict_steps, few_used}
 use Rattle.subsetter_cff_at.proofs.Promised.{drawn_steps, number_place, open_steps}
 
 -- ---- the table as a whole
@@ -161,15 +161,15 @@ dicts_refused cff v (n ∷ ns) e h =
 
 -- a used number is that of a requested glyph
 first_or_later : (p : ℕ → Bool) (k x : ℕ) (more : List ℕ) (i : ℕ) → p k ≡ true → ((j : ℕ) → slice_get more j ≡ Some x → p x ≡ true) → slice_get (k ∷ more) i ≡ Some x → p x ≡ true
-first_or_later p k x more zero yes ih at = ap p (sym (same_Some k x at)) ∙ yes
-first_or_later p k x more (suc i) yes ih at = ih i at
+first_or_later p k x more zero holds ih at = ap p (sym (same_Some k x at)) ∙ holds
+first_or_later p k x more (suc i) holds ih at = ih i at
 
 filter_at : (p : ℕ → Bool) (k n i x : ℕ) → slice_get (filter p (range_with_len k n)) i ≡ Some x → p x ≡ true
 filter_at p k zero i x at = absurd (none-some x at)
 filter_at p k (suc n) i x at =
     elim (cases_Bool (p k)) [
-      | inl yes ↦ first_or_later p k x (filter p (range_with_len (k + 1) n)) i yes (λ j. filter_at p (k + 1) n j x) (rw yes at at)
-      | inr no ↦ filter_at p (k + 1) n i x (rw no at at)
+      | inl holds ↦ first_or_later p k x (filter p (range_with_len (k + 1) n)) i holds (λ j. filter_at p (k + 1) n j x) (rw holds at at)
+      | inr misses ↦ filter_at p (k + 1) n i x (rw misses at at)
     ]
 
 record PresentAt (numbers : List (Option ℕ)) (n : ℕ) : Type 0 where
@@ -210,7 +210,7 @@ user_of cff glyphs numbers used i n are counted at =
     let p = used_in (dict_bound cff) numbers used i n counted at in
     let lt : p.index < length glyphs = omega (arith, slice_get_within numbers p.index (Some n) p.is, length-numbers cff 0 glyphs numbers are) in
     let there = slice_get-get_or glyphs p.index None lt in
-    let a = number_at cff 0 glyphs p.index (get_or glyphs p.index None) numbers are there in
+    let a = number_here cff glyphs p.index (get_or glyphs p.index None) numbers are there in
     let same : a.number ≡ Some n = same_Some _ _ (sym a.at ∙ p.is) in
     let b = requested_by cff p.index n (get_or glyphs p.index None) (a.is ∙ ap Ok same) in
     record { glyph = p.index; advance = b.0; is = there ∙ ap Some b.1.0; number_is = (numbered cff p.index n b.1.1).0 }
@@ -329,13 +329,13 @@ module _ (bytes : List ℕ) (r : Request) (tokens depth : ℕ) (o : Opened) (ope
       let d = dict_at o.cff o.variation used dicts f.place f.number dicts_are f.used_at in
       let here : t.place ≡ f.place = same_Some _ _ (sym t.place_at ∙ f.place_at) in
       text_refused o.cff o.variation tokens depth glyph advance f.number d.dict e f.number_is d.is
-      (in_dicts o.cff o.variation tokens depth dicts t.place glyph advance d.dict e (ap (slice_get dicts) here ∙ d.at) t.refused)
+      (in_dicts o.cff o.variation tokens depth dicts t.place glyph advance d.dict e (ap (slice_get dicts) here ∙ d.at) (ap (λ (n : ℕ). placed_text o.cff o.variation tokens depth dicts t.place n advance) (let z : glyph ≡ 0 + glyph = omega arith in z) ∙ t.refused))
 
   drawn_refused : (e : Error) → drawn o.cff o.variation tokens depth r.glyphs ≡ Err e → HasFault bytes r tokens depth e
   unfolding drawn counted_dicts
   drawn_refused e h =
       elim (bind_err (numbers_from o.cff 0 r.glyphs) _ e h) [
-        | inl a ↦ refused_with _ e (numbers_refused o.cff 0 r.glyphs e a) (λ glyph advance is f. number_refused o.cff o.variation tokens depth glyph advance e f)
+        | inl a ↦ refused_with _ e (numbers_refused o.cff 0 r.glyphs e a) (λ glyph advance is f. number_refused o.cff o.variation tokens depth glyph advance e (ap (dict_number o.cff) (let z : glyph ≡ 0 + glyph = omega arith in z) ∙ f))
         | inr a ↦ elim (bind_err (counted_dicts (dict_bound o.cff) (present a.0)) _ e a.1.1) [
           | inl b ↦ elim (failed (nat_lt (length (used_dicts (dict_bound o.cff) (present a.0))) 256) OverflowError e _ b) [
             | inl over ↦ subst (HasFault bytes r tokens depth) over.1 (in_limits o open_is (many_font_dicts a.0 a.1.0 (ltb-false (length (used_dicts (dict_bound o.cff) (present a.0))) 256 over.0)))

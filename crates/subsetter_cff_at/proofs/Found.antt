@@ -56,6 +56,9 @@ number_at cff glyph (b ∷ glyphs) (suc i) a numbers e at =
       is = ap (λ (n : ℕ). number_if cff n a) (let z : glyph + suc i ≡ glyph + 1 + i = omega arith in z) ∙ more.is;
     }
 
+pub number_here : (cff : Cff2) (glyphs : List (Option ℕ)) (i : ℕ) (a : Option ℕ) (numbers : List (Option ℕ)) → numbers_from cff 0 glyphs ≡ Ok numbers → slice_get glyphs i ≡ Some a → NumberAt cff i a numbers i
+number_here cff glyphs i a numbers e at = subst (λ (n : ℕ). NumberAt cff n a numbers i) (let z : 0 + i ≡ i = omega arith in z) (number_at cff 0 glyphs i a numbers e at)
+
 pub length-numbers : (cff : Cff2) (glyph : ℕ) (glyphs numbers : List (Option ℕ)) → numbers_from cff glyph glyphs ≡ Ok numbers → length numbers ≡ length glyphs
 length-numbers cff glyph [] numbers e = ap length (sym (same_Ok _ _ e))
 length-numbers cff glyph (b ∷ glyphs) numbers e =
@@ -130,6 +133,10 @@ module _ (cff : Cff2) (v : Option Variation) (tokens depth : ℕ) (dicts : List 
         is = ap (λ (n : ℕ). text_if cff v tokens depth dicts more.place n a) (let z : glyph + suc i ≡ glyph + 1 + i = omega arith in z) ∙ more.is;
       }
 
+  pub text_here : (places : List ℕ) (glyphs : List (Option ℕ)) (i : ℕ) (a : Option ℕ) (texts : List (Option (List ℕ))) → texts_from cff v tokens depth dicts places 0 glyphs ≡ Ok texts
+      → length places ≡ length glyphs → slice_get glyphs i ≡ Some a → TextAt cff v tokens depth dicts places i a texts i
+  text_here places glyphs i a texts e len at = subst (λ (n : ℕ). TextAt cff v tokens depth dicts places n a texts i) (let z : 0 + i ≡ i = omega arith in z) (text_at places 0 glyphs i a texts e len at)
+
   pub length-texts : (places : List ℕ) (glyph : ℕ) (glyphs : List (Option ℕ)) (texts : List (Option (List ℕ))) → texts_from cff v tokens depth dicts places glyph glyphs ≡ Ok texts → length places ≡ length glyphs → length texts ≡ length glyphs
   length-texts places glyph [] texts e len = ap length (sym (same_Ok _ _ e))
   length-texts [] glyph (b ∷ glyphs) texts e len = absurd (omega (arith, len))
@@ -181,8 +188,8 @@ in_filter p k (suc n) i low high is =
       | inr other ↦ (
         let more = in_filter p (k + 1) n i (omega arith) (omega arith) is in
         elim (cases_Bool (p k)) [
-          | inl yes ↦ rw yes (in_tail k (filter p (range_with_len (k + 1) n)) i more)
-          | inr no ↦ rw no more
+          | inl holds ↦ rw holds (in_tail k (filter p (range_with_len (k + 1) n)) i more)
+          | inr misses ↦ rw misses more
         ]
       )
     ]

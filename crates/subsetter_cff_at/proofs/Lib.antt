@@ -5,3 +5,4 @@ pub mod Faults
 pub mod Excluded
 pub mod Agreeing
 pub mod Promises
+pub mod Calls

@@ -19,7 +19,7 @@ use Rattle.subsetter_cff.specs.Read.Cff.{Cff, cff_parts, char_strings, char_stri
 use Rattle.subsetter_cff.specs.Read.GlyphTrace.{glyph_trace, library}
 use Rattle.subsetter_cff.specs.Read.Lookup.{last_of}
 use Rattle.subsetter_cff.specs.Read.Matrices.{stated_matrices, unit_matrix}
-use Rattle.subsetter_cff.specs.Read.Operators.{font_matrix_operator, subroutines_operator}
+use Rattle.subsetter_cff.specs.Read.Operators.{char_strings_operator, font_dicts_operator, font_dict_select_operator, font_matrix_operator, subroutines_operator}
 use Rattle.subsetter_cff.specs.Read.Private.{Private, private_of, private_entries, own_entries}
 use Rattle.subsetter_cff.specs.Write.Layout.{FontDict, Parts}
 use Rattle.subsetter_cff.specs.Write.ReadsAs.{IsReadAs, ReadsAs, GlyphReadsAs}
@@ -30,10 +30,11 @@ use Rattle.subsetter_blend.specs.Laws.{IsDrawnAndWritten, cost}
 use Rattle.subsetter_blend.specs.Resolved.{resolved}
 use Rattle.subsetter_blend.specs.Written.{written_events}
 use Rattle.subsetter_blend.proofs.DrawnLaws.Listed.{resolved_draws_rounded}
-use Rattle.subsetter_cff2.specs.Cff2.{Cff2, cff2_parts, parts_by}
+use Rattle.subsetter_cff2.specs.Cff2.{Cff2, wide_index, named_index, optional_offset, store_by, cff2_parts, parts_by}
 use Rattle.subsetter_cff2.specs.Front2.{front_at}
 use Rattle.subsetter_cff2.specs.Made2.{NewDict, new_dict, new_dicts, new_font_dict, new_matrix, new_parts, optional_matrix, made_of}
 use Rattle.subsetter_cff2.specs.MadeReads.{IsMadeOf, DictIsPlaced}
+use Rattle.subsetter_cff2.specs.Operators2.{store_operator}
 use Rattle.subsetter_cff2.specs.Private2 as source
 use Rattle.subsetter_cff2.specs.UsedDicts.{counted_dicts, place_in, used_dicts}
 use Rattle.subsetter_cff2.specs.Variation.{Variation, optional_variation}
@@ -42,7 +43,7 @@ use Rattle.subsetter_cff_at.specs.Plain.{dict_bound, numbers_from, present, sett
 use Rattle.subsetter_cff_at.specs.Promise.{DrawsGlyph, IsTableAt, IsRequest, MadeIsTable}
 use Rattle.subsetter_cff_at.specs.Request.{Request}
 use Rattle.subsetter_cff_at.specs.Units.{top_matrix, matrix_or, units_dict}
-use Rattle.subsetter_cff_at.proofs.Found.{NumberAt, number_at, length-numbers, has_number, TextAt, text_at, length-texts, DictAt, dict_at, length-dicts, in_used, used_of, few_used, requested_at, all_inside}
+use Rattle.subsetter_cff_at.proofs.Found.{number_here, length-numbers, has_number, text_here, length-texts, dict_at, length-dicts, in_used, used_of, few_used, requested_at, all_inside}
 
 -- ---- FontMatrix is that of a dict
 pub record MatrixOf (matrix : Option (List Number)) : Type 0 where
@@ -60,12 +61,12 @@ top_of : (bytes : List ℕ) (axes : ℕ) (cff : Cff2) → cff2_parts bytes axes 
 unfolding cff2_parts parts_by
 top_of bytes axes cff e =
     let a = step (front_at bytes) _ cff e in
-    let b = step _ _ cff a.1.1 in
-    let c = step _ _ cff b.1.1 in
-    let d = step _ _ cff c.1.1 in
-    let f = step _ _ cff d.1.1 in
-    let g = step _ _ cff f.1.1 in
-    let h = step _ _ cff g.1.1 in
+    let b = step (wide_index bytes a.0.1) _ cff a.1.1 in
+    let c = step (named_index bytes (last_of char_strings_operator (entries a.0.0))) _ cff b.1.1 in
+    let d = step (named_index bytes (last_of font_dicts_operator (entries a.0.0))) _ cff c.1.1 in
+    let f = step (optional_offset (last_of store_operator (entries a.0.0))) _ cff d.1.1 in
+    let g = step (store_by bytes axes f.0) _ cff f.1.1 in
+    let h = step (optional_offset (last_of font_dict_select_operator (entries a.0.0))) _ cff g.1.1 in
     (a.0.0, ap (λ (x : Cff2). x.top) (same_Some _ _ h.1.1))
 
 pub matrix_of : (bytes : List ℕ) (axes units : ℕ) (cff : Cff2) (matrix : Option (List Number)) → cff2_parts bytes axes ≡ Some cff → top_matrix cff units ≡ Some matrix → MatrixOf matrix
@@ -142,7 +143,7 @@ pub record PlaceFound (cff : Cff2) (numbers : List (Option ℕ)) (used : List �
 pub number_place : (cff : Cff2) (glyphs numbers : List (Option ℕ)) (used : List ℕ) → numbers_from cff 0 glyphs ≡ Ok numbers → counted_dicts (dict_bound cff) (present numbers) ≡ Ok used
     → (glyph advance : ℕ) → slice_get glyphs glyph ≡ Some (Some advance) → PlaceFound cff numbers used glyph
 number_place cff glyphs numbers used numbers_are used_are glyph advance is =
-    let n = number_at cff 0 glyphs glyph (Some advance) numbers numbers_are is in
+    let n = number_here cff glyphs glyph (Some advance) numbers numbers_are is in
     let h = has_number cff glyph advance n.number n.is in
     let at : slice_get numbers glyph ≡ Some (Some h.value) = n.at ∙ ap Some h.is in
     let few = few_used (dict_bound cff) (present numbers) used used_are in
@@ -168,7 +169,7 @@ module _ (cff : Cff2) (v : Option Variation) (tokens depth : ℕ) (glyphs : List
   glyph_found glyph advance is =
       let p = place_found glyph advance is in
       let f = dict_at cff v s.used d.dicts p.place p.number s.dicts_are p.used_at in
-      let t = text_at cff v tokens depth d.dicts d.places 0 glyphs glyph (Some advance) d.texts s.texts_are as_many is in
+      let t = text_here cff v tokens depth d.dicts d.places glyphs glyph (Some advance) d.texts s.texts_are as_many is in
       let a = bind_ok (placed_text cff v tokens depth d.dicts t.place glyph advance) (λ text. Ok (Some text)) t.text t.is in
       let b = placed_found cff v tokens depth d.dicts t.place glyph advance a.0 a.1.0 in
       let here : t.place ≡ p.place = same_Some _ _ (sym t.place_at ∙ ap (λ (l : List ℕ). slice_get l glyph) s.places_are ∙ p.place_at) in
@@ -362,7 +363,7 @@ module _ (bytes : List ℕ) (r : Request) (tokens depth : ℕ) (out : List ℕ) 
 
     not_requested : (glyph : ℕ) → slice_get r.glyphs glyph ≡ Some None → char_string read.cff glyph ≡ Some no_glyph
     not_requested glyph at =
-        let t = text_at s.cff s.variation tokens depth s.glyphs.dicts s.glyphs.places 0 r.glyphs glyph None s.glyphs.texts steps.texts_are (as_many s.cff s.variation tokens depth r.glyphs s.glyphs steps) at in
+        let t = text_here s.cff s.variation tokens depth s.glyphs.dicts s.glyphs.places r.glyphs glyph None s.glyphs.texts steps.texts_are (as_many s.cff s.variation tokens depth r.glyphs s.glyphs steps) at in
         text_of read.cff s.glyphs.texts glyph None read.reads.charstrings (t.at ∙ ap Some (sym (same_Ok _ _ t.is)))
 
     matrices : (glyph : ℕ) → glyph < length r.glyphs → stated_matrices read.cff glyph ≡ Some (map value (new_matrix s.matrix), map value unit_matrix)

@@ -1,6 +1,6 @@
 -- Glyphs, one after the other.
-use Rattle.std.proofs.Common.{◌≡◌, ℕ, zero, suc, ◌+◌, ◌<◌, List, [], ◌∷◌, ◌++◌, length, map, Option, Some, None, refl, ap, arith, ◌∙◌, sym, append_assoc, length-append, inl, inr}
-use Rattle.std.specs.Prelude.{Result, Ok, Err}
+use Rattle.std.proofs.Common.{◌≡◌, ℕ, zero, suc, ◌+◌, ◌-◌, ◌^◌, ◌<◌, ◌≤◌, List, [], ◌∷◌, ◌++◌, length, map, Option, Some, None, refl, ap, arith, ◌∙◌, sym, append_assoc, length-append, inl, inr}
+use Rattle.std.specs.Prelude.{min, Result, Ok, Err}
 use Rattle.std.specs.List.{concat}
 use Rattle.std.proofs.lemmas.List.{append-nil}
 use Rattle.subsetter_base.specs.Bytes.{◌>>=◌}
@@ -14,7 +14,7 @@ use Rattle.subsetter_cff2.specs.Cff2.{Cff2}
 use Rattle.subsetter_cff2.specs.Made2.{NewDict}
 use Rattle.subsetter_cff2.specs.Variation.{Variation}
 use Rattle.subsetter_cff_at.specs.Plain.{number_if, numbers_from, with_number, present, text_if, texts_from, filled, all_filled, text_size, texts_size}
-use Rattle.subsetter_cff_at.specs.View.{AreTexts, IsPut, with_texts, with_numbers}
+use Rattle.subsetter_cff_at.specs.View.{AreTexts, IsPut, counted_with, with_texts, with_numbers}
 use Rattle.subsetter_cff_at.specs.declared.texts.Texts.{Texts}
 
 -- ---- the numbers of font dicts
@@ -58,6 +58,10 @@ pub size_more : (front rest : List (Option (List ℕ))) (x : Option (List ℕ)) 
 size_more [] rest x = omega arith
 size_more (y ∷ front) rest x = omega (arith, size_more front rest x)
 
+size_kept : (text : Option (List ℕ)) (old new total : ℕ) → new ≡ counted_with old text → old ≡ min total (2 ^ 64 - 1) → new ≡ min (total + (text_size text + 0)) (2 ^ 64 - 1)
+size_kept None old new total e is = e ∙ is ∙ ap (λ (n : ℕ). min n (2 ^ 64 - 1)) (let z : total ≡ total + (0 + 0) = omega arith in z)
+size_kept (Some text) old new total e is = omega (arith, e, is)
+
 pub one_more : (before : List (Option (List ℕ))) (old new : Texts) (text : Option (List ℕ)) → AreTexts before old → IsPut old new text → AreTexts (before ++ text ∷ []) new
 one_more before old new text are put = record {
   char_strings = put.char_strings ∙ ap (λ (l : List ℕ). l ++ filled text) are.char_strings ∙ sym (ap concat (filled_behind before text) ∙ texts_behind (all_filled before) (filled text));
@@ -65,7 +69,7 @@ one_more before old new text are put = record {
       let size : length new.char_strings.items + 1 ≡ 1 + length (concat (all_filled before)) + length (filled text) =
       omega (arith, ap length put.char_strings, length-append old.char_strings.items (filled text), ap length are.char_strings) in
       put.ends ∙ rw (are.ends, size) (sym (ap (offsets 1) (filled_behind before text) ∙ ends_behind 1 (all_filled before) (filled text)));
-  requested = omega (arith, put.requested, are.requested, size_more before [] text);
+  requested = size_kept text old.requested new.requested (texts_size before) put.requested are.requested ∙ ap (λ (n : ℕ). min n (2 ^ 64 - 1)) (sym (size_more before [] text));
 }
 
 pub none_drawn : (r : Result (List (Option (List ℕ))) Error) → with_texts [] r ≡ r
@@ -90,7 +94,7 @@ module _ (cff : Cff2) (v : Option Variation) (tokens depth : ℕ) (dicts : List 
         (texts_from cff v tokens depth dicts (place ∷ places) glyph (a ∷ more)) e refl h)
 
   pub text_past : (bound : Option ℕ) (place glyph : ℕ) (a : Option ℕ) (places : List ℕ) (more : List (Option ℕ)) (front : List (Option (List ℕ))) (requested : ℕ) (e : Error) (whole : Result (List (Option (List ℕ))) Error)
-      → with_texts front (texts_from cff v tokens depth dicts (place ∷ places) glyph (a ∷ more)) ≡ whole → requested ≡ texts_size front
+      → with_texts front (texts_from cff v tokens depth dicts (place ∷ places) glyph (a ∷ more)) ≡ whole → requested ≤ texts_size front
       → FailsWithin bound (λ text. requested + text_size text) e (text_if cff v tokens depth dicts place glyph a) → FailsWithin bound texts_size e whole
   text_past bound place glyph a places more front requested e whole same is h = elim h [
     | inl f ↦ inl (text_fails place glyph a places more front e whole same f)

@@ -1,5 +1,5 @@
 -- What requests, open tables and drawn glyphs in memory show.
-use Rattle.std.specs.Prelude.{◌≡◌, ◌⊎◌, ℕ, ◌+◌, List, [], ◌∷◌, ◌++◌, length, map, Option, Result, Ok}
+use Rattle.std.specs.Prelude.{◌≡◌, ◌⊎◌, ℕ, ◌+◌, ◌-◌, ◌^◌, min, Some, None, List, [], ◌∷◌, ◌++◌, length, map, Option, Result, Ok}
 use Rattle.std.specs.List.{concat}
 use Rattle.subsetter_base.specs.Bytes.{◌>>=◌}
 use Rattle.subsetter_base.specs.Gives.{Fails}
@@ -26,17 +26,22 @@ request_of r = record { at = r.coordinates.now; glyphs = r.glyphs.now; box = r.f
 abbrev pub opened_of : OpenTable → Opened
 opened_of o = record { cff = cff2_of o.table; matrix = shown o.matrix; variation = o.variation.variation }
 
+-- the bytes that are counted of requested glyphs, with a charstring more
+abbrev pub counted_with : ℕ → Option (List ℕ) → ℕ
+counted_with n None = n
+counted_with n (Some text) = min (n + length text) (2 ^ 64 - 1)
+
 -- the charstrings of glyphs in memory: each end is the offset that an INDEX gives
 pub record AreTexts (texts : List (Option (List ℕ))) (t : Texts) : Type 0 where
   pub char_strings : t.char_strings.items ≡ concat (all_filled texts)
   pub ends : t.ends.items ≡ offsets 1 (all_filled texts)
-  pub requested : t.requested ≡ texts_size texts
+  pub requested : t.requested ≡ min (texts_size texts) (2 ^ 64 - 1)
 
 -- one more
 pub record IsPut (old new : Texts) (text : Option (List ℕ)) : Type 0 where
   pub char_strings : new.char_strings.items ≡ old.char_strings.items ++ filled text
   pub ends : new.ends.items ≡ old.ends.items ++ (length new.char_strings.items + 1) ∷ []
-  pub requested : new.requested ≡ old.requested + text_size text
+  pub requested : new.requested ≡ counted_with old.requested text
 
 -- texts in front of what is answered
 abbrev pub with_texts : List (Option (List ℕ)) → Result (List (Option (List ℕ))) Error → Result (List (Option (List ℕ))) Error
