@@ -3,6 +3,7 @@ use Rattle.std.proofs.Common.{◌≡◌, ℕ, zero, suc, ◌+◌, ◌-◌, ◌^�
 use Rattle.std.specs.Prelude.{min, IfOk, Result, Ok, Err}
 use Rattle.std.specs.Int.{w16}
 use Rattle.std.specs.List.{AllByRecursion}
+use Rattle.std.proofs.lemmas.List.{length-map}
 use Rattle.subsetter_base.specs.Bytes.{◌>>=◌}
 use Rattle.subsetter_base.specs.Gives.{Fails}
 use Rattle.subsetter_base.specs.Within.{FailsWithin}
@@ -11,13 +12,18 @@ use Rattle.subsetter_base.specs.declared.error.Error.TheVariants.{MalformedFont}
 use Rattle.subsetter_cff.proofs.ReadLaws.Failing.{fails_on}
 use Rattle.subsetter_cff.proofs.ReadLaws.Results.{same_Ok}
 use Rattle.subsetter_cff2.specs.Cff2.{Cff2}
+use Rattle.subsetter_cffdata.specs.Index.{offsets}
+use Rattle.subsetter_cffdata.proofs.Indexes.{length-offsets}
+use Rattle.subsetter_cff2.specs.declared.made.PlacedDict.{PlacedDict}
 use Rattle.subsetter_cff2.specs.Made2.{NewDict, new_dicts}
+use Rattle.subsetter_cff2.specs.Made2View.{dict_view}
 use Rattle.subsetter_cff2.specs.UsedDicts.{counted_dicts, place_in}
 use Rattle.subsetter_cff2.specs.Variation.{Variation}
-use Rattle.subsetter_cff_at.specs.Plain.{dict_bound, numbers_from, present, placed_text, text_if, texts_from, texts_size, Drawn, drawn, Opened, opened, drawn_of, parts_of, some_requested, made_table}
+use Rattle.subsetter_cff_at.specs.Plain.{dict_bound, numbers_from, present, filled, all_filled, placed_text, text_if, texts_from, texts_size, Drawn, drawn, Opened, opened, drawn_of, parts_of, some_requested, made_table}
 use Rattle.subsetter_cff_at.specs.Request.{Request}
 use Rattle.subsetter_cff_at.specs.View.{counted_with, DrawsNext, FailsMaking, drawn_size}
 use Rattle.subsetter_cff_at.specs.declared.texts.Texts.{Texts}
+use Rattle.subsetter_cff_at.proofs.Found.{few_used, length-numbers, length-dicts, length-texts}
 use Rattle.subsetter_cff_at.proofs.Promised.{DrawnSteps, drawn_steps}
 
 -- ---- numbers of sixteen bits
@@ -47,6 +53,34 @@ pub drawn_is : (cff : Cff2) (v : Option Variation) (tokens depth : ℕ) (glyphs 
     → drawn cff v tokens depth glyphs ≡ Ok (record { dicts = dicts; places = map (place_in used) numbers; texts = texts })
 unfolding drawn
 drawn_is cff v tokens depth glyphs numbers used dicts texts a b c d = rw (a, b, c, d) refl
+
+-- the font dicts that are used, where the numbers that are there were found
+pub used_is : (cff : Cff2) (numbers : List (Option ℕ)) (found given : List ℕ) (bound : ℕ) (used : List ℕ) → found ≡ present numbers → given ≡ found → bound ≡ dict_bound cff → counted_dicts bound given ≡ Ok used
+    → counted_dicts (dict_bound cff) (present numbers) ≡ Ok used
+used_is cff numbers found given bound used a b c is = ap (λ (n : ℕ). counted_dicts n (present numbers)) (sym c) ∙ ap (counted_dicts bound) (sym (b ∙ a)) ∙ is
+
+pub few_places : (bound : ℕ) (numbers used given : List ℕ) → counted_dicts bound numbers ≡ Ok used → given ≡ used → length given ≤ 255
+few_places bound numbers used given are same = omega (arith, (few_used bound numbers used are).1, ap length same)
+
+pub few_dicts : (cff : Cff2) (v : Option Variation) (bound : ℕ) (numbers used : List ℕ) (dicts : List PlacedDict) → counted_dicts bound numbers ≡ Ok used → new_dicts cff v used ≡ Ok (map dict_view dicts) → length dicts < 256
+few_dicts cff v bound numbers used dicts are made =
+    omega (arith, (few_used bound numbers used are).1, length-dicts cff v used (map dict_view dicts) made, length-map dicts dict_view)
+
+-- as many places as glyphs
+pub places_many : (cff : Cff2) (glyphs numbers : List (Option ℕ)) (used places given : List ℕ) → numbers_from cff 0 glyphs ≡ Ok numbers → places ≡ map (place_in used) numbers → given ≡ places → length given ≡ length glyphs
+places_many cff glyphs numbers used places given are placed same = ap length (same ∙ placed) ∙ length-map numbers (place_in used) ∙ length-numbers cff 0 glyphs numbers are
+
+pub texts_same : (cff : Cff2) (v : Option Variation) (tokens depth : ℕ) (glyphs : List (Option ℕ)) (given dicts : List NewDict) (given_places places : List ℕ) (texts : List (Option (List ℕ))) → given ≡ dicts → given_places ≡ places
+    → texts_from cff v tokens depth given given_places 0 glyphs ≡ Ok texts → texts_from cff v tokens depth dicts places 0 glyphs ≡ Ok texts
+texts_same cff v tokens depth glyphs given dicts given_places places texts a b are =
+    ap (λ (l : List NewDict). texts_from cff v tokens depth l places 0 glyphs) (sym a) ∙ ap (λ (l : List ℕ). texts_from cff v tokens depth given l 0 glyphs) (sym b) ∙ are
+
+-- as many ends as glyphs
+pub ends_many : (cff : Cff2) (v : Option Variation) (tokens depth : ℕ) (glyphs numbers : List (Option ℕ)) (used : List ℕ) (dicts : List NewDict) (texts : List (Option (List ℕ))) (ends : List ℕ)
+    → numbers_from cff 0 glyphs ≡ Ok numbers → texts_from cff v tokens depth dicts (map (place_in used) numbers) 0 glyphs ≡ Ok texts → ends ≡ offsets 1 (all_filled texts) → length ends ≡ length glyphs
+ends_many cff v tokens depth glyphs numbers used dicts texts ends are drawn are_ends =
+    ap length are_ends ∙ length-offsets 1 (all_filled texts) ∙ length-map texts filled
+    ∙ length-texts cff v tokens depth dicts (map (place_in used) numbers) 0 glyphs texts drawn (length-map numbers (place_in used) ∙ length-numbers cff 0 glyphs numbers are)
 
 fails_at : (cff : Cff2) (v : Option Variation) (tokens depth : ℕ) (glyphs numbers : List (Option ℕ)) (used : List ℕ) (dicts : List NewDict) (e : Error)
     → numbers_from cff 0 glyphs ≡ Ok numbers → counted_dicts (dict_bound cff) (present numbers) ≡ Ok used → new_dicts cff v used ≡ Ok dicts
