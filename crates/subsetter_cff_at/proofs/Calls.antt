@@ -78,9 +78,9 @@ texts_same cff v tokens depth glyphs given dicts given_places places texts a b a
 -- as many ends as glyphs
 pub ends_many : (cff : Cff2) (v : Option Variation) (tokens depth : ℕ) (glyphs numbers : List (Option ℕ)) (used : List ℕ) (dicts : List NewDict) (texts : List (Option (List ℕ))) (ends : List ℕ)
     → numbers_from cff 0 glyphs ≡ Ok numbers → texts_from cff v tokens depth dicts (map (place_in used) numbers) 0 glyphs ≡ Ok texts → ends ≡ offsets 1 (all_filled texts) → length ends ≡ length glyphs
-ends_many cff v tokens depth glyphs numbers used dicts texts ends are drawn are_ends =
-    ap length are_ends ∙ length-offsets 1 (all_filled texts) ∙ length-map texts filled
-    ∙ length-texts cff v tokens depth dicts (map (place_in used) numbers) 0 glyphs texts drawn (length-map numbers (place_in used) ∙ length-numbers cff 0 glyphs numbers are)
+ends_many cff v tokens depth glyphs numbers used dicts texts ends are texts_are ends_are =
+    ap length ends_are ∙ length-offsets 1 (all_filled texts) ∙ length-map texts filled
+    ∙ length-texts cff v tokens depth dicts (map (place_in used) numbers) 0 glyphs texts texts_are (length-map numbers (place_in used) ∙ length-numbers cff 0 glyphs numbers are)
 
 fails_at : (cff : Cff2) (v : Option Variation) (tokens depth : ℕ) (glyphs numbers : List (Option ℕ)) (used : List ℕ) (dicts : List NewDict) (e : Error)
     → numbers_from cff 0 glyphs ≡ Ok numbers → counted_dicts (dict_bound cff) (present numbers) ≡ Ok used → new_dicts cff v used ≡ Ok dicts
