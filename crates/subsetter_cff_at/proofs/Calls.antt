@@ -1,8 +1,6 @@
 -- What calls in memory answer, as the plain way does.
-use Rattle.std.proofs.Common.{◌≡◌, ℕ, zero, suc, ◌+◌, ◌-◌, ◌^◌, ◌<◌, ◌≤◌, ℤ, pos, FitsSigned, true, List, [], ◌∷◌, ◌++◌, length, map, get_or, Option, Some, None, refl, ap, arith, ◌∙◌, sym, inl, inr}
+use Rattle.std.proofs.Common.{◌≡◌, ℕ, zero, suc, ◌+◌, ◌-◌, ◌^◌, ◌<◌, ◌≤◌, true, List, [], ◌∷◌, ◌++◌, length, map, Option, Some, None, refl, ap, arith, ◌∙◌, sym, inl, inr}
 use Rattle.std.specs.Prelude.{min, IfOk, Result, Ok, Err}
-use Rattle.std.specs.Int.{w16}
-use Rattle.std.specs.List.{AllByRecursion}
 use Rattle.std.proofs.lemmas.List.{length-map}
 use Rattle.subsetter_base.specs.Bytes.{◌>>=◌}
 use Rattle.subsetter_base.specs.Gives.{Fails}
@@ -25,11 +23,6 @@ use Rattle.subsetter_cff_at.specs.View.{counted_with, DrawsNext, FailsMaking, dr
 use Rattle.subsetter_cff_at.specs.declared.texts.Texts.{Texts}
 use Rattle.subsetter_cff_at.proofs.Found.{few_used, length-numbers, length-dicts, length-texts}
 use Rattle.subsetter_cff_at.proofs.Promised.{DrawnSteps, drawn_steps}
-
--- ---- numbers of sixteen bits
-pub all_of : (xs : List ℤ) → ((i : ℕ) → i < length xs → FitsSigned w16 (get_or xs i (pos 0))) → AllByRecursion (FitsSigned w16) xs
-all_of [] f = tt
-all_of (x ∷ xs) f = (f 0 (omega arith), all_of xs (λ i lt. f (suc i) (omega arith)))
 
 -- ---- a glyph more
 requested_text : (cff : Cff2) (v : Option Variation) (tokens depth : ℕ) (dicts : List NewDict) (place glyph advance : ℕ) (text : List ℕ) → placed_text cff v tokens depth dicts place glyph advance ≡ Ok text

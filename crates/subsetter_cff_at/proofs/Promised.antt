@@ -399,5 +399,5 @@ made_is_table bytes r tokens depth out is e =
     let s = table_steps bytes r tokens depth out e in
     let p = parts bytes r tokens depth out is s in
     let m = matrix_of bytes (length r.at) r.units s.cff s.matrix s.cff_is s.matrix_is in
-    let d = drawn_steps s.cff s.variation tokens depth r.glyphs s.glyphs s.glyphs_are in
+    let d = steps bytes r tokens depth out is s in
     table_is bytes r tokens depth out is s (made_is_read s.cff s.variation m.dict d.used s.glyphs.dicts s.matrix r.box s.glyphs.places (all_filled s.glyphs.texts) out (made_of_these bytes r tokens depth out is s) s.made) e

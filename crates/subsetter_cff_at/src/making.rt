@@ -56,10 +56,23 @@ fn make_exactly(
     )
 }
 
-/// What is known of numbers of sixteen bits.
+/// What is known of a number of sixteen bits.
+fn is_in_16_bits(number: &i16)
+    ensures { FitsSigned w16 number.now }
+{
+    let _value = *number;
+}
+
+/// The same of four numbers.
 fn are_in_16_bits(numbers: &[i16; 4])
-    ensures { AllByRecursion (FitsSigned w16) numbers.now }
-{}
+    ensures fit { AllByRecursion (FitsSigned w16) numbers.now }
+    ensures count { length numbers.now ≡ 4 }
+{
+    is_in_16_bits(&numbers[0]);
+    is_in_16_bits(&numbers[1]);
+    is_in_16_bits(&numbers[2]);
+    is_in_16_bits(&numbers[3]);
+}
 
 /// A CID-keyed, static `CFF ` of the bytes of a `CFF2` table at coordinates: the requested glyphs under their old numbers, each with its
 /// advance as its width, and `endchar` for every other glyph.
