@@ -1,5 +1,5 @@
 -- Limits never change a table.
-use Rattle.std.proofs.Common.{◌≡◌, ℕ, zero, suc, ◌+◌, ℤ, pos, Bool, true, false, cond, List, [], ◌∷◌, ◌++◌, length, map, Option, Some, None, refl, ap, ◌∙◌, sym}
+use Rattle.std.proofs.Common.{◌≡◌, ℕ, zero, suc, ◌+◌, ℤ, pos, List, [], ◌∷◌, length, map, Option, Some, None, refl, ap, ◌∙◌, sym}
 use Rattle.std.specs.Prelude.{nat_le, nat_lt, slice_get, Result, Ok, Err}
 use Rattle.std.specs.Option.{ok_or}
 use Rattle.subsetter_base.specs.Bytes.{◌>>=◌}
@@ -18,8 +18,7 @@ use Rattle.subsetter_cff2.specs.UsedDicts.{counted_dicts, place_in}
 use Rattle.subsetter_cff2.specs.Variation.{Variation}
 use Rattle.subsetter_cff_at.specs.Plain.{dict_bound, numbers_from, present, setting, glyph_text, placed_text, text_if, texts_from, Drawn, drawn, Opened, opened, parts_of, some_requested, made_table}
 use Rattle.subsetter_cff_at.specs.Promise.{LimitsAgree}
-use Rattle.subsetter_cff_at.specs.Request.{Request}
-use Rattle.subsetter_cff_at.proofs.Promised.{DrawnSteps, drawn_steps}
+use Rattle.subsetter_cff_at.proofs.Promised.{drawn_steps}
 
 -- one answer is one
 one_answer : {A : Type 0} (r : Result A Error) (a b : A) → r ≡ Ok a → r ≡ Ok b → a ≡ b
@@ -47,7 +46,7 @@ module _ {S : Type 0} (take : Event → S → Result S Error) (setting : Setting
   run_agrees depth other (suc tokens) (suc more) s state a b h k =
       want_agree (unended state.rests) (ended s state.registers.operands) _ _ a b
       (λ bytes callers. follow_agree depth other callers (done take (act_at setting bytes state.registers) s) (run take setting depth tokens) (run take setting other more) a b
-        (λ t next. run_agrees depth other tokens more t next a b))
+      (λ t next. run_agrees depth other tokens more t next a b))
       h k
 
 finished_of : (r : Result Fitted Error) (bytes : List ℕ) → all_finished r ≡ Ok bytes → (f : Fitted) × ((r ≡ Ok f) × (finished f ≡ bytes))

@@ -1,12 +1,10 @@
 -- What calls in memory answer, as the plain way does.
-use Rattle.std.proofs.Common.{◌≡◌, ℕ, zero, suc, ◌+◌, ◌-◌, ◌^◌, ◌<◌, ◌≤◌, true, List, [], ◌∷◌, ◌++◌, length, map, Option, Some, None, refl, ap, arith, ◌∙◌, sym, inl, inr}
+use Rattle.std.proofs.Common.{◌≡◌, ℕ, ◌+◌, ◌-◌, ◌^◌, ◌<◌, ◌≤◌, true, List, [], ◌∷◌, ◌++◌, length, map, Option, Some, refl, ap, arith, ◌∙◌, sym, inl, inr}
 use Rattle.std.specs.Prelude.{min, IfOk, Result, Ok, Err}
 use Rattle.std.proofs.lemmas.List.{length-map}
-use Rattle.subsetter_base.specs.Bytes.{◌>>=◌}
 use Rattle.subsetter_base.specs.Gives.{Fails}
 use Rattle.subsetter_base.specs.Within.{FailsWithin}
 use Rattle.subsetter_base.specs.declared.error.Error.{Error}
-use Rattle.subsetter_base.specs.declared.error.Error.TheVariants.{MalformedFont}
 use Rattle.subsetter_cff.proofs.ReadLaws.Failing.{fails_on}
 use Rattle.subsetter_cff.proofs.ReadLaws.Results.{same_Ok}
 use Rattle.subsetter_cff2.specs.Cff2.{Cff2}
@@ -17,12 +15,12 @@ use Rattle.subsetter_cff2.specs.Made2.{NewDict, new_dicts}
 use Rattle.subsetter_cff2.specs.Made2View.{dict_view}
 use Rattle.subsetter_cff2.specs.UsedDicts.{counted_dicts, place_in}
 use Rattle.subsetter_cff2.specs.Variation.{Variation}
-use Rattle.subsetter_cff_at.specs.Plain.{dict_bound, numbers_from, present, filled, all_filled, placed_text, text_if, texts_from, texts_size, Drawn, drawn, Opened, opened, drawn_of, parts_of, some_requested, made_table}
+use Rattle.subsetter_cff_at.specs.Plain.{dict_bound, numbers_from, present, filled, all_filled, placed_text, text_if, texts_from, texts_size, drawn, Opened, opened, drawn_of, parts_of, some_requested, made_table}
 use Rattle.subsetter_cff_at.specs.Request.{Request}
-use Rattle.subsetter_cff_at.specs.View.{counted_with, DrawsNext, FailsMaking, drawn_size}
+use Rattle.subsetter_cff_at.specs.View.{DrawsNext, FailsMaking, drawn_size}
 use Rattle.subsetter_cff_at.specs.declared.texts.Texts.{Texts}
 use Rattle.subsetter_cff_at.proofs.Found.{few_used, length-numbers, length-dicts, length-texts}
-use Rattle.subsetter_cff_at.proofs.Promised.{DrawnSteps, drawn_steps}
+use Rattle.subsetter_cff_at.proofs.Promised.{drawn_steps}
 
 -- ---- a glyph more
 requested_text : (cff : Cff2) (v : Option Variation) (tokens depth : ℕ) (dicts : List NewDict) (place glyph advance : ℕ) (text : List ℕ) → placed_text cff v tokens depth dicts place glyph advance ≡ Ok text
@@ -99,9 +97,9 @@ texts_fail bound cff v tokens depth glyphs numbers used dicts e a b c h = elim h
           let same_dicts : dicts ≡ d.dicts = same_Ok _ _ (sym c ∙ ap (new_dicts cff v) same_used ∙ s.dicts_are) in
           let same_places : map (place_in used) numbers ≡ d.places = ap (λ (l : List ℕ). map (place_in l) numbers) same_used ∙ ap (map (place_in s.used)) same_numbers ∙ sym s.places_are in
           p.1.longer d.texts (
-            ap (λ (l : List NewDict). texts_from cff v tokens depth l (map (place_in used) numbers) 0 glyphs) same_dicts
-            ∙ ap (λ (l : List ℕ). texts_from cff v tokens depth d.dicts l 0 glyphs) same_places
-            ∙ s.texts_are
+          ap (λ (l : List NewDict). texts_from cff v tokens depth l (map (place_in used) numbers) 0 glyphs) same_dicts
+          ∙ ap (λ (l : List ℕ). texts_from cff v tokens depth d.dicts l 0 glyphs) same_places
+          ∙ s.texts_are
           );
     },
   )

@@ -1,5 +1,5 @@
 -- Where a table is made, no fault stands.
-use Rattle.std.proofs.Common.{◌≡◌, ℕ, zero, suc, ◌+◌, ◌<◌, ◌≤◌, ◌^◌, ℤ, pos, Bool, true, false, cond, ltb, List, [], ◌∷◌, ◌++◌, length, map, Option, Some, None, refl, ap, arith, ◌∙◌, sym, subst}
+use Rattle.std.proofs.Common.{◌≡◌, ℕ, zero, suc, ◌+◌, ◌<◌, ◌^◌, pos, Bool, true, false, cond, List, [], ◌∷◌, length, map, Option, Some, None, refl, ap, arith, ◌∙◌, sym, subst}
 use Rattle.std.specs.Prelude.{nat_lt, slice_get, Result, Ok, Err}
 use Rattle.std.specs.List.{concat, flat_map}
 use Rattle.std.specs.Option.{ok_or}
@@ -21,19 +21,19 @@ use Rattle.subsetter_cff.proofs.WriteLaws.SourceFits.{short_front, short_back}
 use Rattle.subsetter_blend.specs.Resolved.{resolved}
 use Rattle.subsetter_cff2.specs.Cff2.{Cff2, wide_index, named_index, optional_offset, store_by, cff2_parts, parts_by}
 use Rattle.subsetter_cff2.specs.Front2.{front_at}
-use Rattle.subsetter_cff2.specs.Made2.{NewDict, new_dict, new_dicts, new_font_dict, new_matrix, new_box, new_parts, made_of}
+use Rattle.subsetter_cff2.specs.Made2.{NewDict, new_dict, new_font_dict, new_matrix, new_box, new_parts, made_of}
 use Rattle.subsetter_cff2.specs.Operators2.{store_operator}
 use Rattle.subsetter_cff2.specs.Private2.{Private2, font_dict_number, private_numbered, char_string}
 use Rattle.subsetter_cff2.specs.PrivateAt.{Placed, private_at_place}
 use Rattle.subsetter_cff2.specs.PrivateText.{PlacedText, private_text}
-use Rattle.subsetter_cff2.specs.UsedDicts.{counted_dicts, used_dicts}
+use Rattle.subsetter_cff2.specs.UsedDicts.{used_dicts}
 use Rattle.subsetter_cff2.specs.Variation.{Variation, optional_variation}
 use Rattle.subsetter_cff2.proofs.MadeFits.{new_dict_is_placed}
 use Rattle.subsetter_cff_at.specs.Fault.{HasOpeningFault, HasGlyphFault, HasLimitFault, HasFault, MadeExcludes, bad_front, bad_subroutines, bad_char_strings, bad_font_dicts, bad_store_offset, bad_store, bad_select, bad_matrix, bad_region, no_number, no_font_dict, no_private, bad_private, long_private, no_char_string, stops, wide_advance, many_font_dicts, long_matrix, large_char_strings, large_offset, none_requested, in_opening, in_glyph, in_limits}
-use Rattle.subsetter_cff_at.specs.Plain.{dict_bound, numbers_from, present, setting, all_filled, Drawn, drawn, Opened, opened, parts_of, some_requested, made_table}
+use Rattle.subsetter_cff_at.specs.Plain.{dict_bound, present, setting, all_filled, Drawn, drawn, Opened, opened, parts_of, some_requested, made_table}
 use Rattle.subsetter_cff_at.specs.Request.{Request}
 use Rattle.subsetter_cff_at.specs.Units.{top_matrix}
-use Rattle.subsetter_cff_at.proofs.Found.{few_used, requested_at, dict_steps}
+use Rattle.subsetter_cff_at.proofs.Found.{few_used, requested_at}
 use Rattle.subsetter_cff_at.proofs.Promised.{DrawnSteps, drawn_steps, GlyphFound, glyph_found, place_found, OpenSteps, open_steps}
 
 -- nothing is both there and not

@@ -1,9 +1,9 @@
 -- What is refused has a fault of that name.
-use Rattle.std.proofs.Common.{◌≡◌, ℕ, zero, suc, ◌+◌, ◌<◌, ◌≤◌, ◌^◌, ℤ, pos, Bool, true, false, cond, eqb, ltb, get_or, List, [], ◌∷◌, ◌++◌, length, map, Option, Some, None, refl, ap, arith, ◌∙◌, sym, subst, inl, inr, ◌⊎◌}
+use Rattle.std.proofs.Common.{◌≡◌, ℕ, zero, suc, ◌+◌, ◌<◌, ◌^◌, ℤ, Bool, true, false, cond, eqb, ltb, get_or, List, [], ◌∷◌, ◌++◌, length, map, Option, Some, None, refl, ap, arith, ◌∙◌, sym, subst, inl, inr}
 use Rattle.std.specs.Prelude.{is_some, nat_lt, slice_get, unwrap_or, Result, Ok, Err}
 use Rattle.std.specs.List.{concat, filter, flat_map, list_any, range_with_len}
 use Rattle.std.specs.Option.{ok_or}
-use Rattle.std.proofs.lemmas.Bool.{cases_Bool, eqb-true, ltb-false, ltb-true, false≢true}
+use Rattle.std.proofs.lemmas.Bool.{cases_Bool, eqb-true, ltb-false, false≢true}
 use Rattle.std.proofs.lemmas.Option.{none-some, same_Some, slice_get_within, slice_get-get_or}
 use Rattle.subsetter_base.specs.Bytes.{◌>>=◌}
 use Rattle.subsetter_base.specs.declared.error.Error.{Error}
@@ -21,21 +21,20 @@ use Rattle.subsetter_cff.specs.Write.WrittenNumbers.{any_long, entry_numbers, fo
 use Rattle.subsetter_cff.proofs.ReadLaws.Refusals.{bind_err, none_of, failed, none_or}
 use Rattle.subsetter_cff.proofs.ReadLaws.Results.{bind_ok, same_Ok, some_of}
 use Rattle.subsetter_cff.proofs.WriteLaws.LimitFaults.{in_either}
-use Rattle.subsetter_blend.specs.Resolved.{resolved}
 use Rattle.subsetter_cff2.specs.Cff2.{Cff2, wide_index, named_index, optional_offset, store_by, cff2_parts, parts_by}
 use Rattle.subsetter_cff2.specs.Front2.{front_at}
-use Rattle.subsetter_cff2.specs.Made2.{NewDict, new_dict, new_dicts, new_font_dict, new_parts, new_matrix, new_box, made_of}
+use Rattle.subsetter_cff2.specs.Made2.{NewDict, new_dict, new_dicts, new_font_dict, new_parts}
 use Rattle.subsetter_cff2.specs.Operators2.{store_operator}
-use Rattle.subsetter_cff2.specs.Private2.{Private2, font_dict_number, private_numbered, char_string}
-use Rattle.subsetter_cff2.specs.PrivateText.{PlacedText, private_text}
+use Rattle.subsetter_cff2.specs.Private2.{font_dict_number, private_numbered, char_string}
+use Rattle.subsetter_cff2.specs.PrivateText.{private_text}
 use Rattle.subsetter_cff2.specs.UsedDicts.{counted_dicts, place_in, used_dicts}
 use Rattle.subsetter_cff2.specs.Variation.{Variation, optional_variation}
 use Rattle.subsetter_cff2.proofs.MadeFits.{new_dict_is_placed}
-use Rattle.subsetter_cff_at.specs.Fault.{HasOpeningFault, HasGlyphFault, HasLimitFault, HasFault, RefusedStands, bad_front, bad_subroutines, bad_char_strings, bad_font_dicts, bad_store_offset, bad_store, bad_select, bad_matrix, bad_region, no_number, no_font_dict, no_private, bad_private, long_private, no_char_string, stops, wide_advance, many_font_dicts, long_matrix, large_char_strings, large_offset, none_requested, in_opening, in_glyph, in_limits}
-use Rattle.subsetter_cff_at.specs.Plain.{dict_bound, dict_number, number_if, numbers_from, with_number, present, setting, glyph_text, placed_text, text_if, texts_from, all_filled, Drawn, drawn, Opened, opened, parts_of, some_requested, made_table}
+use Rattle.subsetter_cff_at.specs.Fault.{HasOpeningFault, HasGlyphFault, HasFault, RefusedStands, bad_front, bad_subroutines, bad_char_strings, bad_font_dicts, bad_store_offset, bad_store, bad_select, bad_matrix, bad_region, no_number, no_font_dict, no_private, bad_private, long_private, no_char_string, stops, wide_advance, many_font_dicts, long_matrix, large_char_strings, large_offset, none_requested, in_opening, in_glyph, in_limits}
+use Rattle.subsetter_cff_at.specs.Plain.{dict_bound, dict_number, number_if, numbers_from, present, glyph_text, placed_text, text_if, texts_from, all_filled, Drawn, drawn, Opened, opened, parts_of, some_requested, made_table}
 use Rattle.subsetter_cff_at.specs.Request.{Request}
 use Rattle.subsetter_cff_at.specs.Units.{top_matrix}
-use Rattle.subsetter_cff_at.proofs.Found.{number_here, length-numbers, has_number, numbered, dict_at, length-dicts, dict_steps, few_used}
+use Rattle.subsetter_cff_at.proofs.Found.{number_here, length-numbers, numbered, dict_at, dict_steps, few_used}
 use Rattle.subsetter_cff_at.proofs.Promised.{drawn_steps, number_place, open_steps}
 
 -- ---- the table as a whole
@@ -77,15 +76,15 @@ opening_refused bytes r e h =
     elim (bind_err (ok_or (cff2_parts bytes (length r.at)) MalformedFont) _ e h) [
       | inl a ↦ (let n = none_of (cff2_parts bytes (length r.at)) MalformedFont e a in subst F n.1 (table_refused bytes r n.0))
       | inr a ↦ (
-        let cff = some_of (cff2_parts bytes (length r.at)) MalformedFont a.0 a.1.0 in
-        elim (bind_err (ok_or (top_matrix a.0 r.units) MalformedFont) _ e a.1.1) [
-          | inl b ↦ (let n = none_of (top_matrix a.0 r.units) MalformedFont e b in subst F n.1 (bad_matrix a.0 cff n.0))
-          | inr b ↦ elim (bind_err (ok_or (optional_variation a.0.store r.at) MalformedFont) _ e b.1.1) [
-            | inl c ↦ (let n = none_of (optional_variation a.0.store r.at) MalformedFont e c in subst F n.1 (bad_region a.0 cff n.0))
-            | inr c ↦ absurd cc
+          let cff = some_of (cff2_parts bytes (length r.at)) MalformedFont a.0 a.1.0 in
+          elim (bind_err (ok_or (top_matrix a.0 r.units) MalformedFont) _ e a.1.1) [
+            | inl b ↦ (let n = none_of (top_matrix a.0 r.units) MalformedFont e b in subst F n.1 (bad_matrix a.0 cff n.0))
+            | inr b ↦ elim (bind_err (ok_or (optional_variation a.0.store r.at) MalformedFont) _ e b.1.1) [
+              | inl c ↦ (let n = none_of (optional_variation a.0.store r.at) MalformedFont e c in subst F n.1 (bad_region a.0 cff n.0))
+              | inr c ↦ absurd cc
+            ]
           ]
-        ]
-      )
+          )
     ]
 
 -- ---- a requested glyph
@@ -269,9 +268,9 @@ text_refused cff v tokens depth glyph advance number dict e is made h =
       | inr a ↦ elim (bind_err (ok_or (char_string cff glyph) MalformedFont) _ e a.1) [
         | inl b ↦ (let n = none_of (char_string cff glyph) MalformedFont e b in subst F n.1 (no_char_string n.0))
         | inr b ↦ (
-          let p = new_dict_is_placed cff v number dict made in
-          stops number p.source p.at_place b.0 e is p.source_is p.at_place_is (some_of (char_string cff glyph) MalformedFont b.0 b.1.0) (rw (← p.subroutines_are, ← p.data_index_is) b.1.1)
-        )
+            let p = new_dict_is_placed cff v number dict made in
+            stops number p.source p.at_place b.0 e is p.source_is p.at_place_is (some_of (char_string cff glyph) MalformedFont b.0 b.1.0) (rw (← p.subroutines_are, ← p.data_index_is) b.1.1)
+            )
       ]
     ]
 
@@ -343,10 +342,10 @@ module _ (bytes : List ℕ) (r : Request) (tokens depth : ℕ) (o : Opened) (ope
           ]
           | inr b ↦ elim (bind_err (new_dicts o.cff o.variation b.0) _ e b.1.1) [
             | inl c ↦ (
-              let d = dicts_refused o.cff o.variation b.0 e c in
-              let u = user_of o.cff r.glyphs a.0 b.0 d.at d.number a.1.0 b.1.0 d.is in
-              in_glyph o u.glyph u.advance open_is u.is (dict_refused o.cff o.variation tokens depth u.glyph u.advance d.number e u.number_is d.refused)
-            )
+                let d = dicts_refused o.cff o.variation b.0 e c in
+                let u = user_of o.cff r.glyphs a.0 b.0 d.at d.number a.1.0 b.1.0 d.is in
+                in_glyph o u.glyph u.advance open_is u.is (dict_refused o.cff o.variation tokens depth u.glyph u.advance d.number e u.number_is d.refused)
+                )
             | inr c ↦ elim (bind_err (texts_from o.cff o.variation tokens depth c.0 (map (place_in b.0) a.0) 0 r.glyphs) _ e c.1.1) [
               | inl t ↦ refused_with _ e (texts_refused o.cff o.variation tokens depth c.0 e (map (place_in b.0) a.0) 0 r.glyphs t) (text_fault e a.0 b.0 c.0 a.1.0 b.1.0 c.1.0)
               | inr t ↦ absurd cc

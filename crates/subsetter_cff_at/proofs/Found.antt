@@ -1,13 +1,12 @@
 -- What was found of each glyph.
-use Rattle.std.proofs.Common.{◌≡◌, ℕ, zero, suc, ◌+◌, ◌<◌, ◌≤◌, Bool, true, false, cond, eqb, ◌||◌, List, [], ◌∷◌, length, map, Option, Some, None, refl, ap, arith, ◌∙◌, sym, subst, inl, inr}
-use Rattle.std.specs.Prelude.{is_some, min, slice_get, unwrap_or, Result, Ok, Err}
+use Rattle.std.proofs.Common.{◌≡◌, ℕ, zero, suc, ◌+◌, ◌<◌, ◌≤◌, Bool, true, false, eqb, ◌||◌, List, [], ◌∷◌, length, map, Option, Some, None, refl, ap, arith, ◌∙◌, sym, subst, inl, inr}
+use Rattle.std.specs.Prelude.{is_some, slice_get, unwrap_or, Ok}
 use Rattle.std.specs.List.{AllByRecursion, filter, list_any, range_with_len}
 use Rattle.std.specs.Option.{ok_or}
 use Rattle.std.proofs.lemmas.Bool.{cases_Bool, cases_eq, eq-eqb, ltb-true}
 use Rattle.std.proofs.lemmas.Option.{none-some, same_Some, slice_get_within}
 use Rattle.subsetter_base.specs.Bytes.{◌>>=◌}
 use Rattle.subsetter_base.specs.Places.{place}
-use Rattle.subsetter_base.specs.declared.error.Error.{Error}
 use Rattle.subsetter_base.specs.declared.error.Error.TheVariants.{MalformedFont, OverflowError}
 use Rattle.subsetter_cff.specs.Write.UsedFontDicts.{is_used}
 use Rattle.subsetter_cff.proofs.ReadLaws.Results.{bind_ok, same_Ok, some_of, passed, In, in_head, in_tail, number_there}
@@ -186,12 +185,12 @@ in_filter p k (suc n) i low high is =
     elim (cases_eq i k) [
       | inl here ↦ rw (ap p (sym here) ∙ is) (subst (λ (m : ℕ). In (k ∷ filter p (range_with_len (k + 1) n)) m) (sym here) (in_head k (filter p (range_with_len (k + 1) n))))
       | inr other ↦ (
-        let more = in_filter p (k + 1) n i (omega arith) (omega arith) is in
-        elim (cases_Bool (p k)) [
-          | inl holds ↦ rw holds (in_tail k (filter p (range_with_len (k + 1) n)) i more)
-          | inr misses ↦ rw misses more
-        ]
-      )
+          let more = in_filter p (k + 1) n i (omega arith) (omega arith) is in
+          elim (cases_Bool (p k)) [
+            | inl holds ↦ rw holds (in_tail k (filter p (range_with_len (k + 1) n)) i more)
+            | inr misses ↦ rw misses more
+          ]
+          )
     ]
 
 pub in_used : (bound : ℕ) (numbers : List ℕ) (n : ℕ) → n < bound → is_used numbers n ≡ true → In (used_dicts bound numbers) n

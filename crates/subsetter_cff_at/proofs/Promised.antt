@@ -1,6 +1,6 @@
 -- What is made is a table that says, read afresh, what was requested.
-use Rattle.std.proofs.Common.{◌≡◌, ℕ, zero, suc, ◌+◌, ◌<◌, ◌≤◌, ℤ, pos, FitsSigned, true, List, [], ◌∷◌, length, map, Option, Some, None, refl, ap, arith, ◌∙◌, sym, subst}
-use Rattle.std.specs.Prelude.{nat_lt, slice_get, slice_index, unwrap_or, Result, Ok}
+use Rattle.std.proofs.Common.{◌≡◌, ℕ, zero, suc, ◌<◌, ◌≤◌, pos, FitsSigned, true, List, [], ◌∷◌, length, map, Option, Some, None, refl, ap, arith, ◌∙◌, sym, subst}
+use Rattle.std.specs.Prelude.{nat_lt, slice_get, slice_index, unwrap_or, Ok}
 use Rattle.std.specs.Int.{w16}
 use Rattle.std.specs.List.{AllByRecursion}
 use Rattle.std.specs.Option.{ok_or, option_map}
@@ -15,7 +15,7 @@ use Rattle.subsetter_cffdata.specs.Dict.{Entry, entries}
 use Rattle.subsetter_cffdata.specs.Numbers.{Number}
 use Rattle.subsetter_cffdata.specs.Values.{value}
 use Rattle.subsetter_type2.specs.Machine.{Trace, trace}
-use Rattle.subsetter_cff.specs.Read.Cff.{Cff, cff_parts, char_strings, char_string}
+use Rattle.subsetter_cff.specs.Read.Cff.{Cff, char_strings, char_string}
 use Rattle.subsetter_cff.specs.Read.GlyphTrace.{glyph_trace, library}
 use Rattle.subsetter_cff.specs.Read.Lookup.{last_of}
 use Rattle.subsetter_cff.specs.Read.Matrices.{stated_matrices, unit_matrix}
@@ -26,9 +26,8 @@ use Rattle.subsetter_cff.specs.Write.ReadsAs.{IsReadAs, ReadsAs, GlyphReadsAs}
 use Rattle.subsetter_cff.proofs.ReadLaws.Results.{bind_ok, same_Ok, some_of, passed, number_there}
 use Rattle.subsetter_cff.proofs.WriteLaws.FontDicts.{none_left_out}
 use Rattle.subsetter_cff.proofs.WriteLaws.Keeping.{entry_of_some}
-use Rattle.subsetter_blend.specs.Laws.{IsDrawnAndWritten, cost}
+use Rattle.subsetter_blend.specs.Laws.{IsDrawnAndWritten}
 use Rattle.subsetter_blend.specs.Resolved.{resolved}
-use Rattle.subsetter_blend.specs.Written.{written_events}
 use Rattle.subsetter_blend.proofs.DrawnLaws.Listed.{resolved_draws_rounded}
 use Rattle.subsetter_cff2.specs.Cff2.{Cff2, wide_index, named_index, optional_offset, store_by, cff2_parts, parts_by}
 use Rattle.subsetter_cff2.specs.Front2.{front_at}
@@ -36,10 +35,10 @@ use Rattle.subsetter_cff2.specs.Made2.{NewDict, new_dict, new_dicts, new_font_di
 use Rattle.subsetter_cff2.specs.MadeReads.{IsMadeOf, DictIsPlaced}
 use Rattle.subsetter_cff2.specs.Operators2.{store_operator}
 use Rattle.subsetter_cff2.specs.Private2 as source
-use Rattle.subsetter_cff2.specs.UsedDicts.{counted_dicts, place_in, used_dicts}
+use Rattle.subsetter_cff2.specs.UsedDicts.{counted_dicts, place_in}
 use Rattle.subsetter_cff2.specs.Variation.{Variation, optional_variation}
 use Rattle.subsetter_cff2.proofs.MadeFits.{made_is_read, new_dict_is_placed}
-use Rattle.subsetter_cff_at.specs.Plain.{dict_bound, numbers_from, present, setting, glyph_text, placed_text, text_if, texts_from, filled, all_filled, no_glyph, Drawn, drawn, Opened, opened, parts_of, some_requested, made_table}
+use Rattle.subsetter_cff_at.specs.Plain.{dict_bound, numbers_from, present, setting, glyph_text, placed_text, texts_from, filled, all_filled, no_glyph, Drawn, drawn, Opened, opened, parts_of, some_requested, made_table}
 use Rattle.subsetter_cff_at.specs.Promise.{DrawsGlyph, IsTableAt, IsRequest, MadeIsTable}
 use Rattle.subsetter_cff_at.specs.Request.{Request}
 use Rattle.subsetter_cff_at.specs.Units.{top_matrix, matrix_or, units_dict}

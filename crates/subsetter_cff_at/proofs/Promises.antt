@@ -1,8 +1,6 @@
 -- What an answer that is the plain way's promises.
-use Rattle.std.proofs.Common.{◌≡◌, ℕ, ◌≤◌, ℤ, FitsSigned, List, length, Option, Result, Ok, Err, refl, inl, inr, ◌⊎◌}
+use Rattle.std.proofs.Common.{◌≡◌, ℕ, List, Option, Result, Ok, Err, refl, inl, inr, ◌⊎◌}
 use Rattle.std.specs.Prelude.{IfOk, IfErr}
-use Rattle.std.specs.Int.{w16}
-use Rattle.std.specs.List.{AllByRecursion}
 use Rattle.subsetter_base.specs.Gives.{Fails}
 use Rattle.subsetter_base.specs.Within.{IsTooLong}
 use Rattle.subsetter_base.specs.declared.error.Error.{Error}

@@ -1,5 +1,5 @@
 -- Glyphs, one after the other.
-use Rattle.std.proofs.Common.{◌≡◌, ℕ, zero, suc, ◌+◌, ◌-◌, ◌^◌, ◌<◌, ◌≤◌, List, [], ◌∷◌, ◌++◌, length, map, Option, Some, None, refl, ap, arith, ◌∙◌, sym, append_assoc, length-append, inl, inr}
+use Rattle.std.proofs.Common.{◌≡◌, ℕ, ◌+◌, ◌-◌, ◌^◌, ◌≤◌, List, [], ◌∷◌, ◌++◌, length, Option, Some, None, refl, ap, arith, ◌∙◌, sym, append_assoc, length-append, inl, inr}
 use Rattle.std.specs.Prelude.{min, Result, Ok, Err}
 use Rattle.std.specs.List.{concat}
 use Rattle.std.proofs.lemmas.List.{append-nil}
@@ -91,7 +91,7 @@ module _ (cff : Cff2) (v : Option Variation) (tokens depth : ℕ) (dicts : List 
   text_fails place glyph a places more front e whole same h =
       fails_on (texts_from cff v tokens depth dicts (place ∷ places) glyph (a ∷ more)) (λ rest. Ok (front ++ rest)) whole e same
       (fails_on (text_if cff v tokens depth dicts place glyph a) (λ first. texts_from cff v tokens depth dicts places (glyph + 1) more >>= λ rest. Ok (first ∷ rest))
-        (texts_from cff v tokens depth dicts (place ∷ places) glyph (a ∷ more)) e refl h)
+      (texts_from cff v tokens depth dicts (place ∷ places) glyph (a ∷ more)) e refl h)
 
   pub text_past : (bound : Option ℕ) (place glyph : ℕ) (a : Option ℕ) (places : List ℕ) (more : List (Option ℕ)) (front : List (Option (List ℕ))) (requested : ℕ) (e : Error) (whole : Result (List (Option (List ℕ))) Error)
       → with_texts front (texts_from cff v tokens depth dicts (place ∷ places) glyph (a ∷ more)) ≡ whole → requested ≤ texts_size front

@@ -1,13 +1,12 @@
 -- What can stand against a table at coordinates, under the name of the error that it is answered by (OpenType, "CFF2").
-use Rattle.std.specs.Prelude.{◌≡◌, ◌<◌, ◌≤◌, ◌+◌, ◌^◌, ℕ, ℤ, pos, Contains, true, false, List, [], ◌∷◌, ◌++◌, length, map, slice_get, Option, Some, None, Result, Ok, Err}
+use Rattle.std.specs.Prelude.{◌≡◌, ◌<◌, ◌≤◌, ◌+◌, ◌^◌, ℕ, pos, true, List, length, slice_get, Option, Some, None, Ok, Err}
 use Rattle.std.specs.List.{concat}
 use Rattle.subsetter_base.specs.declared.error.Error.{Error}
-use Rattle.subsetter_base.specs.declared.error.Error.TheVariants.{UnknownKind, MalformedFont, Unimplemented, SubsetError, OverflowError, CFFError, OutOfMemory}
-use Rattle.subsetter_cffdata.specs.Bytes.{◌>>=◌}
+use Rattle.subsetter_base.specs.declared.error.Error.TheVariants.{MalformedFont, OverflowError}
 use Rattle.subsetter_cffdata.specs.Dict.{entries}
 use Rattle.subsetter_cffdata.specs.Numbers.{Number}
 use Rattle.subsetter_cff.specs.Read.Lookup.{last_of}
-use Rattle.subsetter_cff.specs.Read.Operators.{char_strings_operator, font_dicts_operator, font_dict_select_operator, font_matrix_operator}
+use Rattle.subsetter_cff.specs.Read.Operators.{char_strings_operator, font_dicts_operator, font_dict_select_operator}
 use Rattle.subsetter_cff.specs.Write.Layout.{char_strings_place}
 use Rattle.subsetter_cff.specs.Write.WrittenNumbers.{any_long, entry_numbers}
 use Rattle.subsetter_blend.specs.Resolved.{resolved}
@@ -20,7 +19,7 @@ use Rattle.subsetter_cff2.specs.PrivateAt.{Placed, private_at_place}
 use Rattle.subsetter_cff2.specs.PrivateText.{private_text}
 use Rattle.subsetter_cff2.specs.UsedDicts.{used_dicts}
 use Rattle.subsetter_cff2.specs.Variation.{Variation, optional_variation}
-use Rattle.subsetter_cff_at.specs.Plain.{dict_bound, number_if, numbers_from, present, setting, Drawn, drawn, Opened, opened, all_filled, made_table}
+use Rattle.subsetter_cff_at.specs.Plain.{dict_bound, numbers_from, present, setting, Drawn, drawn, Opened, opened, all_filled, made_table}
 use Rattle.subsetter_cff_at.specs.Request.{Request}
 use Rattle.subsetter_cff_at.specs.Units.{top_matrix}
 

@@ -1,5 +1,5 @@
 -- The plain way to make a CFF table of a CFF2 table at coordinates: its parts, with the error that is answered where they can't be made.
-use Rattle.std.specs.Prelude.{ℕ, ◌+◌, nat_lt, min, Bool, is_some, pos, List, [], ◌∷◌, ◌++◌, length, map, slice_get, unwrap_or, Option, Some, None, Result, Ok}
+use Rattle.std.specs.Prelude.{ℕ, ◌+◌, nat_lt, min, Bool, is_some, pos, List, [], ◌∷◌, length, map, slice_get, unwrap_or, Option, Some, None, Result, Ok}
 use Rattle.std.specs.List.{list_any}
 use Rattle.std.specs.Option.{ok_or}
 use Rattle.subsetter_base.specs.Bytes.{◌>>=◌}

@@ -14,7 +14,7 @@ use Rattle.subsetter_cff2.specs.Made2.{NewDict}
 use Rattle.subsetter_cff2.specs.Made2View.{dict_view, HasTexts}
 use Rattle.subsetter_cff2.specs.Variation.{Variation}
 use Rattle.subsetter_cff_at.specs.Request.{Request}
-use Rattle.subsetter_cff_at.specs.Plain.{Opened, Drawn, drawn, drawn_of, made_table, text_if, all_filled, filled, text_size, texts_size, texts_from}
+use Rattle.subsetter_cff_at.specs.Plain.{Opened, Drawn, drawn, drawn_of, made_table, text_if, all_filled, filled, texts_size, texts_from}
 use Rattle.subsetter_cff_at.specs.declared.opening.OpenTable.{OpenTable}
 use Rattle.subsetter_cff_at.specs.declared.request.TableRequest.{TableRequest}
 use Rattle.subsetter_cff_at.specs.declared.texts.Texts.{Texts}

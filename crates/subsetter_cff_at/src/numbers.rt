@@ -25,9 +25,7 @@ fn dict_number(table: &Table2<'_>, select: &FontDictSelect<'_>, glyph: u16) -> R
     requires { select.now ≡ record { bytes = table.now.bytes.now; select = table.now.select } }
     ensures { result ≡ dict_number (cff2_of table.now) glyph }
 {
-    let number = select
-        .font_dict_number(glyph)
-        .ok_or(Error::MalformedFont)?;
+    let number = select.font_dict_number(glyph).ok_or(Error::MalformedFont)?;
     if usize::from(number) < dict_bound(table) {
         Ok(number)
     } else {

@@ -1,10 +1,9 @@
-use Rattle.std.proofs.Common.{◌≡◌, ◌∙◌, ◌<◌, ℕ, List, Option, map, length, ap, sym, refl, arith}
-use Rattle.std.specs.Prelude.{Ok}
+use Rattle.std.proofs.Common.{◌∙◌, ℕ, List, map, ap, sym, refl}
 use Rattle.std.proofs.lemmas.Result.{err_from_is_err_and}
-use Rattle.subsetter_cff2.specs.Made2.{NewDict, new_dicts}
+use Rattle.subsetter_cff2.specs.Made2.{new_dicts}
 use Rattle.subsetter_cff2.specs.Made2View.{dict_view}
-use Rattle.subsetter_cff2.specs.UsedDicts.{counted_dicts, place_in}
-use Rattle.subsetter_cff_at.specs.Plain.{dict_bound, numbers_from, present, texts_from}
+use Rattle.subsetter_cff2.specs.UsedDicts.{place_in}
+use Rattle.subsetter_cff_at.specs.Plain.{dict_bound, present}
 use Rattle.subsetter_cff_at.specs.View.{opened_of}
 use Rattle.subsetter_cff_at.proofs.Calls.{used_is, few_dicts, few_places, places_many, ends_many, drawn_is, texts_same, texts_fail}
 use Rattle.subsetter_cff_at.proofs.drawing.draw.Goals as goal
@@ -36,7 +35,7 @@ returns-in_err-texts-clause-err c =
     let placed = c.in_ok-places.ensures.ok ∙ ap (λ (l : List ℕ). map (place_in l) c.deref-4.result.now) c.deref-3.ensures.value ∙ ap (map (place_in used)) c.deref-4.ensures.value in
     let dicts = ap (new_dicts cff v) (sym c.deref-5.ensures.value) ∙ c.in_ok-dicts.ensures in
     rw (p.1, p.2) (texts_fail c.args.limits.bytes cff v c.args.limits.tokens c.args.limits.depth c.args.glyphs.now numbers used (map dict_view c.in_ok-dicts.dicts.items) c.in_err-texts.field-0.0 c.in_ok-numbers.ensures are dicts
-      (rw (← placed, ← c.deref-7.ensures.value, ← c.deref-6.ensures.value) c.in_err-texts.ensures.err))
+    (rw (← placed, ← c.deref-7.ensures.value, ← c.deref-6.ensures.value) c.in_err-texts.ensures.err))
 
 pub returns-clause-ok : goal.returns-clause-ok
 returns-clause-ok c =

@@ -1,4 +1,4 @@
-use Rattle.std.proofs.Common.{◌≡◌, ◌∙◌, ◌+◌, ◌<◌, ◌≤◌, ◌++◌, ◌∷◌, [], ℕ, List, Option, None, get_or, length, map, drop, ap, sym, arith}
+use Rattle.std.proofs.Common.{◌∙◌, ◌+◌, ◌<◌, ◌≤◌, ◌++◌, ◌∷◌, [], ℕ, List, Option, None, get_or, length, map, drop, ap, sym, arith}
 use Rattle.std.proofs.lemmas.List.{drop_more}
 use Rattle.std.proofs.lemmas.Result.{err_from_is_err_and}
 use Rattle.subsetter_cff2.specs.Made2View.{dict_view}
@@ -46,6 +46,6 @@ returns-in_err-texts-2-clause-err c =
     let also : i < length places = omega arith in
     let size : c.loop-glyph.texts.requested ≤ texts_size inv.before = omega (arith, inv.shown.requested) in
     rw (p.1, p.2) (text_past cff v tokens depth dicts c.args.limits.bytes (get_or places i 0) i (get_or glyphs i None) (drop (i + 1) places) (drop (i + 1) glyphs) inv.before c.loop-glyph.texts.requested c.in_err-texts-2.field-0.0 _
-      (ap (λ (l : List ℕ). with_texts inv.before (texts_from cff v tokens depth dicts l i (get_or glyphs i None ∷ drop (i + 1) glyphs))) (sym (drop_more places i 0 also))
-      ∙ ap (λ (l : List (Option ℕ)). with_texts inv.before (texts_from cff v tokens depth dicts (drop i places) i l)) (sym (drop_more glyphs i None lt))
-      ∙ inv.whole) size c.in_err-texts-2.ensures.err)
+    (ap (λ (l : List ℕ). with_texts inv.before (texts_from cff v tokens depth dicts l i (get_or glyphs i None ∷ drop (i + 1) glyphs))) (sym (drop_more places i 0 also))
+    ∙ ap (λ (l : List (Option ℕ)). with_texts inv.before (texts_from cff v tokens depth dicts (drop i places) i l)) (sym (drop_more glyphs i None lt))
+    ∙ inv.whole) size c.in_err-texts-2.ensures.err)

@@ -8,6 +8,6 @@ abbrev pub invariant-loop-glyph : goal.invariant-loop-glyph
 invariant-loop-glyph l = record {
   before : List (Option (List ℕ));
   whole : with_texts before (texts_from (opened_of l.opened).cff (opened_of l.opened).variation l.limits.tokens l.limits.depth (map dict_view l.dicts) (drop l.glyph l.places) l.glyph (drop l.glyph l.glyphs))
-  ≡ texts_from (opened_of l.opened).cff (opened_of l.opened).variation l.limits.tokens l.limits.depth (map dict_view l.dicts) l.places 0 l.glyphs;
+      ≡ texts_from (opened_of l.opened).cff (opened_of l.opened).variation l.limits.tokens l.limits.depth (map dict_view l.dicts) l.places 0 l.glyphs;
   shown : AreTexts before l.texts;
 }
