@@ -1,6 +1,7 @@
 //! The operators of a run, listed.
 
-ghost use Rattle.std.specs.Prelude.{◌≡◌, [], map, Ok, IfOk};
+ghost use Rattle.std.specs.Prelude.{◌≡◌, [], map, Ok, IfOk, IfErr};
+ghost use Rattle.subsetter_base.specs.declared.error.Error.TheVariants.{OutOfMemory};
 ghost use Rattle.subsetter_blend.specs.Machine.{events};
 ghost use Rattle.subsetter_blend.specs.MachineView.{setting_of};
 ghost use Rattle.cff2_parts.specs.Listed.{event_of};
@@ -45,7 +46,8 @@ impl Model for Listing {
 
 /// An operator with copies of its operands and its mask.
 fn listed(alloc: Global, operator: Operator, operands: &[i64], mask: &[u8]) -> Result<Listed, Error>
-    ensures { IfOk result (λ l. event_of l ≡ record { operator = operator; operands = operands.now; mask = mask.now }) }
+    ensures ok { IfOk result (λ l. event_of l ≡ record { operator = operator; operands = operands.now; mask = mask.now }) }
+    ensures err { IfErr result (λ e. e ≡ OutOfMemory) }
 {
     Ok(Listed {
         operator,
@@ -67,6 +69,7 @@ impl Takes for Listing {
 }
 
 /// The operators of the run of a charstring.
+#[tactic(auto, unfolding(subsetter_blend::specs::Machine::events))]
 pub fn list_events<'a, R: Regions>(
     alloc: Global,
     subroutines: &Subroutines<'a>,
