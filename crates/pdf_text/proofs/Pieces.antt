@@ -2,7 +2,8 @@
 use Rattle.std.proofs.Common.{◌≡◌, ℕ, ◌-◌, ◌≤◌, List, [], ◌∷◌, ◌++◌, length, get_or, map, take, drop, sym, ap, ◌∙◌, append_assoc, arith}
 use Rattle.std.proofs.lemmas.List.{take_all}
 use Rattle.std.specs.List.{join_with_byte}
-use Rattle.pdf_text.proofs.Written.{spaced, list_begun}
+use Rattle.std.proofs.lemmas.Int.{to_z-of_z}
+use Rattle.pdf_text.proofs.Written.{spaced, list_begun, three_written}
 
 pub two_written : (w a b w1 w2 : List ℕ) → w1 ≡ w ++ a → w2 ≡ w1 ++ b → w2 ≡ w ++ (a ++ b)
 two_written w a b w1 w2 f g = rw (g, f) (append_assoc w a b)
@@ -12,3 +13,8 @@ pub first_written : {X : Type 0} (f : X → List ℕ) (d : X) (old new : List �
 first_written f d old new [] l e = absurd (omega arith)
 first_written {X} f d old new (x ∷ xs) l e =
     ap (λ (l : List X). new ++ spaced (map f l)) (take_all (length (x ∷ xs) - 1) xs (omega arith)) ∙ list_begun old new (f x) (map f xs) e
+
+-- texts of signed numbers, which are passed as their bits
+pub ruleset two_signed = (two_written, to_z-of_z)
+
+pub ruleset three_signed = (three_written, to_z-of_z)

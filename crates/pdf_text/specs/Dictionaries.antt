@@ -114,9 +114,14 @@ abbrev pub heading_entries : Descriptor → List ℕ
 heading_entries d = entry (codes "Type") (codes "/FontDescriptor") ++ (entry (codes "FontName") (codes "/" ++ d.font_name.now)
     ++ (entry (codes "Flags") (decimal d.flags) ++ (entry (codes "FontBBox") (array d.bounds) ++ entry (codes "ItalicAngle") (thousandths d.italic_angle))))
 
+abbrev pub line_entries : Descriptor → List ℕ
+line_entries d = entry (codes "Ascent") (signed_decimal d.ascent) ++ entry (codes "Descent") (signed_decimal d.descent)
+
+abbrev pub letter_entries : Descriptor → List ℕ
+letter_entries d = entry (codes "CapHeight") (signed_decimal d.cap_height) ++ x_height_entry d.x_height
+
 abbrev pub height_entries : Descriptor → List ℕ
-height_entries d = entry (codes "Ascent") (signed_decimal d.ascent) ++ (entry (codes "Descent") (signed_decimal d.descent)
-    ++ (entry (codes "CapHeight") (signed_decimal d.cap_height) ++ x_height_entry d.x_height))
+height_entries d = line_entries d ++ letter_entries d
 
 abbrev pub weight_entries : Descriptor → List ℕ
 weight_entries d = entry (codes "StemV") (decimal d.stem_v) ++ entry (codes "FontWeight") (decimal d.font_weight)

@@ -4,7 +4,7 @@ ghost use Rattle.std.specs.Prelude.{◌≡◌, ◌++◌, IfErr, OnOk, codes, dec
 ghost use Rattle.std.specs.Fmt.{signed_decimal};
 ghost use Rattle.subsetter_base.specs.declared.error.Error.TheVariants.{OutOfMemory};
 ghost use Rattle.pdf_text.specs.Numbers.{thousandths};
-ghost use Rattle.pdf_text.specs.Dictionaries.{reference, array, entry, base_font, cmap_name, name_end, identity_name, encoding_value, font_entries, cid_font_kind, glyph_map, array_entry, column_entry, metric_entries, cid_font_entries, x_height_entry, program_key, cid_set_entry, heading_entries, height_entries, weight_entries, descriptor_entries, program_entries, mode_entry, own_cmap_entries, cmap_entries, cid_heading};
+ghost use Rattle.pdf_text.specs.Dictionaries.{reference, array, entry, base_font, cmap_name, name_end, identity_name, encoding_value, font_entries, cid_font_kind, glyph_map, array_entry, column_entry, metric_entries, cid_font_entries, x_height_entry, program_key, cid_set_entry, heading_entries, line_entries, letter_entries, height_entries, weight_entries, descriptor_entries, program_entries, mode_entry, own_cmap_entries, cmap_entries, cid_heading};
 
 use crate::lines::write_count;
 use crate::numbers::{write_integer, write_integers, write_thousandths};
@@ -210,7 +210,6 @@ fn write_font_name(text: &mut Vec<u8>, values: FontValues<'_>) -> Result<(), Err
 }
 
 /// Writes DescendantFonts.
-#[tactic(auto, using(crate::proofs::Written::three_written))]
 fn write_descendant(text: &mut Vec<u8>, n: u32) -> Result<(), Error>
     ensures ok { OnOk result (text.new.items ≡ text.old.items ++ entry (codes "DescendantFonts") (codes "[" ++ (reference n ++ codes "]"))) }
     ensures err { IfErr result (λ e. e ≡ OutOfMemory) }
@@ -329,19 +328,17 @@ pub fn write_cid_font(
 // ---- the font descriptor
 
 /// Writes ItalicAngle.
-#[tactic(auto, using(crate::proofs::Written::three_written))]
-fn write_angle(text: &mut Vec<u8>, angle: i32) -> Result<(), Error>
-    ensures ok { OnOk result (text.new.items ≡ text.old.items ++ entry (codes "ItalicAngle") (thousandths angle)) }
+fn write_angle(text: &mut Vec<u8>, descriptor: Descriptor<'_>) -> Result<(), Error>
+    ensures ok { OnOk result (text.new.items ≡ text.old.items ++ entry (codes "ItalicAngle") (thousandths descriptor.entry.italic_angle)) }
     ensures err { IfErr result (λ e. e ≡ OutOfMemory) }
 {
     text.extend_from_slice(b"/ItalicAngle ")?;
-    write_thousandths(text, angle)?;
+    write_thousandths(text, descriptor.italic_angle)?;
     text.extend_from_slice(b" ")?;
     Ok(())
 }
 
 /// Writes name, flags, box and angle.
-#[tactic(auto, using(crate::proofs::Written::five_written))]
 fn write_heading(text: &mut Vec<u8>, descriptor: Descriptor<'_>) -> Result<(), Error>
     ensures ok { OnOk result (text.new.items ≡ text.old.items ++ heading_entries descriptor.entry) }
     ensures err { IfErr result (λ e. e ≡ OutOfMemory) }
@@ -350,7 +347,8 @@ fn write_heading(text: &mut Vec<u8>, descriptor: Descriptor<'_>) -> Result<(), E
     write_name(text, b"FontName", descriptor.font_name)?;
     write_number(text, b"Flags", descriptor.flags)?;
     write_numbers(text, b"FontBBox", &descriptor.bounds)?;
-    write_angle(text, descriptor.italic_angle)
+    write_angle(text, descriptor)?;
+    Ok(())
 }
 
 /// Writes XHeight, if there is one.
@@ -364,16 +362,36 @@ fn write_x_height(text: &mut Vec<u8>, x_height: Option<i32>) -> Result<(), Error
     }
 }
 
-/// Writes the heights.
-#[tactic(auto, using(crate::proofs::Written::four_written))]
-fn write_heights(text: &mut Vec<u8>, descriptor: Descriptor<'_>) -> Result<(), Error>
-    ensures ok { OnOk result (text.new.items ≡ text.old.items ++ height_entries descriptor.entry) }
+/// Writes Ascent and Descent.
+#[tactic(auto, using(crate::proofs::Pieces::two_signed))]
+fn write_line(text: &mut Vec<u8>, descriptor: Descriptor<'_>) -> Result<(), Error>
+    ensures ok { OnOk result (text.new.items ≡ text.old.items ++ line_entries descriptor.entry) }
     ensures err { IfErr result (λ e. e ≡ OutOfMemory) }
 {
     write_signed(text, b"Ascent", descriptor.ascent)?;
     write_signed(text, b"Descent", descriptor.descent)?;
+    Ok(())
+}
+
+/// Writes the heights of letters.
+fn write_letters(text: &mut Vec<u8>, descriptor: Descriptor<'_>) -> Result<(), Error>
+    ensures ok { OnOk result (text.new.items ≡ text.old.items ++ letter_entries descriptor.entry) }
+    ensures err { IfErr result (λ e. e ≡ OutOfMemory) }
+{
     write_signed(text, b"CapHeight", descriptor.cap_height)?;
-    write_x_height(text, descriptor.x_height)
+    write_x_height(text, descriptor.x_height)?;
+    Ok(())
+}
+
+/// Writes the heights.
+#[tactic(auto, using(crate::proofs::Pieces::two_written))]
+fn write_heights(text: &mut Vec<u8>, descriptor: Descriptor<'_>) -> Result<(), Error>
+    ensures ok { OnOk result (text.new.items ≡ text.old.items ++ height_entries descriptor.entry) }
+    ensures err { IfErr result (λ e. e ≡ OutOfMemory) }
+{
+    write_line(text, descriptor)?;
+    write_letters(text, descriptor)?;
+    Ok(())
 }
 
 /// Writes StemV and FontWeight.
@@ -409,7 +427,6 @@ fn write_cid_set(text: &mut Vec<u8>, has_cid_set: bool, n: u32) -> Result<(), Er
 }
 
 /// Writes the entries of the font descriptor.
-#[tactic(auto, using(crate::proofs::Written::five_written))]
 pub fn write_descriptor(
     text: &mut Vec<u8>,
     values: FontValues<'_>,
@@ -422,7 +439,8 @@ pub fn write_descriptor(
     write_heights(text, values.descriptor)?;
     write_weight(text, values.descriptor)?;
     write_reference(text, program_key(values.kind), references.program)?;
-    write_cid_set(text, values.cid_set.is_some(), references.cid_set)
+    write_cid_set(text, values.cid_set.is_some(), references.cid_set)?;
+    Ok(())
 }
 
 // ---- streams

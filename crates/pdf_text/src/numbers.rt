@@ -1,6 +1,6 @@
 //! Numbers and references as PDF writes them (ISO 32000-1, 7.3).
 
-ghost use Rattle.std.specs.Prelude.{◌≡◌, ◌<◌, ◌++◌, IfErr, OnOk, codes};
+ghost use Rattle.std.specs.Prelude.{◌≡◌, ◌<◌, ◌≤◌, ◌++◌, IfErr, OnOk, length, get_or, pos};
 ghost use Rattle.std.specs.Fmt.{signed_decimal};
 ghost use Rattle.subsetter_base.specs.declared.error.Error.TheVariants.{OutOfMemory};
 ghost use Rattle.pdf_text.specs.Numbers.{integers, fraction, sign, thousandths};
@@ -17,15 +17,24 @@ pub fn write_integer(text: &mut Vec<u8>, z: i32) -> Result<(), Error>
     write!(text, "{z}").map_err(|_| Error::OutOfMemory)
 }
 
+/// Writes the first of integers.
+fn write_first(text: &mut Vec<u8>, numbers: &[i32]) -> Result<(), Error>
+    requires { 1 ≤ length numbers.now }
+    ensures ok { OnOk result (text.new.items ≡ text.old.items ++ signed_decimal (get_or numbers.now 0 (pos 0))) }
+    ensures err { IfErr result (λ e. e ≡ OutOfMemory) }
+{
+    write_integer(text, numbers[0])
+}
+
 /// Writes integers with one space between each two.
 pub fn write_integers(text: &mut Vec<u8>, numbers: &[i32]) -> Result<(), Error>
     ensures ok { OnOk result (text.new.items ≡ text.old.items ++ integers numbers.now) }
     ensures err { IfErr result (λ e. e ≡ OutOfMemory) }
 {
-    let [first, rest @ ..] = numbers else {
+    let [_, rest @ ..] = numbers else {
         return Ok(());
     };
-    write_integer(text, *first)?;
+    write_first(text, numbers)?;
     for z in rest {
         text.push(b' ')?;
         write_integer(text, *z)?;
