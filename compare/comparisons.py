@@ -127,7 +127,7 @@ COMPARISONS = [
                f"{DEBIAN} compare/instances.py {VARIABLE} --results compare/results", lines_like(r"\d+ fonts, HarfBuzz at most.*differ"),
                SUBSET + INSTANCE, f"{DEBIAN} compare/instances.py {VARIABLE} --places 3 --glyphs 40", data=("instances.csv",)),
     Comparison("instances, damaged", "Are damaged variable fonts answered as by the second reading?",
-               f"{DEBIAN} compare/instances.py {VARIABLE} --damage 20000", lines_like(r"Of \d+ damaged copies.*"), SUBSET + INSTANCE,
+               f"{DEBIAN} compare/instances.py {VARIABLE} --damage 100000", lines_like(r"Of \d+ damaged copies.*"), SUBSET + INSTANCE,
                f"{DEBIAN} compare/instances.py {VARIABLE} --damage 2000"),
     Comparison("instances, hostile", "How long does a hostile variable font take?", f"{DEBIAN} compare/instances.py --hostile",
                lambda result: f"each refused, after at most {max(int(it) for it in re.findall(r'after ([0-9]+) ms', ' '.join(result.body)))} ms",
