@@ -1,4 +1,4 @@
-use Rattle.std.proofs.Common.{◌++◌, List, ℕ, ℤ, ap, ◌∙◌, rules, w32}
+use Rattle.std.proofs.Common.{◌++◌, ℤ, ap, ◌∙◌, rules, w32}
 use Rattle.std.proofs.lemmas.Int.{to_z-of_z}
 use Rattle.std.specs.Prelude.{codes}
 use mir.Val.{SFits}
