@@ -17,7 +17,7 @@ demo: # builds the program by Cargo, subsets a line of text, draws it; no kit, n
 test: # the whole gate: proves what has changed on this machine (at first all), tests the rest; SKIP=NAME,.. | 60 min at first
 	@.ci/gate $(skip)
 
-quick: # the tests that need no proof and no kit; SKIP=NAME,.. | 4 min
+quick: # the tests that need no proof and no kit; SKIP=NAME,.. | 3 min
 	@.ci/quick $(skip)
 
 prove: # proves all crates over what earlier runs kept, or one: CRATE=subsetter | 16 min the first time

@@ -41,7 +41,8 @@ extern "C" {
     (((uint32_t)SUBSETTER_VERSION_MAJOR << 24) | ((uint32_t)SUBSETTER_VERSION_MINOR << 16)   \
      | ((uint32_t)SUBSETTER_VERSION_PATCH << 8) | (uint32_t)SUBSETTER_VERSION_N)
 
-/* What a call answers. */
+/* What a call answers. (The library that Cargo builds, bindings/capi, answers 4294967295, of unknown status, where its own code
+ * fails; no font is known to cause that.) */
 enum {
     SUBSETTER_DONE = 0,
     /* No OpenType font, or one without outlines. */

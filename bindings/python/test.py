@@ -21,8 +21,14 @@ import time
 
 HERE = os.path.dirname(os.path.abspath(__file__))
 BUILT = os.path.join(HERE, "..", "c", "out", "libsubsetter.so")
-sys.path.insert(0, HERE)
+# With --installed it's the module that is installed, and not the one of this folder.
+INSTALLED = "--installed" in sys.argv[1:]
+sys.path = [it for it in sys.path if os.path.abspath(it) != HERE]
+if not INSTALLED:
+    sys.path.insert(0, HERE)
 import subsetter
+
+FOUND = os.path.dirname(os.path.dirname(os.path.abspath(subsetter.__file__)))
 
 ERRORS = [None, subsetter.UnknownKind, subsetter.MalformedFont, subsetter.Unimplemented, subsetter.SubsetError,
           subsetter.OverflowError, subsetter.CFFError, subsetter.OutOfMemory]
@@ -361,7 +367,7 @@ def check_names(texts):
     check(wanted == set(names) - {"__builtins__"}, "the names of import *")
     with open(os.path.join(HERE, "..", "..", "VERSION")) as file:
         check(subsetter.__version__ == file.read().strip(), "the version")
-    check(os.path.isfile(os.path.join(HERE, "subsetter", "py.typed")), "py.typed")
+    check(os.path.isfile(os.path.join(FOUND, "subsetter", "py.typed")), "py.typed")
     for call in (subsetter.subset, subsetter.embed):
         found = [(it.name, it.default, it.kind) for it in inspect.signature(call).parameters.values()]
         both, named, none = inspect.Parameter.POSITIONAL_OR_KEYWORD, inspect.Parameter.KEYWORD_ONLY, inspect.Parameter.empty
@@ -463,7 +469,7 @@ def check_memory(fonts):
 
 # ---- where the library is looked for
 
-def child(program, environment=None, folder="/", path=HERE):
+def child(program, environment=None, folder="/", path=FOUND):
     """What a Python of its own prints, or what went wrong."""
     taken = ("LD_LIBRARY_PATH", "SUBSETTER_LIBRARY")
     variables = {name: value for name, value in os.environ.items() if name not in taken}
@@ -534,6 +540,14 @@ def check_places():
             check(words in found, f"another library: {found}")
 
 
+def check_systems():
+    """The name of the library on each system."""
+    for system, name in (("linux", "libsubsetter.so"), ("freebsd14", "libsubsetter.so"), ("darwin", "libsubsetter.dylib"), ("win32", "subsetter.dll")):
+        found = child(f"import sys; sys.platform = {system!r}; import subsetter; print(*subsetter._places(), sep='\\n')").split("\n")[:3]
+        places = [os.path.join(HERE, "subsetter", name), os.path.join(os.path.dirname(HERE), "c", "out", name), name]
+        check(found == places, f"where the library is looked for on {system}: {found}")
+
+
 def main():
     fonts, texts = {}, {}
     rows = read_rows(os.path.join(HERE, "../../crates/subset_rows/data/rows.txt"), fonts, texts)
@@ -548,7 +562,10 @@ def main():
     check_limits(fonts)
     check_names(texts)
     check_work(fonts)
-    check_places()
+    check((FOUND == HERE) != INSTALLED, f"the module of {FOUND}")
+    if not INSTALLED:
+        check_places()
+        check_systems()
     check_memory(fonts)
     check_threads(rows)
     check_other_threads(fonts)

@@ -4,9 +4,9 @@
     font = subsetter.subset(open("font.ttf", "rb").read(), [36, 68])
     embedded = subsetter.embed(data, [36, 68])  # .font, .cids, .widths
 
-The work is done by the proved library `libsubsetter.so`, which the first call loads. It is the file that the environment's
-SUBSETTER_LIBRARY names, else it is looked for beside this file, in `bindings/c/out` of the repository that this file stands
-in, and by the system's loader, in this order. Calls share nothing, so threads may call at the same time, and Python's other
+The work is done by the library `libsubsetter.so` (on Windows `subsetter.dll`, on macOS `libsubsetter.dylib`), which the first
+call loads. It is the file that the environment's SUBSETTER_LIBRARY names, else it is looked for beside this file, in
+`bindings/c/out` of the repository that this file stands in, and by the system's loader, in this order. Calls share nothing, so threads may call at the same time, and Python's other
 threads go on while a call runs.
 
 `OverflowError` isn't among the names of `from subsetter import *`, as it is also the name of a built-in exception; it is
@@ -91,7 +91,7 @@ class Embedded(NamedTuple):
 
 # ---- the library, as bindings/c/subsetter.h declares it
 
-_NAME = "libsubsetter.so"
+_NAME = {"win32": "subsetter.dll", "darwin": "libsubsetter.dylib"}.get(sys.platform, "libsubsetter.so")
 _ERRORS: Dict[int, Type[Error]] = {
     1: UnknownKind, 2: MalformedFont, 3: Unimplemented, 4: SubsetError, 5: OverflowError, 6: CFFError, 7: OutOfMemory,
 }

@@ -1,7 +1,17 @@
 -- Where there is no instance a fault stands, and where a fault stands there is none.
 pub mod Opening
+pub mod Parts
+pub mod Place
+pub mod Source
+pub mod Stores
+pub mod Rows
+pub mod Maps
+pub mod Hvar
+pub mod Mvar
+pub mod Tables
 pub mod Walk
 pub mod Rounded
+pub mod Lines
 pub mod Glyph
 pub mod Refused
 pub mod Clean

@@ -5,7 +5,9 @@ pub mod Ends
 pub mod Glyphs
 pub mod Joins
 pub mod KeptLemmas
+pub mod MetricLaws
 pub mod PartLemmas
+pub mod Phantoms
 pub mod Points
 pub mod Reach
 pub mod Wholes

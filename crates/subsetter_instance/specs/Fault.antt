@@ -1,5 +1,5 @@
 -- What can stand against an instance, under the name of the error that it is answered by.
-use Rattle.std.specs.Prelude.{◌≡◌, ◌≤◌, ℕ, List, length, codes, true, false, Contains, None, IsSome, Err, Ok, Some, ℤ, ◌-ℤ◌}
+use Rattle.std.specs.Prelude.{◌≡◌, ◌≤◌, ℕ, List, length, codes, false, Contains, None, IsSome, Ok, Some, ℤ, ◌-ℤ◌}
 use Rattle.subsetter_base.specs.declared.tag.Tag.{Tag}
 use Rattle.subsetter_base.specs.declared.error.Error.{Error}
 use Rattle.subsetter_base.specs.declared.error.Error.TheVariants.{MalformedFont, Unimplemented, OverflowError}
@@ -9,11 +9,15 @@ use Rattle.subsetter_sfnt.specs.Fault.{HasOpeningFault}
 use Rattle.subsetter_sfnt.specs.Read.{Font, stored}
 use Rattle.subsetter_sfnt.specs.Rows.{rows, present}
 use Rattle.subsetter_sfnt.specs.Written.{fits, start_of}
-use Rattle.subsetter_instance.specs.Source.{Source, has_other_version, metric, place, source_in}
+use Rattle.subsetter_instance.specs.Source.{Source, metric, place, source_in}
 use Rattle.subsetter_instance.specs.declared.source.Metric.{Metric}
 use Rattle.subsetter_instance.specs.Unfolded.{Unfolded, unfolded}
+use Rattle.subsetter_instance.specs.GlyphFault.{HasHmtxFault}
+use Rattle.subsetter_instance.specs.PlaceFault.{HasPlaceFault}
+use Rattle.subsetter_instance.specs.SourceFault.{HasSourceFault, HasVersionFault}
 use Rattle.subsetter_instance.specs.WalkFault.{HasWalkFault}
 use Rattle.subsetter_instance.specs.RoundedFault.{HasAdvanceFault, HasFarPoint}
+use Rattle.subsetter_instance.specs.LinesFault.{HasLinesFault}
 use Rattle.subsetter_instance.specs.Drawn.{Drawn, levels, points_or_fault}
 use Rattle.subsetter_instance.specs.Plain.{drawn_all}
 use Rattle.subsetter_instance.specs.Lines.{Lines, lines_of, with_lines}
@@ -23,8 +27,8 @@ use Rattle.subsetter_instance.specs.Written.{by_glyph, tables}
 pub data HasGlyphFault (s : Source) (at : List ℤ) (steps g : ℕ) : Error → Type 0 where
   -- maxp has fewer glyphs
   no_glyph : s.count ≤ g → HasGlyphFault s at steps g MalformedFont
-  -- no metric in hmtx
-  no_metric : metric s g ≡ None → HasGlyphFault s at steps g MalformedFont
+  -- its metric: hhea and hmtx
+  no_metric : HasHmtxFault s g → HasGlyphFault s at steps g MalformedFont
   -- its description, its variations, or a component's
   in_walk : {e : Error} → HasWalkFault s at levels steps g e → HasGlyphFault s at steps g e
   -- its advance
@@ -39,15 +43,15 @@ pub data HasInstanceFault (font : Font) (settings : List (Tag × ℤ)) (glyphs :
   in_opening : {e : Error} → HasOpeningFault font e → HasInstanceFault font settings glyphs steps e
   -- outlines of CFF
   no_glyf : stored font (codes "glyf") ≡ None → IsSome (stored font (codes "CFF ")) → HasInstanceFault font settings glyphs steps Unimplemented
-  -- fvar or avar is cut, or one of them has another version
-  no_place : {e : Error} → place (stored font) settings ≡ Err e → HasInstanceFault font settings glyphs steps e
-  -- gvar, HVAR or MVAR has another version
-  other_version : has_other_version (stored font) ≡ true → HasInstanceFault font settings glyphs steps Unimplemented
-  -- a table that outlines, metrics or variations are read from is missing or cut
-  no_source : (at : List ℤ) → place (stored font) settings ≡ Ok at → source_in (stored font) (length at) ≡ None → HasInstanceFault font settings glyphs steps MalformedFont
+  -- fvar or avar
+  in_place : {e : Error} → HasPlaceFault (stored font) e → HasInstanceFault font settings glyphs steps e
+  -- the versions of gvar, HVAR and MVAR
+  in_versions : {e : Error} → HasVersionFault (stored font) e → HasInstanceFault font settings glyphs steps e
+  -- the tables that outlines, metrics and variations are read from
+  in_source : (at : List ℤ) → place (stored font) settings ≡ Ok at → HasSourceFault (stored font) (length at) → HasInstanceFault font settings glyphs steps MalformedFont
   in_glyph : {e : Error} (at : List ℤ) (s : Source) (g : ℕ) → place (stored font) settings ≡ Ok at → source_in (stored font) (length at) ≡ Some s → Contains glyphs g → HasGlyphFault s at steps g e → HasInstanceFault font settings glyphs steps e
-  -- MVAR is cut or has no item for a metric of hhea or post, or this has no 16 bits where it varies
-  no_lines : {e : Error} (at : List ℤ) → place (stored font) settings ≡ Ok at → lines_of (stored font) at ≡ Err e → HasInstanceFault font settings glyphs steps e
+  -- a metric of hhea or post, as MVAR varies it
+  in_lines : {e : Error} (at : List ℤ) → place (stored font) settings ≡ Ok at → HasLinesFault (stored font) at e → HasInstanceFault font settings glyphs steps e
   -- a table's place or length doesn't fit 32 bits
   large_file : (at : List ℤ) (s : Source) (ds : List Drawn) (lines : Lines) (head : List ℕ) → place (stored font) settings ≡ Ok at → source_in (stored font) (length at) ≡ Some s → drawn_all s at steps glyphs ≡ Ok ds → lines_of (stored font) at ≡ Ok lines → stored font (codes "head") ≡ Some head
       → fits (start_of (present (rows (tables (with_lines (stored font) lines) head lines.hhea s.count ds (by_glyph glyphs ds s.count))))) (present (rows (tables (with_lines (stored font) lines) head lines.hhea s.count ds (by_glyph glyphs ds s.count)))) ≡ false → HasInstanceFault font settings glyphs steps OverflowError

@@ -13,6 +13,7 @@ use Rattle.subsetter_instance.specs.declared.components.Arguments.TheVariants.{O
 use Rattle.subsetter_instance.specs.declared.components.Component.{Component}
 use Rattle.subsetter_instance.specs.declared.source.Metric.{Metric}
 use Rattle.subsetter_instance.specs.Components.{component_at, components_at, offset_xs, offset_ys}
+use Rattle.subsetter_instance.specs.GlyphFault.{HasDescriptionFault, HasHmtxFault}
 use Rattle.subsetter_instance.specs.Source.{Source, metric}
 use Rattle.subsetter_instance.specs.Unfolded.{Composite, Unfolded, are_near, composite, counted_description, is_composite, is_scaled, joined, moved, no_points, placed, point_at, simple_outline, transformed_xs, transformed_ys, unfolded, with_metrics, with_phantoms}
 
@@ -101,10 +102,10 @@ pub record IsAtComponent (s : Source) (at : List ℤ) (depth steps g : ℕ) (com
 pub data HasWalkFault (s : Source) (at : List ℤ) : ℕ → ℕ → ℕ → Error → Type 0 where
   -- it lies too deep
   too_deep : (steps g : ℕ) → HasWalkFault s at zero steps g MalformedFont
-  -- maxp has fewer glyphs, or its offsets in loca are cut, descend, or lead out of glyf
-  no_description : (depth steps g : ℕ) → counted_description s g ≡ None → HasWalkFault s at (suc depth) steps g MalformedFont
-  -- hmtx is cut, or numberOfHMetrics is 0
-  no_metric_for_glyph : (depth steps g : ℕ) (bytes : List ℕ) → counted_description s g ≡ Some bytes → metric s g ≡ None → HasWalkFault s at (suc depth) steps g MalformedFont
+  -- its description: maxp, loca and glyf
+  in_description : (depth steps g : ℕ) → HasDescriptionFault s g → HasWalkFault s at (suc depth) steps g MalformedFont
+  -- its metric: hhea and hmtx
+  in_hmtx : (depth steps g : ℕ) (bytes : List ℕ) → counted_description s g ≡ Some bytes → HasHmtxFault s g → HasWalkFault s at (suc depth) steps g MalformedFont
   in_simple : {e : Error} (depth steps g : ℕ) (bytes : List ℕ) (m : Metric) → counted_description s g ≡ Some bytes → metric s g ≡ Some m → is_composite bytes ≡ false → HasSimpleFault s at steps g bytes m e → HasWalkFault s at (suc depth) steps g e
   in_composite : {e : Error} (depth steps g : ℕ) (bytes : List ℕ) (m : Metric) → counted_description s g ≡ Some bytes → metric s g ≡ Some m → is_composite bytes ≡ true → HasCompositeFault s at steps g bytes e → HasWalkFault s at (suc depth) steps g e
   -- a component's own glyph

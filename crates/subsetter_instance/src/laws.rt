@@ -1,6 +1,7 @@
 //! Laws of the definitions, which no code runs.
 
 ghost use Rattle.subsetter_instance.specs.Laws.{IsReadAfresh, IsSameAtAnySteps, HasFaultWhereRefused, HasNoneWhereAnswered, IsBoxOfAll, AreFaultsNamed, IsDrawnAsItStands};
+ghost use Rattle.subsetter_instance.specs.MetricLaws.{AreLinesAtDefault, IsAdvanceAtDefault, IsAdvanceAtMaster, IsDrawnAsUnvaried, IsMetricAtDefault, IsMetricAtMaster, IsSimpleAdvanceAtDefault};
 
 /// The file that the plain way lays out is an instance, read afresh from its bytes.
 pub fn is_read_afresh()
@@ -30,6 +31,41 @@ pub fn are_faults_named()
 /// At the default a glyph, its components unrolled, is as it stands in the source.
 pub fn is_drawn_as_it_stands()
     ensures { IsDrawnAsItStands }
+{}
+
+/// And what is drawn of it is what is drawn without variations of outlines.
+pub fn is_drawn_as_unvaried()
+    ensures { IsDrawnAsUnvaried }
+{}
+
+/// By `HVAR` the advance of a glyph is at a master what `hmtx` has and the delta for it.
+pub fn is_advance_at_master()
+    ensures { IsAdvanceAtMaster }
+{}
+
+/// At the default it is what `hmtx` has.
+pub fn is_advance_at_default()
+    ensures { IsAdvanceAtDefault }
+{}
+
+/// Without `HVAR` too, of a simple glyph.
+pub fn is_simple_advance_at_default()
+    ensures { IsSimpleAdvanceAtDefault }
+{}
+
+/// By `MVAR` a metric of the font is at a master what its table has and the delta for it.
+pub fn is_metric_at_master()
+    ensures { IsMetricAtMaster }
+{}
+
+/// At the default it is what its table has.
+pub fn is_metric_at_default()
+    ensures { IsMetricAtDefault }
+{}
+
+/// So at the default `hhea` and `post` are as they stand in the source.
+pub fn are_lines_at_default()
+    ensures { AreLinesAtDefault }
 {}
 
 /// The box of an instance is the least one around all points.

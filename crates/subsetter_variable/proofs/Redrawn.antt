@@ -1,11 +1,11 @@
 -- A glyph that was drawn is drawn as it is where nothing varies.
-use Rattle.std.proofs.Common.{◌≡◌, ℕ, suc, ◌+◌, ◌-◌, ◌%◌, ◌^◌, ◌<◌, Bool, true, false, cond, ltb, List, [], ◌∷◌, ◌++◌, length, get_or, take, map, Option, Some, None, Ok, Err, ℤ, pos, negsuc, ◌+ℤ◌, ◌-ℤ◌, ◌*ℤ◌, int_le, refl, sym, ap, ◌∙◌, append_assoc, arith}
+use Rattle.std.proofs.Common.{◌≡◌, ℕ, suc, ◌+◌, ◌-◌, ◌%◌, ◌^◌, ◌<◌, Bool, true, false, cond, ltb, List, [], ◌∷◌, ◌++◌, length, take, map, Option, Some, None, Ok, Err, ℤ, pos, negsuc, ◌+ℤ◌, ◌-ℤ◌, ◌*ℤ◌, int_le, refl, sym, ap, ◌∙◌, append_assoc, arith}
 use Rattle.std.specs.Prelude.{nat_lt}
 use Rattle.std.specs.Int.{w16, to_be_bytes, cast_signed, cast_unsigned, int_min, int_max}
 use Rattle.std.specs.Option.{ok_or, option_and_then}
 use Rattle.std.proofs.lemmas.Bool.{leb-true, lt-leb, ltb-true}
 use Rattle.std.proofs.lemmas.Int.{ints}
-use Rattle.std.proofs.lemmas.List.{take_at, get_or_at, length-append, length-map, map-append}
+use Rattle.std.proofs.lemmas.List.{take_at, length-map, map-append}
 use Rattle.std.specs.Prelude.{replicate}
 use Rattle.std.specs.List.{fold}
 use Rattle.subsetter_base.specs.Bytes.{aligned, number, ◌>>=◌}
@@ -25,6 +25,7 @@ use Rattle.subsetter_instance.specs.Unfolded.{Unfolded, moved, with_phantoms, ne
 use Rattle.subsetter_instance.specs.Drawn.{Drawn, whole, word_or_fault, point_or_fault, points_or_fault, advance_or_fault, advance, bearing, drawn_if_fit, levels, rounded, drawn}
 use Rattle.subsetter_instance.specs.Instance.{IsDrawn}
 use Rattle.subsetter_instance.proofs.FileLaws.Fitting.{drawn_fits}
+use Rattle.subsetter_instance.proofs.Phantoms.{left_phantom, right_phantom}
 use Rattle.subsetter_instance.proofs.SameLaws.Simple.{near_is}
 
 -- ---- numbers
@@ -83,16 +84,6 @@ phantoms = pos 0 ∷ pos 0 ∷ pos 0 ∷ pos 0 ∷ []
 
 front_is : (vs : List ℤ) (n : ℕ) → length vs ≡ n → take n (in_units (vs ++ phantoms)) ≡ in_units vs
 front_is vs n e = ap (take n) (map-append (λ v. pos (2 ^ 30) *ℤ v) vs phantoms) ∙ take_at (in_units vs) (in_units phantoms) n (length-map vs (λ v. pos (2 ^ 30) *ℤ v) ∙ e)
-
-left_phantom : (vs : List ℤ) (n : ℕ) → length vs ≡ n → get_or (in_units (vs ++ phantoms)) n (pos 0) ≡ pos 0
-left_phantom vs n e =
-    ap (λ (l : List ℤ). get_or l n (pos 0)) (map-append (λ v. pos (2 ^ 30) *ℤ v) vs phantoms) ∙ get_or_at (in_units vs) (pos 0) (pos 0 ∷ pos 0 ∷ pos 0 ∷ []) (pos 0) n (length-map vs (λ v. pos (2 ^ 30) *ℤ v) ∙ e)
-
-right_phantom : (vs : List ℤ) (n : ℕ) → length vs ≡ n → get_or (in_units (vs ++ phantoms)) (n + 1) (pos 0) ≡ pos 0
-right_phantom vs n e =
-    let us = in_units vs in
-    let long : length (us ++ pos 0 ∷ []) ≡ n + 1 = omega (arith, length-append us (pos 0 ∷ []), length-map vs (λ v. pos (2 ^ 30) *ℤ v), e) in
-    ap (λ (l : List ℤ). get_or l (n + 1) (pos 0)) (map-append (λ v. pos (2 ^ 30) *ℤ v) vs phantoms ∙ sym (append_assoc us (pos 0 ∷ []) (pos 0 ∷ pos 0 ∷ pos 0 ∷ []))) ∙ get_or_at (us ++ pos 0 ∷ []) (pos 0) (pos 0 ∷ pos 0 ∷ []) (pos 0) (n + 1) long
 
 zero_plus : (v : ℤ) → pos 0 +ℤ v ≡ v
 zero_plus v = omega (arith, ints)

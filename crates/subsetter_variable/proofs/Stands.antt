@@ -13,6 +13,7 @@ use Rattle.subsetter_sfnt.specs.Read.{Font, stored, table_in}
 use Rattle.subsetter_sfnt.proofs.Laws.Fault.{opened_refused}
 use Rattle.subsetter_instance.specs.Source.{place}
 use Rattle.subsetter_instance.proofs.FaultLaws.Opening.{same_find}
+use Rattle.subsetter_instance.proofs.FaultLaws.Place.{place_refused}
 use Rattle.subsetter_variable.specs.Standing.{IsAtDefault, HasNoPlace, no_outlines, no_move}
 use Rattle.subsetter_variable.proofs.Unopened.{no_glyf}
 
@@ -42,8 +43,8 @@ module _ (font : Font) (settings : List (Tag × ℤ)) where
         still (no_outlines none) = absurd (let both = there in cc)
         still (no_move other placed all) = subst (All (λ v. v ≡ pos 0)) (done_is other at (sym placed ∙ is)) all
 
-    pub no_place_by : (e : Error) → Fails e (place (stored font) settings) → (e ≡ OutOfMemory) ⊎ HasNoPlace font settings e
-    no_place_by e h = elim (fails_is e (place (stored font) settings) h) [ inl m ↦ inl m | inr r ↦ inr (record { outlines = there; refused = r }) ]
+    pub no_place_by : (e : Error) → Fails e (place (stored font) settings) → (e ≡ OutOfMemory) ⊎ HasNoPlace font e
+    no_place_by e h = elim (fails_is e (place (stored font) settings) h) [ inl m ↦ inl m | inr r ↦ inr (record { outlines = there; fault = place_refused (stored font) settings e r }) ]
 
 -- the tables of the directory that was opened
 pub find_is : (font : Font) (d seen : List ℕ) → opened font ≡ Ok d → seen ≡ font.bytes → table_in seen d ≡ stored font

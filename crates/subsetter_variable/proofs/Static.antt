@@ -4,16 +4,15 @@ use Rattle.std.specs.Prelude.{codes, length, IfOk, IfErr, IsTrue, ◌↔◌}
 use Rattle.subsetter_base.specs.declared.tag.Tag.{Tag}
 use Rattle.subsetter_base.specs.declared.error.Error.{Error}
 use Rattle.subsetter_base.specs.declared.error.Error.TheVariants.{OutOfMemory}
-use Rattle.subsetter_base.proofs.Results.{ok_not_err}
 use Rattle.subsetter_sfnt.specs.Fault.{HasOpeningFault}
 use Rattle.subsetter_sfnt.specs.FontAt.{font_at}
 use Rattle.subsetter_sfnt.specs.Read.{Font, stored}
 use Rattle.subsetter.specs.Answer.{IsAnswer, IsTheAnswer}
 use Rattle.subsetter.specs.Bound.{IsWithin, HasFaultWithin, HasNoAnswerWithin, in_font, beyond}
 use Rattle.subsetter.specs.Subset.{IsSubset}
-use Rattle.subsetter_instance.specs.Fault.{HasInstanceFault, no_place}
+use Rattle.subsetter_instance.specs.Fault.{HasInstanceFault, in_place}
 use Rattle.subsetter_instance.specs.Instance.{IsInstance}
-use Rattle.subsetter_instance.specs.Source.{place}
+use Rattle.subsetter_instance.proofs.FaultLaws.Place.{place_clean}
 use Rattle.subsetter_instance.proofs.SameLaws.Answer.{one_file}
 use Rattle.subsetter_variable.specs.Standing.{IsAtDefault, HasNoPlace, no_outlines, no_move}
 use Rattle.subsetter_variable.proofs.Unopened.{no_glyf, same_stored}
@@ -33,13 +32,13 @@ one_static font settings glyphs _ _ (instanced file m i) (instanced other n j) =
 -- ---- a font without a place
 
 -- it isn't at its default
-pub not_default : (font : Font) (settings : List (Tag × ℤ)) (e : Error) → HasNoPlace font settings e → IsAtDefault font settings → ⊥
+pub not_default : (font : Font) (settings : List (Tag × ℤ)) (e : Error) → HasNoPlace font e → IsAtDefault font settings → ⊥
 not_default font settings e h (no_outlines n) = let there = h.outlines in cc
-not_default font settings e h (no_move at is all) = ok_not_err (place (stored font) settings) at e is h.refused
+not_default font settings e h (no_move at is all) = place_clean (stored font) settings at e is h.fault
 
-pub unplaced : (font : Font) (settings : List (Tag × ℤ)) (glyphs : List ℕ) (steps : ℕ) (e : Error) → (e ≡ OutOfMemory) ⊎ HasNoPlace font settings e → (e ≡ OutOfMemory) ⊎ ((IsAtDefault font settings → ⊥) × HasInstanceFault font settings glyphs steps e)
+pub unplaced : (font : Font) (settings : List (Tag × ℤ)) (glyphs : List ℕ) (steps : ℕ) (e : Error) → (e ≡ OutOfMemory) ⊎ HasNoPlace font e → (e ≡ OutOfMemory) ⊎ ((IsAtDefault font settings → ⊥) × HasInstanceFault font settings glyphs steps e)
 unplaced font settings glyphs steps e (inl m) = inl m
-unplaced font settings glyphs steps e (inr h) = inr (not_default font settings e h, no_place h.refused)
+unplaced font settings glyphs steps e (inr h) = inr (not_default font settings e h, in_place h.fault)
 
 -- ---- an instance that isn't made
 

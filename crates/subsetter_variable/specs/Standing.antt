@@ -1,8 +1,9 @@
 -- Where a font stands on its axes, for settings of its user coordinates (OpenType, "Coordinate Scales and Normalization").
-use Rattle.std.specs.Prelude.{◌≡◌, List, codes, All, None, IsSome, Ok, Err, ℤ, pos}
+use Rattle.std.specs.Prelude.{◌≡◌, List, codes, All, None, IsSome, Ok, ℤ, pos}
 use Rattle.subsetter_base.specs.declared.tag.Tag.{Tag}
 use Rattle.subsetter_base.specs.declared.error.Error.{Error}
 use Rattle.subsetter_sfnt.specs.Read.{Font, stored}
+use Rattle.subsetter_instance.specs.PlaceFault.{HasPlaceFault}
 use Rattle.subsetter_instance.specs.Source.{place}
 
 -- at its default, where its outlines are as `glyf` has them
@@ -12,7 +13,7 @@ pub data IsAtDefault (font : Font) (settings : List (Tag × ℤ)) : Type 0 where
   -- each normalized coordinate is 0; a font without `fvar` has none
   no_move : (at : List ℤ) → place (stored font) settings ≡ Ok at → All (λ v. v ≡ pos 0) at → IsAtDefault font settings
 
--- nowhere: it has outlines in `glyf`, and `fvar` or `avar` is cut, or `avar` has another version
-pub record HasNoPlace (font : Font) (settings : List (Tag × ℤ)) (e : Error) : Type 0 where
+-- nowhere, whatever the settings: it has outlines in `glyf`, and `fvar` or `avar` has a fault
+pub record HasNoPlace (font : Font) (e : Error) : Type 0 where
   pub outlines : IsSome (stored font (codes "glyf"))
-  pub refused : place (stored font) settings ≡ Err e
+  pub fault : HasPlaceFault (stored font) e

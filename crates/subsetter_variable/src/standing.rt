@@ -29,7 +29,7 @@ fn are_zero(at: &[i32]) -> bool
 /// # Errors
 ///
 /// - `MalformedFont`: `fvar` or `avar` is cut.
-/// - `Unimplemented`: `avar` has a major version other than 1.
+/// - `Unimplemented`: `fvar` or `avar` has a major version other than 1.
 /// - `OutOfMemory`: a request for memory was refused. None is made for a font without outlines in `glyf`.
 fn is_at_default(
     alloc: Global,
@@ -38,7 +38,7 @@ fn is_at_default(
     coordinates: &[(Tag, i32)],
 ) -> Result<bool, Error>
     ensures ok { IfOk result (λ yes. IsTrue yes ↔ IsAtDefault (font_at «data».now index all_extras) coordinates.now) }
-    ensures err { IfErr result (λ e. (e ≡ OutOfMemory) ⊎ HasNoPlace (font_at «data».now index all_extras) coordinates.now e) }
+    ensures err { IfErr result (λ e. (e ≡ OutOfMemory) ⊎ HasNoPlace (font_at «data».now index all_extras) e) }
     ensures without_memory { stored (font_at «data».now index all_extras) (codes "glyf") ≡ None → result ≡ Ok true }
 {
     let Ok(face) = parse(data, index, Extras::ALL) else {
@@ -58,7 +58,7 @@ fn is_at_default(
 /// # Errors
 ///
 /// - `MalformedFont`: there is `glyf`, and `fvar` or `avar` is cut.
-/// - `Unimplemented`: there is `glyf`, and `avar` has a major version other than 1.
+/// - `Unimplemented`: there is `glyf`, and `fvar` or `avar` has a major version other than 1.
 /// - Those of `instance`, for a font that isn't at its default.
 /// - `OutOfMemory`: a request for memory was refused. None is made for a font without outlines in `glyf`.
 pub fn static_font(

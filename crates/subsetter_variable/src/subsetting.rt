@@ -36,7 +36,7 @@ use subsetter::{Error, GlyphRemapper, Limits, Options, Tag, subset_with_options}
 ///
 /// - Those of `subset`, for a font that is subset as it is.
 /// - `MalformedFont`: there is `glyf`, and `fvar` or `avar` is cut.
-/// - `Unimplemented`: there is `glyf`, and `avar` has a major version other than 1.
+/// - `Unimplemented`: there is `glyf`, and `fvar` or `avar` has a major version other than 1.
 /// - For a font that isn't at its default, those of `instance`, where each glyph may take 1,000,000 steps, and those of
 ///   `subset` for the static font.
 /// - `OutOfMemory`: a request for memory was refused. None is made for a font that `check_opening` refuses.

@@ -24,7 +24,7 @@ negated_up p q h = omega (arith, ints)
 under_zero : (p q : ℕ) → neg_ℤ (pos p) ≤ℤ pos q
 under_zero p q = omega (arith, ints)
 
-nearest_up : (x y : ℤ) (n : ℕ) → 0 < n → x ≤ℤ y → nearest x n ≤ℤ nearest y n
+pub nearest_up : (x y : ℤ) (n : ℕ) → 0 < n → x ≤ℤ y → nearest x n ≤ℤ nearest y n
 unfolding nearest
 nearest_up (pos a) (pos b) n above h = let less : (2 * a + n) / (2 * n) ≤ (2 * b + n) / (2 * n) = quotient_up (2 * a + n) (2 * b + n) (2 * n) (omega arith) (omega (arith, ints)) in omega (arith, ints)
 nearest_up (pos a) (negsuc b) n above h = absurd (omega (arith, ints))
@@ -44,40 +44,40 @@ toward_default : (end default c : ℤ) → c ≡ default → toward end default 
 unfolding toward part
 toward_default end default c h = nearest_zero ((c -ℤ default) *ℤ pos 65536) (unsigned_abs (end -ℤ default)) (omega (arith, ints))
 
-toward_within : (end default c : ℤ) → 0 < unsigned_abs (end -ℤ default) → unsigned_abs (c -ℤ default) ≤ unsigned_abs (end -ℤ default) → unsigned_abs (toward end default c) ≤ 65536
+pub toward_within : (end default c : ℤ) → 0 < unsigned_abs (end -ℤ default) → unsigned_abs (c -ℤ default) ≤ unsigned_abs (end -ℤ default) → unsigned_abs (toward end default c) ≤ 65536
 unfolding toward
 toward_within end default c apart h = part_within (c -ℤ default) (pos 65536) (unsigned_abs (end -ℤ default)) apart h
 
 -- ---- tests
 
-lt_true : (x y : ℤ) → int_lt x y ≡ true → x <ℤ y
+pub lt_true : (x y : ℤ) → int_lt x y ≡ true → x <ℤ y
 lt_true x y h = grind (arith, ints)
 
-lt_false : (x y : ℤ) → int_lt x y ≡ false → y ≤ℤ x
+pub lt_false : (x y : ℤ) → int_lt x y ≡ false → y ≤ℤ x
 lt_false x y h = grind (arith, ints)
 
-le_true : (x y : ℤ) → int_le x y ≡ true → x ≤ℤ y
+pub le_true : (x y : ℤ) → int_le x y ≡ true → x ≤ℤ y
 le_true x y h = grind (arith, ints)
 
-le_false : (x y : ℤ) → int_le x y ≡ false → y <ℤ x
+pub le_false : (x y : ℤ) → int_le x y ≡ false → y <ℤ x
 le_false x y h = grind (arith, ints)
 
 same : (x : ℤ) → x ≤ℤ x
 same x = omega (arith, ints)
 
-through : (x y z : ℤ) → x ≤ℤ y → y ≤ℤ z → x ≤ℤ z
+pub through : (x y z : ℤ) → x ≤ℤ y → y ≤ℤ z → x ≤ℤ z
 through x y z h k = omega (arith, ints)
 
-apart_is : (x y : ℤ) → x <ℤ y → 0 < unsigned_abs (x -ℤ y)
+pub apart_is : (x y : ℤ) → x <ℤ y → 0 < unsigned_abs (x -ℤ y)
 apart_is x y h = grind (arith, ints)
 
-apart_too : (x y : ℤ) → y <ℤ x → 0 < unsigned_abs (x -ℤ y)
+pub apart_too : (x y : ℤ) → y <ℤ x → 0 < unsigned_abs (x -ℤ y)
 apart_too x y h = grind (arith, ints)
 
-closer_below : (end default c : ℤ) → end ≤ℤ c → c ≤ℤ default → unsigned_abs (c -ℤ default) ≤ unsigned_abs (end -ℤ default)
+pub closer_below : (end default c : ℤ) → end ≤ℤ c → c ≤ℤ default → unsigned_abs (c -ℤ default) ≤ unsigned_abs (end -ℤ default)
 closer_below end default c h k = grind (arith, ints)
 
-closer_above : (end default c : ℤ) → c ≤ℤ end → default ≤ℤ c → unsigned_abs (c -ℤ default) ≤ unsigned_abs (end -ℤ default)
+pub closer_above : (end default c : ℤ) → c ≤ℤ end → default ≤ℤ c → unsigned_abs (c -ℤ default) ≤ unsigned_abs (end -ℤ default)
 closer_above end default c h k = grind (arith, ints)
 
 no_lower : (z : ℤ) (n : ℕ) → unsigned_abs z ≤ n → neg_ℤ (pos n) ≤ℤ z

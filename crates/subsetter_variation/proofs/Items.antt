@@ -111,7 +111,7 @@ is_item_at_master s at outer inner r k d v marked is m d_is h = by (outer == 655
 
 -- ---- rounded
 
-nearest_is : (d : ℤ) → nearest (unit *ℤ d) (2 ^ 30) ≡ d
+pub nearest_is : (d : ℤ) → nearest (unit *ℤ d) (2 ^ 30) ≡ d
 unfolding nearest
 nearest_is (pos n) = ap pos (omega arith)
 nearest_is (negsuc n) = grind (arith, ints)

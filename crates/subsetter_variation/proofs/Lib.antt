@@ -1,5 +1,6 @@
 pub mod Ascending
 pub mod Ascent
+pub mod Bent
 pub mod Between
 pub mod Bounds
 pub mod Contours
@@ -18,6 +19,7 @@ pub mod Masters
 pub mod Quotients
 pub mod Regions
 pub mod Runs
+pub mod Scalars
 pub mod StepCosts
 pub mod StepLaws
 pub mod Sums

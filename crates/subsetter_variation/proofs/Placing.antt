@@ -16,7 +16,7 @@ use Rattle.subsetter_variation.proofs.Turning.{nearest_zero}
 
 -- ---- tests
 
-both_of : (a b : Bool) → (a && b) ≡ true → (a ≡ true) × (b ≡ true)
+pub both_of : (a b : Bool) → (a && b) ≡ true → (a ≡ true) × (b ≡ true)
 both_of true b h = (refl, h)
 both_of false b h = absurd cc
 
@@ -38,10 +38,10 @@ le_is x y h = grind (arith, ints)
 le_not : (x y : ℤ) → y <ℤ x → int_le x y ≡ false
 le_not x y h = grind (arith, ints)
 
-fine_lt : (x y : ℤ) → x <ℤ y → fine x <ℤ fine y
+pub fine_lt : (x y : ℤ) → x <ℤ y → fine x <ℤ fine y
 fine_lt x y h = omega (arith, ints)
 
-fine_le : (x y : ℤ) → x ≤ℤ y → fine x ≤ℤ fine y
+pub fine_le : (x y : ℤ) → x ≤ℤ y → fine x ≤ℤ fine y
 fine_le x y h = omega (arith, ints)
 
 -- ---- segments
@@ -50,11 +50,11 @@ fine_le x y h = omega (arith, ints)
 at_itself : (z : ℤ) (p : AxisValueMap) → (int_eq p.from z && int_eq p.to z) ≡ true → p.from ≤ℤ z
 at_itself z p e = let same : p.from ≡ z = (Decides-int_eq p.from z).0 (both_of (int_eq p.from z) (int_eq p.to z) e).0 in omega (arith, ints)
 
-either : {P : Type 0} (a b : Bool) → (a || b) ≡ true → (a ≡ true → P) → (b ≡ true → P) → P
+pub either : {P : Type 0} (a b : Bool) → (a || b) ≡ true → (a ≡ true → P) → (b ≡ true → P) → P
 either true b h f g = f refl
 either false b h f g = g h
 
-at_least : (z : ℤ) (p : AxisValueMap) (ends : List AxisValueMap) → ascends_from p ends ≡ true → keeps z (p ∷ ends) ≡ true → p.from ≤ℤ z
+pub at_least : (z : ℤ) (p : AxisValueMap) (ends : List AxisValueMap) → ascends_from p ends ≡ true → keeps z (p ∷ ends) ≡ true → p.from ≤ℤ z
 at_least z p [] up h = either (int_eq p.from z && int_eq p.to z) false h (at_itself z p) (λ k. absurd cc)
 at_least z p (q ∷ rest) up h =
     let a = both_of (follows p q) (ascends_from q rest) up in

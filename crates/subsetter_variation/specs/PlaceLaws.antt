@@ -26,3 +26,7 @@ IsGreatestAtOne = (a : Axis) (ends : List AxisValueMap) (settings : List (Tag ×
 -- before the segments a greater coordinate lies no lower
 abbrev pub NeverDescends : Type 0
 NeverDescends = (a : Axis) (c d : ℤ) → c ≤ℤ d → default_normalized a c ≤ℤ default_normalized a d
+
+-- nor does it through the segments, whatever they are
+abbrev pub NeverDescendsBent : Type 0
+NeverDescendsBent = (a : Axis) (ends : List AxisValueMap) (settings more : List (Tag × ℤ)) → user_coordinate a settings ≤ℤ user_coordinate a more → coordinate a ends settings ≤ℤ coordinate a ends more

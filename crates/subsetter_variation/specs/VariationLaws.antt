@@ -1,5 +1,5 @@
 -- Laws of how far tuples count, and of what they move.
-use Rattle.std.specs.Prelude.{◌≡◌, ◌+◌, ◌≤◌, ℕ, zero, suc, ℤ, pos, ◌*ℤ◌, Bool, false, List, [], ◌∷◌, length, map, slice_get, Option, Some, Ok, Err, All, ◌↔◌}
+use Rattle.std.specs.Prelude.{◌≡◌, ◌+◌, ◌≤◌, ℕ, zero, suc, ℤ, pos, ◌*ℤ◌, ◌≤ℤ◌, Bool, false, List, [], ◌∷◌, length, map, slice_get, Option, Some, Ok, Err, All, ◌↔◌}
 use Rattle.subsetter_base.specs.declared.error.Error.{Error}
 use Rattle.subsetter_variation.specs.declared.inference.Point.{Point}
 use Rattle.subsetter_variation.specs.declared.region.RegionAxis.{RegionAxis}
@@ -14,6 +14,10 @@ use Rattle.subsetter_variation.specs.GvarFault.{HasVariationFault}
 -- at the default a region counts nothing if one of its axes isn't ignored
 abbrev pub IsNothingAtDefault : Type 0
 IsNothingAtDefault = (region : List RegionAxis) (at : List ℤ) (k : ℕ) (t : RegionAxis) → length region ≡ length at → All (λ c. c ≡ pos 0) at → slice_get region k ≡ Some t → is_ignored t ≡ false → scalar region at ≡ pos 0
+
+-- a region counts between nothing and in full
+abbrev pub IsBetweenNothingAndFull : Type 0
+IsBetweenNothingAndFull = (region : List RegionAxis) (at : List ℤ) → (pos 0 ≤ℤ scalar region at) × (scalar region at ≤ℤ unit)
 
 -- a tuple whose scalar is 0 leaves all points where they are
 abbrev pub IsPassedOver : Type 0

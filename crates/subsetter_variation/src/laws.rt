@@ -1,9 +1,9 @@
 //! The laws of variations, which name no code: how far a tuple counts, and what it moves the points of a contour by.
 
 ghost use Rattle.subsetter_variation.specs.ItemLaws.{IsItemAtDefault, IsItemAtMaster, IsRoundedAsItIs};
-ghost use Rattle.subsetter_variation.specs.PlaceLaws.{IsDefaultAtZero, IsGreatestAtOne, IsKept, IsLeastAtMinusOne, NeverDescends};
+ghost use Rattle.subsetter_variation.specs.PlaceLaws.{IsDefaultAtZero, IsGreatestAtOne, IsKept, IsLeastAtMinusOne, NeverDescends, NeverDescendsBent};
 ghost use Rattle.subsetter_variation.specs.Moves.{IsShift, IsStill, IsTurned, LiesBetween};
-ghost use Rattle.subsetter_variation.specs.VariationLaws.{AreAscending, AreFaultsNamed, IsExactAtPeak, IsFreeOfPlace, IsNothingAtDefault, IsPassedOver, IsSameAtAnySteps, StaysAtDefault};
+ghost use Rattle.subsetter_variation.specs.VariationLaws.{AreAscending, AreFaultsNamed, IsBetweenNothingAndFull, IsExactAtPeak, IsFreeOfPlace, IsNothingAtDefault, IsPassedOver, IsSameAtAnySteps, StaysAtDefault};
 
 /// At the scalar 0 nothing moves.
 pub fn is_still()
@@ -103,4 +103,14 @@ pub fn is_greatest_at_one()
 /// Before the segments a greater coordinate lies no lower on its axis.
 pub fn never_descends()
     ensures { NeverDescends }
+{}
+
+/// Nor does it through the segments of `avar`.
+pub fn never_descends_bent()
+    ensures { NeverDescendsBent }
+{}
+
+/// A region counts between nothing and in full.
+pub fn is_between_nothing_and_full()
+    ensures { IsBetweenNothingAndFull }
 {}

@@ -5,7 +5,7 @@ use Rattle.subsetter_base.specs.Bytes.{IsBytes, ◌>>=◌}
 use Rattle.subsetter_base.specs.declared.tag.Tag.{Tag}
 use Rattle.subsetter_base.specs.declared.error.Error.{Error}
 use Rattle.subsetter_base.proofs.Options.{just_is, some_not_none}
-use Rattle.subsetter_base.proofs.Results.{done_is, bind_ok, ok_not_err}
+use Rattle.subsetter_base.proofs.Results.{done_is, bind_ok}
 use Rattle.subsetter_sfnt.specs.Fault.{HasOpeningFault}
 use Rattle.subsetter_sfnt.specs.Plain.{opened, flavored}
 use Rattle.subsetter_sfnt.specs.Read.{Font, table_in, stored}
@@ -14,10 +14,13 @@ use Rattle.subsetter_instance.specs.Source.{Source, place, source_in}
 use Rattle.subsetter_instance.specs.Drawn.{Drawn, drawn}
 use Rattle.subsetter_instance.specs.Lines.{Lines, lines_of}
 use Rattle.subsetter_instance.specs.Plain.{drawn_all, by_flavor, instance_of}
-use Rattle.subsetter_instance.specs.Fault.{HasGlyphFault, HasInstanceFault, in_opening, no_glyf, no_place, other_version, no_source, in_glyph, no_lines, large_file}
+use Rattle.subsetter_instance.specs.Fault.{HasGlyphFault, HasInstanceFault, in_opening, no_glyf, in_place, in_versions, in_source, in_glyph, in_lines, large_file}
 use Rattle.subsetter_instance.specs.Answer.{IsAnswer}
 use Rattle.subsetter_instance.proofs.FaultLaws.Opening.{no_opening_fault}
 use Rattle.subsetter_instance.proofs.FaultLaws.Glyph.{drawn_clean}
+use Rattle.subsetter_instance.proofs.FaultLaws.Lines.{lines_clean}
+use Rattle.subsetter_instance.proofs.FaultLaws.Place.{place_clean}
+use Rattle.subsetter_instance.proofs.FaultLaws.Source.{tables_clean, other_version_of}
 use Rattle.subsetter_instance.proofs.FileLaws.Among.{is_among, drawn_one}
 use Rattle.subsetter_instance.proofs.FileLaws.Instance.{is_instance}
 use Rattle.subsetter_instance.proofs.FileLaws.Steps.{laid_tables, source_glyf, InstanceSteps, font_steps}
@@ -48,11 +51,11 @@ module _ (font : Font) (settings : List (Tag × ℤ)) (glyphs : List ℕ) (steps
   no_fault : (e : Error) → (HasOpeningFault font e → ⊥) → HasInstanceFault font settings glyphs steps e → ⊥
   no_fault e opening (in_opening f) = opening f
   no_fault e opening (no_glyf none cff) = let g = source_glyf (stored font) (length i.at) i.source i.source_is in some_not_none (stored font (codes "glyf")) g.0 g.1 none
-  no_fault e opening (no_place h) = ok_not_err (place (stored font) settings) i.at e i.place_is h
-  no_fault e opening (other_version h) = let clash : true ≡ false = sym h ∙ i.known in cc
-  no_fault e opening (no_source at p h) = some_not_none (source_in (stored font) (length at)) i.source (ap (λ (l : List ℤ). source_in (stored font) (length l)) (sym (same_place at p)) ∙ i.source_is) h
+  no_fault e opening (in_place f) = place_clean (stored font) settings i.at e i.place_is f
+  no_fault e opening (in_versions f) = let clash : true ≡ false = sym (other_version_of (stored font) e f) ∙ i.known in cc
+  no_fault e opening (in_source at p f) = tables_clean (stored font) (length at) i.source (ap (λ (l : List ℤ). source_in (stored font) (length l)) (sym (same_place at p)) ∙ i.source_is) f
   no_fault e opening (in_glyph at s g p h there f) = no_fault_in e at s g (same_place at p) (same_source at s p h) there f
-  no_fault e opening (no_lines at p h) = ok_not_err (lines_of (stored font) i.at) i.lines e i.lines_are (ap (lines_of (stored font)) (same_place at p) ∙ h)
+  no_fault e opening (in_lines at p f) = lines_clean (stored font) at i.lines e (ap (lines_of (stored font)) (sym (same_place at p)) ∙ i.lines_are) f
   no_fault e opening (large_file at s ds l head p h drawn varies at_head f) = not_large at s ds l head (same_place at p) (same_source at s p h) drawn varies at_head f
 
 -- a font that was opened, and whose outlines are of a known kind

@@ -16,6 +16,7 @@ use Rattle.subsetter_instance.specs.Source.{Source, metric}
 use Rattle.subsetter_instance.specs.Unfolded.{Unfolded, unfolded}
 use Rattle.subsetter_instance.specs.Drawn.{Drawn, advance, bearing, points_or_fault, drawn_if_fit, rounded, levels, drawn}
 use Rattle.subsetter_instance.specs.Plain.{drawn_if, drawn_all}
+use Rattle.subsetter_instance.proofs.FaultLaws.Tables.{hmtx_missing, hmtx_refused}
 use Rattle.subsetter_instance.specs.Fault.{HasGlyphFault, no_glyph, no_metric, in_walk, in_advance, far_point, large_outline}
 use Rattle.subsetter_instance.proofs.FaultLaws.Walk.{walk_refused, walk_stops}
 use Rattle.subsetter_instance.proofs.FaultLaws.Rounded.{advance_refused, advance_stops, points_refused, points_stop}
@@ -45,7 +46,7 @@ module _ (s : Source) (at : List ℤ) (steps g : ℕ) where
   unfolding drawn
   undrawn e h =
       elim (bind_err (ok_or (metric s g) MalformedFont) (λ m. unfolded levels s at steps g >>= λ u. rounded s at g m u.0) e h) [
-        | inl k ↦ let n = named_err (metric s g) MalformedFont e k in subst (HasGlyphFault s at steps g) n.1 (no_metric n.0)
+        | inl k ↦ let n = named_err (metric s g) MalformedFont e k in subst (HasGlyphFault s at steps g) n.1 (no_metric (hmtx_refused s g n.0))
         | inr k ↦ elim (bind_err (unfolded levels s at steps g) (λ u. rounded s at g k.0 u.0) e k.2) [
           | inl l ↦ in_walk (walk_refused s at levels steps g e l)
           | inr l ↦ unrounded k.0 l.0 e (named_ok (metric s g) MalformedFont k.0 k.1) l.1 l.2
@@ -111,7 +112,7 @@ same_unfolded s at steps g t u h = done_is t.u u (sym t.u_is ∙ h)
 
 no_glyph_fault : (s : Source) (at : List ℤ) (steps g : ℕ) (e : Error) → DrawnSteps s at steps g → HasGlyphFault s at steps g e → ⊥
 no_glyph_fault s at steps g e t (no_glyph le) = let lt = t.counted in omega arith
-no_glyph_fault s at steps g e t (no_metric none) = some_not_none (metric s g) t.m t.m_is none
+no_glyph_fault s at steps g e t (no_metric f) = some_not_none (metric s g) t.m t.m_is (hmtx_missing s g f)
 no_glyph_fault s at steps g e t (in_walk f) = ok_not_err (unfolded levels s at steps g) t.u e t.u_is (walk_stops s at levels steps g e f)
 no_glyph_fault s at steps g e t (in_advance m u m_is u_is f) =
     ok_not_err (advance s.hvar at g m.advance (u.0.right -ℤ u.0.left)) t.width e

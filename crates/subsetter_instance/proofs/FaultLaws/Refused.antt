@@ -17,10 +17,13 @@ use Rattle.subsetter_instance.specs.Source.{Source, place, source_in, source_or_
 use Rattle.subsetter_instance.specs.Drawn.{Drawn}
 use Rattle.subsetter_instance.specs.Lines.{Lines, lines_of}
 use Rattle.subsetter_instance.specs.Plain.{drawn_all, header, laid, instance_in, by_flavor, instance_of}
-use Rattle.subsetter_instance.specs.Fault.{HasInstanceFault, in_opening, no_glyf, no_place, other_version, no_source, in_glyph, no_lines, large_file}
+use Rattle.subsetter_instance.specs.Fault.{HasInstanceFault, in_opening, no_glyf, in_place, in_versions, in_source, in_glyph, in_lines, large_file}
 use Rattle.subsetter_instance.specs.Answer.{HasNoAnswer}
 use Rattle.subsetter_instance.proofs.FaultLaws.Opening.{same_find, unflavored, is_cff}
 use Rattle.subsetter_instance.proofs.FaultLaws.Glyph.{not_all_drawn}
+use Rattle.subsetter_instance.proofs.FaultLaws.Lines.{lines_refused}
+use Rattle.subsetter_instance.proofs.FaultLaws.Place.{place_refused}
+use Rattle.subsetter_instance.proofs.FaultLaws.Source.{tables_refused, versions_refused}
 use Rattle.subsetter_instance.proofs.FileLaws.Steps.{laid_tables, source_read, source_refused, source_steps}
 
 -- a file that isn't laid out is too large
@@ -55,7 +58,7 @@ module _ (font : Font) (settings : List (Tag × ℤ)) (glyphs : List ℕ) (steps
     unvaried : (ds : List Drawn) → drawn_all s at steps glyphs ≡ Ok ds → (lines_of (stored font) at >>= λ l. laid (stored font) l s glyphs ds) ≡ Err e → Faulty
     unvaried ds drawn h =
         elim (bind_err (lines_of (stored font) at) (λ l. laid (stored font) l s glyphs ds) e h) [
-          | inl k ↦ no_lines at placed k
+          | inl k ↦ let t = source_steps (stored font) (length at) s read in in_lines at placed (lines_refused (stored font) at t.hhea e t.hhea_is k)
           | inr k ↦ unlaid ds k.0 drawn k.1 k.2
         ]
 
@@ -70,8 +73,8 @@ module _ (font : Font) (settings : List (Tag × ℤ)) (glyphs : List ℕ) (steps
   unread at placed h =
       elim (bind_err (source_or_fault (stored font) (length at)) (λ s. drawn_all s at steps glyphs >>= λ ds. lines_of (stored font) at >>= λ l. laid (stored font) l s glyphs ds) e h) [
         | inl k ↦ elim (source_refused (stored font) (length at) e k) [
-          | inl n ↦ subst (HasInstanceFault font settings glyphs steps) n.1 (other_version n.0)
-          | inr n ↦ subst (HasInstanceFault font settings glyphs steps) n.1 (no_source at placed n.0)
+          | inl n ↦ subst (HasInstanceFault font settings glyphs steps) n.1 (in_versions (versions_refused (stored font) n.0))
+          | inr n ↦ subst (HasInstanceFault font settings glyphs steps) n.1 (in_source at placed (tables_refused (stored font) (length at) n.0))
         ]
         | inr k ↦ unmade at k.0 placed (source_read (stored font) (length at) k.0 k.1).1 k.2
       ]
@@ -80,7 +83,7 @@ module _ (font : Font) (settings : List (Tag × ℤ)) (glyphs : List ℕ) (steps
   unfolding instance_in
   in_tables h =
       elim (bind_err (place (stored font) settings) (λ at. source_or_fault (stored font) (length at) >>= λ s. drawn_all s at steps glyphs >>= λ ds. lines_of (stored font) at >>= λ l. laid (stored font) l s glyphs ds) e h) [
-        | inl k ↦ no_place k
+        | inl k ↦ in_place (place_refused (stored font) settings e k)
         | inr k ↦ unread k.0 k.1 k.2
       ]
 

@@ -12,7 +12,8 @@ use Rattle.subsetter_variation.specs.Nearest.{nearest}
 use Rattle.subsetter_variation.specs.ItemVariations.{advance_delta, in_whole_units, whole_or_fault}
 use Rattle.subsetter_variation.proofs.GvarFaults.{behind, behind_error}
 use Rattle.subsetter_instance.specs.Drawn.{advance, advance_or_fault, point_or_fault, points_or_fault, whole}
-use Rattle.subsetter_instance.specs.RoundedFault.{HasAdvanceFault, HasFarPoint, IsWide, no_item, large_item, wide_by_item, wide, far_first, far_later}
+use Rattle.subsetter_instance.proofs.FaultLaws.Hvar.{hvar_refused, hvar_clean}
+use Rattle.subsetter_instance.specs.RoundedFault.{HasAdvanceFault, HasFarPoint, IsWide, in_hvar, large_item, wide_by_item, wide, far_first, far_later}
 
 -- ---- advances
 
@@ -29,7 +30,7 @@ wide_stops v h =
     ap (λ b. cond b (done {A = ℕ} 0) (cond (nat_lt (unsigned_abs v) (2 ^ 16)) (done {A = ℕ} (unsigned_abs v)) (Err OverflowError))) h.0
     ∙ ap (λ b. cond b (done {A = ℕ} (unsigned_abs v)) (Err OverflowError)) h.1
 
-large_refused : (d : ℤ) (e : Error) → in_whole_units d ≡ Err e → (2 ^ 62 ≤ unsigned_abs d) × (OverflowError ≡ e)
+pub large_refused : (d : ℤ) (e : Error) → in_whole_units d ≡ Err e → (2 ^ 62 ≤ unsigned_abs d) × (OverflowError ≡ e)
 large_refused d e h = by (nat_lt (unsigned_abs d) (2 ^ 62)) refl h
   where
     by : (b : Bool) → nat_lt (unsigned_abs d) (2 ^ 62) ≡ b → cond b (done {A = ℤ} (nearest d (2 ^ 30))) (Err OverflowError) ≡ Err e → (2 ^ 62 ≤ unsigned_abs d) × (OverflowError ≡ e)
@@ -40,8 +41,11 @@ large_is : (d : ℤ) (b : Bool) → nat_lt (unsigned_abs d) (2 ^ 62) ≡ b → 2
 large_is d true t h = let lt = ltb-true (unsigned_abs d) (2 ^ 62) t in absurd (omega arith)
 large_is d false t h = refl
 
+pub large_stops : (d : ℤ) → 2 ^ 62 ≤ unsigned_abs d → in_whole_units d ≡ Err OverflowError
+large_stops d large = large_is d (nat_lt (unsigned_abs d) (2 ^ 62)) refl large
+
 item_refused : (bytes : List ℕ) (at : List ℤ) (g before : ℕ) (width : ℤ) (o : Option ℤ) (e : Error) → advance_delta bytes at g ≡ o → whole_or_fault o ≡ Err e → HasAdvanceFault (Some bytes) at g before width e
-item_refused bytes at g before width None e is h = subst (HasAdvanceFault (Some bytes) at g before width) (failed_is {A = ℤ} MalformedFont e h) (no_item bytes refl is)
+item_refused bytes at g before width None e is h = subst (HasAdvanceFault (Some bytes) at g before width) (failed_is {A = ℤ} MalformedFont e h) (in_hvar bytes refl (hvar_refused bytes at g is))
 item_refused bytes at g before width (Some d) e is h = let f = large_refused d e h in subst (HasAdvanceFault (Some bytes) at g before width) f.1 (large_item bytes d refl is f.0)
 
 pub advance_refused : (hvar : Option (List ℕ)) (at : List ℤ) (g before : ℕ) (width : ℤ) (e : Error) → advance hvar at g before width ≡ Err e → HasAdvanceFault hvar at g before width e
@@ -53,11 +57,15 @@ advance_refused (Some bytes) at g before width e h =
     ]
 
 pub advance_stops : (hvar : Option (List ℕ)) (at : List ℤ) (g before : ℕ) (width : ℤ) (e : Error) → HasAdvanceFault hvar at g before width e → advance hvar at g before width ≡ Err e
-advance_stops hvar at g before width _ (no_item bytes is none) =
-    ap (λ h. advance h at g before width) is ∙ ap (λ o. whole_or_fault o >>= λ d. advance_or_fault (pos before +ℤ d)) none
+advance_stops hvar at g before width _ (in_hvar bytes is f) =
+    ap (λ h. advance h at g before width) is ∙ ap (λ o. whole_or_fault o >>= λ d. advance_or_fault (pos before +ℤ d)) (missing (advance_delta bytes at g) refl)
+  where
+    missing : (o : Option ℤ) → advance_delta bytes at g ≡ o → o ≡ None
+    missing None is = refl
+    missing (Some d) is = absurd (hvar_clean bytes at g d is f)
 advance_stops hvar at g before width _ (large_item bytes d is there large) =
     ap (λ h. advance h at g before width) is ∙ ap (λ o. whole_or_fault o >>= λ d. advance_or_fault (pos before +ℤ d)) there
-    ∙ behind_error (in_whole_units d) (λ d. advance_or_fault (pos before +ℤ d)) OverflowError (large_is d (nat_lt (unsigned_abs d) (2 ^ 62)) refl large)
+    ∙ behind_error (in_whole_units d) (λ d. advance_or_fault (pos before +ℤ d)) OverflowError (large_stops d large)
 advance_stops hvar at g before width _ (wide_by_item bytes d is there h) =
     ap (λ h. advance h at g before width) is ∙ behind (whole_or_fault (advance_delta bytes at g)) (λ d. advance_or_fault (pos before +ℤ d)) d there ∙ wide_stops (pos before +ℤ d) h
 advance_stops hvar at g before width _ (wide is h) = ap (λ h. advance h at g before width) is ∙ wide_stops (whole width) h

@@ -1,5 +1,5 @@
 -- A glyph with its components isn't unfolded exactly where it has a fault.
-use Rattle.std.proofs.Common.{◌≡◌, ℕ, zero, suc, ◌+◌, ◌-◌, ◌<◌, ◌≤◌, Bool, true, false, cond, List, [], ◌∷◌, ◌++◌, length, Option, Some, None, Result, Ok, Err, ℤ, pos, refl, sym, ap, subst, ◌∙◌, inl, inr, ◌⊎◌, arith}
+use Rattle.std.proofs.Common.{◌≡◌, ℕ, zero, suc, ◌+◌, ◌<◌, ◌≤◌, Bool, true, false, cond, List, [], ◌∷◌, ◌++◌, length, Option, Some, None, Result, Ok, Err, ℤ, pos, refl, sym, ap, subst, ◌∙◌, inl, inr, ◌⊎◌, arith}
 use Rattle.std.specs.Prelude.{◌&&◌, ◌-ℤ◌, nat_lt, slice_index_or}
 use Rattle.std.specs.Option.{ok_or}
 use Rattle.std.proofs.lemmas.Bool.{ltb-false, ltb-true}
@@ -20,7 +20,8 @@ use Rattle.subsetter_instance.specs.declared.source.Metric.{Metric}
 use Rattle.subsetter_instance.specs.Components.{component_at, components_at}
 use Rattle.subsetter_instance.specs.Source.{Source, metric}
 use Rattle.subsetter_instance.specs.Unfolded.{Child, Composite, Unfolded, are_near, composite, counted_description, is_composite, is_scaled, joined, joined_or_fault, joined_parts, left_point, matched, moved, near_or_fault, no_points, placed, point_at, right_point, shift_by, shifted, simple_outline, transformed_xs, transformed_ys, unfolded, unfolded_composite, unfolded_simple, with_component, with_metrics, with_part}
-use Rattle.subsetter_instance.specs.WalkFault.{HasComponentFault, HasCompositeFault, HasPlacingFault, HasSimpleFault, HasWalkFault, IsAtComponent, IsFar, default_offsets, default_points, cut_component, far_component, far_outline, few_steps_for_glyph, few_steps_for_points, in_component, in_components, in_composite, in_offset_variations, in_place, in_point_variations, in_simple, later_component, many_points, no_child, no_description, no_header, no_metric_for_glyph, no_outline, no_parent, no_step, scaled_offset, too_deep}
+use Rattle.subsetter_instance.proofs.FaultLaws.Tables.{description_missing, description_refused, hmtx_missing, hmtx_refused}
+use Rattle.subsetter_instance.specs.WalkFault.{HasComponentFault, HasCompositeFault, HasPlacingFault, HasSimpleFault, HasWalkFault, IsAtComponent, IsFar, default_offsets, default_points, cut_component, far_component, far_outline, few_steps_for_glyph, few_steps_for_points, in_component, in_components, in_composite, in_offset_variations, in_place, in_point_variations, in_simple, later_component, many_points, no_child, in_description, no_header, in_hmtx, no_outline, no_parent, no_step, scaled_offset, too_deep}
 
 -- ---- points that move, and are near
 
@@ -367,9 +368,9 @@ module _ (s : Source) (at : List ℤ) where
   walk_refused zero steps g e h = subst (HasWalkFault s at zero steps g) (failed_is {A = Unfolded × ℕ} MalformedFont e h) (too_deep steps g)
   walk_refused (suc depth) steps g e h =
       elim (bind_err (ok_or (counted_description s g) MalformedFont) (measured depth steps g) e h) [
-        | inl k ↦ let f = named_err (counted_description s g) MalformedFont e k in subst (HasWalkFault s at (suc depth) steps g) f.1 (no_description depth steps g f.0)
+        | inl k ↦ let f = named_err (counted_description s g) MalformedFont e k in subst (HasWalkFault s at (suc depth) steps g) f.1 (in_description depth steps g (description_refused s g f.0))
         | inr k ↦ elim (bind_err (ok_or (metric s g) MalformedFont) (by_kind depth steps g k.0) e k.2) [
-          | inl l ↦ let f = named_err (metric s g) MalformedFont e l in subst (HasWalkFault s at (suc depth) steps g) f.1 (no_metric_for_glyph depth steps g k.0 (named_ok (counted_description s g) MalformedFont k.0 k.1) f.0)
+          | inl l ↦ let f = named_err (metric s g) MalformedFont e l in subst (HasWalkFault s at (suc depth) steps g) f.1 (in_hmtx depth steps g k.0 (named_ok (counted_description s g) MalformedFont k.0 k.1) (hmtx_refused s g f.0))
           | inr l ↦ kind_refused depth steps g k.0 l.0 e (λ left h. walk_refused depth left h e) (named_ok (counted_description s g) MalformedFont k.0 k.1) (named_ok (metric s g) MalformedFont l.0 l.1) (is_composite k.0) refl l.2
         ]
       ]
@@ -391,8 +392,8 @@ module _ (s : Source) (at : List ℤ) where
   pub walk_stops : (depth steps g : ℕ) (e : Error) → HasWalkFault s at depth steps g e → unfolded depth s at steps g ≡ Err e
   unfolding unfolded unfolded_composite
   walk_stops _ _ _ _ (too_deep steps g) = refl
-  walk_stops _ _ _ _ (no_description depth steps g none) = behind_missing (counted_description s g) MalformedFont (measured depth steps g) none
-  walk_stops _ _ _ _ (no_metric_for_glyph depth steps g bytes is none) = behind_named (counted_description s g) MalformedFont (measured depth steps g) bytes is ∙ behind_missing (metric s g) MalformedFont (by_kind depth steps g bytes) none
+  walk_stops _ _ _ _ (in_description depth steps g f) = behind_missing (counted_description s g) MalformedFont (measured depth steps g) (description_missing s g f)
+  walk_stops _ _ _ _ (in_hmtx depth steps g bytes is f) = behind_named (counted_description s g) MalformedFont (measured depth steps g) bytes is ∙ behind_missing (metric s g) MalformedFont (by_kind depth steps g bytes) (hmtx_missing s g f)
   walk_stops _ _ _ e (in_simple depth steps g bytes m is m_is kind f) =
       behind_named (counted_description s g) MalformedFont (measured depth steps g) bytes is ∙ behind_named (metric s g) MalformedFont (by_kind depth steps g bytes) m m_is
       ∙ ap (λ b. cond b (unfolded_composite (unfolded depth s at) s at steps g bytes m) (unfolded_simple s at steps g bytes m)) kind ∙ simple_stops s at steps g bytes m e f

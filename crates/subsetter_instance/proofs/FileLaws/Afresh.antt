@@ -60,7 +60,7 @@ module _ (font : Font) (settings : List (Tag × ℤ)) (glyphs : List ℕ) (steps
 
   -- ---- the source
 
-  read : SourceSteps (stored font) i.source
+  read : SourceSteps (stored font) (length i.at) i.source
   read = source_steps (stored font) (length i.at) i.source i.source_is
 
   long_head : 52 ≤ length i.head

@@ -25,7 +25,9 @@ use Rattle.subsetter_instance.specs.Written.{by_glyph, tables}
 -- ---- the source
 
 -- what was read of the tables
-pub record SourceSteps (find : List ℕ → Option (List ℕ)) (s : Source) : Type 0 where
+pub record SourceSteps (find : List ℕ → Option (List ℕ)) (axes : ℕ) (s : Source) : Type 0 where
+  pub loca : List ℕ
+  pub loca_is : find (codes "loca") ≡ Some loca
   pub head : List ℕ
   pub head_is : find (codes "head") ≡ Some head
   pub format : ℕ
@@ -36,40 +38,44 @@ pub record SourceSteps (find : List ℕ → Option (List ℕ)) (s : Source) : Ty
   pub hhea : List ℕ
   pub hhea_is : find (codes "hhea") ≡ Some hhea
   pub pairs_is : number hhea 34 2 ≡ Some s.pairs
+  pub hmtx : List ℕ
+  pub hmtx_is : find (codes "hmtx") ≡ Some hmtx
+  pub gvar : Option Gvar
+  pub gvar_is : variations_in (find (codes "gvar")) axes ≡ Some gvar
 
 -- what is read after each of the tables
 module _ (find : List ℕ → Option (List ℕ)) (axes : ℕ) where
-  abbrev made : List ℕ → List ℕ → ℕ → ℕ → ℕ → List ℕ → Option Gvar → Option Source
+  abbrev pub made : List ℕ → List ℕ → ℕ → ℕ → ℕ → List ℕ → Option Gvar → Option Source
   made glyf loca format count pairs hmtx gvar = Some (record { glyf = glyf; loca = loca; long = not (format == 0); count = count; pairs = pairs; hmtx = hmtx; gvar = gvar; hvar = find (codes "HVAR") })
 
-  abbrev after_hmtx : List ℕ → List ℕ → ℕ → ℕ → ℕ → List ℕ → Option Source
+  abbrev pub after_hmtx : List ℕ → List ℕ → ℕ → ℕ → ℕ → List ℕ → Option Source
   after_hmtx glyf loca format count pairs hmtx = option_and_then (made glyf loca format count pairs hmtx) (variations_in (find (codes "gvar")) axes)
 
-  abbrev after_pairs : List ℕ → List ℕ → ℕ → ℕ → ℕ → Option Source
+  abbrev pub after_pairs : List ℕ → List ℕ → ℕ → ℕ → ℕ → Option Source
   after_pairs glyf loca format count pairs = option_and_then (after_hmtx glyf loca format count pairs) (find (codes "hmtx"))
 
-  abbrev after_hhea : List ℕ → List ℕ → ℕ → ℕ → List ℕ → Option Source
+  abbrev pub after_hhea : List ℕ → List ℕ → ℕ → ℕ → List ℕ → Option Source
   after_hhea glyf loca format count hhea = option_and_then (after_pairs glyf loca format count) (number hhea 34 2)
 
-  abbrev after_count : List ℕ → List ℕ → ℕ → ℕ → Option Source
+  abbrev pub after_count : List ℕ → List ℕ → ℕ → ℕ → Option Source
   after_count glyf loca format count = option_and_then (after_hhea glyf loca format count) (find (codes "hhea"))
 
-  abbrev after_maxp : List ℕ → List ℕ → ℕ → List ℕ → Option Source
+  abbrev pub after_maxp : List ℕ → List ℕ → ℕ → List ℕ → Option Source
   after_maxp glyf loca format maxp = option_and_then (after_count glyf loca format) (number maxp 4 2)
 
-  abbrev after_format : List ℕ → List ℕ → ℕ → Option Source
+  abbrev pub after_format : List ℕ → List ℕ → ℕ → Option Source
   after_format glyf loca format = option_and_then (after_maxp glyf loca format) (find (codes "maxp"))
 
-  abbrev after_head : List ℕ → List ℕ → List ℕ → Option Source
+  abbrev pub after_head : List ℕ → List ℕ → List ℕ → Option Source
   after_head glyf loca head = option_and_then (after_format glyf loca) (number head 50 2)
 
-  abbrev after_loca : List ℕ → List ℕ → Option Source
+  abbrev pub after_loca : List ℕ → List ℕ → Option Source
   after_loca glyf loca = option_and_then (after_head glyf loca) (find (codes "head"))
 
-  abbrev after_glyf : List ℕ → Option Source
+  abbrev pub after_glyf : List ℕ → Option Source
   after_glyf glyf = option_and_then (after_loca glyf) (find (codes "loca"))
 
-  in_turn : source_in find axes ≡ option_and_then after_glyf (find (codes "glyf"))
+  pub in_turn : source_in find axes ≡ option_and_then after_glyf (find (codes "glyf"))
   unfolding source_in
   in_turn = refl
 
@@ -82,6 +88,10 @@ module _ (find : List ℕ → Option (List ℕ)) (axes : ℕ) where
     hhea : List ℕ
     hhea_is : find (codes "hhea") ≡ Some hhea
     pairs_is : number hhea 34 2 ≡ Some s.pairs
+    hmtx : List ℕ
+    hmtx_is : find (codes "hmtx") ≡ Some hmtx
+    gvar : Option Gvar
+    gvar_is : variations_in (find (codes "gvar")) axes ≡ Some gvar
 
   widths : (s : Source) (glyf loca : List ℕ) (format : ℕ) (maxp : List ℕ) → after_maxp glyf loca format maxp ≡ Some s → Widths s glyf loca format maxp
   widths s glyf loca format maxp h =
@@ -91,9 +101,9 @@ module _ (find : List ℕ → Option (List ℕ)) (axes : ℕ) where
       let j = bind_some (find (codes "hmtx")) (after_hmtx glyf loca format f.0 i.0) s i.2 in
       let k = bind_some (variations_in (find (codes "gvar")) axes) (made glyf loca format f.0 i.0 j.0) s j.2 in
       let is = just_is (record { glyf = glyf; loca = loca; long = not (format == 0); count = f.0; pairs = i.0; hmtx = j.0; gvar = k.0; hvar = find (codes "HVAR") }) s k.2 in
-      record { count_is = f.1 ∙ ap (λ (t : Source). Some t.count) is; hhea = g.0; hhea_is = g.1; pairs_is = i.1 ∙ ap (λ (t : Source). Some t.pairs) is }
+      record { count_is = f.1 ∙ ap (λ (t : Source). Some t.count) is; hhea = g.0; hhea_is = g.1; pairs_is = i.1 ∙ ap (λ (t : Source). Some t.pairs) is; hmtx = j.0; hmtx_is = j.1; gvar = k.0; gvar_is = k.1 }
 
-  pub source_steps : (s : Source) → source_in find axes ≡ Some s → SourceSteps find s
+  pub source_steps : (s : Source) → source_in find axes ≡ Some s → SourceSteps find axes s
   source_steps s h =
       let a = bind_some (find (codes "glyf")) after_glyf s (sym in_turn ∙ h) in
       let b = bind_some (find (codes "loca")) (after_loca a.0) s a.2 in
@@ -101,7 +111,7 @@ module _ (find : List ℕ → Option (List ℕ)) (axes : ℕ) where
       let d = bind_some (number c.0 50 2) (after_format a.0 b.0) s c.2 in
       let e = bind_some (find (codes "maxp")) (after_maxp a.0 b.0 d.0) s d.2 in
       let w = widths s a.0 b.0 d.0 e.0 e.2 in
-      record { head = c.0; head_is = c.1; format = d.0; format_is = d.1; maxp = e.0; maxp_is = e.1; count_is = w.count_is; hhea = w.hhea; hhea_is = w.hhea_is; pairs_is = w.pairs_is }
+      record { loca = b.0; loca_is = b.1; head = c.0; head_is = c.1; format = d.0; format_is = d.1; maxp = e.0; maxp_is = e.1; count_is = w.count_is; hhea = w.hhea; hhea_is = w.hhea_is; pairs_is = w.pairs_is; hmtx = w.hmtx; hmtx_is = w.hmtx_is; gvar = w.gvar; gvar_is = w.gvar_is }
 
 -- tables of version 1 that were read
 pub source_read : (find : List ℕ → Option (List ℕ)) (axes : ℕ) (s : Source) → source_or_fault find axes ≡ Ok s → (has_other_version find ≡ false) × (source_in find axes ≡ Some s)

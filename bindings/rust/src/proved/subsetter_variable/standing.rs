@@ -20,7 +20,7 @@ fn are_zero(at: &[i32]) -> bool {
 /// # Errors
 ///
 /// - `MalformedFont`: `fvar` or `avar` is cut.
-/// - `Unimplemented`: `avar` has a major version other than 1.
+/// - `Unimplemented`: `fvar` or `avar` has a major version other than 1.
 /// - `OutOfMemory`: a request for memory was refused. None is made for a font without outlines in `glyf`.
 fn is_at_default(
     alloc: Global,
@@ -48,7 +48,7 @@ fn is_at_default(
 /// # Errors
 ///
 /// - `MalformedFont`: there is `glyf`, and `fvar` or `avar` is cut.
-/// - `Unimplemented`: there is `glyf`, and `avar` has a major version other than 1.
+/// - `Unimplemented`: there is `glyf`, and `fvar` or `avar` has a major version other than 1.
 /// - Those of `instance`, for a font that isn't at its default.
 /// - `OutOfMemory`: a request for memory was refused. None is made for a font without outlines in `glyf`.
 pub fn static_font(

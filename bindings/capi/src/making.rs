@@ -1,0 +1,87 @@
+//! Handing an answer over in memory of the library.
+
+use crate::heap::give_back;
+use crate::status::DONE;
+use fonts::Embedded;
+use std::ptr;
+
+/// Lists that the caller reads, and gives back by `subsetter_free`. An empty one is null and takes no memory.
+#[repr(C)]
+pub struct Made {
+    /// The bytes of the font.
+    pub font: *const u8,
+    /// How many they are.
+    pub font_size: usize,
+    /// The CID of each given glyph.
+    pub cids: *const u16,
+    /// How many they are.
+    pub cid_count: usize,
+    /// The width of each CID.
+    pub widths: *const u32,
+    /// How many they are.
+    pub width_count: usize,
+}
+
+impl Made {
+    /// Nothing.
+    pub const NOTHING: Self = Self {
+        font: ptr::null(),
+        font_size: 0,
+        cids: ptr::null(),
+        cid_count: 0,
+        widths: ptr::null(),
+        width_count: 0,
+    };
+
+    /// Gives all lists back.
+    ///
+    /// # Safety
+    ///
+    /// The lists were handed over by this module, and aren't used again.
+    pub unsafe fn give_back(&self) {
+        unsafe {
+            give_back(self.font, self.font_size);
+            give_back(self.cids, self.cid_count);
+            give_back(self.widths, self.width_count);
+        }
+    }
+}
+
+/// A list that stays until it is given back, as a pointer and a count.
+fn kept<T>(items: Vec<T>) -> (*const T, usize) {
+    // (room may be there without items)
+    if items.is_empty() {
+        return (ptr::null(), 0);
+    }
+    let items = items.leak();
+    (items.as_ptr(), items.len())
+}
+
+/// A font with its CIDs and widths, and the status.
+pub fn make(answer: Result<Embedded, u32>) -> (Made, u32) {
+    let embedded = match answer {
+        Ok(embedded) => embedded,
+        Err(status) => return (Made::NOTHING, status),
+    };
+    let (font, font_size) = kept(embedded.font);
+    let (cids, cid_count) = kept(embedded.cids);
+    let (widths, width_count) = kept(embedded.widths);
+    let made = Made {
+        font,
+        font_size,
+        cids,
+        cid_count,
+        widths,
+        width_count,
+    };
+    (made, DONE)
+}
+
+/// A subset alone.
+pub fn alone(font: Vec<u8>) -> Embedded {
+    Embedded {
+        font,
+        cids: Vec::new(),
+        widths: Vec::new(),
+    }
+}

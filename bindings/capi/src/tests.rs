@@ -1,0 +1,221 @@
+//! What the tests in C can't see: a panic, and lists of no items at all pointers.
+
+use crate::buffers::Sizes;
+use crate::calls::*;
+use crate::making::Made;
+use crate::status::{status_text, DONE, PANICKED, TOO_SMALL, VERSION};
+use fonts::capi::Coordinate;
+use std::cell::Cell;
+use std::ptr::{null, null_mut};
+
+thread_local! {
+    static PANICS: Cell<bool> = const { Cell::new(false) };
+}
+
+/// Stands for a fault of the crate: each call runs it where it could panic.
+pub fn panic_where_wanted() {
+    if PANICS.with(Cell::get) {
+        panic!("as the test wants it");
+    }
+}
+
+/// A font whose only table is `CFF `: one glyph, whose charstring is `endchar` alone. Its subset has 164 bytes.
+const FONT: &[u8] = b"OTTO\0\x01\0\x10\0\0\0\0CFF \0\0\0\0\0\0\0\x1c\0\0\0\x1b\x01\0\x04\x01\0\x01\x01\x01\x02A\0\x01\x01\x01\
+    \x03\xa0\x11\0\0\0\0\0\x01\x01\x01\x02\x0e";
+
+/// What a call left.
+#[derive(Debug, PartialEq)]
+struct Left {
+    status: u32,
+    sizes: Sizes,
+    out: [u8; 164],
+    cids: [u16; 1],
+    widths: [u32; 1],
+}
+
+/// All calls that subset a font, on one font, with pointers for lists of no items.
+struct Calls {
+    glyphs: *const u16,
+    words: *const u32,
+    coordinates: *const Coordinate,
+}
+
+const NULLS: Calls = Calls {
+    glyphs: null(),
+    words: null(),
+    coordinates: null(),
+};
+
+impl Calls {
+    /// What each call leaves in buffers of the caller.
+    fn in_buffers(&self, room: usize) -> Vec<Left> {
+        let (font, size, glyphs) = (FONT.as_ptr(), FONT.len(), self.glyphs);
+        let (words, at) = (self.words, self.coordinates);
+        let mut all = Vec::new();
+        for call in 0..7 {
+            let mut left = Left {
+                status: 77,
+                sizes: Sizes::NONE,
+                out: [0xa5; 164],
+                cids: [7],
+                widths: [7],
+            };
+            let (out, length) = (left.out.as_mut_ptr(), &mut left.sizes.font as *mut usize);
+            let (cids, widths) = (left.cids.as_mut_ptr(), left.widths.as_mut_ptr());
+            let sizes = &mut left.sizes as *mut Sizes;
+            // SAFETY: the lists have no items but for the font, and the buffers have so much room.
+            left.status = unsafe {
+                match call {
+                    0 => subsetter_subset(font, size, 0, glyphs, 0, out, room, length),
+                    1 => subsetter_subset_with_limits(
+                        font, size, 0, glyphs, 0, 1, 1, out, room, length,
+                    ),
+                    2 => subsetter_subset_by_words(
+                        font, size, 0, glyphs, 0, words, 0, out, room, length,
+                    ),
+                    3 => subsetter_subset_at_by_words(
+                        font, size, 0, at, 0, glyphs, 0, words, 0, out, room, length,
+                    ),
+                    4 => subsetter_embed(
+                        font, size, 0, glyphs, 0, out, room, cids, 1, widths, 1, sizes,
+                    ),
+                    5 => subsetter_embed_by_words(
+                        font, size, 0, glyphs, 0, words, 0, out, room, cids, 1, widths, 1, sizes,
+                    ),
+                    _ => subsetter_embed_at_by_words(
+                        font, size, 0, at, 0, glyphs, 0, words, 0, out, room, cids, 1, widths, 1,
+                        sizes,
+                    ),
+                }
+            };
+            all.push(left);
+        }
+        all
+    }
+
+    /// What each call makes: its status, and the font's size. All is given back.
+    fn in_memory(&self) -> Vec<(u32, usize)> {
+        let (font, size, glyphs) = (FONT.as_ptr(), FONT.len(), self.glyphs);
+        let (words, at) = (self.words, self.coordinates);
+        let mut all = Vec::new();
+        for call in 0..4 {
+            let mut made = Made {
+                font_size: 77,
+                cid_count: 77,
+                width_count: 77,
+                ..Made::NOTHING
+            };
+            // SAFETY: the lists have no items but for the font.
+            let status = unsafe {
+                match call {
+                    0 => subsetter_make_subset_by_words(
+                        font, size, 0, glyphs, 0, words, 0, &mut made,
+                    ),
+                    1 => subsetter_make_subset_at_by_words(
+                        font, size, 0, at, 0, glyphs, 0, words, 0, &mut made,
+                    ),
+                    2 => subsetter_make_embedded_by_words(
+                        font, size, 0, glyphs, 0, words, 0, &mut made,
+                    ),
+                    _ => subsetter_make_embedded_at_by_words(
+                        font, size, 0, at, 0, glyphs, 0, words, 0, &mut made,
+                    ),
+                }
+            };
+            all.push((status, made.font_size));
+            assert_eq!((made.cid_count, made.width_count), (0, 0));
+            // SAFETY: it was made by the library, or is nothing.
+            unsafe { subsetter_free(&mut made) };
+            assert!(made.font.is_null() && made.font_size == 0);
+        }
+        all
+    }
+}
+
+#[test]
+fn no_panic_reaches_the_caller() {
+    PANICS.with(|it| it.set(true));
+    let in_buffers = NULLS.in_buffers(164);
+    let in_memory = NULLS.in_memory();
+    PANICS.with(|it| it.set(false));
+    for (call, left) in in_buffers.into_iter().enumerate() {
+        let wanted = Left {
+            status: PANICKED,
+            sizes: Sizes::NONE,
+            out: [0xa5; 164],
+            cids: [7],
+            widths: [7],
+        };
+        assert_eq!(left, wanted, "call {call}");
+    }
+    assert_eq!(in_memory, [(PANICKED, 0); 4]);
+    assert_eq!(status_text(PANICKED), b"unknown status");
+}
+
+/// The font has no metrics, so the calls that embed answer 2.
+fn check(calls: &Calls) {
+    for (call, left) in calls.in_buffers(164).iter().enumerate() {
+        let wanted = if call < 4 { (DONE, 164) } else { (2, 0) };
+        assert_eq!((left.status, left.sizes.font), wanted, "call {call}");
+        assert_eq!(left.out == [0xa5; 164], call >= 4, "call {call}");
+    }
+    for (call, left) in calls.in_buffers(163).iter().enumerate() {
+        let wanted = if call < 4 { (TOO_SMALL, 164) } else { (2, 0) };
+        assert_eq!((left.status, left.sizes.font), wanted, "call {call}");
+        assert!(left.out == [0xa5; 164], "call {call}");
+    }
+    assert_eq!(
+        calls.in_memory(),
+        [(DONE, 164), (DONE, 164), (2, 0), (2, 0)]
+    );
+}
+
+#[test]
+fn a_list_of_no_items_may_be_null() {
+    check(&NULLS);
+}
+
+#[test]
+fn a_list_of_no_items_may_be_anywhere() {
+    check(&Calls {
+        glyphs: 1 as *const u16,
+        words: 3 as *const u32,
+        coordinates: usize::MAX as *const Coordinate,
+    });
+}
+
+#[test]
+fn a_font_and_buffers_of_no_bytes_may_be_null() {
+    let mut length = 77;
+    // SAFETY: all counts are 0.
+    let status = unsafe { subsetter_subset(null(), 0, 0, null(), 0, null_mut(), 0, &mut length) };
+    assert_eq!((status, length), (1, 0));
+    let (font, size) = (FONT.as_ptr(), FONT.len());
+    // SAFETY: the buffer has no room.
+    let status = unsafe { subsetter_subset(font, size, 0, null(), 0, null_mut(), 0, &mut length) };
+    assert_eq!((status, length), (TOO_SMALL, 164));
+}
+
+#[test]
+fn nothing_may_be_freed() {
+    // SAFETY: there is nothing to be freed.
+    unsafe {
+        subsetter_free(null_mut());
+        let mut made = Made::NOTHING;
+        subsetter_free(&mut made);
+        subsetter_free(&mut made);
+    }
+}
+
+#[test]
+fn the_version_is_that_of_the_repository() {
+    let version = include_str!("../../../VERSION").trim();
+    assert_eq!(env!("CARGO_PKG_VERSION"), version);
+    let numbers: Vec<u32> = version
+        .split(['.', '+'])
+        .map(|it| it.parse().unwrap())
+        .collect();
+    let wanted = numbers.iter().fold(0, |all, it| all << 8 | it);
+    assert_eq!((numbers.len(), subsetter_version()), (4, wanted));
+    assert_eq!(VERSION, wanted);
+}

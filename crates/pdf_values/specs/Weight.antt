@@ -1,0 +1,31 @@
+-- How bold a font is (OpenType, "OS/2", "usWeightClass"; ISO 32000-1, Table 122).
+use Rattle.std.specs.Prelude.{ℕ, ◌+◌, ◌*◌, ◌/◌, min, max, ◌==◌, nat_le, if◌then◌else◌, List, Option, Some, None}
+use Rattle.std.specs.Option.{option_and_then, unwrap_or}
+use Rattle.pdf_values.specs.Os2.{us_weight_class}
+use Rattle.pdf_values.specs.Head.{mac_style, says_bit}
+
+-- old fonts count from 1 to 9
+abbrev pub in_hundreds : ℕ → ℕ
+in_hundreds n = if nat_le n 9 then 100 * n else n
+
+-- a class above 0; none is above 1000
+abbrev pub class_weight : ℕ → Option ℕ
+class_weight n = if n == 0 then None else Some (min (in_hundreds n) 1000)
+
+-- where `OS/2` says none, bold (bit 0 of macStyle) or regular
+abbrev pub style_weight : Option (List ℕ) → ℕ
+style_weight head = if says_bit (mac_style head) 0 then 700 else 400
+
+abbrev pub weight_of : Option (List ℕ) → Option (List ℕ) → ℕ
+weight_of os2 head = unwrap_or (option_and_then class_weight (us_weight_class os2)) (style_weight head)
+
+-- FontWeight: to the nearest hundred, halves up, from 100 to 900
+abbrev pub font_weight : ℕ → ℕ
+font_weight w = max 100 (min 900 ((w + 50) / 100 * 100))
+
+-- StemV of a font that doesn't say its stems: 10 + 31 w / 200, to the nearest whole number, halves up
+abbrev pub stem_of_weight : ℕ → ℕ
+stem_of_weight w = 10 + (31 * w + 100) / 200
+
+abbrev pub stem_v : Option ℕ → ℕ → ℕ
+stem_v stem w = unwrap_or stem (stem_of_weight w)

@@ -1,0 +1,39 @@
+//! The values that a PDF's font descriptor (ISO 32000-1, 9.8) has of a font that isn't moved along its axes, read of the
+//! font's tables, and what the font permits.
+//!
+//! Each table is a byte slice, or none where the font lacks it. No value refuses a font: a field that is missing or cut
+//! counts as not said, and the next source is taken.
+//!
+//! ```text
+//! let units = units_per_em(head);
+//! let heights = heights_of(hhea, os2, head, None, None, units);   // heights.ascent: 905
+//! let flags = flags_of(post, os2, head, italic_angle(post));      // 70
+//! ```
+#![tactic(auto)]
+
+mod bounds;
+mod descriptor;
+pub mod fields;
+mod flags;
+mod heights;
+mod laws;
+mod lean;
+mod naming;
+mod permission;
+mod rounding;
+#[cfg(test)]
+mod tests;
+mod units;
+mod weight;
+
+pub use bounds::{Bounds, Edges, GlyphBox, bounds_of};
+pub use descriptor::{Known, Tables, Values, values_of};
+pub use flags::flags_of;
+pub use heights::{Heights, heights_of};
+pub use laws::{first_is_taken, none_is_passed};
+pub use lean::italic_angle;
+pub use naming::postscript_name;
+pub use permission::{Permission, Rights, Usage, is_permitted, permission_of};
+pub use rounding::{lowered, raised, thousandths};
+pub use units::units_per_em;
+pub use weight::{font_weight, stem_v, weight_of};
