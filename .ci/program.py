@@ -242,9 +242,81 @@ OLD = b"what stood there before"
 USED = {"out": None}
 
 
-def usage(*all_words):
-    """Rows of words that are told as wrong."""
-    return [Row(words, 2, err=USAGE, after=USED) for words in all_words]
+# ---- what standard error says of wrong arguments: the usage, what is wrong, and what is expected
+
+def wrong(what, wanted):
+    return USAGE + what.encode() + b"\n" + wanted.encode() + b"\n"
+
+
+SEE_HELP = "see subset_font --help"
+WANTED = {
+    "IN": "expected: the file of a font, or - for standard input",
+    "OUT": "expected: a file for the new font, or - for standard output",
+    "INDEX": "expected: the face of a collection, from 0; of other fonts 0",
+    "GID": "expected: glyph numbers as 36,37,38, or --text or --gids-file before IN",
+}
+
+
+def missing(what):
+    return wrong(f"{what} is missing", WANTED[what])
+
+
+def index(word):
+    return wrong(f'INDEX "{word}" is not a number', WANTED["INDEX"])
+
+
+def gid(part):
+    return wrong(f'GID "{part}" is not a glyph number', "expected: numbers from 0 to 65535, with commas, as 36,37,38")
+
+
+def in_list(part):
+    return wrong(f'--gids-file: "{part}" is not a glyph number', "expected: numbers to 65535 and ranges as 36-38, or * alone")
+
+
+def limits(word):
+    return wrong(f'--limits: "{word}" is not TOKENS,DEPTH[,BYTES]', "expected: numbers, as 1000000,64, with DEPTH from 1 to 255")
+
+
+def coordinate(part):
+    return wrong(f'--at: "{part}" is not TAG=VALUE', "expected: a tag and a decimal number, as wght=650")
+
+
+def further(word, wanted="IN OUT INDEX GID, with no blanks between glyph numbers"):
+    return wrong(f'"{word}" is one argument too many', f"expected: {wanted}")
+
+
+def twice(option):
+    return wrong(f"{option} is given twice", "expected: each option at most once")
+
+
+def late(option):
+    return wrong(f"{option} is after IN", "expected: options before IN")
+
+
+def no_value(option):
+    return wrong(f"{option}: its value is missing", SEE_HELP)
+
+
+def no_option(word, nearest=None):
+    return wrong(f"{word} is no option", f"did you mean {nearest}?" if nearest else SEE_HELP)
+
+
+def glyphs_twice(option):
+    return wrong(f"{option}: the glyphs are requested twice", "expected: GID, or --text, or --gids-file")
+
+
+def beside_option(word):
+    return wrong(f'GID "{word}": an option requests the glyphs', "expected: GID, or --text, or --gids-file")
+
+
+INPUT_TWICE = wrong("--gids-file: standard input is requested twice", "expected: - for IN or for FILE, not for both")
+AXES_LATE = wrong("--axes isn't the first argument", "expected: --axes IN INDEX")
+NOT_UTF_8 = wrong("an argument isn't UTF-8", "expected: UTF-8, or - and a redirection for such a file")
+
+
+def usage(*rows):
+    """Rows of words that are wrong, each with what standard error says."""
+    return [Row(words, 2, err=err, after=USED) for words, err in rows]
 
 
 ROWS = [
@@ -255,13 +327,15 @@ ROWS = [
     Row("simple simple 0 2", out=lines((2, 1)), after={"simple": "simple 2"}),
     Row("cff out 0 0", out=lines((0, 0)), same="cff 0"),
     Row("faces out 1 2", out=lines((2, 1)), same="simple 2"),
-    Row("simple out 0 +2", 2, err=USAGE, after=USED),
-    Row("simple out 0", 2, err=USAGE, after=USED),
-    Row("simple out 0 1 2", 2, err=USAGE, after=USED),
-    Row("", 2, err=USAGE),
-    Row([""], 2, err=USAGE),
-    *usage("simple out 0 2,,1", "simple out 0 65536", "simple out 0 0-2", "simple out 4294967296 2", "simple out +0 2",
-           ["simple", "out", "", "2"]),
+    Row("simple out 0 +2", 2, err=gid("+2"), after=USED),
+    Row("simple out 0", 2, err=missing("GID"), after=USED),
+    Row("simple out 0 1 2", 2, err=further("2"), after=USED),
+    Row("", 2, err=missing("IN")),
+    Row([""], 2, err=missing("OUT")),
+    *usage(("simple out 0 2,,1", gid("")), ("simple out 0 65536", gid("65536")), ("simple out 0 0-2", gid("0-2")),
+           ("simple out 4294967296 2", index("4294967296")), ("simple out +0 2", index("+0")), (["simple", "out", "", "2"], index("")),
+           ("simple", missing("OUT")), ("simple out", missing("INDEX")), ("simple out zero 2", index("zero")), ("simple out 0 1,x,y", gid("x")),
+           ("simple out x y", index("x")), ("simple out 0 1 2 3", further("2")), ("- out 0 qq", gid("qq"))),
     Row("six out 0 65535", 1, err=b"malformed font\nGID 65535: the face has 6 glyphs, from 0 on\n", after=USED),
     Row("none out 0 2", 3, err=b"cannot read none\n", after=USED),
     Row(". out 0 2", 3, err=b"cannot read .\n", after=USED),
@@ -269,7 +343,7 @@ ROWS = [
     Row("simple . 0 2", 3, err=b"cannot write .\n"),
     Row("simple /dev/full 0 2", 3, err=b"cannot write /dev/full\n"),
     Row("simple out 0 9", 1, err=b"malformed font\n", after=USED),
-    Row("--no-such simple out 0 2", 2, err=USAGE, after=USED),
+    Row("--no-such simple out 0 2", 2, err=no_option("--no-such"), after=USED),
     Row("--no-such out 0 2", 3, err=b"cannot read --no-such\n", after=USED),
     # refusals, and what more is said of them
     Row("six out 0 1,6", 1, err=b"malformed font\nGID 6: the face has 6 glyphs, from 0 on\n", after=USED),
@@ -285,25 +359,25 @@ ROWS = [
     # the limits
     Row("--limits 0,1 cff out 0 0", 1, err=b"processing CFF table failed\n", after=USED),
     Row("--limits 1,1 cff out 0 0", out=lines((0, 0)), same="cff 0"),
-    Row("--limits 5,0 cff out 0 0", 2, err=USAGE, after=USED),
-    Row("--limits cff out 0 0", 2, err=USAGE, after=USED),
-    Row("cff --limits 5,5 out 0 0", 2, err=USAGE, after=USED),
+    Row("--limits 5,0 cff out 0 0", 2, err=limits("5,0"), after=USED),
+    Row("--limits cff out 0 0", 2, err=limits("cff"), after=USED),
+    Row("cff --limits 5,5 out 0 0", 2, err=late("--limits"), after=USED),
     Row("--limits 4294967295,255 cff out 0 0", out=lines((0, 0)), same="cff 0"),
     Row("simple --limits 0 2", out=lines((2, 1)), after={"--limits": "simple 2"}),
     Row("--limits 5,5,164 cff out 0 0", out=lines((0, 0)), same="cff 0"),
     Row("--limits 5,5,163 cff out 0 0", 1, err=b"overflow occurred\n", after=USED),
     Row("--limits 5,5,5 cff out 0 0", 1, err=b"overflow occurred\n", after=USED),
-    *usage("--limits", "--limits 5 cff out 0 0", "--limits 5,256 cff out 0 0", "--limits 4294967296,5 cff out 0 0",
-           "--limits 5, cff out 0 0", "--limits +5,5 cff out 0 0", "--limits 5,5, cff out 0 0", "--limits 5,,5 cff out 0 0",
-           "--limits 5,5,4294967296 cff out 0 0", "--limits 5,5,5,5 cff out 0 0", "--limits 5,5 --limits 5,5 cff out 0 0",
-           "--limits 5,5 --limits out 0 0", "cff out 0 0 --limits 5,5"),
+    *usage(*((f"--limits {it} cff out 0 0", limits(it)) for it in (
+        "5", "5,256", "4294967296,5", "5,", "+5,5", "5,5,", "5,,5", "5,5,4294967296", "5,5,5,5")),
+           ("--limits", no_value("--limits")), ("--limits 5,5 --limits 5,5 cff out 0 0", twice("--limits")),
+           ("--limits 5,5 --limits out 0 0", twice("--limits")), ("cff out 0 0 --limits 5,5", late("--limits"))),
     # the widths
     Row("--widths six out 0 2,1", out=lines((2, 1), (1, 2)) + b"[0 [0 200 100]]\n", same="six 2,1"),
     Row("--widths --limits 1,1 six out 0 2,1", out=lines((2, 1), (1, 2)) + b"[0 [0 200 100]]\n", same="six 2,1"),
     Row("--limits 1,1 --widths six out 0 2,1", out=lines((2, 1), (1, 2)) + b"[0 [0 200 100]]\n", same="six 2,1"),
     Row("--widths simple out 0 2", 1, err=b"malformed font\n", after=USED),
-    Row("--widths --widths six out 0 1", 2, err=USAGE, after=USED),
-    *usage("--widths", "six --widths out 0 1"),
+    Row("--widths --widths six out 0 1", 2, err=twice("--widths"), after=USED),
+    *usage(("--widths", missing("IN")), ("six --widths out 0 1", late("--widths")), ("six out 0 1 --json", late("--json"))),
     Row("simple --widths 0 2", out=lines((2, 1)), after={"--widths": "simple 2"}),
     # coordinates
     Row("at_650 out 0 1,2,3", out=lines((1, 1), (2, 2), (3, 3)), same="at 650"),
@@ -319,12 +393,14 @@ ROWS = [
     Row("--at wght=650 cff out 0 0", out=lines((0, 0)), same="cff 0", err=b"no axis wght in the font\n"),
     Row("--at wght=650 variable out 0 4", 1, err=b"malformed font\nGID 4: the face has 4 glyphs, from 0 on\n", after=USED),
     Row("--limits 20,64 --at wght=650 variable out 0 2", 1, err=b"overflow occurred\n", after=USED),
-    *(Row(f"--at {it} variable out 0 1", 2, err=USAGE, after=USED)
+    *(Row(f"--at {it} variable out 0 1", 2, err=coordinate(it), after=USED)
       for it in ("wght", "wght=", "wght=+1", "wght=1.", "wght=.5", "wght=1.0000000000", "wght=1-", "wght=--1", "wgh=1", "weight=1",
-                 "wght=32768", "wght=650,", "wght=1=1", "wght=1e2")),
+                 "wght=32768", "wght=1=1", "wght=1e2")),
+    *usage(("--at wght=650, variable out 0 1", coordinate("")), ("--at wght=650,wdth variable out 0 1", coordinate("wdth")),
+           ("--at wght=x variable out 0 y", gid("y")), ("--at", no_value("--at"))),
     Row("--at wght=-32768 variable out 0 1", out=lines((1, 1)), same="at 100"),
     Row("--at wght=100 variable out 0 1", out=lines((1, 1)), same="at 100"),
-    Row("--at wght=1 --at wght=1 variable out 0 1", 2, err=USAGE, after=USED),
+    Row("--at wght=1 --at wght=1 variable out 0 1", 2, err=twice("--at"), after=USED),
     # the axes
     Row("--axes variable 0", out=b"axis wght 100 400 900\n"),
     Row("--axes - 0", out=b"axis wght 100 400 900\n", stdin=VARIABLE),
@@ -343,12 +419,12 @@ ROWS = [
     Row("--axes faces 2", 1, err=b"unknown font kind\nINDEX 2: the collection has 2 faces, from 0 on\n"),
     Row("--axes faces 1"),
     Row("--axes none 0", 3, err=b"cannot read none\n"),
-    Row("--axes", 2, err=USAGE),
-    Row("--axes variable", 2, err=USAGE),
-    Row("--axes variable 0 1", 2, err=USAGE),
-    Row("--axes variable x", 2, err=USAGE),
-    Row("--axes variable 4294967296", 2, err=USAGE),
-    Row("--quiet --axes variable 0", 2, err=USAGE),
+    Row("--axes", 2, err=missing("IN")),
+    Row("--axes variable", 2, err=missing("INDEX")),
+    Row("--axes variable 0 1", 2, err=further("1", "--axes IN INDEX")),
+    Row("--axes variable x", 2, err=index("x")),
+    Row("--axes variable 4294967296", 2, err=index("4294967296")),
+    Row("--quiet --axes variable 0", 2, err=AXES_LATE),
     # JSON and silence
     Row("--json six out 0 2,1", out=b'{"glyphs":[{"old":2,"new":1},{"old":1,"new":2}]}\n', same="six 2,1"),
     Row("--json --widths six out 0 2,1", out=b'{"glyphs":[{"old":2,"new":1},{"old":1,"new":2}],"widths":[0,200,100]}\n',
@@ -356,8 +432,8 @@ ROWS = [
     Row("--json --text A small out 0", out=b'{"glyphs":[{"character":65,"old":1,"new":1}]}\n', same="six 1"),
     Row("--quiet six out 0 2,1", same="six 2,1"),
     Row("--quiet --json --widths six out 0 2,1", same="six 2,1"),
-    Row("--json --json six out 0 1", 2, err=USAGE, after=USED),
-    Row("--quiet --quiet six out 0 1", 2, err=USAGE, after=USED),
+    Row("--json --json six out 0 1", 2, err=twice("--json"), after=USED),
+    Row("--quiet --quiet six out 0 1", 2, err=twice("--quiet"), after=USED),
     # the list of a file
     Row("--gids-file list six out 0", out=lines((2, 1), (1, 2)), files={"list": b"2 1\n"}, same="six 2,1"),
     Row("--gids-file list six out 0", out=lines((1, 1), (2, 2), (3, 3), (5, 4)), files={"list": b"1-3,\r\n\t5"}, same="six 1-3,5"),
@@ -379,16 +455,19 @@ ROWS = [
     Row("--gids-file list simple out 0", 1, err=b"malformed font\n", files={"list": b"*"}, after=USED),
     Row("--gids-file list six out 0", 1, err=b"malformed font\nGID 65535: the face has 6 glyphs, from 0 on\n",
         files={"list": b"1-2 65535"}, after=USED),
-    *(Row("--gids-file list six out 0", 2, err=USAGE, files={"list": text}, after=USED) for text in (
-        b"3-1", b"1\xff", b"1 \xff", b"65536", b"3-", b"-3", b"-", b"1-2-3", b"1 - 3", b"0-65536", b"+1", b"1;2", b"x", b"1 *",
-        b"**", b"1\xc2\xa02")),
+    *(Row("--gids-file list six out 0", 2, err=in_list(text.decode()), files={"list": text}, after=USED) for text in (
+        b"3-1", b"65536", b"3-", b"-3", b"-", b"1-2-3", b"0-65536", b"+1", b"1;2", b"x", b"**", b"1\xc2\xa02")),
+    *(Row("--gids-file list six out 0", 2, err=in_list(part), files={"list": text}, after=USED) for text, part in (
+        (b"1\xff", "?"), (b"1 \xff", "?"), (b"1 - 3", "-"), (b"1 *", "*"), (b"1,qq\n3-1", "qq"), (b"1\r\n\t2-x", "2-x"),
+        (b"\x00", "\ufffd"), (b"7" * 41, "7" * 40 + ".."), (b"8" * 40, "8" * 40))),
     Row("--gids-file none six out 0", 3, err=b"cannot read none\n", after=USED),
     Row("--gids-file . six out 0", 3, err=b"cannot read .\n", after=USED),
-    Row("--gids-file - - out 0", 2, err=USAGE, after=USED),
-    *usage("--gids-file list --gids-file list six out 0", "--gids-file six out 0", "--gids-file"),
+    Row("--gids-file - - out 0", 2, err=INPUT_TWICE, after=USED),
+    *usage(("--gids-file list --gids-file list six out 0", glyphs_twice("--gids-file")), ("--gids-file six out 0", missing("INDEX")),
+           ("--gids-file", no_value("--gids-file")), ("--gids-file list six out 0 1 2", further("2"))),
     Row("--gids-file - six - 0", out="six 2,1", err=lines((2, 1), (1, 2)), stdin=b"2,1", after=USED),
     Row("--gids-file ./- - out 0", out=lines((2, 1)), stdin=SIMPLE, files={"-": b"2"}, same="simple 2"),
-    Row("--gids-file list six out 0 1", 2, err=USAGE, files={"list": b"1"}, after=USED),
+    Row("--gids-file list six out 0 1", 2, err=beside_option("1"), files={"list": b"1"}, after=USED),
     # the glyphs of a text
     Row("--text AB small out 0", out=b"U+0041 1 -> 1\nU+0042 2 -> 2\n", same="six 1,2"),
     Row("six out 0 1,2", out=lines((1, 1), (2, 2)), same="six 1,2"),
@@ -400,10 +479,10 @@ ROWS = [
     Row(["--text", "", "small", "out", "0"], same="six none"),
     Row("--text A mac out 0", 1, err=b"no Unicode cmap in font\n", after=USED),
     Row("--text A six out 0", 1, err=b"no Unicode cmap in font\n", after=USED),
-    Row("--text A --gids-file list small out 0", 2, err=USAGE, files={"list": b"1"}, after=USED),
-    Row("--text A small out 0 1", 2, err=USAGE, after=USED),
+    Row("--text A --gids-file list small out 0", 2, err=glyphs_twice("--gids-file"), files={"list": b"1"}, after=USED),
+    Row("--text A small out 0 1", 2, err=beside_option("1"), after=USED),
     Row("--text - - out 0", out=b"U+002D 0 -> 0\n", stdin=FONTS["small"], same="six none"),
-    *usage("--text A --text A small out 0", "--text"),
+    *usage(("--text A --text A small out 0", glyphs_twice("--text")), ("--text", no_value("--text"))),
     # what is kept
     Row("--no-names --no-hinting --no-glyph-names named out 0 1", out=lines((1, 1)), same="none of the three"),
     Row("--no-glyph-names --no-hinting --widths --no-names named out 0 1",
@@ -413,9 +492,9 @@ ROWS = [
     Row("--no-hinting named out 0 1", out=lines((1, 1)), same="no hinting"),
     Row("--no-glyph-names named out 0 1", out=lines((1, 1)), same="no glyph names"),
     Row("named out 0 1", out=lines((1, 1)), same="all of the three"),
-    Row("--no-names --no-names named out 0 1", 2, err=USAGE, after=USED),
-    Row("--no-hinting --no-hinting named out 0 1", 2, err=USAGE, after=USED),
-    Row("--no-glyph-names --no-glyph-names named out 0 1", 2, err=USAGE, after=USED),
+    Row("--no-names --no-names named out 0 1", 2, err=twice("--no-names"), after=USED),
+    Row("--no-hinting --no-hinting named out 0 1", 2, err=twice("--no-hinting"), after=USED),
+    Row("--no-glyph-names --no-glyph-names named out 0 1", 2, err=twice("--no-glyph-names"), after=USED),
     # streams
     Row("- out 0 2", out=lines((2, 1)), stdin=SIMPLE, same="simple 2"),
     Row("/dev/stdin out 0 2", out=lines((2, 1)), stdin=SIMPLE, same="simple 2"),
@@ -435,10 +514,19 @@ ROWS = [
     Row("--widths -- --widths out 0 2,1", out=lines((2, 1), (1, 2)) + b"[0 [0 200 100]]\n", files={"--widths": six()}, same="six 2,1"),
     Row("-- --help out 0 2", out=lines((2, 1)), files={"--help": SIMPLE}, same="simple 2"),
     Row("simple --version 0 2", out=lines((2, 1)), after={"--version": "simple 2"}),
-    *usage("--", "--widths --widths -h", "--no-hints simple out 0 2"),
-    Row("-- -- simple out 0 2", 2, err=USAGE, after=USED),
-    Row([b"simple", b"\xff", b"0", b"2"], 2, err=USAGE),
-    Row("simple out 0 --help", 2, err=USAGE, after=USED),
+    *usage(("--", missing("IN")), ("--widths --widths -h", twice("--widths")), ("--no-hints simple out 0 2", no_option("--no-hints"))),
+    # the nearest option, by at most two changes of a byte
+    *usage(*((f"{word} simple out 0 2", no_option(word, nearest)) for word, nearest in (
+        ("--no-hintings", "--no-hinting"), ("--no_hinting", "--no-hinting"), ("--nohinting", "--no-hinting"), ("-no-hintin", "--no-hinting"),
+        ("--no-hitning", "--no-hinting"), ("--no-hint", None), ("--no-hinti", "--no-hinting"), ("--no-naming", None), ("--no-name", "--no-names"),
+        ("--names", "--axes"), ("--gid-file", "--gids-file"), ("--gids", None), ("--txet", "--text"), ("--axe", "--axes"), ("--ax", "--at"),
+        ("--Widths", "--widths"), ("--WIDTHS", None), ("--jso", "--json"), ("--limit=", "--limits"), ("--quite", "--quiet"), ("--hel", "--help"),
+        ("--versions", "--version"), ("--verison", "--version"), ("-x", None), ("--no-glyphnames", "--no-glyph-names")))),
+    *usage((["--a\x1bb\x7f\x9f\xa0", "simple", "out", "0", "2"], no_option("--a\ufffdb\ufffd\ufffd\xa0")),
+           (["--" + "\u6c38" * 39, "simple", "out", "0", "2"], no_option("--" + "\u6c38" * 38 + ".."))),
+    Row("-- -- simple out 0 2", 2, err=index("out"), after=USED),
+    Row([b"simple", b"\xff", b"0", b"2"], 2, err=NOT_UTF_8),
+    Row("simple out 0 --help", 2, err=late("--help"), after=USED),
 ]
 
 

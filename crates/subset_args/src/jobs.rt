@@ -177,7 +177,7 @@ fn read_by_options(alloc: Global, words: &[String]) -> Result<Command, ArgsError
 }
 
 /// The arguments behind a first one that is `--axes`.
-fn behind_axes(words: &[String]) -> Option<&[String]>
+pub fn behind_axes(words: &[String]) -> Option<&[String]>
     ensures { option_map (λ behind. map (λ word. string_bytes word) behind.now) result ≡ behind_axes (map (λ word. string_bytes word) words.now) }
 {
     let [word, behind @ ..] = words else {

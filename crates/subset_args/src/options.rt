@@ -139,7 +139,7 @@ impl<'a> Chosen<'a> {
     };
 
     /// With an option without a value, which is given once.
-    fn with_switch(self, switch: Switch) -> Option<Chosen<'a>>
+    pub fn with_switch(self, switch: Switch) -> Option<Chosen<'a>>
         ensures { option_map chosen_view result ≡ with_switch switch (chosen_view self.entry) }
     {
         if self.switches.is_on(switch) {
@@ -154,7 +154,7 @@ impl<'a> Chosen<'a> {
     }
 
     /// With an option and its value, which is given once.
-    fn with_setting(self, setting: Setting, value: &'a str) -> Option<Chosen<'a>>
+    pub fn with_setting(self, setting: Setting, value: &'a str) -> Option<Chosen<'a>>
         ensures { option_map chosen_view result ≡ with_setting setting value.now (chosen_view self.entry) }
     {
         match setting {
@@ -229,6 +229,23 @@ fn limits_of(word: &str) -> Option<RunLimits>
     }
 }
 
+/// The options with a name, in the order of the help.
+pub const OPTIONS: [&str; 13] = [
+    "--gids-file",
+    "--text",
+    "--widths",
+    "--no-hinting",
+    "--no-names",
+    "--no-glyph-names",
+    "--limits",
+    "--at",
+    "--axes",
+    "--json",
+    "--quiet",
+    "--help",
+    "--version",
+];
+
 /// The option without a value that an argument is.
 fn switch_of(word: &str) -> Option<Switch>
     ensures { result ≡ switch_of word.now }
@@ -258,7 +275,7 @@ fn setting_of(word: &str) -> Option<Setting>
 }
 
 /// What an argument in front of IN is.
-fn kind_of(word: &str) -> Kind
+pub fn kind_of(word: &str) -> Kind
     ensures { result ≡ kind_of word.now }
 {
     if let Some(switch) = switch_of(word) {

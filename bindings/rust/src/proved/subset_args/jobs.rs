@@ -153,7 +153,7 @@ fn read_by_options(alloc: Global, words: &[String]) -> Result<Command, ArgsError
 }
 
 /// The arguments behind a first one that is `--axes`.
-fn behind_axes(words: &[String]) -> Option<&[String]> {
+pub fn behind_axes(words: &[String]) -> Option<&[String]> {
     let (word, behind) = match words {
         [word, behind @ ..] => (word, behind),
         _ => {

@@ -132,7 +132,7 @@ impl<'a> Chosen<'a> {
     };
 
     /// With an option without a value, which is given once.
-    fn with_switch(self, switch: Switch) -> Option<Chosen<'a>> {
+    pub fn with_switch(self, switch: Switch) -> Option<Chosen<'a>> {
         if self.switches.is_on(switch) {
             return None;
         }
@@ -145,7 +145,7 @@ impl<'a> Chosen<'a> {
     }
 
     /// With an option and its value, which is given once.
-    fn with_setting(self, setting: Setting, value: &'a str) -> Option<Chosen<'a>> {
+    pub fn with_setting(self, setting: Setting, value: &'a str) -> Option<Chosen<'a>> {
         match setting {
             Setting::Limits => self.with_limits(value),
             Setting::GidsFile => self.with_source(Source::File(value)),
@@ -208,6 +208,23 @@ fn limits_of(word: &str) -> Option<RunLimits> {
     }
 }
 
+/// The options with a name, in the order of the help.
+pub const OPTIONS: [&str; 13] = [
+    "--gids-file",
+    "--text",
+    "--widths",
+    "--no-hinting",
+    "--no-names",
+    "--no-glyph-names",
+    "--limits",
+    "--at",
+    "--axes",
+    "--json",
+    "--quiet",
+    "--help",
+    "--version",
+];
+
 /// The option without a value that an argument is.
 fn switch_of(word: &str) -> Option<Switch> {
     match word {
@@ -233,7 +250,7 @@ fn setting_of(word: &str) -> Option<Setting> {
 }
 
 /// What an argument in front of IN is.
-fn kind_of(word: &str) -> Kind {
+pub fn kind_of(word: &str) -> Kind {
     if let Some(switch) = switch_of(word) {
         return Kind::Switch(switch);
     }

@@ -4,7 +4,8 @@
 use crate::rattle::prelude::{AllocGlobal, Eprint, Input, IteratorExt, Print, String, Vec};
 
 use crate::proved::subset_args::{
-    read_list, read_words, ArgsError, Command, GlyphList, Glyphs, Job, Switches,
+    find_mistake, find_wrong_part, read_list, read_words, Advice, ArgsError, Command, GlyphList,
+    Glyphs, Job, Shown, Switches,
 };
 use crate::proved::subset_font::axes::{axes_there, carry_axes, has_axis};
 use crate::proved::subset_font::carried::{carry_out, read_whole};
@@ -38,37 +39,29 @@ fn words<R: Env + AllocGlobal>(rt: &R) -> Result<Vec<String>, Failure> {
     }
 }
 
-/// What the arguments after the program's name ask for.
-fn command<R: Env + AllocGlobal>(rt: &R) -> Result<Command, Failure> {
-    let words = words(rt)?;
-    match read_words(rt.alloc(), &words) {
-        Ok(command) => Ok(command),
-        Err(ArgsError::Usage) => Err(Failure::Usage),
-        Err(ArgsError::OutOfMemory) => Err(Failure::Error(Error::OutOfMemory)),
-    }
-}
-
-/// The list of glyphs that a file has.
+/// The list of glyphs that a file has. Its text is kept.
 fn read_list_file<R: Files + Input + AllocGlobal>(
     rt: &R,
     name: &str,
+    text: &mut Vec<u8>,
 ) -> Result<GlyphList, Failure> {
     let mut file = open_source(rt, name).map_err(|_| Failure::ReadList)?;
-    let text = read_whole(rt.alloc(), &mut file, 0).map_err(|_| Failure::ReadList)?;
-    match read_list(rt.alloc(), &text) {
+    *text = read_whole(rt.alloc(), &mut file, 0).map_err(|_| Failure::ReadList)?;
+    match read_list(rt.alloc(), text) {
         Ok(list) => Ok(list),
         Err(ArgsError::Usage) => Err(Failure::List),
         Err(ArgsError::OutOfMemory) => Err(Failure::Error(Error::OutOfMemory)),
     }
 }
 
-/// The list of glyphs, where a file has it.
+/// The list of glyphs, where a file has it. The file's text is kept.
 fn list_of<R: Files + Input + AllocGlobal>(
     rt: &R,
     glyphs: &Glyphs,
+    text: &mut Vec<u8>,
 ) -> Result<Option<GlyphList>, Failure> {
     match glyphs {
-        Glyphs::InFile(name) => Ok(Some(read_list_file(rt, name)?)),
+        Glyphs::InFile(name) => Ok(Some(read_list_file(rt, name, text)?)),
         _ => Ok(None),
     }
 }
@@ -158,6 +151,15 @@ fn tell_hint<R: Eprint>(rt: &R, ended: &Result<(), Failure>, font: &[u8], task: 
     }
 }
 
+/// Reports which part of a list of glyphs is wrong.
+fn tell_wrong_part<R: Eprint>(rt: &R, ended: &Result<(), Failure>, text: &[u8]) {
+    if let (Err(Failure::List), Some(part)) = (ended, find_wrong_part(text)) {
+        let part = Shown(core::str::from_utf8(part).unwrap_or("?"));
+        let _ = eprintln!(rt; "--gids-file: \"{part}\" is not a glyph number");
+        let _ = eprintln!(rt; "expected: numbers to 65535 and ranges as 36-38, or * alone");
+    }
+}
+
 /// Says which tags of the coordinates are those of no axis of the font. It is passed over where memory runs out.
 fn tell_unknown<R: Eprint + AllocGlobal>(rt: &R, font: &[u8], index: u32, at: &[(Tag, i32)]) {
     let axes = match axes_there(rt.alloc(), font, index) {
@@ -175,11 +177,14 @@ fn tell_unknown<R: Eprint + AllocGlobal>(rt: &R, font: &[u8], index: u32, at: &[
 
 /// Makes a subset, and answers the status.
 fn run_job<R: Files + Print + Eprint + Input + AllocGlobal>(rt: &R, job: &Job) -> u8 {
-    let list = match list_of(rt, &job.glyphs) {
+    let mut text = Vec::new(rt.alloc());
+    let list = match list_of(rt, &job.glyphs, &mut text) {
         Ok(list) => list,
         Err(failure) => {
             let ended = Err(failure);
-            return report(rt, &ended, file_of(&ended, job));
+            let status = report(rt, &ended, file_of(&ended, job));
+            tell_wrong_part(rt, &ended, &text);
+            return status;
         }
     };
     let task = task_of(job, &list);
@@ -265,14 +270,44 @@ impl Termination for Ended {
     }
 }
 
-/// Runs the program, and answers its status: 0 where all is done, else the failure's.
-pub fn run<R: Env + Files + Print + Eprint + Input + AllocGlobal>(rt: &R) -> Ended {
-    let status = match command(rt) {
+/// Reports wrong arguments, and answers the status.
+fn refuse<R: Eprint>(rt: &R, words: &[String]) -> u8 {
+    let status = report(rt, &Err(Failure::Usage), None);
+    if let Some(mistake) = find_mistake(words) {
+        let _ = eprintln!(rt; "{mistake}");
+        let _ = eprintln!(rt; "{}", Advice(&mistake));
+    }
+    status
+}
+
+/// Runs the program by the arguments after its name, and answers the status.
+fn run_words<R: Files + Print + Eprint + Input + AllocGlobal>(rt: &R, words: &[String]) -> u8 {
+    match read_words(rt.alloc(), words) {
         Ok(Command::Help) => print_text(rt, HELP),
         Ok(Command::Version) => print_text(rt, VERSION_LINE),
         Ok(Command::Subset(job)) => run_job(rt, &job),
         Ok(Command::Axes(input, index)) => run_axes(rt, &input, index),
-        Err(failure) => report(rt, &Err(failure), None),
+        Err(ArgsError::Usage) => refuse(rt, words),
+        Err(ArgsError::OutOfMemory) => report(rt, &Err(Failure::Error(Error::OutOfMemory)), None),
+    }
+}
+
+/// Reports that the arguments can't be read, and answers the status.
+fn refuse_unread<R: Eprint>(rt: &R, failure: Failure) -> u8 {
+    let ended = Err(failure);
+    let status = report(rt, &ended, None);
+    if let Err(Failure::Usage) = ended {
+        let _ = eprintln!(rt; "an argument isn't UTF-8");
+        let _ = eprintln!(rt; "expected: UTF-8, or - and a redirection for such a file");
+    }
+    status
+}
+
+/// Runs the program, and answers its status: 0 where all is done, else the failure's.
+pub fn run<R: Env + Files + Print + Eprint + Input + AllocGlobal>(rt: &R) -> Ended {
+    let status = match words(rt) {
+        Ok(words) => run_words(rt, &words),
+        Err(failure) => refuse_unread(rt, failure),
     };
     Ended { status }
 }

@@ -1,0 +1,246 @@
+//! What is wrong with arguments that request nothing.
+
+ghost use Rattle.std.specs.Prelude.{◌≡◌, ◌==◌, ◌||◌, IfSome, slice_index};
+ghost use Rattle.subset_args.specs.Mistakes.{IsWrong, looks_like_option};
+
+use crate::coordinates::is_coordinate;
+use crate::jobs::{behind_axes, is_stream};
+use crate::options::{Chosen, Kind, Setting, Source, kind_of};
+use subsetter_words::{u16_of, u32_of};
+
+/// What is wrong with an argument, or with one of the values that it lists.
+#[derive(Clone, Copy, PartialEq, Eq, Debug)]
+pub enum Wrong {
+    /// IN is missing.
+    NoInput,
+    /// OUT is missing.
+    NoOutput,
+    /// INDEX is missing.
+    NoIndex,
+    /// GID is missing, and no option says which glyphs are requested.
+    NoGlyphs,
+    /// It is one argument too many.
+    Further,
+    /// It is one argument too many after `--axes IN INDEX`.
+    BehindAxes,
+    /// It is an option, and is behind IN.
+    Late,
+    /// It is `--axes`, and isn't the first argument.
+    AxesLate,
+    /// It looks like an option, and is none.
+    Unknown,
+    /// It is an option that was given before.
+    Twice,
+    /// It is an option, and its value is missing.
+    NoValue,
+    /// It says which glyphs are requested, as one before does.
+    GlyphsTwice,
+    /// It is a GID, and an option says which glyphs are requested.
+    BesideOption,
+    /// It reads standard input, as IN does.
+    InputTwice,
+    /// INDEX isn't a number below 2^32.
+    Index,
+    /// GID isn't a number below 2^16.
+    Glyph,
+    /// It isn't TOKENS,DEPTH[,BYTES].
+    Limits,
+    /// It isn't TAG=VALUE.
+    Coordinate,
+}
+
+/// A mistake in the arguments.
+#[derive(Clone, Copy, Debug)]
+pub struct Mistake<'a> {
+    /// What is wrong.
+    pub wrong: Wrong,
+    /// The argument, or one of the values that it lists. It is empty where one is missing.
+    pub word: &'a str,
+}
+
+/// A mistake in an argument.
+fn wrong(wrong: Wrong, word: &str) -> Option<Mistake<'_>>
+    requires { IsWrong wrong word.now }
+    ensures { IfSome result (λ m. IsWrong m.wrong m.word.now) }
+{
+    Some(Mistake { wrong, word })
+}
+
+/// The INDEX that isn't a number.
+fn wrong_index(word: &str) -> Option<Mistake<'_>>
+    ensures { IfSome result (λ m. IsWrong m.wrong m.word.now) }
+{
+    match u32_of(word) {
+        Some(_) => None,
+        None => wrong(Wrong::Index, word),
+    }
+}
+
+/// The first value of a list that isn't a glyph's number.
+fn wrong_glyph(list: &str) -> Option<Mistake<'_>>
+    ensures { IfSome result (λ m. IsWrong m.wrong m.word.now) }
+{
+    for part in list.split(',') {
+        if u16_of(part).is_none() {
+            return wrong(Wrong::Glyph, part);
+        }
+    }
+    None
+}
+
+/// The first value of a list that isn't a coordinate.
+fn wrong_coordinate(list: &str) -> Option<Mistake<'_>>
+    ensures { IfSome result (λ m. IsWrong m.wrong m.word.now) }
+{
+    for part in list.split(',') {
+        if !is_coordinate(part) {
+            return wrong(Wrong::Coordinate, part);
+        }
+    }
+    None
+}
+
+/// Whether an argument begins with a minus, and has more.
+fn looks_like_option(word: &str) -> bool
+    ensures { result ≡ looks_like_option word.now }
+{
+    matches!(word.as_bytes(), [b'-', _, ..])
+}
+
+/// The first option behind IN.
+fn late_option(words: &[String]) -> Option<Mistake<'_>>
+    ensures { IfSome result (λ m. IsWrong m.wrong m.word.now) }
+{
+    for word in words {
+        match kind_of(word) {
+            Kind::Place | Kind::End => {}
+            _ => return wrong(Wrong::Late, word),
+        }
+    }
+    None
+}
+
+/// What is wrong with the arguments `IN INDEX` behind `--axes`.
+fn wrong_behind_axes(words: &[String]) -> Option<Mistake<'_>>
+    ensures { IfSome result (λ m. IsWrong m.wrong m.word.now) }
+{
+    match words {
+        [] => wrong(Wrong::NoInput, ""),
+        [_] => wrong(Wrong::NoIndex, ""),
+        [_, index] => wrong_index(index),
+        [_, _, word, ..] => wrong(Wrong::BehindAxes, word),
+    }
+}
+
+/// What is wrong with the glyphs that are requested, or with the coordinates.
+fn wrong_behind_index<'a>(
+    chosen: &Chosen<'a>,
+    input: &str,
+    words: &'a [String],
+) -> Option<Mistake<'a>>
+    ensures { IfSome result (λ m. IsWrong m.wrong m.word.now) }
+{
+    let mistake = match (chosen.source, words) {
+        (None, []) => wrong(Wrong::NoGlyphs, ""),
+        (None, [list]) => wrong_glyph(list),
+        (Some(Source::File(name)), []) if is_stream(input) && is_stream(name) => {
+            wrong(Wrong::InputTwice, "--gids-file")
+        }
+        (Some(_), []) => None,
+        (Some(_), [word]) => wrong(Wrong::BesideOption, word),
+        (None, [_, word, ..]) => wrong(Wrong::Further, word),
+        (Some(_), [_, word, ..]) => wrong(Wrong::Further, word),
+    };
+    match (mistake, chosen.at) {
+        (None, Some(at)) => wrong_coordinate(at),
+        _ => mistake,
+    }
+}
+
+/// What is wrong with the arguments `IN OUT INDEX [GID[,GID..]]`.
+fn wrong_from_input<'a>(chosen: &Chosen<'a>, words: &'a [String]) -> Option<Mistake<'a>>
+    ensures { IfSome result (λ m. IsWrong m.wrong m.word.now) }
+{
+    let [input, behind @ ..] = words else {
+        return wrong(Wrong::NoInput, "");
+    };
+    if let Some(late) = late_option(behind) {
+        return Some(late);
+    }
+    match behind {
+        [] => wrong(Wrong::NoOutput, ""),
+        [_] => wrong(Wrong::NoIndex, ""),
+        [_, index, rest @ ..] => match wrong_index(index) {
+            None => wrong_behind_index(chosen, input, rest),
+            mistake => mistake,
+        },
+    }
+}
+
+/// What is wrong with the arguments from one on that is in the position of IN, and isn't behind `--`.
+fn wrong_from_place<'a>(
+    chosen: &Chosen<'a>,
+    word: &'a str,
+    words: &'a [String],
+) -> Option<Mistake<'a>>
+    ensures { IfSome result (λ m. IsWrong m.wrong m.word.now) }
+{
+    if word == "--axes" {
+        return wrong(Wrong::AxesLate, word);
+    }
+    if looks_like_option(word) {
+        return wrong(Wrong::Unknown, word);
+    }
+    wrong_from_input(chosen, words)
+}
+
+/// What is wrong with an option and its value, which are refused.
+fn wrong_setting<'a>(
+    chosen: &Chosen<'a>,
+    setting: Setting,
+    word: &'a str,
+    value: &'a str,
+) -> Option<Mistake<'a>> {
+    match setting {
+        Setting::Limits if chosen.limits.is_none() => wrong(Wrong::Limits, value),
+        Setting::GidsFile | Setting::Text => wrong(Wrong::GlyphsTwice, word),
+        _ => wrong(Wrong::Twice, word),
+    }
+}
+
+/// What is wrong with the arguments `[OPTIONS] IN OUT INDEX [GID[,GID..]]`, besides what is chosen already.
+fn wrong_from_option<'a>(chosen: Chosen<'a>, words: &'a [String]) -> Option<Mistake<'a>>
+    ensures { IfSome result (λ m. IsWrong m.wrong m.word.now) }
+{
+    let [word, behind @ ..] = words else {
+        return wrong(Wrong::NoInput, "");
+    };
+    match kind_of(word) {
+        Kind::Switch(switch) => match chosen.with_switch(switch) {
+            Some(more) => wrong_from_option(more, behind),
+            None => wrong(Wrong::Twice, word),
+        },
+        Kind::Setting(setting) => {
+            let [value, rest @ ..] = behind else {
+                return wrong(Wrong::NoValue, word);
+            };
+            match chosen.with_setting(setting, value) {
+                Some(more) => wrong_from_option(more, rest),
+                None => wrong_setting(&chosen, setting, word, value),
+            }
+        }
+        Kind::Help | Kind::Version => None,
+        Kind::End => wrong_from_input(&chosen, behind),
+        Kind::Place => wrong_from_place(&chosen, word, words),
+    }
+}
+
+/// What is wrong with arguments for which `read_words` answers `Usage`: the first mistake.
+pub fn find_mistake(words: &[String]) -> Option<Mistake<'_>>
+    ensures { IfSome result (λ m. IsWrong m.wrong m.word.now) }
+{
+    match behind_axes(words) {
+        Some(behind) => wrong_behind_axes(behind),
+        None => wrong_from_option(Chosen::NOTHING, words),
+    }
+}
