@@ -11,6 +11,7 @@ that are there afterwards. The options are also compared with `--help`, docs/CLI
 the file VERSION. The last line is `program: N rows, M differ`, and the status 1 where one differs.
 """
 import argparse
+import errno
 import os
 import re
 import shutil
@@ -314,6 +315,20 @@ AXES_LATE = wrong("--axes isn't the first argument", "expected: --axes IN INDEX"
 NOT_UTF_8 = wrong("an argument isn't UTF-8", "expected: UTF-8, or - and a redirection for such a file")
 
 
+# ---- what it says of files: which one, and the system's reason
+
+def because(number):
+    return f"\n{os.strerror(number)} (os error {number})\n"
+
+
+def cannot_read(name, number):
+    return f"cannot read {name}{because(number)}".encode()
+
+
+def cannot_write(name, number):
+    return f"cannot write {name}{because(number)}".encode()
+
+
 def usage(*rows):
     """Rows of words that are wrong, each with what standard error says."""
     return [Row(words, 2, err=err, after=USED) for words, err in rows]
@@ -337,14 +352,14 @@ ROWS = [
            ("simple", missing("OUT")), ("simple out", missing("INDEX")), ("simple out zero 2", index("zero")), ("simple out 0 1,x,y", gid("x")),
            ("simple out x y", index("x")), ("simple out 0 1 2 3", further("2")), ("- out 0 qq", gid("qq"))),
     Row("six out 0 65535", 1, err=b"malformed font\nGID 65535: the face has 6 glyphs, from 0 on\n", after=USED),
-    Row("none out 0 2", 3, err=b"cannot read none\n", after=USED),
-    Row(". out 0 2", 3, err=b"cannot read .\n", after=USED),
-    Row("simple none/out 0 2", 3, err=b"cannot write none/out\n"),
-    Row("simple . 0 2", 3, err=b"cannot write .\n"),
-    Row("simple /dev/full 0 2", 3, err=b"cannot write /dev/full\n"),
+    Row("none out 0 2", 3, err=cannot_read("none", errno.ENOENT), after=USED),
+    Row(". out 0 2", 3, err=cannot_read(".", errno.EISDIR), after=USED),
+    Row("simple none/out 0 2", 3, err=cannot_write("none/out", errno.ENOENT)),
+    Row("simple . 0 2", 3, err=cannot_write(".", errno.EISDIR)),
+    Row("simple /dev/full 0 2", 3, err=cannot_write("/dev/full", errno.ENOSPC)),
     Row("simple out 0 9", 1, err=b"malformed font\n", after=USED),
     Row("--no-such simple out 0 2", 2, err=no_option("--no-such"), after=USED),
-    Row("--no-such out 0 2", 3, err=b"cannot read --no-such\n", after=USED),
+    Row("--no-such out 0 2", 3, err=cannot_read("--no-such", errno.ENOENT), after=USED),
     # refusals, and what more is said of them
     Row("six out 0 1,6", 1, err=b"malformed font\nGID 6: the face has 6 glyphs, from 0 on\n", after=USED),
     Row("six out 0 9,1,7,6", 1, err=b"malformed font\nGID 9: the face has 6 glyphs, from 0 on\n", after=USED),
@@ -418,7 +433,7 @@ ROWS = [
     Row("--axes woff 0", 1, err=b"unknown font kind\nWOFF: unpack it first\n"),
     Row("--axes faces 2", 1, err=b"unknown font kind\nINDEX 2: the collection has 2 faces, from 0 on\n"),
     Row("--axes faces 1"),
-    Row("--axes none 0", 3, err=b"cannot read none\n"),
+    Row("--axes none 0", 3, err=cannot_read("none", errno.ENOENT)),
     Row("--axes", 2, err=missing("IN")),
     Row("--axes variable", 2, err=missing("INDEX")),
     Row("--axes variable 0 1", 2, err=further("1", "--axes IN INDEX")),
@@ -460,8 +475,8 @@ ROWS = [
     *(Row("--gids-file list six out 0", 2, err=in_list(part), files={"list": text}, after=USED) for text, part in (
         (b"1\xff", "?"), (b"1 \xff", "?"), (b"1 - 3", "-"), (b"1 *", "*"), (b"1,qq\n3-1", "qq"), (b"1\r\n\t2-x", "2-x"),
         (b"\x00", "\ufffd"), (b"7" * 41, "7" * 40 + ".."), (b"8" * 40, "8" * 40))),
-    Row("--gids-file none six out 0", 3, err=b"cannot read none\n", after=USED),
-    Row("--gids-file . six out 0", 3, err=b"cannot read .\n", after=USED),
+    Row("--gids-file none six out 0", 3, err=cannot_read("none", errno.ENOENT), after=USED),
+    Row("--gids-file . six out 0", 3, err=cannot_read(".", errno.EISDIR), after=USED),
     Row("--gids-file - - out 0", 2, err=INPUT_TWICE, after=USED),
     *usage(("--gids-file list --gids-file list six out 0", glyphs_twice("--gids-file")), ("--gids-file six out 0", missing("INDEX")),
            ("--gids-file", no_value("--gids-file")), ("--gids-file list six out 0 1 2", further("2"))),
@@ -534,16 +549,17 @@ ROWS = [
 
 # A stream that is closed at the start: its number, the words, the status, what the two others get (None: the closed one), and the
 # same of the build by Cargo where it isn't so there, as Rust's `std` opens /dev/null in the stream's place before `main`.
+NO_OUTPUT = cannot_write("standard output", errno.EBADF)
 CLOSED = [
-    (0, "- out 0 2", (3, b"", b"cannot read -\n"), (1, b"", b"unknown font kind\n")),
-    (0, "--gids-file - six out 0", (3, b"", b"cannot read -\n"), (0, b"", b"")),
+    (0, "- out 0 2", (3, b"", cannot_read("-", errno.EISDIR)), (1, b"", b"unknown font kind\n")),
+    (0, "--gids-file - six out 0", (3, b"", cannot_read("-", errno.EISDIR)), (0, b"", b"")),
     (0, "simple out 0 2", (0, lines((2, 1)), b""), None),
-    (1, "simple out 0 2", (3, None, b"cannot write standard output\n"), (0, None, b"")),
-    (1, "simple - 0 2", (3, None, b"cannot write -\n"), (0, None, lines((2, 1)))),
-    (1, "--help", (3, None, b"cannot write standard output\n"), (0, None, b"")),
-    (1, "--version", (3, None, b"cannot write standard output\n"), (0, None, b"")),
-    (1, "--axes variable 0", (3, None, b"cannot write standard output\n"), (0, None, b"")),
-    (1, "--at wdth=1 simple out 0 2", (3, None, b"cannot write standard output\n"), (0, None, b"no axis wdth in the font\n")),
+    (1, "simple out 0 2", (3, None, NO_OUTPUT), (0, None, b"")),
+    (1, "simple - 0 2", (3, None, cannot_write("-", errno.EBADF)), (0, None, lines((2, 1)))),
+    (1, "--help", (3, None, NO_OUTPUT), (0, None, b"")),
+    (1, "--version", (3, None, NO_OUTPUT), (0, None, b"")),
+    (1, "--axes variable 0", (3, None, NO_OUTPUT), (0, None, b"")),
+    (1, "--at wdth=1 simple out 0 2", (3, None, NO_OUTPUT), (0, None, b"no axis wdth in the font\n")),
     (1, "--quiet simple out 0 2", (0, None, b""), None),
     (1, "simple out 0 9", (1, None, b"malformed font\n"), None),
     (2, "simple - 0 2", (3, SIMPLE_2, None), (0, SIMPLE_2, None)),
@@ -662,8 +678,8 @@ def check_words(table, room):
             there = re.search(r"(^|[^-\w])" + re.escape(option) + r"($|[^-\w])", text, re.M)
             table.demand(there, option, f"it doesn't stand in {name}")
     for option in set(re.findall(r"(?:^|[\s`,|])(--[a-z][a-z-]*)", first.stdout.decode() + manual + page)):
-        # (fc-scan and Cargo have some of their own)
-        table.demand(option in OPTIONS or option in ("--format", "--path", "--features"), option, "no such option")
+        # (fc-scan and Cargo have some of their own, and one is an example of a wrong one)
+        table.demand(option in OPTIONS or option in ("--format", "--path", "--features", "--no-hintings"), option, "no such option")
     with open(os.path.join(ROOT, "VERSION")) as file:
         wanted = f"subset_font {file.read().strip()}, a port of the Rust crate subsetter 0.2.6\n".encode()
     for words in (["--version"], ["--version", "--help"]):
@@ -712,7 +728,7 @@ def check_places(table, room):
     # The file grows past the limit on its size in mid-write: OUT stays, and nothing is left beside it.
     put(room, "out", OLD)
     got = table.start(["in", "out", "0", "2"], room, preexec_fn=few_bytes)
-    table.demand((got.returncode, got.stdout, got.stderr) == (3, b"", b"cannot write out\n"), "a write that fails", got)
+    table.demand((got.returncode, got.stdout, got.stderr) == (3, b"", cannot_write("out", errno.EFBIG)), "a write that fails", got)
     table.demand(take(out) == OLD and sorted(os.listdir(room)) == before, "a write that fails leaves", os.listdir(room))
     got = table.start(["in", "new", "0", "2"], room, preexec_fn=few_bytes)
     table.demand(got.returncode == 3 and sorted(os.listdir(room)) == before, "a write of a new OUT that fails", got)
@@ -783,11 +799,11 @@ def check_rights(table, room):
     if is_root:
         os.chown(shut, 65534, 65534)
     got = start("in", "shut", "0", "2")
-    table.demand((got.returncode, got.stderr) == (3, b"cannot write shut\n") and take(shut) == OLD, "OUT can't be written", got)
+    table.demand((got.returncode, got.stderr) == (3, cannot_write("shut", errno.EACCES)) and take(shut) == OLD, "OUT can't be written", got)
     table.demand(sorted(os.listdir(room)) == ["in", "program", "shut"], "and leaves", os.listdir(room))
     put(room, "secret", SIMPLE, 0)
     got = start("secret", "out", "0", "2")
-    table.demand((got.returncode, got.stderr) == (3, b"cannot read secret\n"), "IN can't be read", got)
+    table.demand((got.returncode, got.stderr) == (3, cannot_read("secret", errno.EACCES)), "IN can't be read", got)
     # No file can be made beside OUT, which may be written.
     os.mkdir(os.path.join(room, "folder"))
     out = put(os.path.join(room, "folder"), "out", OLD, 0o666)
@@ -814,13 +830,13 @@ def check_streams(table, room):
     put(room, "in", SIMPLE)
     with open("/dev/full", "wb") as full:
         got = subprocess.run([table.program, "in", "out", "0", "2"], cwd=room, stdout=full, stderr=subprocess.PIPE)
-        table.demand((got.returncode, got.stderr) == (3, b"cannot write standard output\n"), "standard output is full", got)
+        table.demand((got.returncode, got.stderr) == (3, cannot_write("standard output", errno.ENOSPC)), "standard output is full", got)
         table.demand(take(os.path.join(room, "out")) == table.same["simple 2"], "and OUT is whole", got)
         for words in (["--help"], ["--version"]):
             got = subprocess.run([table.program, *words], cwd=room, stdout=full, stderr=subprocess.PIPE)
-            table.demand((got.returncode, got.stderr) == (3, b"cannot write standard output\n"), words, got)
+            table.demand((got.returncode, got.stderr) == (3, cannot_write("standard output", errno.ENOSPC)), words, got)
         got = subprocess.run([table.program, "in", "-", "0", "2"], cwd=room, stdout=full, stderr=subprocess.PIPE)
-        table.demand((got.returncode, got.stderr) == (3, b"cannot write -\n"), "OUT is standard output, which is full", got)
+        table.demand((got.returncode, got.stderr) == (3, cannot_write("-", errno.ENOSPC)), "OUT is standard output, which is full", got)
         got = subprocess.run([table.program, "in", "-", "0", "2"], cwd=room, stdout=subprocess.PIPE, stderr=full)
         table.demand((got.returncode, got.stdout) == (3, table.same["simple 2"]), "the lines go to standard error, which is full", got)
     with open(os.path.join(room, "said"), "wb") as file:
@@ -828,9 +844,9 @@ def check_streams(table, room):
     table.demand(take(os.path.join(room, "said")) == lines((2, 1)) and got.stderr == b"", "standard output is a file beside OUT", got)
     reading, writing = os.pipe()
     os.close(reading)
-    for words, told in (("in out 0 2", b"standard output"), ("in - 0 2", b"-"), ("--help", b"standard output")):
+    for words, told in (("in out 0 2", "standard output"), ("in - 0 2", "-"), ("--help", "standard output")):
         got = subprocess.run([table.program, *words.split()], cwd=room, stdout=writing, stderr=subprocess.PIPE)
-        table.demand((got.returncode, got.stderr) == (3, b"cannot write " + told + b"\n"), f"{words}: nobody reads", got)
+        table.demand((got.returncode, got.stderr) == (3, cannot_write(told, errno.EPIPE)), f"{words}: nobody reads", got)
     os.close(writing)
     with open(os.path.join(room, "both"), "wb") as file:
         got = subprocess.run([table.program, "in", "both", "0", "2"], cwd=room, stdout=file, stderr=subprocess.PIPE)
@@ -867,7 +883,7 @@ def check_memory(table, room):
     table.demand((got.returncode, got.stdout) == (0, lines((2, 1))), "1 MB of source in 64 MB", got)
     put(room, "in", SIMPLE + bytes(80 << 20))
     got = table.start(["in", "other", "0", "2"], room, preexec_fn=little)
-    table.demand((got.returncode, got.stdout, got.stderr) == (3, b"", b"cannot read in\n"), "80 MB of source in 64 MB", got)
+    table.demand((got.returncode, got.stdout, got.stderr) == (3, b"", b"cannot read in\nout of memory\n"), "80 MB of source in 64 MB", got)
     table.demand(not os.path.exists(os.path.join(room, "other")), "and OUT isn't there", got)
 
 
@@ -883,7 +899,7 @@ def refuser(table, room):
 
 
 # What refused memory may end with: before OUT is made, and without a line.
-REFUSED = ((1, b"", b"out of memory\n"), (3, b"", b"cannot read in\n"), (3, b"", b"cannot read list\n"), (3, b"", b"cannot read -\n"))
+REFUSED = ((1, b"", b"out of memory\n"), *((3, b"", f"cannot read {it}\nout of memory\n".encode()) for it in ("in", "list", "-")))
 
 
 @dataclass
@@ -975,7 +991,7 @@ def check_refused_names(table, room):
         if by_std and by_std > LONG_NAME and got.names == ["out", "out.part0"]:
             left += 1
             os.unlink(os.path.join(room, folder, "out.part0"))
-        unwritten = got.answer == (3, b"", f"cannot write {words[1]}\n".encode()) and got.names == base.names
+        unwritten = got.answer == (3, b"", f"cannot write {words[1]}\nout of memory\n".encode()) and got.names == base.names
         is_refused = got.out == OLD and (by_std or unwritten or is_refused_run(got, base))
         table.demand(is_refused or is_whole_run(got, base), f"a long name, refusal {number}", got)
     table.demand((left > 0) == table.is_cargo, "a long name: files that are left", left)
@@ -1020,9 +1036,9 @@ def failed_end(got, base):
         return None
     if is_whole_run(got, base):
         return "whole"
-    if got.answer[0] == 3 and got.answer[2] == b"cannot write standard output\n":
+    if got.answer[0] == 3 and got.answer[2] == cannot_write("standard output", errno.EIO):
         return "unlined" if got.out == base.out and base.answer[1].startswith(got.answer[1]) else None
-    ends = {(3, b"", b"cannot read in\n"): "unread", (3, b"", b"cannot write out\n"): "unwritten"}
+    ends = {(3, b"", cannot_read("in", errno.EIO)): "unread", (3, b"", cannot_write("out", errno.EIO)): "unwritten"}
     return ends.get(got.answer) if got.out == OLD else None
 
 
@@ -1043,7 +1059,7 @@ def check_failed_calls(table, room):
         table.demand(ends == wanted, f"{what} fails", f"{ends}, wanted {wanted}")
     fail = "write:1" if table.is_cargo else "write2:1"
     got = start_refused(table, room, library, ["none", "out", "0", "2"], FAIL=fail)
-    table.demand(got.answer == (3, b"", b"") and got.out == OLD, "standard error fails, too", got)
+    table.demand(got.answer == (3, b"", because(errno.ENOENT)[1:].encode()) and got.out == OLD, "standard error fails, too", got)
 
 
 def check_closed(table, room):

@@ -5,7 +5,7 @@ ghost use Rattle.std.specs.Process.{exit_status};
 ghost use Rattle.std.specs.Vec.Iter.{into_iter_items};
 ghost use Rattle.subset_font.specs.Chosen.{IsListFor, wanted_of, wanted_for, IsTaskOf};
 ghost use Rattle.subset_font.specs.Failure.{status_of_end};
-ghost use Rattle.subset_font.specs.declared.failure.Failure.TheVariants.{Error as Refused, Read as CannotRead, Usage};
+ghost use Rattle.subset_font.specs.declared.failure.Failure.TheVariants.{Error as Refused, Usage};
 ghost use Rattle.subsetter_base.specs.declared.error.Error.TheVariants.{OutOfMemory};
 
 use crate::axes::{axes_there, carry_axes, has_axis};
@@ -13,7 +13,8 @@ use crate::carried::{carry_out, read_whole};
 use crate::failure::{Failure, Told, file_of, status_of_run};
 use crate::help::{HELP, VERSION_LINE};
 use crate::hint::find_hint;
-use crate::streams::{Source, Target, lines_beside, open_source};
+use crate::reason::{Noted, reason_of, unread};
+use crate::streams::{Source, Target, hold_streams, lines_beside, open_source};
 use crate::task::{Asked, Form, Task, at_of, extras_of, form_of, limits_of};
 use std::alloc::Global;
 use std::fs::OpenFile;
@@ -53,11 +54,24 @@ fn read_list_file<R: Files + Input + AllocGlobal>(
     rt: &R,
     name: &str,
     text: &mut Vec<u8>,
+    reason: &mut Option<io::Error>,
 ) -> Result<GlyphList, Failure>
     ensures { IfErr result (λ e. e ≢ Usage) }
 {
-    let mut file = open_source(rt, name).map_err(|_| Failure::ReadList)?;
-    *text = read_whole(rt.alloc(), &mut file, 0).map_err(|_| Failure::ReadList)?;
+    let mut file = match open_source(rt, name) {
+        Ok(file) => Noted::new(file),
+        Err(error) => {
+            *reason = Some(error);
+            return Err(Failure::ReadList);
+        }
+    };
+    match read_whole(rt.alloc(), &mut file, 0) {
+        Ok(whole) => *text = whole,
+        Err(_) => {
+            *reason = unread(file.reason());
+            return Err(Failure::ReadList);
+        }
+    }
     match read_list(rt.alloc(), text) {
         Ok(list) => Ok(list),
         Err(ArgsError::Usage) => Err(Failure::List),
@@ -70,12 +84,13 @@ fn list_of<R: Files + Input + AllocGlobal>(
     rt: &R,
     glyphs: &Glyphs,
     text: &mut Vec<u8>,
+    reason: &mut Option<io::Error>,
 ) -> Result<Option<GlyphList>, Failure>
     ensures ok { IfOk result (IsListFor glyphs.now) }
     ensures err { IfErr result (λ e. e ≢ Usage) }
 {
     match glyphs {
-        Glyphs::InFile(name) => Ok(Some(read_list_file(rt, name, text)?)),
+        Glyphs::InFile(name) => Ok(Some(read_list_file(rt, name, text, reason)?)),
         _ => Ok(None),
     }
 }
@@ -113,44 +128,65 @@ fn task_of<'a>(job: &'a Job, list: &'a Option<GlyphList>) -> Task<'a>
 }
 
 /// Room for the bytes of a file and for one more, so that its end is seen without a growth. None is taken for a stream.
-fn room_of<F: OpenFile + Read + Drop, S: Read + Drop>(
-    source: &Source<F, S>,
-) -> Result<usize, Failure>
-    ensures { IfErr result (λ e. e ≡ CannotRead) }
-{
+fn room_of<F: OpenFile + Read + Drop, S: Read + Drop>(source: &Source<F, S>) -> io::Result<usize> {
     let Source::File(file) = source else {
         return Ok(0);
     };
-    match file.metadata() {
-        Ok(about) => Ok(usize::try_from(about.len()).unwrap_or(0).saturating_add(1)),
-        Err(_) => Err(Failure::Read),
-    }
+    let about = file.metadata()?;
+    Ok(usize::try_from(about.len()).unwrap_or(0).saturating_add(1))
 }
 
-/// Does a task on files and the standard streams. The output's file is made by its first write.
+/// Does a task between a reader and two writers, the second of them behind a buffer.
+fn carry_buffered<R: Read, W: Write, L: Write>(
+    alloc: Global,
+    task: &Task<'_>,
+    input: &mut R,
+    room: usize,
+    source: &mut Vec<u8>,
+    output: &mut W,
+    lines: &mut L,
+) -> Result<(), Failure>
+    ensures { IfErr result (λ e. e ≢ Usage) }
+{
+    let Ok(mut lines) = BufWriter::new(alloc, lines) else {
+        return Err(Failure::Error(Error::OutOfMemory));
+    };
+    carry_out(alloc, task, input, room, source, output, &mut lines)
+}
+
+/// Opens the font's file or stream, and finds the room for its bytes.
+fn open_font<R: Files + Input>(
+    rt: &R,
+    name: &str,
+) -> io::Result<(Noted<Source<R::File, R::Reader>>, usize)> {
+    let source = open_source(rt, name)?;
+    let room = room_of(&source)?;
+    Ok((Noted::new(source), room))
+}
+
+/// Does a task on files and the standard streams. The output's file is made by its first write. Why the system refused one
+/// is kept.
 fn perform<R: Files + Print + Eprint + Input + AllocGlobal>(
     rt: &R,
     job: &Job,
     task: &Task<'_>,
     source: &mut Vec<u8>,
+    reason: &mut Option<io::Error>,
 ) -> Result<(), Failure>
     ensures { IfErr result (λ e. e ≢ Usage) }
 {
-    let Ok(mut lines) = BufWriter::new(rt.alloc(), lines_beside(rt, job.output.as_str())) else {
-        return Err(Failure::Error(Error::OutOfMemory));
+    let (mut input, room) = match open_font(rt, job.input.as_str()) {
+        Ok(opened) => opened,
+        Err(error) => {
+            *reason = Some(error);
+            return Err(Failure::Read);
+        }
     };
-    let mut input = open_source(rt, job.input.as_str()).map_err(|_| Failure::Read)?;
-    let room = room_of(&input)?;
-    let mut output = Target::new(rt, job.output.as_str());
-    carry_out(
-        rt.alloc(),
-        task,
-        &mut input,
-        room,
-        source,
-        &mut output,
-        &mut lines,
-    )
+    let mut output = Noted::new(Target::new(rt, job.output.as_str()));
+    let mut lines = Noted::new(lines_beside(rt, job.output.as_str()));
+    let ended = carry_buffered(rt.alloc(), task, &mut input, room, source, &mut output, &mut lines);
+    *reason = reason_of(&ended, input.reason(), output.reason(), lines.reason());
+    ended
 }
 
 /// Prints why a run failed, if it did, and answers the status.
@@ -162,6 +198,13 @@ fn report<R: Eprint>(rt: &R, ended: &Result<(), Failure>, file: Option<&str>) ->
         let _ = eprintln!(rt; "{}", Told { failure, file });
     }
     status_of_run(ended)
+}
+
+/// Reports why the system refused to read or to write, where that is known.
+fn tell_reason<R: Eprint>(rt: &R, reason: Option<io::Error>) {
+    if let Some(reason) = reason {
+        let _ = eprintln!(rt; "{reason}");
+    }
 }
 
 /// Says more of a font that is refused, where more can be seen.
@@ -199,19 +242,22 @@ fn run_job<R: Files + Print + Eprint + Input + AllocGlobal>(rt: &R, job: &Job) -
     ensures { result ≤ 3 }
 {
     let mut text = Vec::new(rt.alloc());
-    let list = match list_of(rt, &job.glyphs, &mut text) {
+    let mut reason = None;
+    let list = match list_of(rt, &job.glyphs, &mut text, &mut reason) {
         Ok(list) => list,
         Err(failure) => {
             let ended = Err(failure);
             let status = report(rt, &ended, file_of(&ended, job));
+            tell_reason(rt, reason);
             tell_wrong_part(rt, &ended, &text);
             return status;
         }
     };
     let task = task_of(job, &list);
     let mut font = Vec::new(rt.alloc());
-    let ended = perform(rt, job, &task, &mut font);
+    let ended = perform(rt, job, &task, &mut font, &mut reason);
     let status = report(rt, &ended, file_of(&ended, job));
+    tell_reason(rt, reason);
     tell_hint(rt, &ended, &font, &task);
     if let (Ok(()), Some(at)) = (&ended, task.at) {
         tell_unknown(rt, &font, task.index, at);
@@ -219,21 +265,44 @@ fn run_job<R: Files + Print + Eprint + Input + AllocGlobal>(rt: &R, job: &Job) -
     status
 }
 
-/// Tells the axes of a face on standard output.
+/// Tells the axes of a face between a reader and a writer, which gets a buffer.
+fn axes_buffered<R: Read, L: Write>(
+    alloc: Global,
+    index: u32,
+    input: &mut R,
+    room: usize,
+    source: &mut Vec<u8>,
+    lines: &mut L,
+) -> Result<(), Failure>
+    ensures { IfErr result (λ e. e ≢ Usage) }
+{
+    let Ok(mut lines) = BufWriter::new(alloc, lines) else {
+        return Err(Failure::Error(Error::OutOfMemory));
+    };
+    carry_axes(alloc, index, input, room, source, &mut lines)
+}
+
+/// Tells the axes of a face on standard output. Why the system refused to read or to write is kept.
 fn perform_axes<R: Files + Print + Input + AllocGlobal>(
     rt: &R,
     input: &str,
     index: u32,
     source: &mut Vec<u8>,
+    reason: &mut Option<io::Error>,
 ) -> Result<(), Failure>
     ensures { IfErr result (λ e. e ≢ Usage) }
 {
-    let Ok(mut lines) = BufWriter::new(rt.alloc(), io::writer(rt)) else {
-        return Err(Failure::Error(Error::OutOfMemory));
+    let (mut input, room) = match open_font(rt, input) {
+        Ok(opened) => opened,
+        Err(error) => {
+            *reason = Some(error);
+            return Err(Failure::Read);
+        }
     };
-    let mut input = open_source(rt, input).map_err(|_| Failure::Read)?;
-    let room = room_of(&input)?;
-    carry_axes(rt.alloc(), index, &mut input, room, source, &mut lines)
+    let mut lines = Noted::new(io::writer(rt));
+    let ended = axes_buffered(rt.alloc(), index, &mut input, room, source, &mut lines);
+    *reason = reason_of(&ended, input.reason(), None, lines.reason());
+    ended
 }
 
 /// The name of the file of a face, if it can't be read.
@@ -249,8 +318,10 @@ fn run_axes<R: Files + Print + Eprint + Input + AllocGlobal>(rt: &R, input: &str
     ensures { result ≤ 3 }
 {
     let mut font = Vec::new(rt.alloc());
-    let ended = perform_axes(rt, input, index, &mut font);
+    let mut reason = None;
+    let ended = perform_axes(rt, input, index, &mut font, &mut reason);
     let status = report(rt, &ended, unread_file(&ended, input));
+    tell_reason(rt, reason);
     let none = None;
     let task = Task {
         asked: Asked::Every,
@@ -271,10 +342,14 @@ fn run_axes<R: Files + Print + Eprint + Input + AllocGlobal>(rt: &R, input: &str
 fn print_text<R: Print + Eprint>(rt: &R, text: &str) -> u8
     ensures { result ≤ 3 }
 {
-    let ended = io::writer(rt)
-        .write_all(text.as_bytes())
-        .map_err(|_| Failure::Output);
-    report(rt, &ended, None)
+    match io::writer(rt).write_all(text.as_bytes()) {
+        Ok(()) => 0,
+        Err(error) => {
+            let status = report(rt, &Err(Failure::Output), None);
+            tell_reason(rt, Some(error));
+            status
+        }
+    }
 }
 
 /// The end of a run, with its status. Only `run` makes one, and it can't be dropped, so that `main` ends with no other
@@ -337,6 +412,7 @@ fn refuse_unread<R: Eprint>(rt: &R, failure: Failure) -> u8
 pub fn run<R: Env + Files + Print + Eprint + Input + AllocGlobal>(rt: &R) -> Ended
     ensures { result.status ≤ 3 }
 {
+    let _held = hold_streams(rt);
     let status = match words(rt) {
         Ok(words) => run_words(rt, &words),
         Err(failure) => refuse_unread(rt, failure),
