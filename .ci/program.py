@@ -64,12 +64,12 @@ HINTED = bytes.fromhex("0001 0000 0000 000A 000A 0002 0003 B0002F 31 33 35".repl
 NO_HINTS = bytes.fromhex("0001 0000 0000 000A 000A 0002 0000 31 33 35".replace(" ", ""))
 
 
-def six(*further, outlines=None):
-    """A font of six glyphs with metrics, 1000 units to the em, and further tables."""
+def six(*further, outlines=None, ends=None, without=()):
+    """A font of six glyphs with metrics, 1000 units to the em, and further tables; with other entries of `loca`, or without tables."""
     outlines = outlines or [b"", *[bytes([0, 0, 0, k]) + bytes(8) for k in range(1, 6)]]
-    ends = [sum(map(len, outlines[:k])) for k in range(7)]
-    tables = [("glyf", b"".join(outlines)), ("head", HEAD), ("loca", made.u32s(*ends)), *FURTHER, *further]
-    return made.font(sorted(tables))
+    ends = ends or [sum(map(len, outlines[:k])) for k in range(7)]
+    tables = [("glyf", b"".join(outlines)), ("head", HEAD), ("loca", made.u32s(*ends)), *FURTHER]
+    return made.font(sorted([*(it for it in tables if it[0] not in without), *further]))
 
 
 # A is glyph 1, B 2, C 3 (by a list of glyphs), U+FFFF none.
@@ -186,6 +186,15 @@ FONTS = {
     "woff": b"wOFF" + bytes(40),
     "woff2": b"wOF2" + bytes(40),
     "empty": b"",
+    # (the six outlines have 0, 12, 12, .. bytes)
+    "descends": six(ends=[0, 0, 12, 24, 12, 48, 60]),
+    "outside": six(ends=[0, 0, 12, 24, 36, 48, 61]),
+    "few_entries": six(ends=[0, 0, 12, 24, 36]),
+    "no_loca": six(without=("loca",)),
+    "no_head": six(without=("head",)),
+    # the short format: entries 0, 0, 6, 12, 9, .. are halves of offsets
+    "descends_short": six(("loca", made.u16s(0, 0, 6, 12, 9, 24, 30)), ("head", HEAD[:50] + bytes(4)), without=("loca", "head")),
+    "cff2": b"OTTO" + made.font([("CFF2", bytes(8)), ("maxp", MAXP)])[4:],
 }
 
 
@@ -329,6 +338,19 @@ def cannot_write(name, number):
     return f"cannot write {name}{because(number)}".encode()
 
 
+# ---- and of a font that is refused
+
+def no_table(tag, first="malformed font"):
+    return f"{first}\nthe face has no table {tag}\n".encode()
+
+
+def wrong_glyph(number, what):
+    return f"malformed font\nglyph {number}: {what}\n".encode()
+
+
+NO_ENTRIES_9 = wrong_glyph(9, "loca has no entries for it")
+
+
 def usage(*rows):
     """Rows of words that are wrong, each with what standard error says."""
     return [Row(words, 2, err=err, after=USED) for words, err in rows]
@@ -357,20 +379,27 @@ ROWS = [
     Row("simple none/out 0 2", 3, err=cannot_write("none/out", errno.ENOENT)),
     Row("simple . 0 2", 3, err=cannot_write(".", errno.EISDIR)),
     Row("simple /dev/full 0 2", 3, err=cannot_write("/dev/full", errno.ENOSPC)),
-    Row("simple out 0 9", 1, err=b"malformed font\n", after=USED),
+    Row("simple out 0 9", 1, err=NO_ENTRIES_9, after=USED),
     Row("--no-such simple out 0 2", 2, err=no_option("--no-such"), after=USED),
     Row("--no-such out 0 2", 3, err=cannot_read("--no-such", errno.ENOENT), after=USED),
     # refusals, and what more is said of them
     Row("six out 0 1,6", 1, err=b"malformed font\nGID 6: the face has 6 glyphs, from 0 on\n", after=USED),
     Row("six out 0 9,1,7,6", 1, err=b"malformed font\nGID 9: the face has 6 glyphs, from 0 on\n", after=USED),
     Row("mixed out 1 1,6", 1, err=b"malformed font\nGID 6: the face has 6 glyphs, from 0 on\n", after=USED),
-    Row("mixed out 0 9", 1, err=b"malformed font\n", after=USED),
+    Row("mixed out 0 9", 1, err=NO_ENTRIES_9, after=USED),
     Row("mixed out 2 9", 1, err=b"malformed font\nINDEX 2: the collection has 2 faces, from 0 on\n", after=USED),
-    Row("--widths simple out 0 9", 1, err=b"malformed font\n", after=USED),
+    Row("--widths simple out 0 9", 1, err=no_table("hmtx"), after=USED),
     Row("faces out 2 1", 1, err=b"malformed font\nINDEX 2: the collection has 2 faces, from 0 on\n", after=USED),
     Row("woff out 0 1", 1, err=b"unknown font kind\nWOFF: unpack it first\n", after=USED),
     Row("woff2 out 0 1", 1, err=b"unknown font kind\nWOFF2: unpack it first\n", after=USED),
     Row("empty out 0 1", 1, err=b"unknown font kind\n", after=USED),
+    *(Row(f"{name} out 0 {list_of}", 1, err=wrong_glyph(number, what), after=USED) for name, list_of, number, what in (
+        ("descends", "1,3,5", 3, "its loca entries descend"), ("descends_short", "3", 3, "its loca entries descend"),
+        ("outside", "5,4", 5, "its outline isn't inside glyf"), ("few_entries", "1,3,5,4", 5, "loca has no entries for it"),
+        ("few_entries", "2,4", 4, "loca has no entries for it"))),
+    Row("no_loca out 0 1", 1, err=no_table("loca"), after=USED),
+    Row("no_head out 0 1", 1, err=no_table("head"), after=USED),
+    Row("cff2 out 0 1", 1, err=b"unsupported feature in font\nCFF2: its outlines aren't read\n", after=USED),
     # the limits
     Row("--limits 0,1 cff out 0 0", 1, err=b"processing CFF table failed\n", after=USED),
     Row("--limits 1,1 cff out 0 0", out=lines((0, 0)), same="cff 0"),
@@ -390,7 +419,7 @@ ROWS = [
     Row("--widths six out 0 2,1", out=lines((2, 1), (1, 2)) + b"[0 [0 200 100]]\n", same="six 2,1"),
     Row("--widths --limits 1,1 six out 0 2,1", out=lines((2, 1), (1, 2)) + b"[0 [0 200 100]]\n", same="six 2,1"),
     Row("--limits 1,1 --widths six out 0 2,1", out=lines((2, 1), (1, 2)) + b"[0 [0 200 100]]\n", same="six 2,1"),
-    Row("--widths simple out 0 2", 1, err=b"malformed font\n", after=USED),
+    Row("--widths simple out 0 2", 1, err=no_table("hmtx"), after=USED),
     Row("--widths --widths six out 0 1", 2, err=twice("--widths"), after=USED),
     *usage(("--widths", missing("IN")), ("six --widths out 0 1", late("--widths")), ("six out 0 1 --json", late("--json"))),
     Row("simple --widths 0 2", out=lines((2, 1)), after={"--widths": "simple 2"}),
@@ -429,7 +458,7 @@ ROWS = [
     Row("--axes axes_cut_names 0", out=b"axis wght 100 400 900\ninstance wght=1\n"),
     Row("--axes simple 0"),
     Row("--axes cff 0"),
-    *(Row(f"--axes axes_cut_{k} 0", 1, err=b"malformed font\n") for k in range(3)),
+    *(Row(f"--axes axes_cut_{k} 0", 1, err=b"malformed font\nfvar: the table can't be read\n") for k in range(3)),
     Row("--axes woff 0", 1, err=b"unknown font kind\nWOFF: unpack it first\n"),
     Row("--axes faces 2", 1, err=b"unknown font kind\nINDEX 2: the collection has 2 faces, from 0 on\n"),
     Row("--axes faces 1"),
@@ -467,7 +496,7 @@ ROWS = [
         files={"list": b"65534-65535"}, after=USED),
     Row("--gids-file list six out 0", 1, err=b"malformed font\nGID 65535: the face has 6 glyphs, from 0 on\n",
         files={"list": b"3,1 2\n1\r\n0-2\t65535"}, after=USED),
-    Row("--gids-file list simple out 0", 1, err=b"malformed font\n", files={"list": b"*"}, after=USED),
+    Row("--gids-file list simple out 0", 1, err=no_table("maxp"), files={"list": b"*"}, after=USED),
     Row("--gids-file list six out 0", 1, err=b"malformed font\nGID 65535: the face has 6 glyphs, from 0 on\n",
         files={"list": b"1-2 65535"}, after=USED),
     *(Row("--gids-file list six out 0", 2, err=in_list(text.decode()), files={"list": text}, after=USED) for text in (
@@ -492,8 +521,8 @@ ROWS = [
     Row(["--text", "A\U0001F600", "both", "out", "0"], out=b"U+0041 4 -> 1\nU+1F600 5 -> 2\n", same="six 4,5"),
     Row("six out 0 4,5", out=lines((4, 1), (5, 2)), same="six 4,5"),
     Row(["--text", "", "small", "out", "0"], same="six none"),
-    Row("--text A mac out 0", 1, err=b"no Unicode cmap in font\n", after=USED),
-    Row("--text A six out 0", 1, err=b"no Unicode cmap in font\n", after=USED),
+    Row("--text A mac out 0", 1, err=b"no Unicode cmap in font\ncmap: no table for Unicode in format 4 or 12\n", after=USED),
+    Row("--text A six out 0", 1, err=no_table("cmap", "no Unicode cmap in font"), after=USED),
     Row("--text A --gids-file list small out 0", 2, err=glyphs_twice("--gids-file"), files={"list": b"1"}, after=USED),
     Row("--text A small out 0 1", 2, err=beside_option("1"), after=USED),
     Row("--text - - out 0", out=b"U+002D 0 -> 0\n", stdin=FONTS["small"], same="six none"),
@@ -561,7 +590,7 @@ CLOSED = [
     (1, "--axes variable 0", (3, None, NO_OUTPUT), (0, None, b"")),
     (1, "--at wdth=1 simple out 0 2", (3, None, NO_OUTPUT), (0, None, b"no axis wdth in the font\n")),
     (1, "--quiet simple out 0 2", (0, None, b""), None),
-    (1, "simple out 0 9", (1, None, b"malformed font\n"), None),
+    (1, "simple out 0 9", (1, None, NO_ENTRIES_9), None),
     (2, "simple - 0 2", (3, SIMPLE_2, None), (0, SIMPLE_2, None)),
     (2, "simple out 0 2", (0, lines((2, 1)), None), None),
     (2, "simple out 0 x", (2, b"", None), None),

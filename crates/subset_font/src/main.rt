@@ -27,7 +27,7 @@ pub use axes::{axes_there, carry_axes, has_axis};
 pub use carried::carry_out;
 pub use failure::{Failure, Told, status_of_run};
 pub use help::{HELP, VERSION_LINE};
-pub use hint::{Hint, find_hint};
+pub use hint::{Hint, find_axes_hint, find_hint};
 pub use output::emit;
 pub use subset::{Made, make_of};
 pub use task::{Asked, Form, Task};

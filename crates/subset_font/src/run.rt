@@ -12,10 +12,10 @@ use crate::axes::{axes_there, carry_axes, has_axis};
 use crate::carried::{carry_out, read_whole};
 use crate::failure::{Failure, Told, file_of, status_of_run};
 use crate::help::{HELP, VERSION_LINE};
-use crate::hint::find_hint;
+use crate::hint::{Hint, find_axes_hint, find_hint};
 use crate::reason::{Noted, reason_of, unread};
 use crate::streams::{Source, Target, hold_streams, lines_beside, open_source};
-use crate::task::{Asked, Form, Task, at_of, extras_of, form_of, limits_of};
+use crate::task::{Asked, Task, at_of, extras_of, form_of, limits_of};
 use std::alloc::Global;
 use std::fs::OpenFile;
 use std::io::{BufWriter, ErrorKind, Read, Write};
@@ -23,7 +23,7 @@ use std::process::{ExitCode, Termination};
 use std::rt::{Env, Files};
 use std::{env, io};
 use subset_args::{
-    Advice, ArgsError, Command, GlyphList, Glyphs, Job, Shown, Switches, find_mistake, find_wrong_part, read_list, read_words,
+    Advice, ArgsError, Command, GlyphList, Glyphs, Job, Shown, find_mistake, find_wrong_part, read_list, read_words,
 };
 use subsetter::{Error, Options, Tag};
 
@@ -208,11 +208,9 @@ fn tell_reason<R: Eprint>(rt: &R, reason: Option<io::Error>) {
 }
 
 /// Says more of a font that is refused, where more can be seen.
-fn tell_hint<R: Eprint>(rt: &R, ended: &Result<(), Failure>, font: &[u8], task: &Task<'_>) {
-    if let Err(failure) = ended {
-        if let Some(hint) = find_hint(failure, font, task) {
-            let _ = eprintln!(rt; "{hint}");
-        }
+fn tell_hint<R: Eprint>(rt: &R, hint: Option<Hint>) {
+    if let Some(hint) = hint {
+        let _ = eprintln!(rt; "{hint}");
     }
 }
 
@@ -258,7 +256,9 @@ fn run_job<R: Files + Print + Eprint + Input + AllocGlobal>(rt: &R, job: &Job) -
     let ended = perform(rt, job, &task, &mut font, &mut reason);
     let status = report(rt, &ended, file_of(&ended, job));
     tell_reason(rt, reason);
-    tell_hint(rt, &ended, &font, &task);
+    if let Err(failure) = &ended {
+        tell_hint(rt, find_hint(failure, &font, &task));
+    }
     if let (Ok(()), Some(at)) = (&ended, task.at) {
         tell_unknown(rt, &font, task.index, at);
     }
@@ -322,19 +322,9 @@ fn run_axes<R: Files + Print + Eprint + Input + AllocGlobal>(rt: &R, input: &str
     let ended = perform_axes(rt, input, index, &mut font, &mut reason);
     let status = report(rt, &ended, unread_file(&ended, input));
     tell_reason(rt, reason);
-    let none = None;
-    let task = Task {
-        asked: Asked::Every,
-        index,
-        options: Options {
-            limits: limits_of(None),
-            extras: extras_of(Switches::NONE),
-        },
-        widths: false,
-        form: Form::Silence,
-        at: at_of(&none),
-    };
-    tell_hint(rt, &ended, &font, &task);
+    if let Err(failure) = &ended {
+        tell_hint(rt, find_axes_hint(failure, &font, index));
+    }
     status
 }
 

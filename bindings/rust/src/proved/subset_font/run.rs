@@ -5,18 +5,18 @@ use crate::rattle::prelude::{AllocGlobal, Eprint, Input, IteratorExt, Print, Str
 
 use crate::proved::subset_args::{
     find_mistake, find_wrong_part, read_list, read_words, Advice, ArgsError, Command, GlyphList,
-    Glyphs, Job, Shown, Switches,
+    Glyphs, Job, Shown,
 };
 use crate::proved::subset_font::axes::{axes_there, carry_axes, has_axis};
 use crate::proved::subset_font::carried::{carry_out, read_whole};
 use crate::proved::subset_font::failure::{file_of, status_of_run, Failure, Told};
 use crate::proved::subset_font::help::{HELP, VERSION_LINE};
-use crate::proved::subset_font::hint::find_hint;
+use crate::proved::subset_font::hint::{find_axes_hint, find_hint, Hint};
 use crate::proved::subset_font::reason::{reason_of, unread, Noted};
 use crate::proved::subset_font::streams::{
     hold_streams, lines_beside, open_source, Source, Target,
 };
-use crate::proved::subset_font::task::{at_of, extras_of, form_of, limits_of, Asked, Form, Task};
+use crate::proved::subset_font::task::{at_of, extras_of, form_of, limits_of, Asked, Task};
 use crate::proved::subsetter::{Error, Options, Tag};
 use crate::rattle::alloc::Global;
 use crate::rattle::fs::OpenFile;
@@ -198,11 +198,9 @@ fn tell_reason<R: Eprint>(rt: &R, reason: Option<io::Error>) {
 }
 
 /// Says more of a font that is refused, where more can be seen.
-fn tell_hint<R: Eprint>(rt: &R, ended: &Result<(), Failure>, font: &[u8], task: &Task<'_>) {
-    if let Err(failure) = ended {
-        if let Some(hint) = find_hint(failure, font, task) {
-            let _ = eprintln!(rt; "{hint}");
-        }
+fn tell_hint<R: Eprint>(rt: &R, hint: Option<Hint>) {
+    if let Some(hint) = hint {
+        let _ = eprintln!(rt; "{hint}");
     }
 }
 
@@ -249,7 +247,9 @@ fn run_job<R: Files + Print + Eprint + Input + AllocGlobal>(rt: &R, job: &Job) -
     let ended = perform(rt, job, &task, &mut font, &mut reason);
     let status = report(rt, &ended, file_of(&ended, job));
     tell_reason(rt, reason);
-    tell_hint(rt, &ended, &font, &task);
+    if let Err(failure) = &ended {
+        tell_hint(rt, find_hint(failure, &font, &task));
+    }
     if let (Ok(()), Some(at)) = (&ended, task.at) {
         tell_unknown(rt, &font, task.index, at);
     }
@@ -314,19 +314,9 @@ fn run_axes<R: Files + Print + Eprint + Input + AllocGlobal>(
     let ended = perform_axes(rt, input, index, &mut font, &mut reason);
     let status = report(rt, &ended, unread_file(&ended, input));
     tell_reason(rt, reason);
-    let none = None;
-    let task = Task {
-        asked: Asked::Every,
-        index,
-        options: Options {
-            limits: limits_of(None),
-            extras: extras_of(Switches::NONE),
-        },
-        widths: false,
-        form: Form::Silence,
-        at: at_of(&none),
-    };
-    tell_hint(rt, &ended, &font, &task);
+    if let Err(failure) = &ended {
+        tell_hint(rt, find_axes_hint(failure, &font, index));
+    }
     status
 }
 
