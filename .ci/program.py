@@ -28,7 +28,7 @@ sys.dont_write_bytecode = True
 import made  # noqa: E402
 
 USAGE = b"usage: subset_font IN OUT INDEX GID[,GID..]\n"
-OPTIONS = ["--widths", "--limits", "--at", "--axes", "--no-hinting", "--no-names", "--no-glyph-names", "--gids-file", "--text", "--json",
+OPTIONS = ["-o", "--output-file", "--face-index", "--gids", "--widths", "--limits", "--at", "--axes", "--no-hinting", "--no-names", "--no-glyph-names", "--gids-file", "--text", "--json",
            "--quiet", "--help", "-h", "--version", "--"]
 
 
@@ -263,7 +263,7 @@ WANTED = {
     "IN": "expected: the file of a font, or - for standard input",
     "OUT": "expected: a file for the new font, or - for standard output",
     "INDEX": "expected: the face of a collection, from 0; of other fonts 0",
-    "GID": "expected: glyph numbers as 36,37,38, or --text or --gids-file before IN",
+    "GID": "expected: glyph numbers as 36,37,38, or an option as --text",
 }
 
 
@@ -312,13 +312,23 @@ def no_option(word, nearest=None):
 
 
 def glyphs_twice(option):
-    return wrong(f"{option}: the glyphs are requested twice", "expected: GID, or --text, or --gids-file")
+    return wrong(f"{option}: the glyphs are requested twice", "expected: one of GID, --gids, --text and --gids-file")
 
 
 def beside_option(word):
-    return wrong(f'GID "{word}": an option requests the glyphs', "expected: GID, or --text, or --gids-file")
+    return wrong(f'GID "{word}": an option requests the glyphs', "expected: one of GID, --gids, --text and --gids-file")
 
 
+def in_argument(part):
+    return wrong(f'--gids: "{part}" is not a glyph number', "expected: numbers to 65535 and ranges as 36-38, or * alone")
+
+
+def beside_input(word):
+    return wrong(f'"{word}" is one argument too many', "expected: IN and options, where -o or --face-index is one")
+
+
+NO_SOURCE = wrong("no option requests glyphs", "expected: --gids, --text or --gids-file")
+NO_OUTPUT_OPTION = wrong("-o OUT is missing", "expected: a file for the new font, or - for standard output")
 INPUT_TWICE = wrong("--gids-file: standard input is requested twice", "expected: - for IN or for FILE, not for both")
 AXES_LATE = wrong("--axes isn't the first argument", "expected: --axes IN INDEX")
 NOT_UTF_8 = wrong("an argument isn't UTF-8", "expected: UTF-8, or - and a redirection for such a file")
@@ -512,6 +522,49 @@ ROWS = [
     Row("--gids-file - six - 0", out="six 2,1", err=lines((2, 1), (1, 2)), stdin=b"2,1", after=USED),
     Row("--gids-file ./- - out 0", out=lines((2, 1)), stdin=SIMPLE, files={"-": b"2"}, same="simple 2"),
     Row("--gids-file list six out 0 1", 2, err=beside_option("1"), files={"list": b"1"}, after=USED),
+    # the list of an argument
+    Row("--gids 2,1 six out 0", out=lines((2, 1), (1, 2)), same="six 2,1"),
+    Row("--gids 1-3,5 six out 0", out=lines((1, 1), (2, 2), (3, 3), (5, 4)), same="six 1-3,5"),
+    Row("--gids * six out 0", out=lines(*((k, k) for k in range(6))), same="six 1-5"),
+    Row("--gids 3,1-2,1,0-2,,5 six out 0", out=lines((3, 1), (1, 2), (2, 3), (1, 2), (0, 0), (1, 2), (2, 3), (5, 4)), same="six 3,1,2,5"),
+    Row(["--gids", "", "six", "out", "0"], same="six none"),
+    Row("--gids 3-3 six out 0", out=lines((3, 1)), same="six 3"),
+    Row("--gids 65535-65535 six out 0", 1, err=b"malformed font\nGID 65535: the face has 6 glyphs, from 0 on\n", after=USED),
+    Row("--gids * simple out 0", 1, err=no_table("maxp"), after=USED),
+    *usage(*((f"--gids {it} six out 0", in_argument(part)) for it, part in (
+        ("3-1", "3-1"), ("65536", "65536"), ("1,qq", "qq"), ("1-2-3", "1-2-3"), ("0-65536", "0-65536"), ("*,1", "*"), ("**", "**"), ("+1", "+1"), ("-", "-"),
+        ("5-", "5-"))),
+           (["--gids", "1 2", "six", "out", "0"], in_argument("1 2")), ("--gids", no_value("--gids")), ("--gids 1 --gids 2 six out 0", glyphs_twice("--gids")),
+           ("--gids 1 --text A six out 0", glyphs_twice("--text")), ("--gids 1 six out 0 2", beside_option("2"))),
+    # options before and after IN, of which one says OUT
+    *(Row(words, out=lines((2, 1), (1, 2)), same="six 2,1") for words in (
+        "six --gids 2,1 -o out", "six -o out --gids 2,1", "-o out --gids 2,1 six", "--gids 2,1 six -o out", "--output-file out six --gids 2,1",
+        "-o out --gids 2,1 --face-index 0 -- six", "six --face-index 4294967295 --gids 2,1 -o out")),
+    Row("six -o out --widths --gids 2,1 --json", out=b'{"glyphs":[{"old":2,"new":1},{"old":1,"new":2}],"widths":[0,200,100]}\n', same="six 2,1"),
+    Row("small --text AB -o out", out=b"U+0041 1 -> 1\nU+0042 2 -> 2\n", same="six 1,2"),
+    Row("six -o out --gids-file list", out=lines((2, 1), (1, 2)), files={"list": b"2 1"}, same="six 2,1"),
+    Row("faces --face-index 1 --gids 2 -o out", out=lines((2, 1)), same="simple 2"),
+    Row("mixed --face-index 1 --gids 1,6 -o out", 1, err=b"malformed font\nGID 6: the face has 6 glyphs, from 0 on\n", after=USED),
+    Row("faces --face-index 2 --gids 2 -o out", 1, err=b"malformed font\nINDEX 2: the collection has 2 faces, from 0 on\n", after=USED),
+    Row("variable --at wght=650 --gids 1-3 -o out", out=lines((1, 1), (2, 2), (3, 3)), same="at 650"),
+    Row("six --gids 2,1 -o -", out="six 2,1", err=lines((2, 1), (1, 2)), after=USED),
+    Row("- --gids 2 -o out", out=lines((2, 1)), stdin=SIMPLE, same="simple 2"),
+    Row("-o out --gids 2 -- --json", out=lines((2, 1)), files={"--json": SIMPLE}, same="simple 2"),
+    # (the plain form comes first)
+    Row("--text A small -o 0", out=b"U+0041 1 -> 1\n", after={"-o": "six 1"}),
+    Row("six -o 0 1", out=lines((1, 1)), after={"-o": "six 1"}),
+    Row("none --gids 2 -o out", 3, err=cannot_read("none", errno.ENOENT), after=USED),
+    Row("six --gids 2 -o none/out", 3, err=cannot_write("none/out", errno.ENOENT)),
+    *usage(("six -o out", NO_SOURCE), ("six --gids 1 --face-index 0", NO_OUTPUT_OPTION), ("-o out --gids 1", missing("IN")), ("six --gids 1 -o", no_value("-o")),
+           ("six --gids 1 -o out -o out", twice("-o")), ("six -o out --output-file out --gids 1", twice("--output-file")),
+           ("six -o out --gids 1 --face-index x", index("x")), ("six -o out --gids 1 --face-index 4294967296", index("4294967296")),
+           ("six -o out --gids 1 --face-index 0 --face-index 0", twice("--face-index")), ("six -o out --gids 1-x", in_argument("1-x")),
+           ("six mac -o out --gids 1", beside_input("mac")), ("-o x six out 0 1", beside_input("out")), ("--face-index 0 six out 0 1", beside_input("out")),
+           ("-o x --gids 1 six out 0", beside_input("out")), ("six -o out --gids 1 -- mac", beside_input("mac")), ("-o out --gids 1 -- six mac", beside_input("mac")),
+           ("-o out --gids 1 --no-hintings six", no_option("--no-hintings", "--no-hinting")), ("six -o out --gids 1 --no-hintings", no_option("--no-hintings", "--no-hinting")),
+           ("--no-hintings -o out --gids 1", no_option("--no-hintings", "--no-hinting")), ("six -o out --gids 1 --axes", AXES_LATE),
+           ("six -o out --gids 1 --help", late("--help")), ("- -o out --gids-file -", INPUT_TWICE), ("six -o out --gids 1 --at wght", coordinate("wght")),
+           ("six -o out --widths --gids 1 --widths", twice("--widths")), ("six -o out --gids 1 --limits 5", limits("5"))),
     # the glyphs of a text
     Row("--text AB small out 0", out=b"U+0041 1 -> 1\nU+0042 2 -> 2\n", same="six 1,2"),
     Row("six out 0 1,2", out=lines((1, 1), (2, 2)), same="six 1,2"),
@@ -563,7 +616,7 @@ ROWS = [
     *usage(*((f"{word} simple out 0 2", no_option(word, nearest)) for word, nearest in (
         ("--no-hintings", "--no-hinting"), ("--no_hinting", "--no-hinting"), ("--nohinting", "--no-hinting"), ("-no-hintin", "--no-hinting"),
         ("--no-hitning", "--no-hinting"), ("--no-hint", None), ("--no-hinti", "--no-hinting"), ("--no-naming", None), ("--no-name", "--no-names"),
-        ("--names", "--axes"), ("--gid-file", "--gids-file"), ("--gids", None), ("--txet", "--text"), ("--axe", "--axes"), ("--ax", "--at"),
+        ("--names", "--axes"), ("--gid-file", "--gids-file"), ("--gid", "--gids"), ("--face-indx", "--face-index"), ("--output-fil", "--output-file"), ("--outputfile", "--output-file"), ("--txet", "--text"), ("--axe", "--axes"), ("--ax", "--at"),
         ("--Widths", "--widths"), ("--WIDTHS", None), ("--jso", "--json"), ("--limit=", "--limits"), ("--quite", "--quiet"), ("--hel", "--help"),
         ("--versions", "--version"), ("--verison", "--version"), ("-x", None), ("--no-glyphnames", "--no-glyph-names")))),
     *usage((["--a\x1bb\x7f\x9f\xa0", "simple", "out", "0", "2"], no_option("--a\ufffdb\ufffd\ufffd\xa0")),
@@ -699,6 +752,8 @@ def check_words(table, room):
     table.demand((first.returncode, first.stdout, first.stderr) == (0, wanted.encode(), b""), "--help", first)
     for part in (USAGE[:-1].replace(b" IN", b" [OPTIONS] IN", 1), b"(default 1000000,64)", b"\nStatus: 0 ", b"\nExamples:\n  subset_font "):
         table.demand(part in first.stdout, "--help", f"{part!r} doesn't stand there")
+    wide = [line for line in first.stdout.decode().splitlines() if len(line) > 60]
+    table.demand(not wide, "--help", f"more than 60 columns: {wide}")
     for words in (["-h"], ["--widths", "--help"], ["--widths", "-h", "in"], ["--help", "x"]):
         got = table.start(words, room)
         table.demand((got.returncode, got.stdout, got.stderr) == (0, first.stdout, b""), words, got)

@@ -1,16 +1,13 @@
 -- What is wrong with an argument, by itself.
-use Rattle.std.specs.Prelude.{◌≡◌, ◌≢◌, ℕ, ◌==◌, ◌&&◌, nat_lt, Bool, true, List, length, Option, None, slice_index, codes}
-use Rattle.std.specs.Str.{bytes_eq}
+use Rattle.std.specs.Prelude.{◌≡◌, ◌≢◌, ◌⊎◌, ℕ, true, List, None, codes}
+use Rattle.std.specs.Str.{bytes_eq, IsUtf8}
+use Rattle.subset_args.specs.Lists.{ends_in}
 use Rattle.subsetter_words.specs.Numbers.{number_in_bits}
 use Rattle.subset_args.specs.Coordinates.{coordinate_in}
-use Rattle.subset_args.specs.Options.{kind_of}
+use Rattle.subset_args.specs.Options.{kind_of, looks_like_option}
 use Rattle.subset_args.specs.declared.options.Kind.TheVariants.{Place}
 use Rattle.subset_args.specs.declared.mistakes.Wrong.{Wrong}
-use Rattle.subset_args.specs.declared.mistakes.Wrong.TheVariants.{NoInput, NoOutput, NoIndex, NoGlyphs, Further, BehindAxes, Late, AxesLate, Unknown, Twice, NoValue, GlyphsTwice, BesideOption, InputTwice, Index, Glyph, Limits, Coordinate}
-
--- it begins with a minus (45), and has more
-abbrev pub looks_like_option : List ℕ → Bool
-looks_like_option word = nat_lt 1 (length word) && (slice_index word 0 == 45)
+use Rattle.subset_args.specs.declared.mistakes.Wrong.TheVariants.{NoInput, NoOutput, NoIndex, NoGlyphs, Further, BehindAxes, Late, AxesLate, Unknown, Twice, NoValue, GlyphsTwice, BesideOption, InputTwice, Index, Glyph, Limits, Coordinate, Part, BesideInput, NoOutputOption, NoSource}
 
 -- what is said of an argument, or of a value that it lists, is so as far as its own bytes show
 abbrev pub IsWrong : Wrong → List ℕ → Type 0
@@ -32,3 +29,7 @@ IsWrong Index word = number_in_bits 32 word ≡ None
 IsWrong Glyph word = number_in_bits 16 word ≡ None
 IsWrong Limits word = Unit {0}
 IsWrong Coordinate word = coordinate_in word ≡ None
+IsWrong Part word = ¬ (IsUtf8 word) ⊎ (ends_in word ≡ None)
+IsWrong BesideInput word = Unit {0}
+IsWrong NoOutputOption word = Unit {0}
+IsWrong NoSource word = Unit {0}

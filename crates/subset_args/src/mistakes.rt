@@ -1,11 +1,14 @@
 //! What is wrong with arguments that request nothing.
 
-ghost use Rattle.std.specs.Prelude.{◌≡◌, ◌==◌, ◌||◌, IfSome, slice_index};
-ghost use Rattle.subset_args.specs.Mistakes.{IsWrong, looks_like_option};
+ghost use Rattle.std.specs.Prelude.{◌≡◌, IfSome, IsTrue};
+ghost use Rattle.subset_args.specs.Mistakes.{IsWrong};
+ghost use Rattle.subset_args.specs.Options.{kind_of};
+ghost use Rattle.subset_args.specs.declared.options.Kind.TheVariants.{Place};
 
 use crate::coordinates::is_coordinate;
 use crate::jobs::{behind_axes, is_stream};
-use crate::options::{Chosen, Kind, Setting, Source, kind_of};
+use crate::lists::is_wrong_part;
+use crate::options::{Chosen, Kind, Setting, Source, kind_of, looks_like_option};
 use subsetter_words::{u16_of, u32_of};
 
 /// What is wrong with an argument, or with one of the values that it lists.
@@ -47,6 +50,14 @@ pub enum Wrong {
     Limits,
     /// It isn't TAG=VALUE.
     Coordinate,
+    /// It is no number and no range of glyphs.
+    Part,
+    /// It is a second argument beside IN, where an option says OUT or INDEX.
+    BesideInput,
+    /// No option says OUT.
+    NoOutputOption,
+    /// No option says which glyphs are requested.
+    NoSource,
 }
 
 /// A mistake in the arguments.
@@ -100,11 +111,19 @@ fn wrong_coordinate(list: &str) -> Option<Mistake<'_>>
     None
 }
 
-/// Whether an argument begins with a minus, and has more.
-fn looks_like_option(word: &str) -> bool
-    ensures { result ≡ looks_like_option word.now }
+/// The first part of a list that is no number and no range.
+fn wrong_part(list: &str) -> Option<Mistake<'_>>
+    ensures { IfSome result (λ m. IsWrong m.wrong m.word.now) }
 {
-    matches!(word.as_bytes(), [b'-', _, ..])
+    if list == "*" {
+        return None;
+    }
+    for part in list.split(',') {
+        if is_wrong_part(part.as_bytes()) {
+            return wrong(Wrong::Part, part);
+        }
+    }
+    None
 }
 
 /// The first option behind IN.
@@ -146,6 +165,7 @@ fn wrong_behind_index<'a>(
         (Some(Source::File(name)), []) if is_stream(input) && is_stream(name) => {
             wrong(Wrong::InputTwice, "--gids-file")
         }
+        (Some(Source::InList(list)), []) => wrong_part(list),
         (Some(_), []) => None,
         (Some(_), [word]) => wrong(Wrong::BesideOption, word),
         (None, [_, word, ..]) => wrong(Wrong::Further, word),
@@ -203,7 +223,8 @@ fn wrong_setting<'a>(
 ) -> Option<Mistake<'a>> {
     match setting {
         Setting::Limits if chosen.limits.is_none() => wrong(Wrong::Limits, value),
-        Setting::GidsFile | Setting::Text => wrong(Wrong::GlyphsTwice, word),
+        Setting::FaceIndex if chosen.index.is_none() => wrong_index(value),
+        Setting::GidsFile | Setting::Text | Setting::Gids => wrong(Wrong::GlyphsTwice, word),
         _ => wrong(Wrong::Twice, word),
     }
 }
@@ -235,12 +256,119 @@ fn wrong_from_option<'a>(chosen: Chosen<'a>, words: &'a [String]) -> Option<Mist
     }
 }
 
+/// Whether one of the arguments is an option that says OUT or INDEX.
+fn says_output(words: &[String]) -> bool {
+    for word in words {
+        if let Kind::Setting(Setting::Output | Setting::FaceIndex) = kind_of(word) {
+            return true;
+        }
+    }
+    false
+}
+
+/// What is wrong with options and IN, which are all there.
+fn wrong_request<'a>(chosen: &Chosen<'a>, input: &str) -> Option<Mistake<'a>>
+    ensures { IfSome result (λ m. IsWrong m.wrong m.word.now) }
+{
+    if chosen.source.is_none() {
+        return wrong(Wrong::NoSource, "");
+    }
+    if chosen.output.is_none() {
+        return wrong(Wrong::NoOutputOption, "");
+    }
+    wrong_behind_index(chosen, input, &[])
+}
+
+/// What is wrong at the end of arguments that have options before and after IN.
+fn wrong_at_end<'a>(chosen: &Chosen<'a>, input: Option<&'a str>) -> Option<Mistake<'a>>
+    ensures { IfSome result (λ m. IsWrong m.wrong m.word.now) }
+{
+    match input {
+        Some(input) => wrong_request(chosen, input),
+        None => wrong(Wrong::NoInput, ""),
+    }
+}
+
+/// What is wrong with the arguments behind `--`, beside IN.
+fn wrong_behind_end<'a>(
+    chosen: &Chosen<'a>,
+    input: Option<&'a str>,
+    words: &'a [String],
+) -> Option<Mistake<'a>>
+    ensures { IfSome result (λ m. IsWrong m.wrong m.word.now) }
+{
+    match (input, words) {
+        (_, []) => wrong_at_end(chosen, input),
+        (None, [word]) => wrong_request(chosen, word),
+        (None, [_, word, ..]) => wrong(Wrong::BesideInput, word),
+        (Some(_), [word, ..]) => wrong(Wrong::BesideInput, word),
+    }
+}
+
+/// Whether an argument is no option.
+fn is_no_option(word: &str) -> bool
+    ensures { IsTrue result → kind_of word.now ≡ Place }
+{
+    matches!(kind_of(word), Kind::Place)
+}
+
+/// What is wrong with an argument that is no known option, and isn't behind `--`: a wrong option, or a second IN.
+fn wrong_place<'a>(input: Option<&str>, word: &'a str) -> Option<Mistake<'a>>
+    ensures { IfSome result (λ m. IsWrong m.wrong m.word.now) }
+{
+    if word == "--axes" {
+        return wrong(Wrong::AxesLate, word);
+    }
+    if looks_like_option(word) && is_no_option(word) {
+        return wrong(Wrong::Unknown, word);
+    }
+    match input {
+        Some(_) => wrong(Wrong::BesideInput, word),
+        None => None,
+    }
+}
+
+/// What is wrong with arguments that have options before and after IN, besides what is chosen and read already.
+fn wrong_free<'a>(
+    chosen: Chosen<'a>,
+    input: Option<&'a str>,
+    words: &'a [String],
+) -> Option<Mistake<'a>>
+    ensures { IfSome result (λ m. IsWrong m.wrong m.word.now) }
+{
+    let [word, behind @ ..] = words else {
+        return wrong_at_end(&chosen, input);
+    };
+    match kind_of(word) {
+        Kind::Switch(switch) => match chosen.with_switch(switch) {
+            Some(more) => wrong_free(more, input, behind),
+            None => wrong(Wrong::Twice, word),
+        },
+        Kind::Setting(setting) => {
+            let [value, rest @ ..] = behind else {
+                return wrong(Wrong::NoValue, word);
+            };
+            match chosen.with_setting(setting, value) {
+                Some(more) => wrong_free(more, input, rest),
+                None => wrong_setting(&chosen, setting, word, value),
+            }
+        }
+        Kind::Help | Kind::Version => wrong(Wrong::Late, word),
+        Kind::End => wrong_behind_end(&chosen, input, behind),
+        Kind::Place => match wrong_place(input, word) {
+            Some(mistake) => Some(mistake),
+            None => wrong_free(chosen, Some(word.as_str()), behind),
+        },
+    }
+}
+
 /// What is wrong with arguments for which `read_words` answers `Usage`: the first mistake.
 pub fn find_mistake(words: &[String]) -> Option<Mistake<'_>>
     ensures { IfSome result (λ m. IsWrong m.wrong m.word.now) }
 {
     match behind_axes(words) {
         Some(behind) => wrong_behind_axes(behind),
+        None if says_output(words) => wrong_free(Chosen::NOTHING, None, words),
         None => wrong_from_option(Chosen::NOTHING, words),
     }
 }

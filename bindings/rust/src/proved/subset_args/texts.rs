@@ -57,6 +57,10 @@ impl fmt::Display for Mistake<'_> {
             Wrong::Glyph => write!(f, "GID \"{word}\" is not a glyph number"),
             Wrong::Limits => write!(f, "--limits: \"{word}\" is not TOKENS,DEPTH[,BYTES]"),
             Wrong::Coordinate => write!(f, "--at: \"{word}\" is not TAG=VALUE"),
+            Wrong::Part => write!(f, "--gids: \"{word}\" is not a glyph number"),
+            Wrong::BesideInput => write!(f, "\"{word}\" is one argument too many"),
+            Wrong::NoOutputOption => write!(f, "-o OUT is missing"),
+            Wrong::NoSource => write!(f, "no option requests glyphs"),
         }
     }
 }
@@ -85,19 +89,23 @@ fn expected(wrong: Wrong) -> &'static str {
         Wrong::NoIndex | Wrong::Index => {
             "expected: the face of a collection, from 0; of other fonts 0"
         }
-        Wrong::NoGlyphs => {
-            "expected: glyph numbers as 36,37,38, or --text or --gids-file before IN"
-        }
+        Wrong::NoGlyphs => "expected: glyph numbers as 36,37,38, or an option as --text",
         Wrong::Further => "expected: IN OUT INDEX GID, with no blanks between glyph numbers",
         Wrong::BehindAxes | Wrong::AxesLate => "expected: --axes IN INDEX",
         Wrong::Late => "expected: options before IN",
         Wrong::Unknown => "see subset_font --help",
         Wrong::Twice => "expected: each option at most once",
         Wrong::NoValue => "see subset_font --help",
-        Wrong::GlyphsTwice | Wrong::BesideOption => "expected: GID, or --text, or --gids-file",
+        Wrong::GlyphsTwice | Wrong::BesideOption => {
+            "expected: one of GID, --gids, --text and --gids-file"
+        }
         Wrong::InputTwice => "expected: - for IN or for FILE, not for both",
         Wrong::Glyph => "expected: numbers from 0 to 65535, with commas, as 36,37,38",
         Wrong::Limits => "expected: numbers, as 1000000,64, with DEPTH from 1 to 255",
         Wrong::Coordinate => "expected: a tag and a decimal number, as wght=650",
+        Wrong::Part => "expected: numbers to 65535 and ranges as 36-38, or * alone",
+        Wrong::BesideInput => "expected: IN and options, where -o or --face-index is one",
+        Wrong::NoOutputOption => "expected: a file for the new font, or - for standard output",
+        Wrong::NoSource => "expected: --gids, --text or --gids-file",
     }
 }

@@ -88,6 +88,7 @@ fn asked_of<'a>(glyphs: &'a Glyphs, list: &'a Option<GlyphList>) -> Asked<'a> {
     match (glyphs, list) {
         (Glyphs::Listed(given), _) => Asked::These(given),
         (Glyphs::ByText(text), _) => Asked::ByText(text),
+        (Glyphs::Every, _) => Asked::Every,
         (Glyphs::InFile(_), Some(GlyphList::Every)) => Asked::Every,
         (Glyphs::InFile(_), Some(GlyphList::These(given))) => Asked::These(given),
         (Glyphs::InFile(_), None) => Asked::These(&[]),
