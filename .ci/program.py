@@ -740,6 +740,13 @@ def check_contents(table):
             table.demand(holds, name, f"the table {what}: {found.get(what)!r}")
 
 
+STATUSES = b"""
+Status: 0 OUT has the new font, 1 the font or a glyph is
+refused or memory ran out, 2 an argument is wrong, 3 a file
+can't be read or written.
+"""
+
+
 def check_words(table, room):
     """`--help` and `--version`, and that each option stands in all three texts."""
     with open(os.path.join(ROOT, "docs", "CLI.md")) as file:
@@ -750,7 +757,7 @@ def check_words(table, room):
         wanted = re.search(r'pub const HELP: &str = "([^"\\]*)";', file.read())[1]
     first = table.start(["--help"], room)
     table.demand((first.returncode, first.stdout, first.stderr) == (0, wanted.encode(), b""), "--help", first)
-    for part in (USAGE[:-1].replace(b" IN", b" [OPTIONS] IN", 1), b"(default 1000000,64)", b"\nStatus: 0 ", b"\nExamples:\n  subset_font "):
+    for part in (USAGE[:-1].replace(b" IN", b" [OPTIONS] IN", 1), b"(default 1000000,64)", STATUSES, b"\nExamples:\n  subset_font "):
         table.demand(part in first.stdout, "--help", f"{part!r} doesn't stand there")
     wide = [line for line in first.stdout.decode().splitlines() if len(line) > 60]
     table.demand(not wide, "--help", f"more than 60 columns: {wide}")
