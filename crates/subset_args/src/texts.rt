@@ -12,9 +12,9 @@ const MOST: usize = 40;
 pub struct Shown<'a>(pub &'a str);
 
 /// A character as a line has it.
-fn shown(character: char) -> char {
+fn printable(character: char) -> char {
     match character {
-        '\0'..'\x20' | '\x7F'..'\u{A0}' => '\u{FFFD}',
+        '\0'..='\x1F' | '\x7F'..='\u{9F}' => '\u{FFFD}',
         _ => character,
     }
 }
@@ -22,7 +22,7 @@ fn shown(character: char) -> char {
 impl fmt::Display for Shown<'_> {
     fn fmt<W: fmt::Write>(&self, f: &mut fmt::Formatter<W>) -> fmt::Result {
         for character in self.0.chars().take(MOST) {
-            write!(f, "{}", shown(character))?;
+            write!(f, "{}", printable(character))?;
         }
         if self.0.chars().nth(MOST).is_some() {
             return write!(f, "..");

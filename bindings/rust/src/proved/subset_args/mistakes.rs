@@ -70,7 +70,7 @@ pub struct Mistake<'a> {
 }
 
 /// A mistake in an argument.
-fn wrong(wrong: Wrong, word: &str) -> Option<Mistake<'_>> {
+fn mistake_at(wrong: Wrong, word: &str) -> Option<Mistake<'_>> {
     Some(Mistake { wrong, word })
 }
 
@@ -78,7 +78,7 @@ fn wrong(wrong: Wrong, word: &str) -> Option<Mistake<'_>> {
 fn wrong_index(word: &str) -> Option<Mistake<'_>> {
     match u32_of(word) {
         Some(_) => None,
-        None => wrong(Wrong::Index, word),
+        None => mistake_at(Wrong::Index, word),
     }
 }
 
@@ -86,7 +86,7 @@ fn wrong_index(word: &str) -> Option<Mistake<'_>> {
 fn wrong_glyph(list: &str) -> Option<Mistake<'_>> {
     for part in list.split(',') {
         if u16_of(part).is_none() {
-            return wrong(Wrong::Glyph, part);
+            return mistake_at(Wrong::Glyph, part);
         }
     }
     None
@@ -96,7 +96,7 @@ fn wrong_glyph(list: &str) -> Option<Mistake<'_>> {
 fn wrong_coordinate(list: &str) -> Option<Mistake<'_>> {
     for part in list.split(',') {
         if !is_coordinate(part) {
-            return wrong(Wrong::Coordinate, part);
+            return mistake_at(Wrong::Coordinate, part);
         }
     }
     None
@@ -109,7 +109,7 @@ fn wrong_part(list: &str) -> Option<Mistake<'_>> {
     }
     for part in list.split(',') {
         if is_wrong_part(part.as_bytes()) {
-            return wrong(Wrong::Part, part);
+            return mistake_at(Wrong::Part, part);
         }
     }
     None
@@ -120,7 +120,7 @@ fn late_option(words: &[String]) -> Option<Mistake<'_>> {
     for word in words {
         match kind_of(word) {
             Kind::Place | Kind::End => {}
-            _ => return wrong(Wrong::Late, word),
+            _ => return mistake_at(Wrong::Late, word),
         }
     }
     None
@@ -129,10 +129,10 @@ fn late_option(words: &[String]) -> Option<Mistake<'_>> {
 /// What is wrong with the arguments `IN INDEX` behind `--axes`.
 fn wrong_behind_axes(words: &[String]) -> Option<Mistake<'_>> {
     match words {
-        [] => wrong(Wrong::NoInput, ""),
-        [_] => wrong(Wrong::NoIndex, ""),
+        [] => mistake_at(Wrong::NoInput, ""),
+        [_] => mistake_at(Wrong::NoIndex, ""),
         [_, index] => wrong_index(index),
-        [_, _, word, ..] => wrong(Wrong::BehindAxes, word),
+        [_, _, word, ..] => mistake_at(Wrong::BehindAxes, word),
     }
 }
 
@@ -143,16 +143,16 @@ fn wrong_behind_index<'a>(
     words: &'a [String],
 ) -> Option<Mistake<'a>> {
     let mistake = match (chosen.source, words) {
-        (None, []) => wrong(Wrong::NoGlyphs, ""),
+        (None, []) => mistake_at(Wrong::NoGlyphs, ""),
         (None, [list]) => wrong_glyph(list),
         (Some(Source::File(name)), []) if is_stream(input) && is_stream(name) => {
-            wrong(Wrong::InputTwice, "--gids-file")
+            mistake_at(Wrong::InputTwice, "--gids-file")
         }
         (Some(Source::InList(list)), []) => wrong_part(list),
         (Some(_), []) => None,
-        (Some(_), [word]) => wrong(Wrong::BesideOption, word),
-        (None, [_, word, ..]) => wrong(Wrong::Further, word),
-        (Some(_), [_, word, ..]) => wrong(Wrong::Further, word),
+        (Some(_), [word]) => mistake_at(Wrong::BesideOption, word),
+        (None, [_, word, ..]) => mistake_at(Wrong::Further, word),
+        (Some(_), [_, word, ..]) => mistake_at(Wrong::Further, word),
     };
     match (mistake, chosen.at) {
         (None, Some(at)) => wrong_coordinate(at),
@@ -165,15 +165,15 @@ fn wrong_from_input<'a>(chosen: &Chosen<'a>, words: &'a [String]) -> Option<Mist
     let (input, behind) = match words {
         [input, behind @ ..] => (input, behind),
         _ => {
-            return wrong(Wrong::NoInput, "");
+            return mistake_at(Wrong::NoInput, "");
         }
     };
     if let Some(late) = late_option(behind) {
         return Some(late);
     }
     match behind {
-        [] => wrong(Wrong::NoOutput, ""),
-        [_] => wrong(Wrong::NoIndex, ""),
+        [] => mistake_at(Wrong::NoOutput, ""),
+        [_] => mistake_at(Wrong::NoIndex, ""),
         [_, index, rest @ ..] => match wrong_index(index) {
             None => wrong_behind_index(chosen, input, rest),
             mistake => mistake,
@@ -188,10 +188,10 @@ fn wrong_from_place<'a>(
     words: &'a [String],
 ) -> Option<Mistake<'a>> {
     if word == "--axes" {
-        return wrong(Wrong::AxesLate, word);
+        return mistake_at(Wrong::AxesLate, word);
     }
     if looks_like_option(word) {
-        return wrong(Wrong::Unknown, word);
+        return mistake_at(Wrong::Unknown, word);
     }
     wrong_from_input(chosen, words)
 }
@@ -204,10 +204,10 @@ fn wrong_setting<'a>(
     value: &'a str,
 ) -> Option<Mistake<'a>> {
     match setting {
-        Setting::Limits if chosen.limits.is_none() => wrong(Wrong::Limits, value),
+        Setting::Limits if chosen.limits.is_none() => mistake_at(Wrong::Limits, value),
         Setting::FaceIndex if chosen.index.is_none() => wrong_index(value),
-        Setting::GidsFile | Setting::Text | Setting::Gids => wrong(Wrong::GlyphsTwice, word),
-        _ => wrong(Wrong::Twice, word),
+        Setting::GidsFile | Setting::Text | Setting::Gids => mistake_at(Wrong::GlyphsTwice, word),
+        _ => mistake_at(Wrong::Twice, word),
     }
 }
 
@@ -216,19 +216,19 @@ fn wrong_from_option<'a>(chosen: Chosen<'a>, words: &'a [String]) -> Option<Mist
     let (word, behind) = match words {
         [word, behind @ ..] => (word, behind),
         _ => {
-            return wrong(Wrong::NoInput, "");
+            return mistake_at(Wrong::NoInput, "");
         }
     };
     match kind_of(word) {
         Kind::Switch(switch) => match chosen.with_switch(switch) {
             Some(more) => wrong_from_option(more, behind),
-            None => wrong(Wrong::Twice, word),
+            None => mistake_at(Wrong::Twice, word),
         },
         Kind::Setting(setting) => {
             let (value, rest) = match behind {
                 [value, rest @ ..] => (value, rest),
                 _ => {
-                    return wrong(Wrong::NoValue, word);
+                    return mistake_at(Wrong::NoValue, word);
                 }
             };
             match chosen.with_setting(setting, value) {
@@ -255,10 +255,10 @@ fn says_output(words: &[String]) -> bool {
 /// What is wrong with options and IN, which are all there.
 fn wrong_request<'a>(chosen: &Chosen<'a>, input: &str) -> Option<Mistake<'a>> {
     if chosen.source.is_none() {
-        return wrong(Wrong::NoSource, "");
+        return mistake_at(Wrong::NoSource, "");
     }
     if chosen.output.is_none() {
-        return wrong(Wrong::NoOutputOption, "");
+        return mistake_at(Wrong::NoOutputOption, "");
     }
     wrong_behind_index(chosen, input, &[])
 }
@@ -267,7 +267,7 @@ fn wrong_request<'a>(chosen: &Chosen<'a>, input: &str) -> Option<Mistake<'a>> {
 fn wrong_at_end<'a>(chosen: &Chosen<'a>, input: Option<&'a str>) -> Option<Mistake<'a>> {
     match input {
         Some(input) => wrong_request(chosen, input),
-        None => wrong(Wrong::NoInput, ""),
+        None => mistake_at(Wrong::NoInput, ""),
     }
 }
 
@@ -280,8 +280,8 @@ fn wrong_behind_end<'a>(
     match (input, words) {
         (_, []) => wrong_at_end(chosen, input),
         (None, [word]) => wrong_request(chosen, word),
-        (None, [_, word, ..]) => wrong(Wrong::BesideInput, word),
-        (Some(_), [word, ..]) => wrong(Wrong::BesideInput, word),
+        (None, [_, word, ..]) => mistake_at(Wrong::BesideInput, word),
+        (Some(_), [word, ..]) => mistake_at(Wrong::BesideInput, word),
     }
 }
 
@@ -293,13 +293,13 @@ fn is_no_option(word: &str) -> bool {
 /// What is wrong with an argument that is no known option, and isn't behind `--`: a wrong option, or a second IN.
 fn wrong_place<'a>(input: Option<&str>, word: &'a str) -> Option<Mistake<'a>> {
     if word == "--axes" {
-        return wrong(Wrong::AxesLate, word);
+        return mistake_at(Wrong::AxesLate, word);
     }
     if looks_like_option(word) && is_no_option(word) {
-        return wrong(Wrong::Unknown, word);
+        return mistake_at(Wrong::Unknown, word);
     }
     match input {
-        Some(_) => wrong(Wrong::BesideInput, word),
+        Some(_) => mistake_at(Wrong::BesideInput, word),
         None => None,
     }
 }
@@ -319,13 +319,13 @@ fn wrong_free<'a>(
     match kind_of(word) {
         Kind::Switch(switch) => match chosen.with_switch(switch) {
             Some(more) => wrong_free(more, input, behind),
-            None => wrong(Wrong::Twice, word),
+            None => mistake_at(Wrong::Twice, word),
         },
         Kind::Setting(setting) => {
             let (value, rest) = match behind {
                 [value, rest @ ..] => (value, rest),
                 _ => {
-                    return wrong(Wrong::NoValue, word);
+                    return mistake_at(Wrong::NoValue, word);
                 }
             };
             match chosen.with_setting(setting, value) {
@@ -333,7 +333,7 @@ fn wrong_free<'a>(
                 None => wrong_setting(&chosen, setting, word, value),
             }
         }
-        Kind::Help | Kind::Version => wrong(Wrong::Late, word),
+        Kind::Help | Kind::Version => mistake_at(Wrong::Late, word),
         Kind::End => wrong_behind_end(&chosen, input, behind),
         Kind::Place => match wrong_place(input, word) {
             Some(mistake) => Some(mistake),
