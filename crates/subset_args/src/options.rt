@@ -290,20 +290,20 @@ fn limits_of(word: &str) -> Option<RunLimits>
 
 /// The options with a name, in the order of the help.
 pub const OPTIONS: [&str; 16] = [
-    "--output-file",
-    "--face-index",
     "--gids",
     "--gids-file",
     "--text",
-    "--widths",
+    "--output-file",
+    "--face-index",
+    "--at",
     "--no-hinting",
     "--no-names",
     "--no-glyph-names",
     "--limits",
-    "--at",
-    "--axes",
+    "--widths",
     "--json",
     "--quiet",
+    "--axes",
     "--help",
     "--version",
 ];
