@@ -194,6 +194,7 @@ FONTS = {
     "no_head": six(without=("head",)),
     # the short format: entries 0, 0, 6, 12, 9, .. are halves of offsets
     "descends_short": six(("loca", made.u16s(0, 0, 6, 12, 9, 24, 30)), ("head", HEAD[:50] + bytes(4)), without=("loca", "head")),
+    "outside_short": six(("loca", made.u16s(0, 0, 6, 12, 18, 24, 31)), ("head", HEAD[:50] + bytes(4)), without=("loca", "head")),
     "cff2": b"OTTO" + made.font([("CFF2", bytes(8)), ("maxp", MAXP)])[4:],
 }
 
@@ -405,7 +406,7 @@ ROWS = [
     Row("empty out 0 1", 1, err=b"unknown font kind\n", after=USED),
     *(Row(f"{name} out 0 {list_of}", 1, err=wrong_glyph(number, what), after=USED) for name, list_of, number, what in (
         ("descends", "1,3,5", 3, "its loca entries descend"), ("descends_short", "3", 3, "its loca entries descend"),
-        ("outside", "5,4", 5, "its outline isn't inside glyf"), ("few_entries", "1,3,5,4", 5, "loca has no entries for it"),
+        ("outside", "5,4", 5, "its outline isn't inside glyf"), ("outside_short", "4,5", 5, "its outline isn't inside glyf"), ("few_entries", "1,3,5,4", 5, "loca has no entries for it"),
         ("few_entries", "2,4", 4, "loca has no entries for it"))),
     Row("no_loca out 0 1", 1, err=no_table("loca"), after=USED),
     Row("no_head out 0 1", 1, err=no_table("head"), after=USED),

@@ -56,7 +56,7 @@ PLANTS = [
     ("the nearest option not first", "proved/subset_args/nearest.rs", "match option_within(1, word) {", "match option_within(2, word) {"),
     ("a removed byte not counted", "proved/subset_args/nearest.rs", "|| is_within(edits - 1, rest, other)", "|| is_within(edits, rest, other)"),
     ("long arguments whole", "proved/subset_args/texts.rs", "const MOST: usize = 40;", "const MOST: usize = 41;"),
-    ("control characters printed", "proved/subset_args/texts.rs", "'\\x7F'..=", "'\\x80'..="),
+    ("control characters printed", "proved/subset_args/texts.rs", "'\\x7F'..=", "'\\u{80}'..="),
     ("a range one short", "proved/subset_args/lists.rs", "u32::from(first)..u32::from(last) + 1", "u32::from(first)..u32::from(last).max(u32::from(first) + 1)"),
     ("a range backwards", "proved/subset_args/lists.rs", "if first <= last {", "if first <= last || last == 1 {"),
     ("--face-index not used", "proved/subset_args/jobs.rs", "chosen.index.unwrap_or(0)", "chosen.index.map_or(0, |_| 0)"),

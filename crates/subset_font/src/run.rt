@@ -392,7 +392,7 @@ fn refuse_unread<R: Eprint>(rt: &R, failure: Failure) -> u8
 {
     let ended = Err(failure);
     let status = report(rt, &ended, None);
-    if let Err(Failure::Usage) = ended {
+    if let Err(Failure::Usage) = &ended {
         let _ = eprintln!(rt; "an argument isn't UTF-8");
         let _ = eprintln!(rt; "expected: UTF-8, or - and a redirection for such a file");
     }
