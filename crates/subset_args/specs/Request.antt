@@ -84,10 +84,17 @@ said_at (Some text) = option_map (λ c. Some c) (coordinates_in text)
 abbrev pub request_of : Choice → List ℕ → List ℕ → ℕ → Asked → Option Request
 request_of choice input output index glyphs = if is_stream input && lists_in_stream glyphs then None else option_map (λ at. record { switches = choice.switches; limits = choice.limits; input = input; output = output; index = index; glyphs = glyphs; coordinates = at }) (said_at choice.at)
 
--- what the arguments `IN OUT INDEX GID[,GID..]` ask for with these choices, or `IN OUT INDEX` where the glyphs are found elsewhere; none where their count is another, one isn't as it should be, or an option says OUT or INDEX
+-- what the arguments `IN OUT INDEX GID[,GID..]` ask for with these choices, or `IN OUT INDEX` where the glyphs are found elsewhere; none where their count is another, or one isn't as it should be
+abbrev pub request_plain : Choice → List (List ℕ) → Option Request
+request_plain choice (input ∷ output ∷ index ∷ words) = option_and_then (λ i. option_and_then (request_of choice input output i) (asked choice.source words)) (number_in_bits 32 index)
+request_plain choice _ = None
+
+-- none where an option says OUT or INDEX
+abbrev pub says_place : Choice → Bool
+says_place choice = is_some choice.output || is_some choice.index
+
 abbrev pub request_with : Choice → List (List ℕ) → Option Request
-request_with choice (input ∷ output ∷ index ∷ words) = if is_some choice.output || is_some choice.index then None else option_and_then (λ i. option_and_then (request_of choice input output i) (asked choice.source words)) (number_in_bits 32 index)
-request_with choice _ = None
+request_with choice words = if says_place choice then None else request_plain choice words
 
 -- what the options and the arguments behind them ask for
 abbrev pub command_of : Options → Option Command

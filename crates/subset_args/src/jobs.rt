@@ -3,7 +3,7 @@
 ghost use Rattle.std.specs.Prelude.{◌≡◌, ◌⊎◌, ℕ, List, map, IfOk, IfErr, Some, None, string_bytes};
 ghost use Rattle.std.specs.Option.{option_copied, option_map};
 ghost use Rattle.subset_args.specs.Lists.{argument_list};
-ghost use Rattle.subset_args.specs.Request.{glyph_list, of_list, asked, is_stream, lists_in_stream, said_at, request_of, request_with, request_free, command_by_options, command_free, command_or, behind_axes, axes_with, command};
+ghost use Rattle.subset_args.specs.Request.{glyph_list, of_list, asked, is_stream, lists_in_stream, said_at, request_of, request_plain, says_place, request_with, request_free, command_by_options, command_free, command_or, behind_axes, axes_with, command};
 ghost use Rattle.subset_args.specs.View.{source_view, chosen_view, free_view, asked_view, job_view, command_view};
 ghost use Rattle.subset_args.specs.declared.jobs.ArgsError.TheVariants.{Usage, OutOfMemory};
 
@@ -182,19 +182,34 @@ fn job_with(
 ///
 /// `Usage` where their count is another, where INDEX or a GID isn't one or more ASCII digits whose value fits `u32` or
 /// `u16`, where the coordinates aren't as `read_coordinates` takes them, or where standard input is to be read twice.
-fn read_job(alloc: Global, chosen: Chosen<'_>, words: &[String]) -> Result<Job, ArgsError>
-    ensures ok { IfOk result (λ job. request_with (chosen_view chosen.entry) (map (λ word. string_bytes word) words.now) ≡ Some (job_view job)) }
-    ensures err { IfErr result (λ e. (e ≡ OutOfMemory) ⊎ ((e ≡ Usage) × (request_with (chosen_view chosen.entry) (map (λ word. string_bytes word) words.now) ≡ None))) }
+fn read_plain_job(alloc: Global, chosen: Chosen<'_>, words: &[String]) -> Result<Job, ArgsError>
+    ensures ok { IfOk result (λ job. request_plain (chosen_view chosen.entry) (map (λ word. string_bytes word) words.now) ≡ Some (job_view job)) }
+    ensures err { IfErr result (λ e. (e ≡ OutOfMemory) ⊎ ((e ≡ Usage) × (request_plain (chosen_view chosen.entry) (map (λ word. string_bytes word) words.now) ≡ None))) }
 {
     let [input, output, index, rest @ ..] = words else {
         return Err(ArgsError::Usage);
     };
-    if chosen.output.is_some() || chosen.index.is_some() {
-        return Err(ArgsError::Usage);
-    }
     let index = u32_of(index).ok_or(ArgsError::Usage)?;
     let glyphs = read_glyphs(alloc, chosen.source, rest)?;
     job_with(alloc, chosen, input.as_str(), output.as_str(), index, glyphs)
+}
+
+/// Whether an option says OUT or INDEX.
+fn says_place(chosen: &Chosen<'_>) -> bool
+    ensures { result ≡ says_place (chosen_view chosen.now) }
+{
+    chosen.output.is_some() || chosen.index.is_some()
+}
+
+/// The same where no option says OUT or INDEX.
+fn read_job(alloc: Global, chosen: Chosen<'_>, words: &[String]) -> Result<Job, ArgsError>
+    ensures ok { IfOk result (λ job. request_with (chosen_view chosen.entry) (map (λ word. string_bytes word) words.now) ≡ Some (job_view job)) }
+    ensures err { IfErr result (λ e. (e ≡ OutOfMemory) ⊎ ((e ≡ Usage) × (request_with (chosen_view chosen.entry) (map (λ word. string_bytes word) words.now) ≡ None))) }
+{
+    if says_place(&chosen) {
+        return Err(ArgsError::Usage);
+    }
+    read_plain_job(alloc, chosen, words)
 }
 
 /// What is requested by options before and after IN, one of which says OUT.

@@ -1,6 +1,6 @@
 //! What is wrong with arguments that request nothing.
 
-ghost use Rattle.std.specs.Prelude.{◌≡◌, IfSome, IsTrue};
+ghost use Rattle.std.specs.Prelude.{◌≡◌, ◌≢◌, IfSome, IsTrue};
 ghost use Rattle.subset_args.specs.Mistakes.{IsWrong};
 ghost use Rattle.subset_args.specs.Options.{kind_of};
 ghost use Rattle.subset_args.specs.declared.options.Kind.TheVariants.{Place};
@@ -197,6 +197,13 @@ fn wrong_from_input<'a>(chosen: &Chosen<'a>, words: &'a [String]) -> Option<Mist
     }
 }
 
+/// Whether an argument is no option.
+fn is_no_option(word: &str) -> bool
+    ensures { IsTrue result → kind_of word.now ≡ Place }
+{
+    matches!(kind_of(word), Kind::Place)
+}
+
 /// What is wrong with the arguments from one on that is in the position of IN, and isn't behind `--`.
 fn wrong_from_place<'a>(
     chosen: &Chosen<'a>,
@@ -208,7 +215,7 @@ fn wrong_from_place<'a>(
     if word == "--axes" {
         return mistake_at(Wrong::AxesLate, word);
     }
-    if looks_like_option(word) {
+    if looks_like_option(word) && is_no_option(word) {
         return mistake_at(Wrong::Unknown, word);
     }
     wrong_from_input(chosen, words)
@@ -220,7 +227,10 @@ fn wrong_setting<'a>(
     setting: Setting,
     word: &'a str,
     value: &'a str,
-) -> Option<Mistake<'a>> {
+) -> Option<Mistake<'a>>
+    requires { kind_of word.now ≢ Place }
+    ensures { IfSome result (λ m. IsWrong m.wrong m.word.now) }
+{
     match setting {
         Setting::Limits if chosen.limits.is_none() => mistake_at(Wrong::Limits, value),
         Setting::FaceIndex if chosen.index.is_none() => wrong_index(value),
@@ -303,13 +313,6 @@ fn wrong_behind_end<'a>(
         (None, [_, word, ..]) => mistake_at(Wrong::BesideInput, word),
         (Some(_), [word, ..]) => mistake_at(Wrong::BesideInput, word),
     }
-}
-
-/// Whether an argument is no option.
-fn is_no_option(word: &str) -> bool
-    ensures { IsTrue result → kind_of word.now ≡ Place }
-{
-    matches!(kind_of(word), Kind::Place)
 }
 
 /// What is wrong with an argument that is no known option, and isn't behind `--`: a wrong option, or a second IN.

@@ -156,16 +156,13 @@ fn job_with(
 ///
 /// `Usage` where their count is another, where INDEX or a GID isn't one or more ASCII digits whose value fits `u32` or
 /// `u16`, where the coordinates aren't as `read_coordinates` takes them, or where standard input is to be read twice.
-fn read_job(alloc: Global, chosen: Chosen<'_>, words: &[String]) -> Result<Job, ArgsError> {
+fn read_plain_job(alloc: Global, chosen: Chosen<'_>, words: &[String]) -> Result<Job, ArgsError> {
     let (input, output, index, rest) = match words {
         [input, output, index, rest @ ..] => (input, output, index, rest),
         _ => {
             return Err(ArgsError::Usage);
         }
     };
-    if chosen.output.is_some() || chosen.index.is_some() {
-        return Err(ArgsError::Usage);
-    }
     let index = u32_of(index).ok_or(ArgsError::Usage)?;
     let glyphs = read_glyphs(alloc, chosen.source, rest)?;
     job_with(
@@ -176,6 +173,19 @@ fn read_job(alloc: Global, chosen: Chosen<'_>, words: &[String]) -> Result<Job, 
         index,
         glyphs,
     )
+}
+
+/// Whether an option says OUT or INDEX.
+fn says_place(chosen: &Chosen<'_>) -> bool {
+    chosen.output.is_some() || chosen.index.is_some()
+}
+
+/// The same where no option says OUT or INDEX.
+fn read_job(alloc: Global, chosen: Chosen<'_>, words: &[String]) -> Result<Job, ArgsError> {
+    if says_place(&chosen) {
+        return Err(ArgsError::Usage);
+    }
+    read_plain_job(alloc, chosen, words)
 }
 
 /// What is requested by options before and after IN, one of which says OUT.

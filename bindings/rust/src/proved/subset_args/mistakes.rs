@@ -181,6 +181,11 @@ fn wrong_from_input<'a>(chosen: &Chosen<'a>, words: &'a [String]) -> Option<Mist
     }
 }
 
+/// Whether an argument is no option.
+fn is_no_option(word: &str) -> bool {
+    matches!(kind_of(word), Kind::Place)
+}
+
 /// What is wrong with the arguments from one on that is in the position of IN, and isn't behind `--`.
 fn wrong_from_place<'a>(
     chosen: &Chosen<'a>,
@@ -190,7 +195,7 @@ fn wrong_from_place<'a>(
     if word == "--axes" {
         return mistake_at(Wrong::AxesLate, word);
     }
-    if looks_like_option(word) {
+    if looks_like_option(word) && is_no_option(word) {
         return mistake_at(Wrong::Unknown, word);
     }
     wrong_from_input(chosen, words)
@@ -283,11 +288,6 @@ fn wrong_behind_end<'a>(
         (None, [_, word, ..]) => mistake_at(Wrong::BesideInput, word),
         (Some(_), [word, ..]) => mistake_at(Wrong::BesideInput, word),
     }
-}
-
-/// Whether an argument is no option.
-fn is_no_option(word: &str) -> bool {
-    matches!(kind_of(word), Kind::Place)
 }
 
 /// What is wrong with an argument that is no known option, and isn't behind `--`: a wrong option, or a second IN.
