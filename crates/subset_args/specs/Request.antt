@@ -84,9 +84,13 @@ said_at (Some text) = option_map (λ c. Some c) (coordinates_in text)
 abbrev pub request_of : Choice → List ℕ → List ℕ → ℕ → Asked → Option Request
 request_of choice input output index glyphs = if is_stream input && lists_in_stream glyphs then None else option_map (λ at. record { switches = choice.switches; limits = choice.limits; input = input; output = output; index = index; glyphs = glyphs; coordinates = at }) (said_at choice.at)
 
+-- what is requested by IN, OUT, INDEX and the arguments behind them
+abbrev pub request_behind : Choice → List ℕ → List ℕ → ℕ → List (List ℕ) → Option Request
+request_behind choice input output index words = option_and_then (request_of choice input output index) (asked choice.source words)
+
 -- what the arguments `IN OUT INDEX GID[,GID..]` ask for with these choices, or `IN OUT INDEX` where the glyphs are found elsewhere; none where their count is another, or one isn't as it should be
 abbrev pub request_plain : Choice → List (List ℕ) → Option Request
-request_plain choice (input ∷ output ∷ index ∷ words) = option_and_then (λ i. option_and_then (request_of choice input output i) (asked choice.source words)) (number_in_bits 32 index)
+request_plain choice (input ∷ output ∷ index ∷ words) = option_and_then (λ i. request_behind choice input output i words) (number_in_bits 32 index)
 request_plain choice _ = None
 
 -- none where an option says OUT or INDEX

@@ -3,7 +3,7 @@
 ghost use Rattle.std.specs.Prelude.{◌≡◌, ◌⊎◌, ℕ, List, map, IfOk, IfErr, Some, None, string_bytes};
 ghost use Rattle.std.specs.Option.{option_copied, option_map};
 ghost use Rattle.subset_args.specs.Lists.{argument_list};
-ghost use Rattle.subset_args.specs.Request.{glyph_list, of_list, asked, is_stream, lists_in_stream, said_at, request_of, request_plain, says_place, request_with, request_free, command_by_options, command_free, command_or, behind_axes, axes_with, command};
+ghost use Rattle.subset_args.specs.Request.{glyph_list, of_list, asked, is_stream, lists_in_stream, said_at, request_of, request_behind, request_plain, says_place, request_with, request_free, command_by_options, command_free, command_or, behind_axes, axes_with, command};
 ghost use Rattle.subset_args.specs.View.{source_view, chosen_view, free_view, asked_view, job_view, command_view};
 ghost use Rattle.subset_args.specs.declared.jobs.ArgsError.TheVariants.{Usage, OutOfMemory};
 
@@ -178,6 +178,22 @@ fn job_with(
     })
 }
 
+/// What is to be done by IN, OUT, INDEX and the arguments behind them.
+fn read_behind_index(
+    alloc: Global,
+    chosen: Chosen<'_>,
+    input: &str,
+    output: &str,
+    index: u32,
+    words: &[String],
+) -> Result<Job, ArgsError>
+    ensures ok { IfOk result (λ job. request_behind (chosen_view chosen.entry) input.now output.now index (map (λ word. string_bytes word) words.now) ≡ Some (job_view job)) }
+    ensures err { IfErr result (λ e. (e ≡ OutOfMemory) ⊎ ((e ≡ Usage) × (request_behind (chosen_view chosen.entry) input.now output.now index (map (λ word. string_bytes word) words.now) ≡ None))) }
+{
+    let glyphs = read_glyphs(alloc, chosen.source, words)?;
+    job_with(alloc, chosen, input, output, index, glyphs)
+}
+
 /// What the arguments `IN OUT INDEX GID[,GID..]` ask for, or `IN OUT INDEX` where the glyphs are found elsewhere.
 ///
 /// `Usage` where their count is another, where INDEX or a GID isn't one or more ASCII digits whose value fits `u32` or
@@ -190,8 +206,7 @@ fn read_plain_job(alloc: Global, chosen: Chosen<'_>, words: &[String]) -> Result
         return Err(ArgsError::Usage);
     };
     let index = u32_of(index).ok_or(ArgsError::Usage)?;
-    let glyphs = read_glyphs(alloc, chosen.source, rest)?;
-    job_with(alloc, chosen, input.as_str(), output.as_str(), index, glyphs)
+    read_behind_index(alloc, chosen, input, output, index, rest)
 }
 
 /// Whether an option says OUT or INDEX.
@@ -222,7 +237,14 @@ fn read_free_job(alloc: Global, free: Free<'_>) -> Result<Job, ArgsError>
         return Err(ArgsError::Usage);
     };
     let glyphs = read_glyphs(alloc, chosen.source, &[])?;
-    job_with(alloc, chosen, free.input, output, chosen.index.unwrap_or(0), glyphs)
+    job_with(
+        alloc,
+        chosen,
+        free.input,
+        output,
+        chosen.index.unwrap_or(0),
+        glyphs,
+    )
 }
 
 /// What arguments ask for with options before and after IN.

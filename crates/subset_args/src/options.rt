@@ -410,7 +410,11 @@ fn with_input<'a>(chosen: Chosen<'a>, input: Option<&'a str>) -> Option<Free<'a>
 }
 
 /// What is chosen with IN from the arguments behind `--`.
-fn behind_end<'a>(chosen: Chosen<'a>, input: Option<&'a str>, words: &'a [String]) -> Option<Free<'a>>
+fn behind_end<'a>(
+    chosen: Chosen<'a>,
+    input: Option<&'a str>,
+    words: &'a [String],
+) -> Option<Free<'a>>
     ensures { option_map free_view result ≡ behind_end (chosen_view chosen.entry) (option_copied input.entry) (map (λ word. string_bytes word) words.now) }
 {
     match (input, words) {
@@ -429,7 +433,11 @@ pub fn looks_like_option(word: &str) -> bool
 
 /// What arguments say in which options are before and after IN, besides what is chosen and read already. None where an
 /// option is given twice, its value is missing or isn't as it should be, or where IN is missing or isn't alone.
-pub fn parse_free<'a>(chosen: Chosen<'a>, input: Option<&'a str>, words: &'a [String]) -> Option<Free<'a>>
+pub fn parse_free<'a>(
+    chosen: Chosen<'a>,
+    input: Option<&'a str>,
+    words: &'a [String],
+) -> Option<Free<'a>>
     ensures { option_map free_view result ≡ free None (chosen_view chosen.entry) (option_copied input.entry) (map (λ word. string_bytes word) words.now) }
 {
     let [word, behind @ ..] = words else {
@@ -444,7 +452,11 @@ pub fn parse_free<'a>(chosen: Chosen<'a>, input: Option<&'a str>, words: &'a [St
             parse_free(chosen.with_setting(setting, value)?, input, rest)
         }
         Kind::End => behind_end(chosen, input, behind),
-        Kind::Place if input.is_none() && !looks_like_option(word) => parse_free(chosen, Some(word.as_str()), behind),
+        Kind::Place if input.is_none() && !looks_like_option(word) => parse_free(
+            chosen,
+            Some(word.as_str()),
+            behind,
+        ),
         _ => None,
     }
 }

@@ -48,9 +48,7 @@ impl fmt::Display for Mistake<'_> {
             Wrong::Twice => write!(f, "{word} is given twice"),
             Wrong::NoValue => write!(f, "{word}: its value is missing"),
             Wrong::GlyphsTwice => write!(f, "{word}: the glyphs are requested twice"),
-            Wrong::BesideOption => {
-                write!(f, "GID \"{word}\": an option requests the glyphs")
-            }
+            Wrong::BesideOption => { write!(f, "GID \"{word}\": an option requests the glyphs") }
             Wrong::InputTwice => write!(f, "{word}: standard input is requested twice"),
             Wrong::Index => write!(f, "INDEX \"{word}\" is not a number"),
             Wrong::Glyph => write!(f, "GID \"{word}\" is not a glyph number"),

@@ -152,6 +152,19 @@ fn job_with(
     })
 }
 
+/// What is to be done by IN, OUT, INDEX and the arguments behind them.
+fn read_behind_index(
+    alloc: Global,
+    chosen: Chosen<'_>,
+    input: &str,
+    output: &str,
+    index: u32,
+    words: &[String],
+) -> Result<Job, ArgsError> {
+    let glyphs = read_glyphs(alloc, chosen.source, words)?;
+    job_with(alloc, chosen, input, output, index, glyphs)
+}
+
 /// What the arguments `IN OUT INDEX GID[,GID..]` ask for, or `IN OUT INDEX` where the glyphs are found elsewhere.
 ///
 /// `Usage` where their count is another, where INDEX or a GID isn't one or more ASCII digits whose value fits `u32` or
@@ -164,15 +177,7 @@ fn read_plain_job(alloc: Global, chosen: Chosen<'_>, words: &[String]) -> Result
         }
     };
     let index = u32_of(index).ok_or(ArgsError::Usage)?;
-    let glyphs = read_glyphs(alloc, chosen.source, rest)?;
-    job_with(
-        alloc,
-        chosen,
-        input.as_str(),
-        output.as_str(),
-        index,
-        glyphs,
-    )
+    read_behind_index(alloc, chosen, input, output, index, rest)
 }
 
 /// Whether an option says OUT or INDEX.
