@@ -23,7 +23,8 @@ use std::process::{ExitCode, Termination};
 use std::rt::{Env, Files};
 use std::{env, io};
 use subset_args::{
-    Advice, ArgsError, Command, GlyphList, Glyphs, Job, Shown, find_mistake, find_wrong_part, read_list, read_words,
+    Advice, ArgsError, Command, GlyphList, Glyphs, Job, Shown, find_mistake, find_wrong_part,
+    read_list, read_words,
 };
 use subsetter::{Error, Options, Tag};
 
@@ -185,7 +186,15 @@ fn perform<R: Files + Print + Eprint + Input + AllocGlobal>(
     };
     let mut output = Noted::new(Target::new(rt, job.output.as_str()));
     let mut lines = Noted::new(lines_beside(rt, job.output.as_str()));
-    let ended = carry_buffered(rt.alloc(), task, &mut input, room, source, &mut output, &mut lines);
+    let ended = carry_buffered(
+        rt.alloc(),
+        task,
+        &mut input,
+        room,
+        source,
+        &mut output,
+        &mut lines,
+    );
     *reason = reason_of(&ended, input.reason(), output.reason(), lines.reason());
     ended
 }
