@@ -19,6 +19,13 @@ ROOT = os.path.dirname(os.path.dirname(os.path.realpath(__file__)))
 TRIPLES = {"x86_64": "x86_64-unknown-linux-gnu", "aarch64": "aarch64-unknown-linux-gnu"}
 MACHINES = {"x86_64": b"\x3e\x00", "aarch64": b"\xb7\x00"}
 DATE = 315532800
+# What a package has beside the program, and the files in crates/subset_font.
+OF_PROGRAM = {
+    "share/man/man1/subset_font.1": "subset_font.1",
+    "share/bash-completion/completions/subset_font": "completions/subset_font.bash",
+    "share/zsh/site-functions/_subset_font": "completions/_subset_font",
+    "share/fish/vendor_completions.d/subset_font.fish": "completions/subset_font.fish",
+}
 LICENCE = "MIT OR Apache-2.0"
 # What the two files that every package carries have to say: where the licences' texts are, and what MIT code keeps.
 LICENCE_SAYS = {
@@ -140,7 +147,7 @@ class Looker:
         wanted.update(dict.fromkeys(["share/doc/subsetter/LICENSE", "share/doc/subsetter/NOTICE"]))
         wanted.update({"lib/libsubsetter.so.0": full, "lib/libsubsetter.so": "libsubsetter.so.0"})
         if target == "x86_64" and "program" not in self.skip:
-            wanted.update(dict.fromkeys(["bin/subset_font", "share/man/man1/subset_font.1"]))
+            wanted.update(dict.fromkeys(["bin/subset_font", *OF_PROGRAM]))
         found = self.tar(f"{name}.tar.gz", name, wanted)
         header, pc = found.get("include/subsetter.h", b""), found.get("lib/pkgconfig/subsetter.pc", b"").decode()
         with open(os.path.join(ROOT, "bindings", "c", "subsetter.h"), "rb") as file:
@@ -155,8 +162,9 @@ class Looker:
         self.licensed(f"{name}: README.md", readme, f"The licence is {LICENCE}: ")
         self.library(name, target, found.get(f"lib/{full}", b""), found.get("lib/libsubsetter.a", b""))
         if "bin/subset_font" in found:
-            with open(os.path.join(ROOT, "crates", "subset_font", "subset_font.1"), "rb") as file:
-                self.demand(found.get("share/man/man1/subset_font.1") == file.read(), f"{name}: the manual page isn't that of the program")
+            for path, source in OF_PROGRAM.items():
+                with open(os.path.join(ROOT, "crates", "subset_font", source), "rb") as file:
+                    self.demand(found.get(path) == file.read(), f"{name}: {path} isn't that of the program")
             self.demand(found["bin/subset_font"][18:20] == MACHINES[target], f"{name}: the program is for another processor")
             self.baseline(f"{name}: bin/subset_font", found["bin/subset_font"])
         return found

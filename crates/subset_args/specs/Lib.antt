@@ -6,3 +6,5 @@ pub mod Lists
 pub mod ListView
 pub mod Coordinates
 pub mod CoordinateView
+pub mod Mistakes
+pub mod Nearest

@@ -65,6 +65,10 @@ pub data FileList : Type 0 where
   every : FileList
   these : List ℕ → FileList
 
+-- the glyphs that an argument lists: numbers and ranges with commas, or `*`
+abbrev pub argument_list : List ℕ → Option FileList
+argument_list text = if bytes_eq text (codes "*") then Some every else option_map these (parts_glyphs (slice_split (λ b. b == 44) text))
+
 -- the glyphs that the text of a file lists: numbers and ranges, or `*`
 abbrev pub list_in : List ℕ → Option FileList
 list_in text = if is_star text then Some every else option_map these (parts_glyphs (parts text))

@@ -1,12 +1,13 @@
 -- The options in front of IN.
-use Rattle.std.specs.Prelude.{Bool, true, false, if◌then◌else◌, ℕ, List, [], ◌∷◌, Option, Some, None, codes, is_some}
+use Rattle.std.specs.Prelude.{Bool, true, false, ◌&&◌, ◌||◌, ◌==◌, nat_lt, if◌then◌else◌, ℕ, List, [], ◌∷◌, length, slice_index, Option, Some, None, codes, is_some}
 use Rattle.std.specs.Option.{option_map, option_and_then}
 use Rattle.std.specs.Str.{bytes_eq}
+use Rattle.subsetter_words.specs.Numbers.{number_in_bits}
 use Rattle.subset_args.specs.Limits.{Bounds, limits_in}
 use Rattle.subset_args.specs.declared.options.Switch.{Switch}
 use Rattle.subset_args.specs.declared.options.Switch.TheVariants.{Widths, NoHinting, NoNames, NoGlyphNames, Json, Quiet}
 use Rattle.subset_args.specs.declared.options.Setting.{Setting}
-use Rattle.subset_args.specs.declared.options.Setting.TheVariants.{Limits, GidsFile, Text, At}
+use Rattle.subset_args.specs.declared.options.Setting.TheVariants.{Limits, GidsFile, Text, At, Gids, FaceIndex, Output}
 use Rattle.subset_args.specs.declared.options.Kind.{Kind}
 use Rattle.subset_args.specs.declared.options.Kind.TheVariants.{Switch as IsSwitch, Setting as IsSetting, Help, Version, End, Place}
 use Rattle.subset_args.specs.declared.options.Switches.{Switches}
@@ -29,6 +30,10 @@ setting_of word =
     else if bytes_eq word (codes "--gids-file") then Some GidsFile
     else if bytes_eq word (codes "--text") then Some Text
     else if bytes_eq word (codes "--at") then Some At
+    else if bytes_eq word (codes "--gids") then Some Gids
+    else if bytes_eq word (codes "--face-index") then Some FaceIndex
+    else if bytes_eq word (codes "--output-file") then Some Output
+    else if bytes_eq word (codes "-o") then Some Output
     else None
 
 -- what an argument that is neither is
@@ -67,10 +72,11 @@ switched_on NoGlyphNames all = record all { no_glyph_names = true }
 switched_on Json all = record all { json = true }
 switched_on Quiet all = record all { quiet = true }
 
--- where the glyphs are found that no argument lists: in the list of a file, or by the characters of a text
+-- where the glyphs are found that an option requests: in the list of a file, by the characters of a text, or in a list
 pub data GlyphSource : Type 0 where
   in_file : List ℕ → GlyphSource
   by_text : List ℕ → GlyphSource
+  in_list : List ℕ → GlyphSource
 
 -- what the options choose
 pub record Choice : Type 0 where
@@ -78,10 +84,12 @@ pub record Choice : Type 0 where
   pub limits : Option Bounds
   pub source : Option GlyphSource
   pub at : Option (List ℕ)
+  pub output : Option (List ℕ)
+  pub index : Option ℕ
 
 -- nothing
 abbrev pub no_choice : Choice
-no_choice = record { switches = record { widths = false; no_hinting = false; no_names = false; no_glyph_names = false; json = false; quiet = false }; limits = None; source = None; at = None }
+no_choice = record { switches = record { widths = false; no_hinting = false; no_names = false; no_glyph_names = false; json = false; quiet = false }; limits = None; source = None; at = None; output = None; index = None }
 
 -- with an option without a value; none where it was given before
 abbrev pub with_switch : Switch → Choice → Option Choice
@@ -99,12 +107,23 @@ with_source source choice = if is_some choice.source then None else Some (record
 abbrev pub with_at : List ℕ → Choice → Option Choice
 with_at value choice = if is_some choice.at then None else Some (record choice { at = Some value })
 
+-- with OUT; none where it was given before
+abbrev pub with_output : List ℕ → Choice → Option Choice
+with_output value choice = if is_some choice.output then None else Some (record choice { output = Some value })
+
+-- with INDEX; none where it was given before, or is no number
+abbrev pub with_index : List ℕ → Choice → Option Choice
+with_index value choice = if is_some choice.index then None else option_map (λ index. record choice { index = Some index }) (number_in_bits 32 value)
+
 -- with an option and its value
 abbrev pub with_setting : Setting → List ℕ → Choice → Option Choice
 with_setting Limits value choice = with_limits value choice
 with_setting GidsFile value choice = with_source (in_file value) choice
 with_setting Text value choice = with_source (by_text value) choice
 with_setting At value choice = with_at value choice
+with_setting Gids value choice = with_source (in_list value) choice
+with_setting FaceIndex value choice = with_index value choice
+with_setting Output value choice = with_output value choice
 
 -- what the arguments with options in front say: that help or the version is wanted, or what is chosen, and the arguments behind the options
 pub data Options : Type 0 where
@@ -124,4 +143,37 @@ parsed None choice (word ∷ words) = elim (kind_of word) [
   | Version ↦ Some versioned
   | End ↦ Some (chosen choice words)
   | Place ↦ Some (chosen choice (word ∷ words))
+]
+
+-- what is chosen by options before and after IN, and IN
+pub record Free : Type 0 where
+  pub choice : Choice
+  pub input : List ℕ
+
+abbrev pub free_with : Choice → List ℕ → Free
+free_with choice input = record { choice = choice; input = input }
+
+-- IN may be behind `--`, alone
+abbrev pub behind_end : Choice → Option (List ℕ) → List (List ℕ) → Option Free
+behind_end choice input [] = option_map (free_with choice) input
+behind_end choice None (word ∷ []) = Some (free_with choice word)
+behind_end choice None (word ∷ other ∷ words) = None
+behind_end choice (Some input) (word ∷ words) = None
+
+-- it begins with a minus (45), and has more
+abbrev pub looks_like_option : List ℕ → Bool
+looks_like_option word = nat_lt 1 (length word) && (slice_index word 0 == 45)
+
+-- the same as `parsed` where options may also be behind IN, which is alone and doesn't look like one; none where help or the version is requested
+abbrev pub free : Option Setting → Choice → Option (List ℕ) → List (List ℕ) → Option Free
+free (Some setting) choice input [] = None
+free (Some setting) choice input (value ∷ words) = option_and_then (λ more. free None more input words) (with_setting setting value choice)
+free None choice input [] = option_map (free_with choice) input
+free None choice input (word ∷ words) = elim (kind_of word) [
+  | IsSwitch switch ↦ option_and_then (λ more. free None more input words) (with_switch switch choice)
+  | IsSetting setting ↦ free (Some setting) choice input words
+  | Help ↦ None
+  | Version ↦ None
+  | End ↦ behind_end choice input words
+  | Place ↦ if is_some input || looks_like_option word then None else free None choice (Some word) words
 ]

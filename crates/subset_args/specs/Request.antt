@@ -1,5 +1,5 @@
 -- What the arguments after the program's name ask for.
-use Rattle.std.specs.Prelude.{ℕ, ℤ, Bool, false, ◌&&◌, ◌==◌, if◌then◌else◌, List, [], ◌∷◌, map, Option, Some, None, codes}
+use Rattle.std.specs.Prelude.{ℕ, ℤ, Bool, false, ◌&&◌, ◌||◌, ◌==◌, if◌then◌else◌, List, [], ◌∷◌, map, Option, Some, None, codes, is_some, unwrap_or}
 use Rattle.std.specs.Option.{option_map, option_and_then}
 use Rattle.std.specs.List.{slice_split}
 use Rattle.std.specs.Str.{bytes_eq}
@@ -7,7 +7,8 @@ use Rattle.subsetter_words.specs.Numbers.{number_in_bits}
 use Rattle.subsetter_base.specs.declared.tag.Tag.{Tag}
 use Rattle.subset_args.specs.Coordinates.{coordinates_in}
 use Rattle.subset_args.specs.Limits.{Bounds}
-use Rattle.subset_args.specs.Options.{GlyphSource, in_file, by_text, Choice, Options, helped, versioned, chosen, no_choice, parsed}
+use Rattle.subset_args.specs.Lists.{FileList, every, these, argument_list}
+use Rattle.subset_args.specs.Options.{GlyphSource, in_file, by_text, in_list, Choice, Free, Options, helped, versioned, chosen, no_choice, parsed, free}
 use Rattle.subset_args.specs.declared.options.Switches.{Switches}
 
 -- the values, if there is one at each place
@@ -19,9 +20,10 @@ all_some (x ∷ xs) = option_and_then (λ y. option_map (λ ys. y ∷ ys) (all_s
 abbrev pub glyph_list : List ℕ → Option (List ℕ)
 glyph_list text = all_some (map (number_in_bits 16) (slice_split (λ b. b == 44) text))
 
--- which glyphs are asked for: these, or those that are found there
+-- which glyphs are requested: these, every one, or those that are found there
 pub data Asked : Type 0 where
   listed : List ℕ → Asked
+  every_glyph : Asked
   from : GlyphSource → Asked
 
 -- what a run that makes a subset is to do
@@ -43,11 +45,22 @@ pub data Command : Type 0 where
   -- to tell the axes of a face: its file and its index
   axes : List ℕ → ℕ → Command
 
+-- the glyphs of a list
+abbrev pub of_list : FileList → Asked
+of_list every = every_glyph
+of_list (these glyphs) = listed glyphs
+
+-- which glyphs an option requests
+abbrev pub asked_by : GlyphSource → Option Asked
+asked_by (in_file name) = Some (from (in_file name))
+asked_by (by_text text) = Some (from (by_text text))
+asked_by (in_list text) = option_map of_list (argument_list text)
+
 -- which glyphs the arguments behind INDEX ask for: one argument that lists them, or none where they are found elsewhere
 abbrev pub asked : Option GlyphSource → List (List ℕ) → Option Asked
 asked None (list ∷ []) = option_map listed (glyph_list list)
 asked None _ = None
-asked (Some source) [] = Some (from source)
+asked (Some source) [] = asked_by source
 asked (Some source) (word ∷ words) = None
 
 -- whether an argument means standard input or output
@@ -57,8 +70,10 @@ is_stream word = bytes_eq word (codes "-")
 -- whether the glyphs are listed in standard input
 abbrev pub lists_in_stream : Asked → Bool
 lists_in_stream (listed glyphs) = false
+lists_in_stream every_glyph = false
 lists_in_stream (from (in_file name)) = is_stream name
 lists_in_stream (from (by_text text)) = false
+lists_in_stream (from (in_list text)) = false
 
 -- the user coordinates that are said, if any
 abbrev pub said_at : Option (List ℕ) → Option (Option (List (Tag × ℤ)))
@@ -69,10 +84,21 @@ said_at (Some text) = option_map (λ c. Some c) (coordinates_in text)
 abbrev pub request_of : Choice → List ℕ → List ℕ → ℕ → Asked → Option Request
 request_of choice input output index glyphs = if is_stream input && lists_in_stream glyphs then None else option_map (λ at. record { switches = choice.switches; limits = choice.limits; input = input; output = output; index = index; glyphs = glyphs; coordinates = at }) (said_at choice.at)
 
+-- what is requested by IN, OUT, INDEX and the arguments behind them
+abbrev pub request_behind : Choice → List ℕ → List ℕ → ℕ → List (List ℕ) → Option Request
+request_behind choice input output index words = option_and_then (request_of choice input output index) (asked choice.source words)
+
 -- what the arguments `IN OUT INDEX GID[,GID..]` ask for with these choices, or `IN OUT INDEX` where the glyphs are found elsewhere; none where their count is another, or one isn't as it should be
+abbrev pub request_plain : Choice → List (List ℕ) → Option Request
+request_plain choice (input ∷ output ∷ index ∷ words) = option_and_then (λ i. request_behind choice input output i words) (number_in_bits 32 index)
+request_plain choice _ = None
+
+-- none where an option says OUT or INDEX
+abbrev pub says_place : Choice → Bool
+says_place choice = is_some choice.output || is_some choice.index
+
 abbrev pub request_with : Choice → List (List ℕ) → Option Request
-request_with choice (input ∷ output ∷ index ∷ words) = option_and_then (λ i. option_and_then (request_of choice input output i) (asked choice.source words)) (number_in_bits 32 index)
-request_with choice _ = None
+request_with choice words = if says_place choice then None else request_plain choice words
 
 -- what the options and the arguments behind them ask for
 abbrev pub command_of : Options → Option Command
@@ -84,6 +110,18 @@ command_of (chosen choice words) = option_map subset (request_with choice words)
 abbrev pub command_by_options : List (List ℕ) → Option Command
 command_by_options words = option_and_then command_of (parsed None no_choice words)
 
+-- what is requested with OUT by an option, and INDEX too, if it isn't 0
+abbrev pub request_free : Free → Option Request
+request_free f = option_and_then (λ output. option_and_then (request_of f.choice f.input output (unwrap_or f.choice.index 0)) (asked f.choice.source [])) f.choice.output
+
+abbrev pub command_free : List (List ℕ) → Option Command
+command_free words = option_and_then (λ f. option_map subset (request_free f)) (free None no_choice None words)
+
+-- the plain form comes first
+abbrev pub command_or : Option Command → Option Command → Option Command
+command_or (Some command) other = Some command
+command_or None other = other
+
 -- what the arguments `FONT INDEX` behind `--axes` ask for
 abbrev pub axes_with : List (List ℕ) → Option Command
 axes_with (input ∷ index ∷ []) = option_map (axes input) (number_in_bits 32 index)
@@ -94,9 +132,9 @@ abbrev pub behind_axes : List (List ℕ) → Option (List (List ℕ))
 behind_axes [] = None
 behind_axes (word ∷ words) = if bytes_eq word (codes "--axes") then Some words else None
 
--- what the arguments ask for: `--axes FONT INDEX`, or `[OPTIONS] IN OUT INDEX [GID[,GID..]]`
+-- what the arguments ask for: `--axes FONT INDEX`, `[OPTIONS] IN OUT INDEX [GID[,GID..]]`, or IN with options before and after it, one of which says OUT
 abbrev pub command : List (List ℕ) → Option Command
 command words = elim (behind_axes words) [
   | Some behind ↦ axes_with behind
-  | None ↦ command_by_options words
+  | None ↦ command_or (command_by_options words) (command_free words)
 ]

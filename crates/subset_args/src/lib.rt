@@ -14,10 +14,15 @@ mod coordinates;
 mod jobs;
 mod limits;
 mod lists;
+mod mistakes;
+mod nearest;
 mod options;
+mod texts;
 
 pub use coordinates::read_coordinates;
 pub use jobs::{ArgsError, Command, Glyphs, Job, is_stream, read_words};
 pub use limits::RunLimits;
-pub use lists::{GlyphList, read_list};
-pub use options::Switches;
+pub use lists::{GlyphList, find_wrong_part, read_list};
+pub use mistakes::{Mistake, Wrong, find_mistake};
+pub use options::{OPTIONS, Switches};
+pub use texts::{Advice, Shown};

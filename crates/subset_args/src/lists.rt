@@ -1,9 +1,10 @@
 //! The glyphs that a file lists.
 
-ghost use Rattle.std.specs.Prelude.{◌≡◌, ◌⊎◌, ◌≤◌, ◌++◌, ◌+◌, ◌-◌, not, ℕ, map, filter, IfOk, IfErr, OnOk, Some, None};
+ghost use Rattle.std.specs.Prelude.{◌≡◌, ◌⊎◌, ◌≤◌, ◌++◌, ◌+◌, ◌-◌, ◌==◌, not, ℕ, map, filter, IfOk, IfErr, IfSome, OnOk, IsTrue, Some, None};
 ghost use Rattle.std.specs.Option.{option_map};
+ghost use Rattle.std.specs.List.{slice_split};
 ghost use Rattle.std.specs.Str.{IsUtf8};
-ghost use Rattle.subset_args.specs.Lists.{counting, is_blank, as_comma, is_star, in_order, ends_of_range, ends_in, between, part_glyphs, parts_glyphs, parts, list_in};
+ghost use Rattle.subset_args.specs.Lists.{counting, is_blank, as_comma, is_star, in_order, ends_of_range, ends_in, between, part_glyphs, parts_glyphs, parts, argument_list, list_in};
 ghost use Rattle.subset_args.specs.ListView.{ends_view, list_view};
 ghost use Rattle.subset_args.specs.declared.jobs.ArgsError.TheVariants.{Usage, OutOfMemory};
 
@@ -143,6 +144,50 @@ fn read_numbers(alloc: Global, text: &[u8]) -> Result<Vec<u16>, ArgsError>
     };
     let parts = parts_of(alloc, divided)?;
     glyphs_in(alloc, &parts)
+}
+
+/// The glyphs that numbers and ranges with commas list.
+fn read_parts(alloc: Global, text: &str) -> Result<Vec<u16>, ArgsError>
+    ensures ok { IfOk result (λ v. parts_glyphs (slice_split (λ b. b == 44) text.now) ≡ Some v.items) }
+    ensures err { IfErr result (λ e. (e ≡ OutOfMemory) ⊎ ((e ≡ Usage) × (parts_glyphs (slice_split (λ b. b == 44) text.now) ≡ None))) }
+{
+    let parts = parts_of(alloc, text)?;
+    glyphs_in(alloc, &parts)
+}
+
+/// The glyphs that an argument lists: numbers and ranges as `3,5,10-20`, or `*` for every glyph of the face.
+///
+/// `Usage` where it lists no glyphs so.
+pub fn read_argument(alloc: Global, text: &str) -> Result<GlyphList, ArgsError>
+    ensures ok { IfOk result (λ list. argument_list text.now ≡ Some (list_view list)) }
+    ensures err { IfErr result (λ e. (e ≡ OutOfMemory) ⊎ ((e ≡ Usage) × (argument_list text.now ≡ None))) }
+{
+    if text == "*" {
+        return Ok(GlyphList::Every);
+    }
+    Ok(GlyphList::These(read_parts(alloc, text)?))
+}
+
+/// Whether a part of a list is no number and no range.
+pub fn is_wrong_part(part: &[u8]) -> bool
+    ensures { IsTrue result → ¬ (IsUtf8 part.now) ⊎ (ends_in part.now ≡ None) }
+{
+    match str::from_utf8(part) {
+        Ok(part) => !part.is_empty() && ends_in(part).is_none(),
+        Err(_) => true,
+    }
+}
+
+/// The first part of the text of a file that is no number and no range, for which `read_list` answers `Usage`.
+pub fn find_wrong_part(text: &[u8]) -> Option<&[u8]>
+    ensures { IfSome result (λ part. ¬ (IsUtf8 part.now) ⊎ (ends_in part.now ≡ None)) }
+{
+    for part in text.split(|b| is_blank(*b) || *b == b',') {
+        if is_wrong_part(part) {
+            return Some(part);
+        }
+    }
+    None
 }
 
 /// The glyphs that the text of a file lists: numbers and ranges as `36-38`, divided by commas, blanks or line ends, or `*`

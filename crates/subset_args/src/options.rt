@@ -1,10 +1,10 @@
 //! The options in front of IN.
 
 ghost use Rattle.std.specs.Prelude.{◌≡◌, map, string_bytes, None};
-ghost use Rattle.std.specs.Option.{option_map};
+ghost use Rattle.std.specs.Option.{option_copied, option_map};
 ghost use Rattle.subset_args.specs.Limits.{limits_from, limits_in, limits_view};
-ghost use Rattle.subset_args.specs.Options.{switch_of, setting_of, kind_of, is_on, switched_on, with_switch, with_limits, with_source, with_at, with_setting, parsed};
-ghost use Rattle.subset_args.specs.View.{source_view, chosen_view, parsed_view};
+ghost use Rattle.subset_args.specs.Options.{switch_of, setting_of, kind_of, is_on, switched_on, with_switch, with_limits, with_source, with_at, with_output, with_index, with_setting, parsed, free_with, behind_end, looks_like_option, free};
+ghost use Rattle.subset_args.specs.View.{source_view, chosen_view, parsed_view, free_view};
 
 use crate::limits::RunLimits;
 use subsetter_words::{u8_of, u32_of};
@@ -37,6 +37,12 @@ pub enum Setting {
     Text,
     /// `--at TAG=VALUE[,TAG=VALUE..]`
     At,
+    /// `--gids LIST`
+    Gids,
+    /// `--face-index INDEX`
+    FaceIndex,
+    /// `-o OUT` or `--output-file OUT`
+    Output,
 }
 
 /// Where the glyphs are found that no argument lists.
@@ -46,6 +52,8 @@ pub enum Source<'a> {
     File(&'a str),
     /// By the characters of this text.
     Text(&'a str),
+    /// In this list.
+    InList(&'a str),
 }
 
 /// What an argument in front of IN is.
@@ -127,6 +135,10 @@ pub struct Chosen<'a> {
     pub source: Option<Source<'a>>,
     /// The user coordinates, where they are said.
     pub at: Option<&'a str>,
+    /// OUT, where an option says it.
+    pub output: Option<&'a str>,
+    /// INDEX, where an option says it.
+    pub index: Option<u32>,
 }
 
 impl<'a> Chosen<'a> {
@@ -136,10 +148,12 @@ impl<'a> Chosen<'a> {
         limits: None,
         source: None,
         at: None,
+        output: None,
+        index: None,
     };
 
     /// With an option without a value, which is given once.
-    fn with_switch(self, switch: Switch) -> Option<Chosen<'a>>
+    pub fn with_switch(self, switch: Switch) -> Option<Chosen<'a>>
         ensures { option_map chosen_view result ≡ with_switch switch (chosen_view self.entry) }
     {
         if self.switches.is_on(switch) {
@@ -150,11 +164,13 @@ impl<'a> Chosen<'a> {
             limits: self.limits,
             source: self.source,
             at: self.at,
+            output: self.output,
+            index: self.index,
         })
     }
 
     /// With an option and its value, which is given once.
-    fn with_setting(self, setting: Setting, value: &'a str) -> Option<Chosen<'a>>
+    pub fn with_setting(self, setting: Setting, value: &'a str) -> Option<Chosen<'a>>
         ensures { option_map chosen_view result ≡ with_setting setting value.now (chosen_view self.entry) }
     {
         match setting {
@@ -162,6 +178,9 @@ impl<'a> Chosen<'a> {
             Setting::GidsFile => self.with_source(Source::File(value)),
             Setting::Text => self.with_source(Source::Text(value)),
             Setting::At => self.with_at(value),
+            Setting::Gids => self.with_source(Source::InList(value)),
+            Setting::FaceIndex => self.with_index(value),
+            Setting::Output => self.with_output(value),
         }
     }
 
@@ -177,6 +196,8 @@ impl<'a> Chosen<'a> {
             limits: Some(limits_of(value)?),
             source: self.source,
             at: self.at,
+            output: self.output,
+            index: self.index,
         })
     }
 
@@ -192,6 +213,8 @@ impl<'a> Chosen<'a> {
             limits: self.limits,
             source: Some(source),
             at: self.at,
+            output: self.output,
+            index: self.index,
         })
     }
 
@@ -207,6 +230,42 @@ impl<'a> Chosen<'a> {
             limits: self.limits,
             source: self.source,
             at: Some(value),
+            output: self.output,
+            index: self.index,
+        })
+    }
+
+    /// With OUT.
+    fn with_output(self, value: &'a str) -> Option<Chosen<'a>>
+        ensures { option_map chosen_view result ≡ with_output value.now (chosen_view self.entry) }
+    {
+        if self.output.is_some() {
+            return None;
+        }
+        Some(Chosen {
+            switches: self.switches,
+            limits: self.limits,
+            source: self.source,
+            at: self.at,
+            output: Some(value),
+            index: self.index,
+        })
+    }
+
+    /// With INDEX.
+    fn with_index(self, value: &str) -> Option<Chosen<'a>>
+        ensures { option_map chosen_view result ≡ with_index value.now (chosen_view self.entry) }
+    {
+        if self.index.is_some() {
+            return None;
+        }
+        Some(Chosen {
+            switches: self.switches,
+            limits: self.limits,
+            source: self.source,
+            at: self.at,
+            output: self.output,
+            index: Some(u32_of(value)?),
         })
     }
 }
@@ -228,6 +287,26 @@ fn limits_of(word: &str) -> Option<RunLimits>
         None => limits_from(tokens, rest, None),
     }
 }
+
+/// The options with a name, in the order of the help.
+pub const OPTIONS: [&str; 16] = [
+    "--gids",
+    "--gids-file",
+    "--text",
+    "--output-file",
+    "--face-index",
+    "--at",
+    "--no-hinting",
+    "--no-names",
+    "--no-glyph-names",
+    "--limits",
+    "--widths",
+    "--json",
+    "--quiet",
+    "--axes",
+    "--help",
+    "--version",
+];
 
 /// The option without a value that an argument is.
 fn switch_of(word: &str) -> Option<Switch>
@@ -253,12 +332,16 @@ fn setting_of(word: &str) -> Option<Setting>
         "--gids-file" => Some(Setting::GidsFile),
         "--text" => Some(Setting::Text),
         "--at" => Some(Setting::At),
+        "--gids" => Some(Setting::Gids),
+        "--face-index" => Some(Setting::FaceIndex),
+        "--output-file" => Some(Setting::Output),
+        "-o" => Some(Setting::Output),
         _ => None,
     }
 }
 
 /// What an argument in front of IN is.
-fn kind_of(word: &str) -> Kind
+pub fn kind_of(word: &str) -> Kind
     ensures { result ≡ kind_of word.now }
 {
     if let Some(switch) = switch_of(word) {
@@ -306,5 +389,74 @@ pub fn parse_options<'a>(chosen: Chosen<'a>, words: &'a [String]) -> Option<Pars
         Kind::Version => Some(Parsed::Version),
         Kind::End => Some(Parsed::Chosen(chosen, behind)),
         Kind::Place => Some(Parsed::Chosen(chosen, words)),
+    }
+}
+
+/// The options wherever they stand beside IN, and IN.
+#[derive(Clone, Copy, Debug)]
+pub struct Free<'a> {
+    pub chosen: Chosen<'a>,
+    pub input: &'a str,
+}
+
+/// What is chosen with IN, if it is there.
+fn with_input<'a>(chosen: Chosen<'a>, input: Option<&'a str>) -> Option<Free<'a>>
+    ensures { option_map free_view result ≡ option_map (free_with (chosen_view chosen.entry)) (option_copied input.entry) }
+{
+    match input {
+        Some(input) => Some(Free { chosen, input }),
+        None => None,
+    }
+}
+
+/// What is chosen with IN from the arguments behind `--`.
+fn behind_end<'a>(
+    chosen: Chosen<'a>,
+    input: Option<&'a str>,
+    words: &'a [String],
+) -> Option<Free<'a>>
+    ensures { option_map free_view result ≡ behind_end (chosen_view chosen.entry) (option_copied input.entry) (map (λ word. string_bytes word) words.now) }
+{
+    match (input, words) {
+        (_, []) => with_input(chosen, input),
+        (None, [word]) => with_input(chosen, Some(word.as_str())),
+        _ => None,
+    }
+}
+
+/// Whether an argument begins with a minus, and has more.
+pub fn looks_like_option(word: &str) -> bool
+    ensures { result ≡ looks_like_option word.now }
+{
+    matches!(word.as_bytes(), [b'-', _, ..])
+}
+
+/// What arguments say in which options are before and after IN, besides what is chosen and read already. None where an
+/// option is given twice, its value is missing or isn't as it should be, or where IN is missing or isn't alone.
+pub fn parse_free<'a>(
+    chosen: Chosen<'a>,
+    input: Option<&'a str>,
+    words: &'a [String],
+) -> Option<Free<'a>>
+    ensures { option_map free_view result ≡ free None (chosen_view chosen.entry) (option_copied input.entry) (map (λ word. string_bytes word) words.now) }
+{
+    let [word, behind @ ..] = words else {
+        return with_input(chosen, input);
+    };
+    match kind_of(word) {
+        Kind::Switch(switch) => parse_free(chosen.with_switch(switch)?, input, behind),
+        Kind::Setting(setting) => {
+            let [value, rest @ ..] = behind else {
+                return None;
+            };
+            parse_free(chosen.with_setting(setting, value)?, input, rest)
+        }
+        Kind::End => behind_end(chosen, input, behind),
+        Kind::Place if input.is_none() && !looks_like_option(word) => parse_free(
+            chosen,
+            Some(word.as_str()),
+            behind,
+        ),
+        _ => None,
     }
 }

@@ -7,7 +7,7 @@ use Rattle.subsetter_type2.specs.declared.limits.Limits.{Limits}
 use Rattle.subset_args.specs.declared.limits.RunLimits.{RunLimits}
 use Rattle.subset_args.specs.declared.options.Switches.{Switches}
 use Rattle.subset_args.specs.declared.jobs.Glyphs.{Glyphs}
-use Rattle.subset_args.specs.declared.jobs.Glyphs.TheVariants.{Listed, InFile, ByText as InText}
+use Rattle.subset_args.specs.declared.jobs.Glyphs.TheVariants.{Listed, InFile, ByText as InText, Every as WholeFace}
 use Rattle.subset_args.specs.declared.jobs.Job.{Job}
 use Rattle.subset_args.specs.declared.lists.GlyphList.{GlyphList}
 use Rattle.subset_args.specs.declared.lists.GlyphList.TheVariants.{Every as EveryGlyph, These as TheseGlyphs}
@@ -45,6 +45,7 @@ wanted_of (ByText text) = by_text text.now
 abbrev pub IsListFor : Glyphs → Option GlyphList → Type 0
 IsListFor (Listed glyphs) list = Unit {0}
 IsListFor (InText text) list = Unit {0}
+IsListFor WholeFace list = Unit {0}
 IsListFor (InFile name) (Some list) = Unit {0}
 IsListFor (InFile name) None = ⊥
 
@@ -52,6 +53,7 @@ IsListFor (InFile name) None = ⊥
 abbrev pub wanted_for : Glyphs → Option GlyphList → Wanted
 wanted_for (Listed glyphs) list = these glyphs.items
 wanted_for (InText text) list = by_text (string_bytes text)
+wanted_for WholeFace list = every
 wanted_for (InFile name) (Some EveryGlyph) = every
 wanted_for (InFile name) (Some (TheseGlyphs glyphs)) = these glyphs.items
 wanted_for (InFile name) None = these []

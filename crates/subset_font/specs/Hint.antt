@@ -1,10 +1,11 @@
 -- What a second line says of a font that is refused.
-use Rattle.std.specs.Prelude.{ℕ, ◌==◌, nat_le, nat_lt, if◌then◌else◌, List, [], ◌∷◌, Option, Some, None}
+use Rattle.std.specs.Prelude.{ℕ, ◌+◌, ◌*◌, ◌==◌, nat_le, nat_lt, if◌then◌else◌, Bool, true, false, List, [], ◌∷◌, length, Option, Some, None, codes}
 use Rattle.std.specs.Option.{option_and_then, option_map}
 use Rattle.subsetter_base.specs.Bytes.{number}
 use Rattle.subsetter_base.specs.declared.error.Error.{Error as Refusal}
 use Rattle.subsetter_base.specs.declared.error.Error.TheVariants.{UnknownKind, MalformedFont, Unimplemented, SubsetError, OverflowError, CFFError, OutOfMemory}
-use Rattle.subsetter_sfnt.specs.Read.{Font}
+use Rattle.subsetter_base.specs.declared.tag.Tag.{Tag}
+use Rattle.subsetter_sfnt.specs.Read.{Font, stored}
 use Rattle.subset_font.specs.Asked.{face_glyphs}
 use Rattle.subset_font.specs.Made.{face_of}
 use Rattle.subset_font.specs.declared.task.Asked.{Asked}
@@ -13,7 +14,7 @@ use Rattle.subset_font.specs.declared.task.Task.{Task}
 use Rattle.subset_font.specs.declared.failure.Failure.{Failure}
 use Rattle.subset_font.specs.declared.failure.Failure.TheVariants.{Error, NoMapping, Usage, List as WrongList, Read, ReadList, Write, Output}
 use Rattle.subset_font.specs.declared.hint.Hint.{Hint}
-use Rattle.subset_font.specs.declared.hint.Hint.TheVariants.{Woff, Woff2, NoFace, NoGlyph}
+use Rattle.subset_font.specs.declared.hint.Hint.TheVariants.{Woff, Woff2, NoFace, NoGlyph, NoTable, NoEntries, Descends, Outside, Cff2, NoUnicode, WrongAxes}
 
 -- `wOFF` begins a WOFF, `wOF2` a WOFF2
 abbrev pub packed_by : ℕ → Option Hint
@@ -46,19 +47,109 @@ abbrev pub or_else : Option Hint → Option Hint → Option Hint
 or_else (Some hint) other = Some hint
 or_else None other = other
 
+-- a face without a table
+abbrev pub without : Tag → Option (List ℕ) → Option Hint
+without tag None = Some (NoTable tag)
+without tag (Some bytes) = None
+
+abbrev pub no_table : Font → Tag → Option Hint
+no_table font tag = without tag (stored font tag.0)
+
+-- a face without a table that only the task needs: `maxp` says how many glyphs it has, and `hmtx` their widths
+abbrev pub no_table_for_widths : Bool → Font → Option Hint
+no_table_for_widths true font = no_table font (record { 0 = codes "hmtx" })
+no_table_for_widths false font = None
+
+abbrev pub no_table_by : Asked → Bool → Font → Option Hint
+no_table_by Every widths font = no_table font (record { 0 = codes "maxp" })
+no_table_by (These glyphs) widths font = no_table_for_widths widths font
+no_table_by (ByText text) widths font = no_table_for_widths widths font
+
+abbrev pub no_table_for : Task → List ℕ → Option Hint
+no_table_for task bytes = no_table_by task.asked task.widths (face_of task bytes)
+
+-- an entry of loca: an offset, or in the format 0 half of one (OpenType, "loca")
+abbrev pub entry : List ℕ → ℕ → ℕ → Option ℕ
+entry loca format k = if format == 0 then option_map (λ half. 2 * half) (number loca (2 * k) 2) else number loca (4 * k) 4
+
+-- what is wrong with the outline of a glyph between two entries
+abbrev pub wrong_between : ℕ → List ℕ → Option ℕ → Option ℕ → Option Hint
+wrong_between g glyf (Some start) (Some end) = if nat_lt end start then Some (Descends g) else if nat_lt (length glyf) end then Some (Outside g) else None
+wrong_between g glyf (Some start) None = Some (NoEntries g)
+wrong_between g glyf None end = Some (NoEntries g)
+
+abbrev pub wrong_outline : List ℕ → List ℕ → ℕ → ℕ → Option Hint
+wrong_outline glyf loca format g = wrong_between g glyf (entry loca format g) (entry loca format (g + 1))
+
+-- the first glyph with an outline whose place is wrong
+abbrev pub first_wrong : List ℕ → List ℕ → ℕ → List ℕ → Option Hint
+first_wrong glyf loca format [] = None
+first_wrong glyf loca format (g ∷ glyphs) = or_else (wrong_outline glyf loca format g) (first_wrong glyf loca format glyphs)
+
+-- the glyphs that are listed
+abbrev pub listed : Asked → List ℕ
+listed (These given) = given.now
+listed Every = []
+listed (ByText text) = []
+
+-- what is wrong with the TrueType outlines of glyphs, by `glyf`, `loca` and `head`, whose number at byte 50 is the format of loca
+abbrev pub wrong_tables : List ℕ → Option (List ℕ) → Option (List ℕ) → Option (List ℕ) → Option Hint
+wrong_tables glyphs None loca head = None
+wrong_tables glyphs (Some glyf) None head = Some (NoTable (record { 0 = codes "loca" }))
+wrong_tables glyphs (Some glyf) (Some loca) None = Some (NoTable (record { 0 = codes "head" }))
+wrong_tables glyphs (Some glyf) (Some loca) (Some head) = option_and_then (λ format. first_wrong glyf loca format glyphs) (number head 50 2)
+
+abbrev pub no_outline : Task → List ℕ → Option Hint
+no_outline task bytes = wrong_tables (listed task.asked) (stored (face_of task bytes) (codes "glyf")) (stored (face_of task bytes) (codes "loca")) (stored (face_of task bytes) (codes "head"))
+
+-- outlines of CFF2
+abbrev pub cff2_in : Option (List ℕ) → Option Hint
+cff2_in (Some bytes) = Some Cff2
+cff2_in None = None
+
+abbrev pub is_cff2 : Font → Option Hint
+is_cff2 font = cff2_in (stored font (codes "CFF2"))
+
+abbrev pub hint_of_malformed : Task → List ℕ → Option Hint
+hint_of_malformed task bytes = or_else (or_else (or_else (no_face bytes task.index) (no_glyph (face_of task bytes) task.asked)) (no_table_for task bytes)) (no_outline task bytes)
+
 abbrev pub hint_of_error : Refusal → Task → List ℕ → Option Hint
 hint_of_error UnknownKind task bytes = or_else (packed bytes) (no_face bytes task.index)
-hint_of_error MalformedFont task bytes = or_else (no_face bytes task.index) (no_glyph (face_of task bytes) task.asked)
-hint_of_error Unimplemented task bytes = None
+hint_of_error MalformedFont task bytes = hint_of_malformed task bytes
+hint_of_error Unimplemented task bytes = is_cff2 (face_of task bytes)
 hint_of_error SubsetError task bytes = None
 hint_of_error OverflowError task bytes = None
 hint_of_error CFFError task bytes = None
 hint_of_error OutOfMemory task bytes = None
 
+-- why a face has no mapping of Unicode characters: no cmap, or none of its tables that are read
+abbrev pub hint_of_mapping : Font → Option Hint
+hint_of_mapping font = or_else (no_table font (record { 0 = codes "cmap" })) (Some NoUnicode)
+
+-- what is said behind a failure to print axes
+abbrev pub axes_hint_of_error : Refusal → List ℕ → ℕ → Option Hint
+axes_hint_of_error UnknownKind bytes index = or_else (packed bytes) (no_face bytes index)
+axes_hint_of_error MalformedFont bytes index = Some WrongAxes
+axes_hint_of_error Unimplemented bytes index = None
+axes_hint_of_error SubsetError bytes index = None
+axes_hint_of_error OverflowError bytes index = None
+axes_hint_of_error CFFError bytes index = None
+axes_hint_of_error OutOfMemory bytes index = None
+
+abbrev pub axes_hint : Failure → List ℕ → ℕ → Option Hint
+axes_hint (Error e) bytes index = axes_hint_of_error e bytes index
+axes_hint NoMapping bytes index = None
+axes_hint Usage bytes index = None
+axes_hint WrongList bytes index = None
+axes_hint Read bytes index = None
+axes_hint ReadList bytes index = None
+axes_hint Write bytes index = None
+axes_hint Output bytes index = None
+
 -- what is said behind a failure
 abbrev pub hint_of : Failure → Task → List ℕ → Option Hint
 hint_of (Error e) task bytes = hint_of_error e task bytes
-hint_of NoMapping task bytes = None
+hint_of NoMapping task bytes = hint_of_mapping (face_of task bytes)
 hint_of Usage task bytes = None
 hint_of WrongList task bytes = None
 hint_of Read task bytes = None

@@ -6,47 +6,68 @@ pub const VERSION_LINE: &str = "subset_font 0.2.6+1, a port of the Rust crate su
 
 /// What `--help` prints.
 pub const HELP: &str = "usage: subset_font [OPTIONS] IN OUT INDEX GID[,GID..]
-       subset_font [OPTIONS] --gids-file FILE IN OUT INDEX
-       subset_font [OPTIONS] --text TEXT IN OUT INDEX
+       subset_font [OPTIONS] IN OUT INDEX
+       subset_font [OPTIONS] IN -o OUT [OPTIONS]
        subset_font --axes IN INDEX
 
-Writes a font that has glyph 0 and the given glyphs of IN, under new numbers from 1 on,
-and prints a line `old -> new` for each of them.
+Writes a font with glyph 0 and the requested glyphs of IN,
+under new numbers from 1, and prints a line `old -> new`
+for each of them.
 
-  IN      the font: TrueType, OpenType or a collection; - is standard input
-  OUT     the file of the new font; - is standard output, and then the lines go to
-          standard error
-  INDEX   the font of a collection, from 0
-  GID     the number of a glyph in IN
+  IN     the font: TrueType, OpenType or a collection;
+         - is standard input
+  OUT    the new font; - is standard output, and then the
+         lines go to standard error
+  INDEX  the face of a collection, from 0
+  GID    the number of a glyph in IN
 
-Options stand in front of IN, each once, in any order:
-  --gids-file FILE  take the glyphs that FILE lists: numbers and ranges as 36-38, divided
-                    by commas, blanks or line ends, or * for every glyph; - is standard
-                    input
-  --text TEXT       take the glyphs of the characters of TEXT by the font's cmap, without
-                    shaping; the lines begin with the character, as U+0041
-  --widths          print the widths of glyph 0 and of the glyphs, for W in a PDF
-  --no-hinting      leave out the instructions of TrueType outlines
-  --no-names        leave out the table name
-  --no-glyph-names  leave out the glyphs' names in post
-  --limits TOKENS,DEPTH[,BYTES]
-                    how far a charstring may run (default 1000000,64), and how
-                    many bytes the font may have
+Options are before IN, each at most once, in any order.
+With -o they may also be after IN.
+
+Which glyphs, where no GID is given:
+  --gids LIST       numbers and ranges, as 3,5,10-20, or *
+                    for every glyph
+  --gids-file FILE  the same from a file, also with blanks
+                    and line ends; - is standard input
+  --text TEXT       the glyphs of TEXT's characters by the
+                    font's cmap, unshaped
+
+Which files:
+  -o OUT, --output-file OUT
+                    the new font
+  --face-index INDEX
+                    the face, with -o (default 0)
+
+What the new font has:
   --at TAG=VALUE[,TAG=VALUE..]
-                    subset a variable font at these coordinates, as
+                    a variable font at coordinates, as
                     wght=650,wdth=87.5
-  --axes            as the first argument: print the axes of a variable font (tag,
-                    least, default and greatest coordinate) and its named instances
-  --json            print one JSON object in place of the lines
-  --quiet           print no lines
-  --                end the options
-  -h, --help        print this and end
-  --version         print the version and end
+  --no-hinting      no instructions of TrueType outlines
+  --no-names        no table name
+  --no-glyph-names  no names of glyphs in post
+  --limits TOKENS,DEPTH[,BYTES]
+                    how far a charstring may run
+                    (default 1000000,64), and the most
+                    bytes of the font
 
-Status: 0 where OUT holds the new font, 1 where the font or a glyph is refused or memory ran
-out, 2 where the arguments are wrong, 3 where a file can't be read or written.
+What is printed:
+  --widths          also the widths, for W in a PDF
+  --json            one JSON object in place of the lines
+  --quiet           no lines
+  --axes            (first argument) the axes of IN: tag,
+                    least, default and greatest coordinate;
+                    and its named instances
+  -h, --help        this text
+  --version         the version
+
+  --                ends the options
+
+Status: 0 OUT has the new font, 1 the font or a glyph is
+refused or memory ran out, 2 an argument is wrong, 3 a file
+can't be read or written.
 
 Examples:
   subset_font DejaVuSans.ttf subset.ttf 0 36,37,38
-  subset_font --no-hinting --no-names --text ABC DejaVuSans.ttf - 0 > subset.ttf
+  subset_font DejaVuSans.ttf --text ABC -o subset.ttf
+  subset_font --no-names --gids 36-38 in.otf - 0 > out.otf
 ";

@@ -1,16 +1,16 @@
 //! What more can be said of a refusal: what the program sees at once.
 
-ghost use Rattle.std.specs.Prelude.{◌≡◌};
+ghost use Rattle.std.specs.Prelude.{◌≡◌, ◌≤◌};
 ghost use Rattle.subsetter_sfnt.specs.Extras.{all_extras};
 ghost use Rattle.subset_font.specs.Asked.{face_glyphs};
 ghost use Rattle.subset_font.specs.Made.{face_of};
-ghost use Rattle.subset_font.specs.Hint.{packed, face_count, no_face, first_past, no_glyph, hint_of_error, hint_of};
+ghost use Rattle.subset_font.specs.Hint.{packed, face_count, no_face, first_past, no_glyph, no_table, no_table_for, entry, wrong_between, wrong_outline, first_wrong, listed, no_outline, is_cff2, hint_of_malformed, hint_of_error, hint_of_mapping, axes_hint, hint_of};
 
-use crate::face::count_glyphs;
+use crate::face::{count_glyphs, table};
 use crate::failure::Failure;
 use crate::task::{Asked, Task};
 use std::fmt;
-use subsetter::Error;
+use subsetter::{Error, Tag};
 use subsetter_base::read::Reader;
 
 /// What more is said of a refusal.
@@ -24,6 +24,20 @@ pub enum Hint {
     NoFace(u32, u32),
     /// The face has so many glyphs, of which none has this number.
     NoGlyph(u16, u16),
+    /// The face has no table of this tag.
+    NoTable(Tag),
+    /// `loca` has no entries for this glyph.
+    NoEntries(u16),
+    /// The entries of `loca` descend for this glyph.
+    Descends(u16),
+    /// The outline of this glyph isn't inside `glyf`.
+    Outside(u16),
+    /// The outlines are those of `CFF2`.
+    Cff2,
+    /// `cmap` has no table for Unicode that is read.
+    NoUnicode,
+    /// `fvar` can't be read.
+    WrongAxes,
 }
 
 impl fmt::Display for Hint {
@@ -40,6 +54,13 @@ impl fmt::Display for Hint {
             Hint::NoGlyph(glyph, count) => {
                 write!(f, "GID {glyph}: the face has {count} glyphs, from 0 on")
             }
+            Hint::NoTable(tag) => write!(f, "the face has no table {tag}"),
+            Hint::NoEntries(glyph) => write!(f, "glyph {glyph}: loca has no entries for it"),
+            Hint::Descends(glyph) => write!(f, "glyph {glyph}: its loca entries descend"),
+            Hint::Outside(glyph) => write!(f, "glyph {glyph}: its outline isn't inside glyf"),
+            Hint::Cff2 => write!(f, "CFF2: its outlines aren't read"),
+            Hint::NoUnicode => write!(f, "cmap: no table for Unicode in format 4 or 12"),
+            Hint::WrongAxes => write!(f, "fvar: the table can't be read"),
         }
     }
 }
@@ -100,13 +121,150 @@ fn no_glyph(font: &[u8], task: &Task<'_>) -> Option<Hint>
     Some(Hint::NoGlyph(glyph, count))
 }
 
+/// Whether a face has no table of a tag.
+fn no_table(font: &[u8], index: u32, tag: Tag) -> Option<Hint>
+    ensures { result ≡ no_table (record { bytes = font.now; index = index; extras = all_extras }) tag }
+{
+    match table(font, index, tag) {
+        Some(_) => None,
+        None => Some(Hint::NoTable(tag)),
+    }
+}
+
+/// Whether a face lacks a table that only this task needs: one for its widths, or for the count of its glyphs.
+fn no_table_for(font: &[u8], task: &Task<'_>) -> Option<Hint>
+    ensures { result ≡ no_table_for task.now font.now }
+{
+    if let Asked::Every = task.asked {
+        return no_table(font, task.index, Tag::MAXP);
+    }
+    if task.widths {
+        return no_table(font, task.index, Tag::HMTX);
+    }
+    None
+}
+
+/// An entry of `loca`: an offset, or in the format 0 half of one.
+fn entry(loca: &[u8], format: u16, index: usize) -> Option<u64>
+    requires { index ≤ 65536 }
+    ensures { result ≡ entry loca.now format index }
+{
+    if format == 0 {
+        let half = Reader::new_at(loca, 2 * index).read::<u16>()?;
+        return Some(2 * u64::from(half));
+    }
+    let offset = Reader::new_at(loca, 4 * index).read::<u32>()?;
+    Some(u64::from(offset))
+}
+
+/// What is wrong with the outline of a glyph between two entries of `loca`.
+fn wrong_between(glyph: u16, glyf: &[u8], start: Option<u64>, end: Option<u64>) -> Option<Hint>
+    ensures { result ≡ wrong_between glyph glyf.now start end }
+{
+    let (Some(start), Some(end)) = (start, end) else {
+        return Some(Hint::NoEntries(glyph));
+    };
+    if end < start {
+        return Some(Hint::Descends(glyph));
+    }
+    if end > glyf.len() as u64 {
+        return Some(Hint::Outside(glyph));
+    }
+    None
+}
+
+/// What is wrong with the place of a glyph's outline.
+fn wrong_outline(glyf: &[u8], loca: &[u8], format: u16, glyph: u16) -> Option<Hint>
+    ensures { result ≡ wrong_outline glyf.now loca.now format glyph }
+{
+    let start = entry(loca, format, usize::from(glyph));
+    let end = entry(loca, format, usize::from(glyph) + 1);
+    wrong_between(glyph, glyf, start, end)
+}
+
+/// The first of the glyphs with an outline whose place is wrong.
+fn first_wrong(glyf: &[u8], loca: &[u8], format: u16, glyphs: &[u16]) -> Option<Hint>
+    ensures { result ≡ first_wrong glyf.now loca.now format glyphs.now }
+{
+    for glyph in glyphs {
+        if let Some(hint) = wrong_outline(glyf, loca, format, *glyph) {
+            return Some(hint);
+        }
+    }
+    None
+}
+
+/// The glyphs that are listed.
+fn listed<'a>(asked: &Asked<'a>) -> &'a [u16]
+    ensures { result.now ≡ listed asked.now }
+{
+    match *asked {
+        Asked::These(glyphs) => glyphs,
+        Asked::Every | Asked::ByText(_) => &[],
+    }
+}
+
+/// What is wrong with the TrueType outlines of the listed glyphs, where the face has `glyf`.
+fn no_outline(font: &[u8], task: &Task<'_>) -> Option<Hint>
+    ensures { result ≡ no_outline task.now font.now }
+{
+    let glyf = table(font, task.index, Tag::GLYF)?;
+    let Some(loca) = table(font, task.index, Tag::LOCA) else {
+        return Some(Hint::NoTable(Tag::LOCA));
+    };
+    let Some(head) = table(font, task.index, Tag::HEAD) else {
+        return Some(Hint::NoTable(Tag::HEAD));
+    };
+    let format = Reader::new_at(head, 50).read::<u16>()?;
+    first_wrong(glyf, loca, format, listed(&task.asked))
+}
+
+/// Whether a face has outlines of `CFF2`.
+fn is_cff2(font: &[u8], index: u32) -> Option<Hint>
+    ensures { result ≡ is_cff2 (record { bytes = font.now; index = index; extras = all_extras }) }
+{
+    match table(font, index, Tag::CFF2) {
+        Some(_) => Some(Hint::Cff2),
+        None => None,
+    }
+}
+
+/// What more can be said of a face that is malformed.
+fn hint_of_malformed(font: &[u8], task: &Task<'_>) -> Option<Hint>
+    ensures { result ≡ hint_of_malformed task.now font.now }
+{
+    no_face(font, task.index)
+        .or(no_glyph(font, task))
+        .or(no_table_for(font, task))
+        .or(no_outline(font, task))
+}
+
 /// What more can be said of a font that is refused by an error.
 fn hint_of_error(error: Error, font: &[u8], task: &Task<'_>) -> Option<Hint>
     ensures { result ≡ hint_of_error error task.now font.now }
 {
     match error {
         Error::UnknownKind => packed(font).or(no_face(font, task.index)),
-        Error::MalformedFont => no_face(font, task.index).or(no_glyph(font, task)),
+        Error::MalformedFont => hint_of_malformed(font, task),
+        Error::Unimplemented => is_cff2(font, task.index),
+        _ => None,
+    }
+}
+
+/// What more can be said of a font without a mapping of Unicode characters.
+fn hint_of_mapping(font: &[u8], index: u32) -> Option<Hint>
+    ensures { result ≡ hint_of_mapping (record { bytes = font.now; index = index; extras = all_extras }) }
+{
+    no_table(font, index, Tag::new(b"cmap")).or(Some(Hint::NoUnicode))
+}
+
+/// What more can be said of a font whose axes can't be printed.
+pub fn find_axes_hint(failure: &Failure, font: &[u8], index: u32) -> Option<Hint>
+    ensures { result ≡ axes_hint failure.now font.now index }
+{
+    match failure {
+        Failure::Error(Error::UnknownKind) => packed(font).or(no_face(font, index)),
+        Failure::Error(Error::MalformedFont) => Some(Hint::WrongAxes),
         _ => None,
     }
 }
@@ -117,6 +275,7 @@ pub fn find_hint(failure: &Failure, font: &[u8], task: &Task<'_>) -> Option<Hint
 {
     match failure {
         Failure::Error(error) => hint_of_error(*error, font, task),
+        Failure::NoMapping => hint_of_mapping(font, task.index),
         _ => None,
     }
 }

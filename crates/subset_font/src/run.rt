@@ -5,23 +5,27 @@ ghost use Rattle.std.specs.Process.{exit_status};
 ghost use Rattle.std.specs.Vec.Iter.{into_iter_items};
 ghost use Rattle.subset_font.specs.Chosen.{IsListFor, wanted_of, wanted_for, IsTaskOf};
 ghost use Rattle.subset_font.specs.Failure.{status_of_end};
-ghost use Rattle.subset_font.specs.declared.failure.Failure.TheVariants.{Error as Refused, Read as CannotRead, Usage};
+ghost use Rattle.subset_font.specs.declared.failure.Failure.TheVariants.{Error as Refused, Usage};
 ghost use Rattle.subsetter_base.specs.declared.error.Error.TheVariants.{OutOfMemory};
 
 use crate::axes::{axes_there, carry_axes, has_axis};
 use crate::carried::{carry_out, read_whole};
 use crate::failure::{Failure, Told, file_of, status_of_run};
 use crate::help::{HELP, VERSION_LINE};
-use crate::hint::find_hint;
-use crate::streams::{Source, Target, lines_beside, open_source};
-use crate::task::{Asked, Form, Task, at_of, extras_of, form_of, limits_of};
+use crate::hint::{Hint, find_axes_hint, find_hint};
+use crate::reason::{Noted, reason_of, unread};
+use crate::streams::{Source, Target, hold_streams, lines_beside, open_source};
+use crate::task::{Asked, Task, at_of, extras_of, form_of, limits_of};
 use std::alloc::Global;
 use std::fs::OpenFile;
 use std::io::{BufWriter, ErrorKind, Read, Write};
 use std::process::{ExitCode, Termination};
 use std::rt::{Env, Files};
 use std::{env, io};
-use subset_args::{ArgsError, Command, GlyphList, Glyphs, Job, Switches, read_list, read_words};
+use subset_args::{
+    Advice, ArgsError, Command, GlyphList, Glyphs, Job, Shown, find_mistake, find_wrong_part,
+    read_list, read_words,
+};
 use subsetter::{Error, Options, Tag};
 
 /// The arguments after the program's name, which is the first.
@@ -46,41 +50,48 @@ fn words<R: Env + AllocGlobal>(rt: &R) -> Result<Vec<String>, Failure>
     }
 }
 
-/// What the arguments after the program's name ask for.
-fn command<R: Env + AllocGlobal>(rt: &R) -> Result<Command, Failure>
-    ensures { IfErr result (λ e. (e ≡ Refused OutOfMemory) ⊎ (e ≡ Usage)) }
-{
-    let words = words(rt)?;
-    match read_words(rt.alloc(), &words) {
-        Ok(command) => Ok(command),
-        Err(ArgsError::Usage) => Err(Failure::Usage),
-        Err(ArgsError::OutOfMemory) => Err(Failure::Error(Error::OutOfMemory)),
-    }
-}
-
-/// The list of glyphs that a file has.
-fn read_list_file<R: Files + Input + AllocGlobal>(rt: &R, name: &str) -> Result<GlyphList, Failure>
+/// The list of glyphs that a file has. Its text is kept.
+fn read_list_file<R: Files + Input + AllocGlobal>(
+    rt: &R,
+    name: &str,
+    text: &mut Vec<u8>,
+    reason: &mut Option<io::Error>,
+) -> Result<GlyphList, Failure>
     ensures { IfErr result (λ e. e ≢ Usage) }
 {
-    let mut file = open_source(rt, name).map_err(|_| Failure::ReadList)?;
-    let text = read_whole(rt.alloc(), &mut file, 0).map_err(|_| Failure::ReadList)?;
-    match read_list(rt.alloc(), &text) {
+    let mut file = match open_source(rt, name) {
+        Ok(file) => Noted::new(file),
+        Err(error) => {
+            *reason = Some(error);
+            return Err(Failure::ReadList);
+        }
+    };
+    match read_whole(rt.alloc(), &mut file, 0) {
+        Ok(whole) => *text = whole,
+        Err(_) => {
+            *reason = unread(file.reason());
+            return Err(Failure::ReadList);
+        }
+    }
+    match read_list(rt.alloc(), text) {
         Ok(list) => Ok(list),
         Err(ArgsError::Usage) => Err(Failure::List),
         Err(ArgsError::OutOfMemory) => Err(Failure::Error(Error::OutOfMemory)),
     }
 }
 
-/// The list of glyphs, where a file has it.
+/// The list of glyphs, where a file has it. The file's text is kept.
 fn list_of<R: Files + Input + AllocGlobal>(
     rt: &R,
     glyphs: &Glyphs,
+    text: &mut Vec<u8>,
+    reason: &mut Option<io::Error>,
 ) -> Result<Option<GlyphList>, Failure>
     ensures ok { IfOk result (IsListFor glyphs.now) }
     ensures err { IfErr result (λ e. e ≢ Usage) }
 {
     match glyphs {
-        Glyphs::InFile(name) => Ok(Some(read_list_file(rt, name)?)),
+        Glyphs::InFile(name) => Ok(Some(read_list_file(rt, name, text, reason)?)),
         _ => Ok(None),
     }
 }
@@ -93,6 +104,7 @@ fn asked_of<'a>(glyphs: &'a Glyphs, list: &'a Option<GlyphList>) -> Asked<'a>
     match (glyphs, list) {
         (Glyphs::Listed(given), _) => Asked::These(given),
         (Glyphs::ByText(text), _) => Asked::ByText(text),
+        (Glyphs::Every, _) => Asked::Every,
         (Glyphs::InFile(_), Some(GlyphList::Every)) => Asked::Every,
         (Glyphs::InFile(_), Some(GlyphList::These(given))) => Asked::These(given),
         (Glyphs::InFile(_), None) => Asked::These(&[]),
@@ -118,36 +130,63 @@ fn task_of<'a>(job: &'a Job, list: &'a Option<GlyphList>) -> Task<'a>
 }
 
 /// Room for the bytes of a file and for one more, so that its end is seen without a growth. None is taken for a stream.
-fn room_of<F: OpenFile + Read + Drop, S: Read + Drop>(
-    source: &Source<F, S>,
-) -> Result<usize, Failure>
-    ensures { IfErr result (λ e. e ≡ CannotRead) }
-{
+fn room_of<F: OpenFile + Read + Drop, S: Read + Drop>(source: &Source<F, S>) -> io::Result<usize> {
     let Source::File(file) = source else {
         return Ok(0);
     };
-    match file.metadata() {
-        Ok(about) => Ok(usize::try_from(about.len()).unwrap_or(0).saturating_add(1)),
-        Err(_) => Err(Failure::Read),
-    }
+    let about = file.metadata()?;
+    Ok(usize::try_from(about.len()).unwrap_or(0).saturating_add(1))
 }
 
-/// Does a task on files and the standard streams. The output's file is made by its first write.
+/// Does a task between a reader and two writers, the second of them behind a buffer.
+fn carry_buffered<R: Read, W: Write, L: Write>(
+    alloc: Global,
+    task: &Task<'_>,
+    input: &mut R,
+    room: usize,
+    source: &mut Vec<u8>,
+    output: &mut W,
+    lines: &mut L,
+) -> Result<(), Failure>
+    ensures { IfErr result (λ e. e ≢ Usage) }
+{
+    let Ok(mut lines) = BufWriter::new(alloc, lines) else {
+        return Err(Failure::Error(Error::OutOfMemory));
+    };
+    carry_out(alloc, task, input, room, source, output, &mut lines)
+}
+
+/// Opens the font's file or stream, and finds the room for its bytes.
+fn open_font<R: Files + Input>(
+    rt: &R,
+    name: &str,
+) -> io::Result<(Noted<Source<R::File, R::Reader>>, usize)> {
+    let source = open_source(rt, name)?;
+    let room = room_of(&source)?;
+    Ok((Noted::new(source), room))
+}
+
+/// Does a task on files and the standard streams. The output's file is made by its first write. Why the system refused one
+/// is kept.
 fn perform<R: Files + Print + Eprint + Input + AllocGlobal>(
     rt: &R,
     job: &Job,
     task: &Task<'_>,
     source: &mut Vec<u8>,
+    reason: &mut Option<io::Error>,
 ) -> Result<(), Failure>
     ensures { IfErr result (λ e. e ≢ Usage) }
 {
-    let Ok(mut lines) = BufWriter::new(rt.alloc(), lines_beside(rt, job.output.as_str())) else {
-        return Err(Failure::Error(Error::OutOfMemory));
+    let (mut input, room) = match open_font(rt, job.input.as_str()) {
+        Ok(opened) => opened,
+        Err(error) => {
+            *reason = Some(error);
+            return Err(Failure::Read);
+        }
     };
-    let mut input = open_source(rt, job.input.as_str()).map_err(|_| Failure::Read)?;
-    let room = room_of(&input)?;
-    let mut output = Target::new(rt, job.output.as_str());
-    carry_out(
+    let mut output = Noted::new(Target::new(rt, job.output.as_str()));
+    let mut lines = Noted::new(lines_beside(rt, job.output.as_str()));
+    let ended = carry_buffered(
         rt.alloc(),
         task,
         &mut input,
@@ -155,7 +194,9 @@ fn perform<R: Files + Print + Eprint + Input + AllocGlobal>(
         source,
         &mut output,
         &mut lines,
-    )
+    );
+    *reason = reason_of(&ended, input.reason(), output.reason(), lines.reason());
+    ended
 }
 
 /// Prints why a run failed, if it did, and answers the status.
@@ -169,12 +210,26 @@ fn report<R: Eprint>(rt: &R, ended: &Result<(), Failure>, file: Option<&str>) ->
     status_of_run(ended)
 }
 
+/// Reports why the system refused to read or to write, where that is known.
+fn tell_reason<R: Eprint>(rt: &R, reason: Option<io::Error>) {
+    if let Some(reason) = reason {
+        let _ = eprintln!(rt; "{reason}");
+    }
+}
+
 /// Says more of a font that is refused, where more can be seen.
-fn tell_hint<R: Eprint>(rt: &R, ended: &Result<(), Failure>, font: &[u8], task: &Task<'_>) {
-    if let Err(failure) = ended {
-        if let Some(hint) = find_hint(failure, font, task) {
-            let _ = eprintln!(rt; "{hint}");
-        }
+fn tell_hint<R: Eprint>(rt: &R, hint: Option<Hint>) {
+    if let Some(hint) = hint {
+        let _ = eprintln!(rt; "{hint}");
+    }
+}
+
+/// Reports which part of a list of glyphs is wrong.
+fn tell_wrong_part<R: Eprint>(rt: &R, ended: &Result<(), Failure>, text: &[u8]) {
+    if let (Err(Failure::List), Some(part)) = (ended, find_wrong_part(text)) {
+        let part = Shown(str::from_utf8(part).unwrap_or("?"));
+        let _ = eprintln!(rt; "--gids-file: \"{part}\" is not a glyph number");
+        let _ = eprintln!(rt; "expected: numbers to 65535 and ranges as 36-38, or * alone");
     }
 }
 
@@ -194,39 +249,70 @@ fn tell_unknown<R: Eprint + AllocGlobal>(rt: &R, font: &[u8], index: u32, at: &[
 fn run_job<R: Files + Print + Eprint + Input + AllocGlobal>(rt: &R, job: &Job) -> u8
     ensures { result ≤ 3 }
 {
-    let list = match list_of(rt, &job.glyphs) {
+    let mut text = Vec::new(rt.alloc());
+    let mut reason = None;
+    let list = match list_of(rt, &job.glyphs, &mut text, &mut reason) {
         Ok(list) => list,
         Err(failure) => {
             let ended = Err(failure);
-            return report(rt, &ended, file_of(&ended, job));
+            let status = report(rt, &ended, file_of(&ended, job));
+            tell_reason(rt, reason);
+            tell_wrong_part(rt, &ended, &text);
+            return status;
         }
     };
     let task = task_of(job, &list);
     let mut font = Vec::new(rt.alloc());
-    let ended = perform(rt, job, &task, &mut font);
+    let ended = perform(rt, job, &task, &mut font, &mut reason);
     let status = report(rt, &ended, file_of(&ended, job));
-    tell_hint(rt, &ended, &font, &task);
+    tell_reason(rt, reason);
+    if let Err(failure) = &ended {
+        tell_hint(rt, find_hint(failure, &font, &task));
+    }
     if let (Ok(()), Some(at)) = (&ended, task.at) {
         tell_unknown(rt, &font, task.index, at);
     }
     status
 }
 
-/// Tells the axes of a face on standard output.
+/// Tells the axes of a face between a reader and a writer, which gets a buffer.
+fn axes_buffered<R: Read, L: Write>(
+    alloc: Global,
+    index: u32,
+    input: &mut R,
+    room: usize,
+    source: &mut Vec<u8>,
+    lines: &mut L,
+) -> Result<(), Failure>
+    ensures { IfErr result (λ e. e ≢ Usage) }
+{
+    let Ok(mut lines) = BufWriter::new(alloc, lines) else {
+        return Err(Failure::Error(Error::OutOfMemory));
+    };
+    carry_axes(alloc, index, input, room, source, &mut lines)
+}
+
+/// Tells the axes of a face on standard output. Why the system refused to read or to write is kept.
 fn perform_axes<R: Files + Print + Input + AllocGlobal>(
     rt: &R,
     input: &str,
     index: u32,
     source: &mut Vec<u8>,
+    reason: &mut Option<io::Error>,
 ) -> Result<(), Failure>
     ensures { IfErr result (λ e. e ≢ Usage) }
 {
-    let Ok(mut lines) = BufWriter::new(rt.alloc(), io::writer(rt)) else {
-        return Err(Failure::Error(Error::OutOfMemory));
+    let (mut input, room) = match open_font(rt, input) {
+        Ok(opened) => opened,
+        Err(error) => {
+            *reason = Some(error);
+            return Err(Failure::Read);
+        }
     };
-    let mut input = open_source(rt, input).map_err(|_| Failure::Read)?;
-    let room = room_of(&input)?;
-    carry_axes(rt.alloc(), index, &mut input, room, source, &mut lines)
+    let mut lines = Noted::new(io::writer(rt));
+    let ended = axes_buffered(rt.alloc(), index, &mut input, room, source, &mut lines);
+    *reason = reason_of(&ended, input.reason(), None, lines.reason());
+    ended
 }
 
 /// The name of the file of a face, if it can't be read.
@@ -242,21 +328,13 @@ fn run_axes<R: Files + Print + Eprint + Input + AllocGlobal>(rt: &R, input: &str
     ensures { result ≤ 3 }
 {
     let mut font = Vec::new(rt.alloc());
-    let ended = perform_axes(rt, input, index, &mut font);
+    let mut reason = None;
+    let ended = perform_axes(rt, input, index, &mut font, &mut reason);
     let status = report(rt, &ended, unread_file(&ended, input));
-    let none = None;
-    let task = Task {
-        asked: Asked::Every,
-        index,
-        options: Options {
-            limits: limits_of(None),
-            extras: extras_of(Switches::NONE),
-        },
-        widths: false,
-        form: Form::Silence,
-        at: at_of(&none),
-    };
-    tell_hint(rt, &ended, &font, &task);
+    tell_reason(rt, reason);
+    if let Err(failure) = &ended {
+        tell_hint(rt, find_axes_hint(failure, &font, index));
+    }
     status
 }
 
@@ -264,10 +342,14 @@ fn run_axes<R: Files + Print + Eprint + Input + AllocGlobal>(rt: &R, input: &str
 fn print_text<R: Print + Eprint>(rt: &R, text: &str) -> u8
     ensures { result ≤ 3 }
 {
-    let ended = io::writer(rt)
-        .write_all(text.as_bytes())
-        .map_err(|_| Failure::Output);
-    report(rt, &ended, None)
+    match io::writer(rt).write_all(text.as_bytes()) {
+        Ok(()) => 0,
+        Err(error) => {
+            let status = report(rt, &Err(Failure::Output), None);
+            tell_reason(rt, Some(error));
+            status
+        }
+    }
 }
 
 /// The end of a run, with its status. Only `run` makes one, and it can't be dropped, so that `main` ends with no other
@@ -285,16 +367,55 @@ impl Termination for Ended {
     }
 }
 
-/// Runs the program, and answers its status: 0 where all is done, else the failure's.
-pub fn run<R: Env + Files + Print + Eprint + Input + AllocGlobal>(rt: &R) -> Ended
-    ensures { result.status ≤ 3 }
+/// Reports wrong arguments, and answers the status.
+fn refuse<R: Eprint>(rt: &R, words: &[String]) -> u8
+    ensures { result ≤ 3 }
 {
-    let status = match command(rt) {
+    let status = report(rt, &Err(Failure::Usage), None);
+    if let Some(mistake) = find_mistake(words) {
+        let _ = eprintln!(rt; "{mistake}");
+        let _ = eprintln!(rt; "{}", Advice(&mistake));
+    }
+    status
+}
+
+/// Runs the program by the arguments after its name, and answers the status.
+fn run_words<R: Files + Print + Eprint + Input + AllocGlobal>(rt: &R, words: &[String]) -> u8
+    ensures { result ≤ 3 }
+{
+    match read_words(rt.alloc(), words) {
         Ok(Command::Help) => print_text(rt, HELP),
         Ok(Command::Version) => print_text(rt, VERSION_LINE),
         Ok(Command::Subset(job)) => run_job(rt, &job),
         Ok(Command::Axes(input, index)) => run_axes(rt, &input, index),
-        Err(failure) => report(rt, &Err(failure), None),
+        Err(ArgsError::Usage) => refuse(rt, words),
+        Err(ArgsError::OutOfMemory) => {
+            report(rt, &Err(Failure::Error(Error::OutOfMemory)), None)
+        }
+    }
+}
+
+/// Reports that the arguments can't be read, and answers the status.
+fn refuse_unread<R: Eprint>(rt: &R, failure: Failure) -> u8
+    ensures { result ≤ 3 }
+{
+    let ended = Err(failure);
+    let status = report(rt, &ended, None);
+    if let Err(Failure::Usage) = &ended {
+        let _ = eprintln!(rt; "an argument isn't UTF-8");
+        let _ = eprintln!(rt; "expected: UTF-8, or - and a redirection for such a file");
+    }
+    status
+}
+
+/// Runs the program, and answers its status: 0 where all is done, else the failure's.
+pub fn run<R: Env + Files + Print + Eprint + Input + AllocGlobal>(rt: &R) -> Ended
+    ensures { result.status ≤ 3 }
+{
+    let _held = hold_streams(rt);
+    let status = match words(rt) {
+        Ok(words) => run_words(rt, &words),
+        Err(failure) => refuse_unread(rt, failure),
     };
     Ended { status }
 }

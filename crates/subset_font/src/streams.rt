@@ -33,6 +33,15 @@ pub fn open_source<R: Files + Input>(rt: &R, name: &str) -> io::Result<Source<R:
     Ok(Source::File(fs::open(rt, name)?))
 }
 
+/// Opens three descriptors, of a folder: by these nothing can be read or written. Where a standard stream is closed at the
+/// start, one of them takes its number, so that no file gets it while they are kept: the stream then fails.
+pub fn hold_streams<R: Files>(rt: &R) -> (Option<R::File>, Option<R::File>, Option<R::File>) {
+    let first = fs::open(rt, "/").ok();
+    let second = fs::open(rt, "/").ok();
+    let third = fs::open(rt, "/").ok();
+    (first, second, third)
+}
+
 /// What the font is written to.
 #[derive(Drop)]
 pub enum Target<'a, R: Files + Print> {

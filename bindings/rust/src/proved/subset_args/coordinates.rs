@@ -119,6 +119,11 @@ fn coordinate_of(part: &str) -> Option<(Tag, i32)> {
     coordinate_from(name, value)
 }
 
+/// Whether a part of a list says a coordinate.
+pub fn is_coordinate(part: &str) -> bool {
+    coordinate_of(part).is_some()
+}
+
 /// Adds a coordinate.
 fn add(coordinates: &mut Vec<(Tag, i32)>, coordinate: (Tag, i32)) -> Result<(), AllocError> {
     coordinates.push(coordinate)?;

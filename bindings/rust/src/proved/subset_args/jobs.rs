@@ -5,7 +5,10 @@ use crate::rattle::prelude::{String, Vec};
 
 use crate::proved::subset_args::coordinates::read_coordinates;
 use crate::proved::subset_args::limits::RunLimits;
-use crate::proved::subset_args::options::{parse_options, Chosen, Parsed, Source, Switches};
+use crate::proved::subset_args::lists::{read_argument, GlyphList};
+use crate::proved::subset_args::options::{
+    parse_free, parse_options, Chosen, Free, Parsed, Source, Switches,
+};
 use crate::proved::subsetter_base::Tag;
 use crate::proved::subsetter_words::{parts_of, u16_of, u32_of};
 use crate::rattle::alloc::{AllocError, Global};
@@ -34,6 +37,8 @@ pub enum Glyphs {
     InFile(String),
     /// Those of the characters of this text.
     ByText(String),
+    /// Every glyph of the face.
+    Every,
 }
 
 /// The making of a subset.
@@ -79,6 +84,14 @@ fn glyphs_of(alloc: Global, list: &str) -> Result<Vec<u16>, ArgsError> {
     Ok(glyphs)
 }
 
+/// The glyphs that an argument lists.
+fn glyphs_listed(alloc: Global, text: &str) -> Result<Glyphs, ArgsError> {
+    match read_argument(alloc, text)? {
+        GlyphList::Every => Ok(Glyphs::Every),
+        GlyphList::These(glyphs) => Ok(Glyphs::Listed(glyphs)),
+    }
+}
+
 /// Which glyphs the arguments behind INDEX ask for.
 fn read_glyphs(
     alloc: Global,
@@ -89,6 +102,7 @@ fn read_glyphs(
         (None, [list]) => Ok(Glyphs::Listed(glyphs_of(alloc, list)?)),
         (Some(Source::File(name)), []) => Ok(Glyphs::InFile(String::from_str(alloc, name)?)),
         (Some(Source::Text(text)), []) => Ok(Glyphs::ByText(String::from_str(alloc, text)?)),
+        (Some(Source::InList(text)), []) => glyphs_listed(alloc, text),
         _ => Err(ArgsError::Usage),
     }
 }
@@ -114,11 +128,48 @@ fn read_at(alloc: Global, at: Option<&str>) -> Result<Option<Vec<(Tag, i32)>>, A
     }
 }
 
+/// What is to be done, where standard input isn't to be read twice.
+fn job_with(
+    alloc: Global,
+    chosen: Chosen<'_>,
+    input: &str,
+    output: &str,
+    index: u32,
+    glyphs: Glyphs,
+) -> Result<Job, ArgsError> {
+    if is_stream(input) && lists_in_stream(&glyphs) {
+        return Err(ArgsError::Usage);
+    }
+    let coordinates = read_at(alloc, chosen.at)?;
+    Ok(Job {
+        input: String::from_str(alloc, input)?,
+        output: String::from_str(alloc, output)?,
+        index,
+        glyphs,
+        limits: chosen.limits,
+        switches: chosen.switches,
+        coordinates,
+    })
+}
+
+/// What is to be done by IN, OUT, INDEX and the arguments behind them.
+fn read_behind_index(
+    alloc: Global,
+    chosen: Chosen<'_>,
+    input: &str,
+    output: &str,
+    index: u32,
+    words: &[String],
+) -> Result<Job, ArgsError> {
+    let glyphs = read_glyphs(alloc, chosen.source, words)?;
+    job_with(alloc, chosen, input, output, index, glyphs)
+}
+
 /// What the arguments `IN OUT INDEX GID[,GID..]` ask for, or `IN OUT INDEX` where the glyphs are found elsewhere.
 ///
 /// `Usage` where their count is another, where INDEX or a GID isn't one or more ASCII digits whose value fits `u32` or
 /// `u16`, where the coordinates aren't as `read_coordinates` takes them, or where standard input is to be read twice.
-fn read_job(alloc: Global, chosen: Chosen<'_>, words: &[String]) -> Result<Job, ArgsError> {
+fn read_plain_job(alloc: Global, chosen: Chosen<'_>, words: &[String]) -> Result<Job, ArgsError> {
     let (input, output, index, rest) = match words {
         [input, output, index, rest @ ..] => (input, output, index, rest),
         _ => {
@@ -126,20 +177,48 @@ fn read_job(alloc: Global, chosen: Chosen<'_>, words: &[String]) -> Result<Job, 
         }
     };
     let index = u32_of(index).ok_or(ArgsError::Usage)?;
-    let glyphs = read_glyphs(alloc, chosen.source, rest)?;
-    if is_stream(input) && lists_in_stream(&glyphs) {
+    read_behind_index(alloc, chosen, input, output, index, rest)
+}
+
+/// Whether an option says OUT or INDEX.
+fn says_place(chosen: &Chosen<'_>) -> bool {
+    chosen.output.is_some() || chosen.index.is_some()
+}
+
+/// The same where no option says OUT or INDEX.
+fn read_job(alloc: Global, chosen: Chosen<'_>, words: &[String]) -> Result<Job, ArgsError> {
+    if says_place(&chosen) {
         return Err(ArgsError::Usage);
     }
-    let coordinates = read_at(alloc, chosen.at)?;
-    Ok(Job {
-        input: input.clone()?,
-        output: output.clone()?,
-        index,
+    read_plain_job(alloc, chosen, words)
+}
+
+/// What is requested by options before and after IN, one of which says OUT.
+fn read_free_job(alloc: Global, free: Free<'_>) -> Result<Job, ArgsError> {
+    let chosen = free.chosen;
+    let output = match chosen.output {
+        Some(output) => output,
+        _ => {
+            return Err(ArgsError::Usage);
+        }
+    };
+    let glyphs = read_glyphs(alloc, chosen.source, &[])?;
+    job_with(
+        alloc,
+        chosen,
+        free.input,
+        output,
+        chosen.index.unwrap_or(0),
         glyphs,
-        limits: chosen.limits,
-        switches: chosen.switches,
-        coordinates,
-    })
+    )
+}
+
+/// What arguments ask for with options before and after IN.
+fn read_free(alloc: Global, words: &[String]) -> Result<Command, ArgsError> {
+    match parse_free(Chosen::NOTHING, None, words) {
+        Some(free) => Ok(Command::Subset(read_free_job(alloc, free)?)),
+        None => Err(ArgsError::Usage),
+    }
 }
 
 /// What the arguments `[OPTIONS] IN OUT INDEX [GID[,GID..]]` ask for.
@@ -152,8 +231,17 @@ fn read_by_options(alloc: Global, words: &[String]) -> Result<Command, ArgsError
     }
 }
 
+/// What the arguments ask for in the plain form, else with options before and after IN.
+fn read_either(alloc: Global, words: &[String]) -> Result<Command, ArgsError> {
+    match read_by_options(alloc, words) {
+        Ok(command) => Ok(command),
+        Err(ArgsError::Usage) => read_free(alloc, words),
+        Err(ArgsError::OutOfMemory) => Err(ArgsError::OutOfMemory),
+    }
+}
+
 /// The arguments behind a first one that is `--axes`.
-fn behind_axes(words: &[String]) -> Option<&[String]> {
+pub fn behind_axes(words: &[String]) -> Option<&[String]> {
     let (word, behind) = match words {
         [word, behind @ ..] => (word, behind),
         _ => {
@@ -180,7 +268,7 @@ fn read_axes_words(words: &[String]) -> Result<Command, ArgsError> {
 }
 
 /// What the arguments after the program's name ask for: `--axes FONT INDEX`, or `[OPTIONS] IN OUT INDEX GID[,GID..]`, where the
-/// last one is left out with `--gids-file` and `--text`.
+/// last one is left out with `--gids`, `--gids-file` and `--text`; or IN with options before and after it, where one says OUT.
 ///
 /// `Usage` where an option is given twice or isn't followed by its value, where the count of the other arguments is another,
 /// where INDEX or a GID isn't one or more ASCII digits whose value fits `u32` or `u16`, where the limits aren't such
@@ -188,6 +276,6 @@ fn read_axes_words(words: &[String]) -> Result<Command, ArgsError> {
 pub fn read_words(alloc: Global, words: &[String]) -> Result<Command, ArgsError> {
     match behind_axes(words) {
         Some(behind) => read_axes_words(behind),
-        None => read_by_options(alloc, words),
+        None => read_either(alloc, words),
     }
 }

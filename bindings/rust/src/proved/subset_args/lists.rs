@@ -121,6 +121,40 @@ fn read_numbers(alloc: Global, text: &[u8]) -> Result<Vec<u16>, ArgsError> {
     glyphs_in(alloc, &parts)
 }
 
+/// The glyphs that numbers and ranges with commas list.
+fn read_parts(alloc: Global, text: &str) -> Result<Vec<u16>, ArgsError> {
+    let parts = parts_of(alloc, text)?;
+    glyphs_in(alloc, &parts)
+}
+
+/// The glyphs that an argument lists: numbers and ranges as `3,5,10-20`, or `*` for every glyph of the face.
+///
+/// `Usage` where it lists no glyphs so.
+pub fn read_argument(alloc: Global, text: &str) -> Result<GlyphList, ArgsError> {
+    if text == "*" {
+        return Ok(GlyphList::Every);
+    }
+    Ok(GlyphList::These(read_parts(alloc, text)?))
+}
+
+/// Whether a part of a list is no number and no range.
+pub fn is_wrong_part(part: &[u8]) -> bool {
+    match core::str::from_utf8(part) {
+        Ok(part) => !part.is_empty() && ends_in(part).is_none(),
+        Err(_) => true,
+    }
+}
+
+/// The first part of the text of a file that is no number and no range, for which `read_list` answers `Usage`.
+pub fn find_wrong_part(text: &[u8]) -> Option<&[u8]> {
+    for part in text.split(|b| is_blank(*b) || *b == b',') {
+        if is_wrong_part(part) {
+            return Some(part);
+        }
+    }
+    None
+}
+
 /// The glyphs that the text of a file lists: numbers and ranges as `36-38`, divided by commas, blanks or line ends, or `*`
 /// for every glyph of the face.
 ///

@@ -14,9 +14,14 @@ mod coordinates;
 mod jobs;
 mod limits;
 mod lists;
+mod mistakes;
+mod nearest;
 mod options;
+mod texts;
 
 pub use jobs::{is_stream, read_words, ArgsError, Command, Glyphs, Job};
 pub use limits::RunLimits;
-pub use lists::{read_list, GlyphList};
+pub use lists::{find_wrong_part, read_list, GlyphList};
+pub use mistakes::find_mistake;
 pub use options::Switches;
+pub use texts::{Advice, Shown};

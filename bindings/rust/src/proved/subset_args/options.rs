@@ -34,6 +34,12 @@ pub enum Setting {
     Text,
     /// `--at TAG=VALUE[,TAG=VALUE..]`
     At,
+    /// `--gids LIST`
+    Gids,
+    /// `--face-index INDEX`
+    FaceIndex,
+    /// `-o OUT` or `--output-file OUT`
+    Output,
 }
 
 /// Where the glyphs are found that no argument lists.
@@ -43,6 +49,8 @@ pub enum Source<'a> {
     File(&'a str),
     /// By the characters of this text.
     Text(&'a str),
+    /// In this list.
+    InList(&'a str),
 }
 
 /// What an argument in front of IN is.
@@ -120,6 +128,10 @@ pub struct Chosen<'a> {
     pub source: Option<Source<'a>>,
     /// The user coordinates, where they are said.
     pub at: Option<&'a str>,
+    /// OUT, where an option says it.
+    pub output: Option<&'a str>,
+    /// INDEX, where an option says it.
+    pub index: Option<u32>,
 }
 
 impl<'a> Chosen<'a> {
@@ -129,10 +141,12 @@ impl<'a> Chosen<'a> {
         limits: None,
         source: None,
         at: None,
+        output: None,
+        index: None,
     };
 
     /// With an option without a value, which is given once.
-    fn with_switch(self, switch: Switch) -> Option<Chosen<'a>> {
+    pub fn with_switch(self, switch: Switch) -> Option<Chosen<'a>> {
         if self.switches.is_on(switch) {
             return None;
         }
@@ -141,16 +155,21 @@ impl<'a> Chosen<'a> {
             limits: self.limits,
             source: self.source,
             at: self.at,
+            output: self.output,
+            index: self.index,
         })
     }
 
     /// With an option and its value, which is given once.
-    fn with_setting(self, setting: Setting, value: &'a str) -> Option<Chosen<'a>> {
+    pub fn with_setting(self, setting: Setting, value: &'a str) -> Option<Chosen<'a>> {
         match setting {
             Setting::Limits => self.with_limits(value),
             Setting::GidsFile => self.with_source(Source::File(value)),
             Setting::Text => self.with_source(Source::Text(value)),
             Setting::At => self.with_at(value),
+            Setting::Gids => self.with_source(Source::InList(value)),
+            Setting::FaceIndex => self.with_index(value),
+            Setting::Output => self.with_output(value),
         }
     }
 
@@ -164,6 +183,8 @@ impl<'a> Chosen<'a> {
             limits: Some(limits_of(value)?),
             source: self.source,
             at: self.at,
+            output: self.output,
+            index: self.index,
         })
     }
 
@@ -177,6 +198,8 @@ impl<'a> Chosen<'a> {
             limits: self.limits,
             source: Some(source),
             at: self.at,
+            output: self.output,
+            index: self.index,
         })
     }
 
@@ -190,6 +213,38 @@ impl<'a> Chosen<'a> {
             limits: self.limits,
             source: self.source,
             at: Some(value),
+            output: self.output,
+            index: self.index,
+        })
+    }
+
+    /// With OUT.
+    fn with_output(self, value: &'a str) -> Option<Chosen<'a>> {
+        if self.output.is_some() {
+            return None;
+        }
+        Some(Chosen {
+            switches: self.switches,
+            limits: self.limits,
+            source: self.source,
+            at: self.at,
+            output: Some(value),
+            index: self.index,
+        })
+    }
+
+    /// With INDEX.
+    fn with_index(self, value: &str) -> Option<Chosen<'a>> {
+        if self.index.is_some() {
+            return None;
+        }
+        Some(Chosen {
+            switches: self.switches,
+            limits: self.limits,
+            source: self.source,
+            at: self.at,
+            output: self.output,
+            index: Some(u32_of(value)?),
         })
     }
 }
@@ -207,6 +262,26 @@ fn limits_of(word: &str) -> Option<RunLimits> {
         None => limits_from(tokens, rest, None),
     }
 }
+
+/// The options with a name, in the order of the help.
+pub const OPTIONS: [&str; 16] = [
+    "--gids",
+    "--gids-file",
+    "--text",
+    "--output-file",
+    "--face-index",
+    "--at",
+    "--no-hinting",
+    "--no-names",
+    "--no-glyph-names",
+    "--limits",
+    "--widths",
+    "--json",
+    "--quiet",
+    "--axes",
+    "--help",
+    "--version",
+];
 
 /// The option without a value that an argument is.
 fn switch_of(word: &str) -> Option<Switch> {
@@ -228,12 +303,16 @@ fn setting_of(word: &str) -> Option<Setting> {
         "--gids-file" => Some(Setting::GidsFile),
         "--text" => Some(Setting::Text),
         "--at" => Some(Setting::At),
+        "--gids" => Some(Setting::Gids),
+        "--face-index" => Some(Setting::FaceIndex),
+        "--output-file" => Some(Setting::Output),
+        "-o" => Some(Setting::Output),
         _ => None,
     }
 }
 
 /// What an argument in front of IN is.
-fn kind_of(word: &str) -> Kind {
+pub fn kind_of(word: &str) -> Kind {
     if let Some(switch) = switch_of(word) {
         return Kind::Switch(switch);
     }
@@ -283,5 +362,70 @@ pub fn parse_options<'a>(chosen: Chosen<'a>, words: &'a [String]) -> Option<Pars
         Kind::Version => Some(Parsed::Version),
         Kind::End => Some(Parsed::Chosen(chosen, behind)),
         Kind::Place => Some(Parsed::Chosen(chosen, words)),
+    }
+}
+
+/// The options wherever they stand beside IN, and IN.
+#[derive(Clone, Copy, Debug)]
+pub struct Free<'a> {
+    pub chosen: Chosen<'a>,
+    pub input: &'a str,
+}
+
+/// What is chosen with IN, if it is there.
+fn with_input<'a>(chosen: Chosen<'a>, input: Option<&'a str>) -> Option<Free<'a>> {
+    match input {
+        Some(input) => Some(Free { chosen, input }),
+        None => None,
+    }
+}
+
+/// What is chosen with IN from the arguments behind `--`.
+fn behind_end<'a>(
+    chosen: Chosen<'a>,
+    input: Option<&'a str>,
+    words: &'a [String],
+) -> Option<Free<'a>> {
+    match (input, words) {
+        (_, []) => with_input(chosen, input),
+        (None, [word]) => with_input(chosen, Some(word.as_str())),
+        _ => None,
+    }
+}
+
+/// Whether an argument begins with a minus, and has more.
+pub fn looks_like_option(word: &str) -> bool {
+    matches!(word.as_bytes(), [b'-', _, ..])
+}
+
+/// What arguments say in which options are before and after IN, besides what is chosen and read already. None where an
+/// option is given twice, its value is missing or isn't as it should be, or where IN is missing or isn't alone.
+pub fn parse_free<'a>(
+    chosen: Chosen<'a>,
+    input: Option<&'a str>,
+    words: &'a [String],
+) -> Option<Free<'a>> {
+    let (word, behind) = match words {
+        [word, behind @ ..] => (word, behind),
+        _ => {
+            return with_input(chosen, input);
+        }
+    };
+    match kind_of(word) {
+        Kind::Switch(switch) => parse_free(chosen.with_switch(switch)?, input, behind),
+        Kind::Setting(setting) => {
+            let (value, rest) = match behind {
+                [value, rest @ ..] => (value, rest),
+                _ => {
+                    return None;
+                }
+            };
+            parse_free(chosen.with_setting(setting, value)?, input, rest)
+        }
+        Kind::End => behind_end(chosen, input, behind),
+        Kind::Place if input.is_none() && !looks_like_option(word) => {
+            parse_free(chosen, Some(word.as_str()), behind)
+        }
+        _ => None,
     }
 }

@@ -15,6 +15,7 @@ mod failure;
 mod help;
 mod hint;
 mod output;
+mod reason;
 mod run;
 mod streams;
 mod subset;

@@ -1,0 +1,189 @@
+#!/usr/bin/env python3
+"""Tries the completion files of subset_font in bash, zsh and fish, and compares their options with those of the program.
+
+completion_test.py [--files FOLDER]
+
+A shell that isn't installed is a failure. The last line is `completion: N tries, M differ`, and the status 1 where one differs.
+"""
+import argparse
+import os
+import pty
+import re
+import select
+import shutil
+import signal
+import subprocess
+import sys
+import tempfile
+import time
+
+HERE = os.path.dirname(os.path.realpath(__file__))
+PROGRAM = os.path.join(os.path.dirname(HERE), "crates", "subset_font")
+ARGUMENTS = os.path.join(os.path.dirname(HERE), "crates", "subset_args", "src", "options.rt")
+
+ALL = ["--gids", "--gids-file", "--text", "-o", "--output-file", "--face-index", "--at", "--no-hinting", "--no-names", "--no-glyph-names",
+       "--limits", "--widths", "--json", "--quiet", "--axes", "-h", "--help", "--version"]
+FILES = ["list.txt", "one font.ttf", "other.otf"]
+# What is typed, of which the last word is completed, and what is offered.
+TRIES = [
+    (["--no-"], ["--no-glyph-names", "--no-hinting", "--no-names"]),
+    (["--gids"], ["--gids", "--gids-file"]),
+    (["--wid"], ["--widths"]),
+    (["--widths", "--js"], ["--json"]),
+    (["in.ttf", "--face"], ["--face-index"]),
+    (["oth"], ["other.otf"]),
+    (["--json", "li"], ["list.txt"]),
+    (["--gids-file", "li"], ["list.txt"]),
+    (["-o", "oth"], ["other.otf"]),
+    (["--output-file", "oth"], ["other.otf"]),
+    (["--text", "oth"], []),
+    (["--at", "li"], []),
+    (["--limits", "li"], []),
+    (["--face-index", "li"], []),
+    (["--gids", "li"], []),
+]
+
+
+class Tries:
+    def __init__(self, files):
+        self.files, self.ran, self.wrong = files, 0, 0
+
+    def demand(self, holds, what, why):
+        self.ran += 1
+        if not holds:
+            self.wrong += 1
+            print(f"completion_test.py: {what}: {why}")
+
+    def file(self, name):
+        return os.path.join(self.files, name)
+
+
+def by_bash(tries, words, room):
+    typed = " ".join(f"'{it}'" for it in ["subset_font", *words])
+    script = f"source '{tries.file('subset_font.bash')}'; COMP_WORDS=({typed}); COMP_CWORD={len(words)}; _subset_font; printf '%s\\n' \"${{COMPREPLY[@]}}\""
+    ran = subprocess.run(["bash", "--norc", "-c", script], cwd=room, stdout=subprocess.PIPE, text=True)
+    return sorted(it for it in ran.stdout.splitlines() if it)
+
+
+def by_fish(tries, words, room):
+    line = " ".join(["subset_font", *words])
+    script = f"source '{tries.file('subset_font.fish')}'; complete -C '{line}'"
+    env = dict(os.environ, HOME=room, XDG_CONFIG_HOME=os.path.join(room, ".config"), XDG_DATA_HOME=os.path.join(room, ".data"))
+    ran = subprocess.run(["fish", "--no-config", "-c", script], cwd=room, env=env, stdout=subprocess.PIPE, text=True)
+    return sorted(it.split("\t")[0] for it in ran.stdout.splitlines() if it)
+
+
+def read_until(handle, wanted, seconds=20.0):
+    """What a terminal shows until a text comes, or for so long."""
+    shown, end = "", time.time() + seconds
+    while wanted not in shown and time.time() < end:
+        if select.select([handle], [], [], 0.2)[0]:
+            try:
+                shown += os.read(handle, 65536).decode(errors="replace")
+            except OSError:
+                break
+    return shown
+
+
+# A widget in which each match that a completion adds is written to a file, in place of being shown.
+WIDGET = r"""
+PROMPT=; unsetopt zle_bracketed_paste 2>/dev/null
+fpath=(FOLDER $fpath)
+autoload -Uz compinit && compinit -u -D
+compadd() {
+    local -a hits
+    builtin compadd -O hits "$@"
+    print -rl -- $hits >> FOUND
+    builtin compadd "$@"
+}
+noted() { zle complete-word; print done >> FOUND.done }
+zle -N noted
+bindkey '^T' noted
+print rea''dy
+"""
+
+
+class Zsh:
+    """One zsh in a terminal of its own, for all tries."""
+
+    def __init__(self, tries, room):
+        self.found = os.path.join(room, ".found")
+        self.process, self.handle = pty.fork()
+        if self.process == 0:
+            os.chdir(room)
+            os.execvpe("zsh", ["zsh", "-f", "-i"], dict(os.environ, TERM="dumb", HOME=room))
+        for line in WIDGET.replace("FOLDER", tries.files).replace("FOUND", self.found).strip().splitlines():
+            os.write(self.handle, line.encode() + b"\n")
+        read_until(self.handle, "ready")
+
+    def offered(self, words):
+        for name in (self.found, self.found + ".done"):
+            if os.path.exists(name):
+                os.unlink(name)
+        # (^U takes away what the try before left)
+        os.write(self.handle, b"\x15" + " ".join(["subset_font", *words]).encode() + b"\x14")
+        end = time.time() + 60
+        while not os.path.exists(self.found + ".done") and time.time() < end:
+            if select.select([self.handle], [], [], 0.05)[0]:
+                os.read(self.handle, 65536)
+        hits = open(self.found).read().split("\n") if os.path.exists(self.found) else []
+        return sorted({it for it in hits if it})
+
+    def end(self):
+        os.kill(self.process, signal.SIGKILL)
+        os.waitpid(self.process, 0)
+        os.close(self.handle)
+
+
+def by_zsh(tries, words, room):
+    if room not in RUNNING:
+        RUNNING[room] = Zsh(tries, room)
+    return RUNNING[room].offered(words)
+
+
+RUNNING = {}
+SHELLS = [("bash", by_bash), ("fish", by_fish), ("zsh", by_zsh)]
+
+
+def check_shells(tries):
+    for shell, offered in SHELLS:
+        tries.demand(shutil.which(shell), shell, "it isn't installed")
+        if not shutil.which(shell):
+            continue
+        with tempfile.TemporaryDirectory(prefix="completion-") as room:
+            for name in FILES:
+                open(os.path.join(room, name), "w").close()
+            for words, wanted in TRIES:
+                got = offered(tries, words, room)
+                tries.demand(got == sorted(wanted), f"{shell}: {' '.join(words)}", f"{got}, wanted {sorted(wanted)}")
+            if room in RUNNING:
+                RUNNING.pop(room).end()
+
+
+def check_lists(tries):
+    """The lists of options: those that the files offer, that the program looks through for the nearest, and of the help."""
+    text = {name: open(tries.file(name)).read() for name in ("subset_font.bash", "_subset_font", "subset_font.fish")}
+    bash = re.search(r'compgen -W "([^"]*)"', text["subset_font.bash"])[1].split()
+    zsh = re.findall(r"^    '(?:\([^)]*\))?(-[a-z-]+)\[", text["_subset_font"], re.M)
+    fish = [("-" if kind == "s" else "--") + name for kind, name in re.findall(r" -([sl]) (\S+)", text["subset_font.fish"])]
+    for shell, names in (("bash", bash), ("zsh", zsh), ("fish", fish)):
+        tries.demand(names == ALL, shell, f"it has {names}")
+    with open(ARGUMENTS) as file:
+        known = re.findall(r'"(--[a-z-]+)"', re.search(r"pub const OPTIONS: .*?= \[(.*?)\];", file.read(), re.S)[1])
+    tries.demand(known == [it for it in ALL if it.startswith("--")], "the options among which the nearest is found", known)
+    ran = subprocess.run([os.path.join(PROGRAM, "completions", "generate"), "--check"], stdout=subprocess.PIPE, text=True)
+    tries.demand(ran.returncode == 0, "the files", ran.stdout)
+
+
+def main():
+    words = argparse.ArgumentParser(usage=__doc__)
+    words.add_argument("--files", default=os.path.join(PROGRAM, "completions"))
+    tries = Tries(os.path.realpath(words.parse_args().files))
+    check_shells(tries)
+    check_lists(tries)
+    print(f"completion: {tries.ran} tries, {tries.wrong} differ")
+    sys.exit(1 if tries.wrong else 0)
+
+
+if __name__ == "__main__":
+    main()

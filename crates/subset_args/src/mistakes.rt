@@ -1,0 +1,377 @@
+//! What is wrong with arguments that request nothing.
+
+ghost use Rattle.std.specs.Prelude.{◌≡◌, ◌≢◌, IfSome, IsTrue};
+ghost use Rattle.subset_args.specs.Mistakes.{IsWrong};
+ghost use Rattle.subset_args.specs.Options.{kind_of};
+ghost use Rattle.subset_args.specs.declared.options.Kind.TheVariants.{Place};
+
+use crate::coordinates::is_coordinate;
+use crate::jobs::{behind_axes, is_stream};
+use crate::lists::is_wrong_part;
+use crate::options::{Chosen, Kind, Setting, Source, kind_of, looks_like_option};
+use subsetter_words::{u16_of, u32_of};
+
+/// What is wrong with an argument, or with one of the values that it lists.
+#[derive(Clone, Copy, PartialEq, Eq, Debug)]
+pub enum Wrong {
+    /// IN is missing.
+    NoInput,
+    /// OUT is missing.
+    NoOutput,
+    /// INDEX is missing.
+    NoIndex,
+    /// GID is missing, and no option says which glyphs are requested.
+    NoGlyphs,
+    /// It is one argument too many.
+    Further,
+    /// It is one argument too many after `--axes IN INDEX`.
+    BehindAxes,
+    /// It is an option, and is behind IN.
+    Late,
+    /// It is `--axes`, and isn't the first argument.
+    AxesLate,
+    /// It looks like an option, and is none.
+    Unknown,
+    /// It is an option that was given before.
+    Twice,
+    /// It is an option, and its value is missing.
+    NoValue,
+    /// It says which glyphs are requested, as one before does.
+    GlyphsTwice,
+    /// It is a GID, and an option says which glyphs are requested.
+    BesideOption,
+    /// It reads standard input, as IN does.
+    InputTwice,
+    /// INDEX isn't a number below 2^32.
+    Index,
+    /// GID isn't a number below 2^16.
+    Glyph,
+    /// It isn't TOKENS,DEPTH[,BYTES].
+    Limits,
+    /// It isn't TAG=VALUE.
+    Coordinate,
+    /// It is no number and no range of glyphs.
+    Part,
+    /// It is a second argument beside IN, where an option says OUT or INDEX.
+    BesideInput,
+    /// No option says OUT.
+    NoOutputOption,
+    /// No option says which glyphs are requested.
+    NoSource,
+}
+
+/// A mistake in the arguments.
+#[derive(Clone, Copy, Debug)]
+pub struct Mistake<'a> {
+    /// What is wrong.
+    pub wrong: Wrong,
+    /// The argument, or one of the values that it lists. It is empty where one is missing.
+    pub word: &'a str,
+}
+
+/// A mistake in an argument.
+fn mistake_at(wrong: Wrong, word: &str) -> Option<Mistake<'_>>
+    requires { IsWrong wrong word.now }
+    ensures { IfSome result (λ m. IsWrong m.wrong m.word.now) }
+{
+    Some(Mistake { wrong, word })
+}
+
+/// The INDEX that isn't a number.
+fn wrong_index(word: &str) -> Option<Mistake<'_>>
+    ensures { IfSome result (λ m. IsWrong m.wrong m.word.now) }
+{
+    match u32_of(word) {
+        Some(_) => None,
+        None => mistake_at(Wrong::Index, word),
+    }
+}
+
+/// The first value of a list that isn't a glyph's number.
+fn wrong_glyph(list: &str) -> Option<Mistake<'_>>
+    ensures { IfSome result (λ m. IsWrong m.wrong m.word.now) }
+{
+    for part in list.split(',') {
+        if u16_of(part).is_none() {
+            return mistake_at(Wrong::Glyph, part);
+        }
+    }
+    None
+}
+
+/// The first value of a list that isn't a coordinate.
+fn wrong_coordinate(list: &str) -> Option<Mistake<'_>>
+    ensures { IfSome result (λ m. IsWrong m.wrong m.word.now) }
+{
+    for part in list.split(',') {
+        if !is_coordinate(part) {
+            return mistake_at(Wrong::Coordinate, part);
+        }
+    }
+    None
+}
+
+/// The first part of a list that is no number and no range.
+fn wrong_part(list: &str) -> Option<Mistake<'_>>
+    ensures { IfSome result (λ m. IsWrong m.wrong m.word.now) }
+{
+    if list == "*" {
+        return None;
+    }
+    for part in list.split(',') {
+        if is_wrong_part(part.as_bytes()) {
+            return mistake_at(Wrong::Part, part);
+        }
+    }
+    None
+}
+
+/// The first option behind IN.
+fn late_option(words: &[String]) -> Option<Mistake<'_>>
+    ensures { IfSome result (λ m. IsWrong m.wrong m.word.now) }
+{
+    for word in words {
+        match kind_of(word) {
+            Kind::Place | Kind::End => {}
+            _ => return mistake_at(Wrong::Late, word),
+        }
+    }
+    None
+}
+
+/// What is wrong with the arguments `IN INDEX` behind `--axes`.
+fn wrong_behind_axes(words: &[String]) -> Option<Mistake<'_>>
+    ensures { IfSome result (λ m. IsWrong m.wrong m.word.now) }
+{
+    match words {
+        [] => mistake_at(Wrong::NoInput, ""),
+        [_] => mistake_at(Wrong::NoIndex, ""),
+        [_, index] => wrong_index(index),
+        [_, _, word, ..] => mistake_at(Wrong::BehindAxes, word),
+    }
+}
+
+/// What is wrong with the glyphs that are requested, or with the coordinates.
+fn wrong_behind_index<'a>(
+    chosen: &Chosen<'a>,
+    input: &str,
+    words: &'a [String],
+) -> Option<Mistake<'a>>
+    ensures { IfSome result (λ m. IsWrong m.wrong m.word.now) }
+{
+    let mistake = match (chosen.source, words) {
+        (None, []) => mistake_at(Wrong::NoGlyphs, ""),
+        (None, [list]) => wrong_glyph(list),
+        (Some(Source::File(name)), []) if is_stream(input) && is_stream(name) => {
+            mistake_at(Wrong::InputTwice, "--gids-file")
+        }
+        (Some(Source::InList(list)), []) => wrong_part(list),
+        (Some(_), []) => None,
+        (Some(_), [word]) => mistake_at(Wrong::BesideOption, word),
+        (None, [_, word, ..]) => mistake_at(Wrong::Further, word),
+        (Some(_), [_, word, ..]) => mistake_at(Wrong::Further, word),
+    };
+    match (mistake, chosen.at) {
+        (None, Some(at)) => wrong_coordinate(at),
+        _ => mistake,
+    }
+}
+
+/// What is wrong with the arguments `IN OUT INDEX [GID[,GID..]]`.
+fn wrong_from_input<'a>(chosen: &Chosen<'a>, words: &'a [String]) -> Option<Mistake<'a>>
+    ensures { IfSome result (λ m. IsWrong m.wrong m.word.now) }
+{
+    let [input, behind @ ..] = words else {
+        return mistake_at(Wrong::NoInput, "");
+    };
+    if let Some(late) = late_option(behind) {
+        return Some(late);
+    }
+    match behind {
+        [] => mistake_at(Wrong::NoOutput, ""),
+        [_] => mistake_at(Wrong::NoIndex, ""),
+        [_, index, rest @ ..] => match wrong_index(index) {
+            None => wrong_behind_index(chosen, input, rest),
+            mistake => mistake,
+        },
+    }
+}
+
+/// Whether an argument is no option.
+fn is_no_option(word: &str) -> bool
+    ensures { IsTrue result → kind_of word.now ≡ Place }
+{
+    matches!(kind_of(word), Kind::Place)
+}
+
+/// What is wrong with the arguments from one on that is in the position of IN, and isn't behind `--`.
+fn wrong_from_place<'a>(
+    chosen: &Chosen<'a>,
+    word: &'a str,
+    words: &'a [String],
+) -> Option<Mistake<'a>>
+    ensures { IfSome result (λ m. IsWrong m.wrong m.word.now) }
+{
+    if word == "--axes" {
+        return mistake_at(Wrong::AxesLate, word);
+    }
+    if looks_like_option(word) && is_no_option(word) {
+        return mistake_at(Wrong::Unknown, word);
+    }
+    wrong_from_input(chosen, words)
+}
+
+/// What is wrong with an option and its value, which are refused.
+fn wrong_setting<'a>(
+    chosen: &Chosen<'a>,
+    setting: Setting,
+    word: &'a str,
+    value: &'a str,
+) -> Option<Mistake<'a>>
+    requires { kind_of word.now ≢ Place }
+    ensures { IfSome result (λ m. IsWrong m.wrong m.word.now) }
+{
+    match setting {
+        Setting::Limits if chosen.limits.is_none() => mistake_at(Wrong::Limits, value),
+        Setting::FaceIndex if chosen.index.is_none() => wrong_index(value),
+        Setting::GidsFile | Setting::Text | Setting::Gids => mistake_at(Wrong::GlyphsTwice, word),
+        _ => mistake_at(Wrong::Twice, word),
+    }
+}
+
+/// What is wrong with the arguments `[OPTIONS] IN OUT INDEX [GID[,GID..]]`, besides what is chosen already.
+fn wrong_from_option<'a>(chosen: Chosen<'a>, words: &'a [String]) -> Option<Mistake<'a>>
+    ensures { IfSome result (λ m. IsWrong m.wrong m.word.now) }
+{
+    let [word, behind @ ..] = words else {
+        return mistake_at(Wrong::NoInput, "");
+    };
+    match kind_of(word) {
+        Kind::Switch(switch) => match chosen.with_switch(switch) {
+            Some(more) => wrong_from_option(more, behind),
+            None => mistake_at(Wrong::Twice, word),
+        },
+        Kind::Setting(setting) => {
+            let [value, rest @ ..] = behind else {
+                return mistake_at(Wrong::NoValue, word);
+            };
+            match chosen.with_setting(setting, value) {
+                Some(more) => wrong_from_option(more, rest),
+                None => wrong_setting(&chosen, setting, word, value),
+            }
+        }
+        Kind::Help | Kind::Version => None,
+        Kind::End => wrong_from_input(&chosen, behind),
+        Kind::Place => wrong_from_place(&chosen, word, words),
+    }
+}
+
+/// Whether one of the arguments is an option that says OUT or INDEX.
+fn says_output(words: &[String]) -> bool {
+    for word in words {
+        if let Kind::Setting(Setting::Output | Setting::FaceIndex) = kind_of(word) {
+            return true;
+        }
+    }
+    false
+}
+
+/// What is wrong with options and IN, which are all there.
+fn wrong_request<'a>(chosen: &Chosen<'a>, input: &str) -> Option<Mistake<'a>>
+    ensures { IfSome result (λ m. IsWrong m.wrong m.word.now) }
+{
+    if chosen.source.is_none() {
+        return mistake_at(Wrong::NoSource, "");
+    }
+    if chosen.output.is_none() {
+        return mistake_at(Wrong::NoOutputOption, "");
+    }
+    wrong_behind_index(chosen, input, &[])
+}
+
+/// What is wrong at the end of arguments that have options before and after IN.
+fn wrong_at_end<'a>(chosen: &Chosen<'a>, input: Option<&'a str>) -> Option<Mistake<'a>>
+    ensures { IfSome result (λ m. IsWrong m.wrong m.word.now) }
+{
+    match input {
+        Some(input) => wrong_request(chosen, input),
+        None => mistake_at(Wrong::NoInput, ""),
+    }
+}
+
+/// What is wrong with the arguments behind `--`, beside IN.
+fn wrong_behind_end<'a>(
+    chosen: &Chosen<'a>,
+    input: Option<&'a str>,
+    words: &'a [String],
+) -> Option<Mistake<'a>>
+    ensures { IfSome result (λ m. IsWrong m.wrong m.word.now) }
+{
+    match (input, words) {
+        (_, []) => wrong_at_end(chosen, input),
+        (None, [word]) => wrong_request(chosen, word),
+        (None, [_, word, ..]) => mistake_at(Wrong::BesideInput, word),
+        (Some(_), [word, ..]) => mistake_at(Wrong::BesideInput, word),
+    }
+}
+
+/// What is wrong with an argument that is no known option, and isn't behind `--`: a wrong option, or a second IN.
+fn wrong_place<'a>(input: Option<&str>, word: &'a str) -> Option<Mistake<'a>>
+    ensures { IfSome result (λ m. IsWrong m.wrong m.word.now) }
+{
+    if word == "--axes" {
+        return mistake_at(Wrong::AxesLate, word);
+    }
+    if looks_like_option(word) && is_no_option(word) {
+        return mistake_at(Wrong::Unknown, word);
+    }
+    match input {
+        Some(_) => mistake_at(Wrong::BesideInput, word),
+        None => None,
+    }
+}
+
+/// What is wrong with arguments that have options before and after IN, besides what is chosen and read already.
+fn wrong_free<'a>(
+    chosen: Chosen<'a>,
+    input: Option<&'a str>,
+    words: &'a [String],
+) -> Option<Mistake<'a>>
+    ensures { IfSome result (λ m. IsWrong m.wrong m.word.now) }
+{
+    let [word, behind @ ..] = words else {
+        return wrong_at_end(&chosen, input);
+    };
+    match kind_of(word) {
+        Kind::Switch(switch) => match chosen.with_switch(switch) {
+            Some(more) => wrong_free(more, input, behind),
+            None => mistake_at(Wrong::Twice, word),
+        },
+        Kind::Setting(setting) => {
+            let [value, rest @ ..] = behind else {
+                return mistake_at(Wrong::NoValue, word);
+            };
+            match chosen.with_setting(setting, value) {
+                Some(more) => wrong_free(more, input, rest),
+                None => wrong_setting(&chosen, setting, word, value),
+            }
+        }
+        Kind::Help | Kind::Version => mistake_at(Wrong::Late, word),
+        Kind::End => wrong_behind_end(&chosen, input, behind),
+        Kind::Place => match wrong_place(input, word) {
+            Some(mistake) => Some(mistake),
+            None => wrong_free(chosen, Some(word.as_str()), behind),
+        },
+    }
+}
+
+/// What is wrong with arguments for which `read_words` answers `Usage`: the first mistake.
+pub fn find_mistake(words: &[String]) -> Option<Mistake<'_>>
+    ensures { IfSome result (λ m. IsWrong m.wrong m.word.now) }
+{
+    match behind_axes(words) {
+        Some(behind) => wrong_behind_axes(behind),
+        None if says_output(words) => wrong_free(Chosen::NOTHING, None, words),
+        None => wrong_from_option(Chosen::NOTHING, words),
+    }
+}

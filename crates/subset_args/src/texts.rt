@@ -1,0 +1,108 @@
+//! The texts of mistakes.
+
+use crate::mistakes::{Mistake, Wrong};
+use crate::nearest::nearest_option;
+use std::fmt;
+
+/// How many characters of an argument a line has.
+const MOST: usize = 40;
+
+/// An argument as a line has it: at most 40 characters, and U+FFFD for each control character.
+#[derive(Clone, Copy, Drop)]
+pub struct Shown<'a>(pub &'a str);
+
+/// A character as a line has it.
+fn printable(character: char) -> char {
+    match character {
+        '\0'..='\x1F' | '\x7F'..='\u{9F}' => '\u{FFFD}',
+        _ => character,
+    }
+}
+
+impl fmt::Display for Shown<'_> {
+    fn fmt<W: fmt::Write>(&self, f: &mut fmt::Formatter<W>) -> fmt::Result {
+        for character in self.0.chars().take(MOST) {
+            write!(f, "{}", printable(character))?;
+        }
+        if self.0.chars().nth(MOST).is_some() {
+            return write!(f, "..");
+        }
+        Ok(())
+    }
+}
+
+impl fmt::Display for Mistake<'_> {
+    fn fmt<W: fmt::Write>(&self, f: &mut fmt::Formatter<W>) -> fmt::Result {
+        let word = Shown(self.word);
+        match self.wrong {
+            Wrong::NoInput => write!(f, "IN is missing"),
+            Wrong::NoOutput => write!(f, "OUT is missing"),
+            Wrong::NoIndex => write!(f, "INDEX is missing"),
+            Wrong::NoGlyphs => write!(f, "GID is missing"),
+            Wrong::Further | Wrong::BehindAxes => {
+                write!(f, "\"{word}\" is one argument too many")
+            }
+            Wrong::Late => write!(f, "{word} is after IN"),
+            Wrong::AxesLate => write!(f, "{word} isn't the first argument"),
+            Wrong::Unknown => write!(f, "{word} is no option"),
+            Wrong::Twice => write!(f, "{word} is given twice"),
+            Wrong::NoValue => write!(f, "{word}: its value is missing"),
+            Wrong::GlyphsTwice => write!(f, "{word}: the glyphs are requested twice"),
+            Wrong::BesideOption => { write!(f, "GID \"{word}\": an option requests the glyphs") }
+            Wrong::InputTwice => write!(f, "{word}: standard input is requested twice"),
+            Wrong::Index => write!(f, "INDEX \"{word}\" is not a number"),
+            Wrong::Glyph => write!(f, "GID \"{word}\" is not a glyph number"),
+            Wrong::Limits => write!(f, "--limits: \"{word}\" is not TOKENS,DEPTH[,BYTES]"),
+            Wrong::Coordinate => write!(f, "--at: \"{word}\" is not TAG=VALUE"),
+            Wrong::Part => write!(f, "--gids: \"{word}\" is not a glyph number"),
+            Wrong::BesideInput => write!(f, "\"{word}\" is one argument too many"),
+            Wrong::NoOutputOption => write!(f, "-o OUT is missing"),
+            Wrong::NoSource => write!(f, "no option requests glyphs"),
+        }
+    }
+}
+
+/// What is expected in place of a mistake.
+#[derive(Clone, Copy, Drop)]
+pub struct Advice<'a>(pub &'a Mistake<'a>);
+
+impl fmt::Display for Advice<'_> {
+    fn fmt<W: fmt::Write>(&self, f: &mut fmt::Formatter<W>) -> fmt::Result {
+        match self.0.wrong {
+            Wrong::Unknown => match nearest_option(self.0.word) {
+                Some(option) => write!(f, "did you mean {option}?"),
+                None => write!(f, "see subset_font --help"),
+            },
+            other => write!(f, "{}", expected(other)),
+        }
+    }
+}
+
+/// What is expected in place of a mistake, as a line.
+fn expected(wrong: Wrong) -> &'static str {
+    match wrong {
+        Wrong::NoInput => "expected: the file of a font, or - for standard input",
+        Wrong::NoOutput => "expected: a file for the new font, or - for standard output",
+        Wrong::NoIndex | Wrong::Index => {
+            "expected: the face of a collection, from 0; of other fonts 0"
+        }
+        Wrong::NoGlyphs => "expected: glyph numbers as 36,37,38, or an option as --text",
+        Wrong::Further => "expected: IN OUT INDEX GID, with no blanks between glyph numbers",
+        Wrong::BehindAxes | Wrong::AxesLate => "expected: --axes IN INDEX",
+        Wrong::Late => "expected: options before IN",
+        Wrong::Unknown => "see subset_font --help",
+        Wrong::Twice => "expected: each option at most once",
+        Wrong::NoValue => "see subset_font --help",
+        Wrong::GlyphsTwice | Wrong::BesideOption => {
+            "expected: one of GID, --gids, --text and --gids-file"
+        }
+        Wrong::InputTwice => "expected: - for IN or for FILE, not for both",
+        Wrong::Glyph => "expected: numbers from 0 to 65535, with commas, as 36,37,38",
+        Wrong::Limits => "expected: numbers, as 1000000,64, with DEPTH from 1 to 255",
+        Wrong::Coordinate => "expected: a tag and a decimal number, as wght=650",
+        Wrong::Part => "expected: numbers to 65535 and ranges as 36-38, or * alone",
+        Wrong::BesideInput => "expected: IN and options, where -o or --face-index is one",
+        Wrong::NoOutputOption => "expected: a file for the new font, or - for standard output",
+        Wrong::NoSource => "expected: --gids, --text or --gids-file",
+    }
+}

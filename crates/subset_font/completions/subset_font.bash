@@ -1,0 +1,19 @@
+# Completion of subset_font for bash: from src/help.rt, by completions/generate. Don't edit it.
+_subset_font() {
+    local word=${COMP_WORDS[COMP_CWORD]}
+    COMPREPLY=()
+    case ${COMP_WORDS[COMP_CWORD - 1]} in
+    --gids-file | -o | --output-file)
+        mapfile -t COMPREPLY < <(compgen -f -- "$word")
+        return
+        ;;
+    --gids | --text | --face-index | --at | --limits)
+        return
+        ;;
+    esac
+    case $word in
+    -*) mapfile -t COMPREPLY < <(compgen -W "--gids --gids-file --text -o --output-file --face-index --at --no-hinting --no-names --no-glyph-names --limits --widths --json --quiet --axes -h --help --version" -- "$word") ;;
+    *) mapfile -t COMPREPLY < <(compgen -f -- "$word") ;;
+    esac
+}
+complete -o filenames -F _subset_font subset_font
