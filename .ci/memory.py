@@ -21,6 +21,7 @@ ALLOWED = {
     ("subset_rows", "fmt"): (1, "the list of all errors, in which a status is looked up"),
     ("pdf_text", "write_cid"): (1, "`write!` reports a refused request as fmt::Error, and a number's text has no other error"),
     ("pdf_text", "write_width"): (1, "`write!` reports a refused request as fmt::Error, and a number's text has no other error"),
+    ("pdf_text", "write_integer"): (1, "`write!` reports a refused request as fmt::Error, and a number's text has no other error"),
     ("pdf_text", "write_count"): (1, "`write!` reports a refused request as fmt::Error, and a number's text has no other error"),
     ("subset_args", "enum ArgsError"): (1, "the case itself"),
     ("subset_args", "glyphs_of"): (1, "`push` takes memory and has no other error"),

@@ -1,0 +1,357 @@
+//! The indirect objects of a font (ISO 32000-1, 7.3.8 and 7.3.10).
+
+ghost use Rattle.std.specs.Prelude.{◌≡◌, ◌<◌, ◌≤◌, ◌+◌, ◌^◌, ◌++◌, ◌⊎◌, IfErr, IfOk, OnOk, length};
+ghost use Rattle.std.specs.List.{concat};
+ghost use Rattle.std.specs.Option.{option_copied};
+ghost use Rattle.subsetter_base.specs.declared.error.Error.TheVariants.{OutOfMemory, OverflowError};
+ghost use Rattle.pdf_text.specs.Dictionaries.{dictionary};
+ghost use Rattle.pdf_text.specs.Objects.{AreDictionaries, entries_of, bytes_of, text_of_cmap, stream_end, value_end, value_of, object_text, when, objects_of, references_from, objects_from, offsets_from, values_of, font_objects, AreFontObjectsAt, AreAt, AreReferredTo, IsDictionaryWhen};
+
+use crate::dictionaries::{
+    write_cid_font, write_cmap, write_descriptor, write_font, write_program, write_size,
+};
+use crate::lines::write_count;
+use crate::values::{FontValues, OwnCmap, References};
+use std::alloc::Global;
+use subsetter_base::Error;
+
+/// An object of a font.
+#[derive(Clone, Copy)]
+pub enum Object {
+    Font,
+    CidFont,
+    FontDescriptor,
+    FontFile,
+    ToUnicode,
+    CidSet,
+    Cmap,
+}
+
+/// Objects one behind the other, and where each begins.
+#[derive(Drop)]
+pub struct FontObjects {
+    pub text: Vec<u8>,
+    /// Of each object in bytes, from the beginning of the text; the first has the number that was given, each other the next.
+    pub offsets: Vec<usize>,
+}
+
+// ---- one object
+
+/// Writes the entries of an object's dictionary, but for a stream's Length.
+fn write_entries(
+    text: &mut Vec<u8>,
+    object: Object,
+    values: FontValues<'_>,
+    references: References,
+) -> Result<(), Error>
+    ensures ok { OnOk result (text.new.items ≡ text.old.items ++ entries_of object values.entry references) }
+    ensures err { IfErr result (λ e. e ≡ OutOfMemory) }
+{
+    match object {
+        Object::Font => write_font(text, values, references),
+        Object::CidFont => write_cid_font(text, values, references),
+        Object::FontDescriptor => write_descriptor(text, values, references),
+        Object::FontFile => write_program(text, values.kind, values.program.len()),
+        Object::ToUnicode | Object::CidSet => Ok(()),
+        Object::Cmap => write_cmap(text, values.encoding, values.vertical),
+    }
+}
+
+/// The bytes of a CMap of a font's own.
+fn text_of_cmap(encoding: Option<OwnCmap<'_>>) -> Option<&[u8]>
+    ensures { option_copied result ≡ text_of_cmap encoding.entry }
+{
+    match encoding {
+        Some(cmap) => Some(cmap.text),
+        None => None,
+    }
+}
+
+/// The bytes of an object that is a stream.
+fn bytes_of(object: Object, values: FontValues<'_>) -> Option<&[u8]>
+    ensures { option_copied result ≡ bytes_of object values.entry }
+{
+    match object {
+        Object::Font | Object::CidFont | Object::FontDescriptor => None,
+        Object::FontFile => Some(values.program),
+        Object::ToUnicode => Some(values.to_unicode),
+        Object::CidSet => values.cid_set,
+        Object::Cmap => text_of_cmap(values.encoding),
+    }
+}
+
+/// Writes the end of a stream's dictionary, and its bytes.
+#[tactic(auto, using(crate::proofs::Written::four_written))]
+fn write_stream(text: &mut Vec<u8>, bytes: &[u8]) -> Result<(), Error>
+    ensures ok { OnOk result (text.new.items ≡ text.old.items ++ stream_end bytes.now) }
+    ensures err { IfErr result (λ e. e ≡ OutOfMemory) }
+{
+    write_size(text, b"Length", bytes.len())?;
+    text.extend_from_slice(b">>\nstream\n")?;
+    text.extend_from_slice(bytes)?;
+    text.extend_from_slice(b"\nendstream")?;
+    Ok(())
+}
+
+/// Writes the end of a dictionary, and a stream's bytes.
+fn write_value_end(text: &mut Vec<u8>, bytes: Option<&[u8]>) -> Result<(), Error>
+    ensures ok { OnOk result (text.new.items ≡ text.old.items ++ value_end (option_copied bytes.entry)) }
+    ensures err { IfErr result (λ e. e ≡ OutOfMemory) }
+{
+    match bytes {
+        Some(bytes) => write_stream(text, bytes),
+        None => {
+            text.extend_from_slice(b">>")?;
+            Ok(())
+        }
+    }
+}
+
+/// Writes the value of an object.
+#[tactic(auto, using(crate::proofs::Written::three_written))]
+fn write_value(
+    text: &mut Vec<u8>,
+    object: Object,
+    values: FontValues<'_>,
+    references: References,
+) -> Result<(), Error>
+    ensures ok { OnOk result (text.new.items ≡ text.old.items ++ value_of object values.entry references) }
+    ensures err { IfErr result (λ e. e ≡ OutOfMemory) }
+{
+    text.extend_from_slice(b"<< ")?;
+    write_entries(text, object, values, references)?;
+    write_value_end(text, bytes_of(object, values))
+}
+
+/// Writes an object with its number.
+#[tactic(auto, using(crate::proofs::Written::four_written))]
+fn write_object(
+    text: &mut Vec<u8>,
+    number: u32,
+    object: Object,
+    values: FontValues<'_>,
+    references: References,
+) -> Result<(), Error>
+    ensures ok { OnOk result (text.new.items ≡ text.old.items ++ object_text number (value_of object values.entry references)) }
+    ensures err { IfErr result (λ e. e ≡ OutOfMemory) }
+{
+    write_count(text, number as usize)?;
+    text.extend_from_slice(b" 0 obj\n")?;
+    write_value(text, object, values, references)?;
+    text.extend_from_slice(b"\nendobj\n")?;
+    Ok(())
+}
+
+// ---- all objects
+
+/// Puts an object behind others, if it is wanted.
+fn push_when(objects: &mut Vec<Object>, wanted: bool, object: Object) -> Result<(), Error>
+    ensures ok { OnOk result (objects.new.items ≡ objects.old.items ++ when wanted object) }
+    ensures err { IfErr result (λ e. e ≡ OutOfMemory) }
+{
+    if wanted {
+        objects.push(object)?;
+    }
+    Ok(())
+}
+
+/// The objects of a font, in their order.
+fn objects_of(alloc: Global, values: FontValues<'_>) -> Result<Vec<Object>, Error>
+    ensures ok { IfOk result (λ objects. objects.items ≡ objects_of values.entry) }
+    ensures err { IfErr result (λ e. e ≡ OutOfMemory) }
+{
+    let mut objects = Vec::from_slice(
+        alloc,
+        &[
+            Object::Font,
+            Object::CidFont,
+            Object::FontDescriptor,
+            Object::FontFile,
+            Object::ToUnicode,
+        ],
+    )?;
+    push_when(&mut objects, values.cid_set.is_some(), Object::CidSet)?;
+    push_when(&mut objects, values.encoding.is_some(), Object::Cmap)?;
+    Ok(objects)
+}
+
+/// The number of a CMap, with which a CIDSet goes before or not.
+fn after_cid_set(first: u32, has_cid_set: bool) -> u32
+    requires { first + 7 < 2 ^ 32 }
+    ensures { result ≡ first + (5 + length (when has_cid_set Object.CidSet)) }
+{
+    if has_cid_set { first + 6 } else { first + 5 }
+}
+
+/// The numbers of objects, of which the first has this one.
+fn references_from(first: u32, values: FontValues<'_>) -> References
+    requires { first + 7 < 2 ^ 32 }
+    ensures { result ≡ references_from first values.entry }
+{
+    References {
+        cid_font: first + 1,
+        descriptor: first + 2,
+        program: first + 3,
+        to_unicode: first + 4,
+        cid_set: first + 5,
+        encoding: after_cid_set(first, values.cid_set.is_some()),
+    }
+}
+
+/// Writes objects one behind the other, the first with this number.
+fn write_all(
+    alloc: Global,
+    first: u32,
+    objects: &[Object],
+    values: FontValues<'_>,
+    references: References,
+) -> Result<FontObjects, Error>
+    requires { first + length objects.now < 2 ^ 32 }
+    ensures text { IfOk result (λ o. o.text.items ≡ concat (objects_from first (values_of values.entry references objects.now))) }
+    ensures offsets { IfOk result (λ o. o.offsets.items ≡ offsets_from 0 (objects_from first (values_of values.entry references objects.now))) }
+    ensures err { IfErr result (λ e. e ≡ OutOfMemory) }
+{
+    let mut text = Vec::new(alloc);
+    let mut offsets = Vec::new(alloc);
+    let mut number = first;
+    for object in objects {
+        offsets.push(text.len())?;
+        write_object(&mut text, number, *object, values, references)?;
+        number += 1;
+    }
+    Ok(FontObjects { text, offsets })
+}
+
+/// Whether the numbers of seven objects fit 32 bits.
+fn checked(first: u32) -> Result<(), Error>
+    ensures ok { OnOk result (first + 7 < 2 ^ 32) }
+    ensures err { IfErr result (λ e. (e ≡ OverflowError) × (2 ^ 32 ≤ first + 7)) }
+{
+    if first > u32::MAX - 7 {
+        return Err(Error::OverflowError);
+    }
+    Ok(())
+}
+
+/// The objects of a font, whole, one behind the other, with numbers from `first` on: the composite font, its CIDFont, the font
+/// descriptor, the font program, ToUnicode, CIDSet if there is one, and the CMap if the file has its own. `first` is above 0, and
+/// each number has generation 0. For files that aren't encrypted: streams stand as they are, with no filter.
+///
+/// # Errors
+///
+/// `OverflowError` if seven numbers from `first` on don't fit 32 bits, else `OutOfMemory` alone.
+pub fn write_objects(
+    alloc: Global,
+    values: FontValues<'_>,
+    first: u32,
+) -> Result<FontObjects, Error>
+    ensures text { IfOk result (λ o. o.text.items ≡ concat (font_objects first values.entry)) }
+    ensures offsets { IfOk result (λ o. o.offsets.items ≡ offsets_from 0 (font_objects first values.entry)) }
+    ensures at { IfOk result (λ o. AreFontObjectsAt first values.entry o.text.items o.offsets.items) }
+    ensures err { IfErr result (λ e. (e ≡ OutOfMemory) ⊎ ((e ≡ OverflowError) × (2 ^ 32 ≤ first + 7))) }
+{
+    checked(first)?;
+    let objects = objects_of(alloc, values)?;
+    write_all(
+        alloc,
+        first,
+        &objects,
+        values,
+        references_from(first, values),
+    )
+}
+
+/// Each object stands from its offset to that of the next, whatever the objects are.
+pub fn objects_are_at()
+    ensures { AreAt }
+{}
+
+/// Each object is referred to by the number that it has.
+pub fn objects_are_referred_to()
+    ensures { AreReferredTo }
+{}
+
+// ---- dictionaries alone
+
+/// The texts of a font's dictionaries. Those of streams are without Length and Filter, which the writer of the file adds.
+#[derive(Drop)]
+pub struct FontDictionaries {
+    pub font: Vec<u8>,
+    pub cid_font: Vec<u8>,
+    pub descriptor: Vec<u8>,
+    pub program: Vec<u8>,
+    pub to_unicode: Vec<u8>,
+    pub cid_set: Option<Vec<u8>>,
+    pub encoding: Option<Vec<u8>>,
+}
+
+/// The dictionary of an object.
+#[tactic(auto, using(crate::proofs::Written::three_behind_nothing))]
+fn dictionary_of(
+    alloc: Global,
+    object: Object,
+    values: FontValues<'_>,
+    references: References,
+) -> Result<Vec<u8>, Error>
+    ensures ok { IfOk result (λ text. text.items ≡ dictionary (entries_of object values.entry references)) }
+    ensures err { IfErr result (λ e. e ≡ OutOfMemory) }
+{
+    let mut text = Vec::new(alloc);
+    text.extend_from_slice(b"<< ")?;
+    write_entries(&mut text, object, values, references)?;
+    text.extend_from_slice(b">>")?;
+    Ok(text)
+}
+
+/// The dictionary of an object that a font may lack.
+fn dictionary_when(
+    alloc: Global,
+    wanted: bool,
+    object: Object,
+    values: FontValues<'_>,
+    references: References,
+) -> Result<Option<Vec<u8>>, Error>
+    ensures ok { IfOk result (λ text. IsDictionaryWhen wanted (entries_of object values.entry references) text) }
+    ensures err { IfErr result (λ e. e ≡ OutOfMemory) }
+{
+    if wanted {
+        return Ok(Some(dictionary_of(alloc, object, values, references)?));
+    }
+    Ok(None)
+}
+
+/// The dictionaries of a font's objects, whose numbers the writer of the file chose.
+///
+/// # Errors
+///
+/// `OutOfMemory` alone.
+pub fn write_dictionaries(
+    alloc: Global,
+    values: FontValues<'_>,
+    references: References,
+) -> Result<FontDictionaries, Error>
+    ensures ok { IfOk result (AreDictionaries values.entry references) }
+    ensures err { IfErr result (λ e. e ≡ OutOfMemory) }
+{
+    Ok(FontDictionaries {
+        font: dictionary_of(alloc, Object::Font, values, references)?,
+        cid_font: dictionary_of(alloc, Object::CidFont, values, references)?,
+        descriptor: dictionary_of(alloc, Object::FontDescriptor, values, references)?,
+        program: dictionary_of(alloc, Object::FontFile, values, references)?,
+        to_unicode: dictionary_of(alloc, Object::ToUnicode, values, references)?,
+        cid_set: dictionary_when(
+            alloc,
+            values.cid_set.is_some(),
+            Object::CidSet,
+            values,
+            references,
+        )?,
+        encoding: dictionary_when(
+            alloc,
+            values.encoding.is_some(),
+            Object::Cmap,
+            values,
+            references,
+        )?,
+    })
+}

@@ -1,0 +1,78 @@
+//! What the objects of a font say (ISO 32000-1, 9.7 to 9.9).
+
+/// The kind of a font program.
+#[derive(Clone, Copy, PartialEq, Eq)]
+pub enum ProgramKind {
+    /// A TrueType file.
+    TrueType,
+    /// A bare CFF table.
+    BareCff,
+    /// An OpenType file with CFF outlines (PDF 1.6).
+    OpenType,
+}
+
+/// A CMap from codes to CIDs that the file itself has.
+#[derive(Clone, Copy)]
+pub struct OwnCmap<'a> {
+    /// Its CMapName.
+    pub name: &'a [u8],
+    pub text: &'a [u8],
+}
+
+/// The values of a font descriptor (Table 122): lengths in thousandths of the em.
+#[derive(Clone, Copy)]
+pub struct Descriptor<'a> {
+    /// A name that needs no escape, as `font_name` gives it.
+    pub font_name: &'a [u8],
+    pub flags: u32,
+    /// The left, lower, right and upper edges.
+    pub bounds: [i32; 4],
+    /// In thousandths of a degree, counterclockwise.
+    pub italic_angle: i32,
+    pub ascent: i32,
+    /// Not above 0.
+    pub descent: i32,
+    pub cap_height: i32,
+    pub x_height: Option<i32>,
+    pub stem_v: u32,
+    /// A hundred to nine hundred.
+    pub font_weight: u16,
+}
+
+/// What the objects of a font say.
+#[derive(Clone, Copy)]
+pub struct FontValues<'a> {
+    pub kind: ProgramKind,
+    pub descriptor: Descriptor<'a>,
+    /// Whether text runs from top to bottom.
+    pub vertical: bool,
+    /// DW.
+    pub default_width: u32,
+    /// The value of W, as `write_widths` gives it. `[]` is left out.
+    pub widths: &'a [u8],
+    /// DW2: the y of the origin, and the advance. None is PDF's own, 880 and -1000.
+    pub default_column: Option<[i32; 2]>,
+    /// The value of W2, as `write_columns` gives it. `[]` is left out.
+    pub columns: &'a [u8],
+    /// The font program.
+    pub program: &'a [u8],
+    /// The ToUnicode CMap, as `write_to_unicode` gives it.
+    pub to_unicode: &'a [u8],
+    /// None: each code is its CID (`Identity-H` or `Identity-V`).
+    pub encoding: Option<OwnCmap<'a>>,
+    /// The bytes of CIDSet, if there is one.
+    pub cid_set: Option<&'a [u8]>,
+}
+
+/// The numbers of the objects that others refer to.
+#[derive(Clone, Copy)]
+pub struct References {
+    pub cid_font: u32,
+    pub descriptor: u32,
+    pub program: u32,
+    pub to_unicode: u32,
+    /// Of no effect without a CIDSet.
+    pub cid_set: u32,
+    /// Of no effect without a CMap of the file's own.
+    pub encoding: u32,
+}
