@@ -1,0 +1,412 @@
+#!/usr/bin/python3
+"""The glyphs of CFF2 fonts at coordinates, by the port, beside fontTools and HarfBuzz.
+
+    compare/cff2.py [FOLDER ..] [--places N] [--glyphs N] [--seed S] [--only WORD] [--program FILE] [--jobs J] [--no-install]
+
+It needs Debian (it installs libharfbuzz0b and python3-fonttools by apt-get, which wants root, unless --no-install) and
+cff2_parts, which `rt run` builds in crates/cff2_parts (--program names another). The fonts are that crate's own and each font
+with the table `CFF2` in a FOLDER: Cantarell-VF.otf is in Debian's source package fonts-cantarell, and others are among the
+tests in that of harfbuzz.
+
+It compares
+
+    default  with all coordinates 0, all glyphs: the operators, their operands and their masks must be those that fontTools
+             reads, with subroutines called and of each blend the default numbers
+    places   at N places (20), random and the same in each run by the seed, for all glyphs (or N of them): the written
+             charstring, as fontTools draws it, must have the parts of HarfBuzz's drawing of the source, and each coordinate
+             must be HarfBuzz's, rounded once by halves up. Where HarfBuzz's float is within 0.001 of a half, it must be what
+             exact fractions, by fontTools' reading of the operands and this script's reading of regions, come to. The width
+             must be the advance that was requested, and no operator may have more than 48 operands
+
+A glyph that the port refuses is counted as a difference. The last line says how many were compared, and the status is 1
+where one differs, or nothing was compared.
+"""
+import argparse
+import concurrent.futures
+import fractions
+import glob
+import math
+import os
+import random
+import subprocess
+import sys
+
+import build
+import fonts
+import instance
+
+PACKAGES = ["libharfbuzz0b", "python3-fonttools"]
+OWN = os.path.join(build.ROOT, "crates", "cff2_parts", "data")
+UNIT = 2 ** 30
+NEAR_A_HALF = 0.001
+# A contour whose end is as near to its beginning is closed, in floats.
+CLOSED = 0.01
+# The advance that is requested of each glyph: a number that no glyph has by chance.
+ADVANCE = 1234
+# A program is given so many glyphs at a time.
+GLYPHS_AT_ONCE = 200
+
+
+# ---- the port
+
+def port_glyphs(program, path, glyphs, at):
+    """What the port prints of each glyph: its operators as (bytes, operands, mask), and its charstring; or an error."""
+    answers = {}
+    for k in range(0, len(glyphs), GLYPHS_AT_ONCE):
+        words = [program, path, str(ADVANCE), ",".join(map(str, glyphs[k:k + GLYPHS_AT_ONCE])), *map(str, at)]
+        run = subprocess.run(words, stdout=subprocess.PIPE, stderr=subprocess.PIPE)
+        if run.returncode:
+            raise RuntimeError(f"{' '.join(words)}: status {run.returncode}, {run.stderr.decode('latin-1').strip()}")
+        glyph = None
+        for line in run.stdout.decode("latin-1").splitlines():
+            name, *rest = line.split(" ")
+            if name == "glyph":
+                glyph = answers[int(rest[0])] = {"events": []}
+            elif name == "op":
+                glyph["events"].append([tuple(map(int, rest)), [], b""])
+            elif name == "by":
+                glyph["events"][-1][1] = list(map(int, rest))
+            elif name == "mask":
+                glyph["events"][-1][2] = bytes(map(int, rest))
+            elif name == "bytes":
+                glyph["bytes"] = bytes(map(int, rest))
+            else:
+                glyph["error"] = " ".join(rest)
+    if list(answers) != list(glyphs):
+        raise RuntimeError(f"{path}: answers on {len(answers)} glyphs of {len(glyphs)}")
+    return answers
+
+
+# ---- fontTools, and exact fractions
+
+def scalar(region, at):
+    """The scalar of a region at normalized coordinates, as a fraction (OpenType, "Algorithm for interpolation of instance values")."""
+    product = fractions.Fraction(1)
+    for axis, coordinate in zip(region.VarRegionAxis, at):
+        start, peak, end = [round(value * 16384) for value in (axis.StartCoord, axis.PeakCoord, axis.EndCoord)]
+        if start > peak or peak > end or (start < 0 < end and peak != 0) or peak == 0 or coordinate == peak:
+            continue
+        if coordinate <= start or coordinate >= end:
+            return fractions.Fraction(0)
+        product *= fractions.Fraction(coordinate - start, peak - start) if coordinate < peak else fractions.Fraction(end - coordinate, end - peak)
+    return product
+
+
+def recorder():
+    """A reader of charstrings that keeps each operator with its operands and its mask. (The class needs fontTools, which may have
+    to be installed first.)"""
+    from fontTools.misc import psCharStrings
+
+    opcodes = {name: code if isinstance(code, tuple) else (code,) for code, name in psCharStrings.t2Operators}
+
+    class Recorder(psCharStrings.SimpleT2Decompiler):
+        def note(self, name, mask=b""):
+            self.events.append((opcodes[name], [fractions.Fraction(value) for value in self.operandStack], mask))
+
+        def __getattr__(self, name):
+            if not name.startswith("op_"):
+                raise AttributeError(name)
+
+            def drawing(index):
+                self.note(name[3:])
+                self.popall()
+
+            return drawing
+
+        def stems(self, name):
+            self.note(name)
+            self.countHints()
+
+        def op_hstem(self, index):
+            self.stems("hstem")
+
+        def op_vstem(self, index):
+            self.stems("vstem")
+
+        def op_hstemhm(self, index):
+            self.stems("hstemhm")
+
+        def op_vstemhm(self, index):
+            self.stems("vstemhm")
+
+        def masked(self, name, index):
+            operands = list(self.operandStack)
+            mask, index = super().op_hintmask(index)
+            self.events.append((opcodes[name], [fractions.Fraction(value) for value in operands], mask))
+            return mask, index
+
+        # (fontTools takes the private dict's data where those of a charstring have no regions)
+        def op_vsindex(self, index):
+            self.vsIndex = self.pop()
+
+        def op_blend(self, index):
+            count = self.pop()
+            regions = self.regions(self.vsIndex)
+            base = len(self.operandStack) - count * (regions + 1)
+            values, deltas = self.operandStack[base:base + count], self.operandStack[base + count:]
+            self.operandStack[base:] = [value + self.shared(self.vsIndex, deltas[k * regions:(k + 1) * regions]) for k, value in enumerate(values)]
+
+        def op_hintmask(self, index):
+            return self.masked("hintmask", index)
+
+        def op_cntrmask(self, index):
+            return self.masked("cntrmask", index)
+
+    return Recorder
+
+
+class Source:
+    """A font, as fontTools reads it."""
+
+    def __init__(self, path):
+        from fontTools.ttLib import TTFont
+
+        self.font = TTFont(path, lazy=True)
+        self.top = self.font["CFF2"].cff.topDictIndex[0]
+        self.count = len(self.top.CharStrings.charStringsIndex)
+        self.axes = len(self.font["fvar"].axes) if "fvar" in self.font else 0
+        self.recorder = recorder()
+        self.scalars = {}
+
+    def share(self, data, deltas, at):
+        """The sum of the deltas by the scalars of the regions of item variation data."""
+        key = (data, tuple(at))
+        if key not in self.scalars:
+            store = self.top.VarStore.otVarStore
+            regions = store.VarRegionList.Region
+            self.scalars[key] = [scalar(regions[k], at) for k in store.VarData[data].VarRegionIndex]
+        return sum((s * fractions.Fraction(delta) for s, delta in zip(self.scalars[key], deltas)), fractions.Fraction(0))
+
+    def events(self, glyph, at=None):
+        """The operators of a glyph: with the defaults of its blends, or exactly at coordinates."""
+        charstring = self.top.CharStrings.charStringsIndex[glyph]
+        private = charstring.private
+        reader = self.recorder(getattr(private, "Subrs", []), charstring.globalSubrs, private)
+        reader.events = []
+        reader.regions = lambda data: len(self.top.VarStore.otVarStore.VarData[data].VarRegionIndex)
+        reader.shared = lambda data, deltas: 0 if at is None else self.share(data, deltas, at)
+        reader.vsIndex = getattr(private, "vsindex", None) or 0
+        reader.execute(charstring)
+        return reader.events
+
+
+class Pen:
+    """Keeps a path."""
+
+    def __init__(self):
+        self.path = []
+
+    def moveTo(self, p):
+        self.path.append(("move_to", *p))
+
+    def lineTo(self, p):
+        self.path.append(("line_to", *p))
+
+    def curveTo(self, *points):
+        self.path.append(("cubic_to", *[value for p in points for value in p]))
+
+    def closePath(self):
+        pass
+
+    endPath = closePath
+
+
+def drawn(charstring):
+    """The path and the width of a charstring without subroutines, as fontTools draws it."""
+    from fontTools.misc import psCharStrings
+
+    pen = Pen()
+    extractor = psCharStrings.T2OutlineExtractor(pen, [], [], 0, 0)
+    extractor.execute(psCharStrings.T2CharString(bytecode=charstring))
+    return pen.path, extractor.width
+
+
+def drawn_exactly(events):
+    """The path of exact operators, as fontTools draws them."""
+    from fontTools.misc import psCharStrings
+
+    class Exact(psCharStrings.T2OutlineExtractor):
+        def execute_event(self, name, operands):
+            self.operandStack = list(operands)
+            getattr(self, f"op_{name}")(0)
+
+    names = {code if isinstance(code, tuple) else (code,): name for code, name in psCharStrings.t2Operators}
+    pen = Pen()
+    exact = Exact(pen, [], [], 0, 0)
+    exact.reset()
+    # (a CFF2 charstring has no width)
+    exact.gotWidth = 1
+    exact.width = 0
+    for code, operands, _ in events:
+        name = names[code]
+        if "stem" not in name and "mask" not in name:
+            exact.execute_event(name, operands)
+    return pen.path
+
+
+def longest(charstring):
+    """The greatest number of operands in front of an operator of a charstring without subroutines."""
+    class Counter(recorder()):
+        pass
+
+    from fontTools.misc import psCharStrings
+
+    reader = Counter([], [])
+    reader.events = []
+    reader.execute(psCharStrings.T2CharString(bytecode=charstring))
+    return max((len(operands) for _, operands, _ in reader.events), default=0)
+
+
+# ---- HarfBuzz
+
+class HarfBuzz(instance.HarfBuzz):
+    """A font of HarfBuzz's library, drawn with its cubic curves."""
+
+    def __init__(self, path):
+        super().__init__(path)
+        self.kept.append(self.callback("cubic_to", 6))
+
+
+# ---- what is compared
+
+def half_up(v):
+    return math.floor(v + fractions.Fraction(1, 2))
+
+
+def is_near_a_half(v):
+    return abs(v - math.floor(v) - 0.5) < NEAR_A_HALF
+
+
+def contours(path, apart=0):
+    """The contours of a path. A line back to where a contour began says nothing, and neither does a move without parts."""
+    found = []
+    for part in path:
+        if part[0] == "move_to":
+            found.append([part])
+        elif found:
+            found[-1].append(part)
+    for contour in found:
+        while contour[-1][0] == "line_to" and all(abs(a - b) <= apart for a, b in zip(contour[-1][1:], contour[0][1:])):
+            contour.pop()
+    return [contour for contour in found if len(contour) > 1]
+
+
+class Report:
+    """What came of a font."""
+
+    def __init__(self, path):
+        self.label = os.path.basename(path)
+        self.defaults = self.drawn = self.coordinates = self.halves = 0
+        self.wrong = []
+
+    def say(self, text):
+        self.wrong.append(f"{self.label}: {text}")
+
+
+def compare_default(report, source, answers):
+    """The operators with all coordinates 0."""
+    for glyph, answer in answers.items():
+        if "error" in answer:
+            report.say(f"glyph {glyph} is refused: {answer['error']}")
+            continue
+        report.defaults += 1
+        theirs = [(code, [value * UNIT for value in operands], mask) for code, operands, mask in source.events(glyph)]
+        if [tuple(event) for event in answer["events"]] != theirs:
+            report.say(f"glyph {glyph}: other operators than fontTools'")
+
+
+def rounded(report, source, glyph, at, theirs):
+    """HarfBuzz's path, each coordinate rounded once; near a half by exact fractions. None where those have other parts."""
+    whole = [part for contour in contours(theirs, CLOSED) for part in contour]
+    if not any(is_near_a_half(value) for part in whole for value in part[1:]):
+        return [(part[0], *map(half_up, part[1:])) for part in whole]
+    exact = [part for contour in contours(drawn_exactly(source.events(glyph, at)), CLOSED) for part in contour]
+    if [part[0] for part in exact] != [part[0] for part in whole]:
+        return None
+    made = []
+    for part, twin in zip(whole, exact):
+        near = [is_near_a_half(value) for value in part[1:]]
+        report.halves += sum(near)
+        made.append((part[0], *[half_up(b if is_near else a) for a, b, is_near in zip(part[1:], twin[1:], near)]))
+    return made
+
+
+def compare_place(report, source, harfbuzz, answers, at):
+    """The drawings at coordinates."""
+    harfbuzz.place(at)
+    for glyph, answer in answers.items():
+        if "error" in answer:
+            report.say(f"glyph {glyph} at {at} is refused: {answer['error']}")
+            continue
+        ours, width = drawn(answer["bytes"])
+        if width != ADVANCE:
+            report.say(f"glyph {glyph} at {at}: its width is {width}")
+        if longest(answer["bytes"]) > 48:
+            report.say(f"glyph {glyph} at {at}: an operator has more than 48 operands")
+        theirs = rounded(report, source, glyph, at, harfbuzz.drawn(glyph))
+        report.drawn += 1
+        report.coordinates += sum(len(part) - 1 for part in ours)
+        if theirs is None or contours(ours) != contours(theirs):
+            report.say(f"glyph {glyph} at {at}: HarfBuzz draws something else")
+
+
+def random_place(axes, rng):
+    """Normalized coordinates in 16384ths: anywhere, at an end, or at the default."""
+    return [rng.choice([-16384, 16384, 0]) if rng.random() < 0.25 else rng.randint(-16384, 16384) for _ in range(axes)]
+
+
+def compare_font(words, path):
+    """Compares a font at its default and at all places."""
+    report = Report(path)
+    source, harfbuzz = Source(path), HarfBuzz(path)
+    every = list(range(source.count))
+    compare_default(report, source, port_glyphs(words.program, path, every, [0] * source.axes))
+    rng = random.Random(f"{words.seed} {report.label}")
+    for _ in range(words.places):
+        at = random_place(source.axes, rng)
+        glyphs = sorted(rng.sample(every, min(words.glyphs or source.count, source.count)))
+        compare_place(report, source, harfbuzz, port_glyphs(words.program, path, glyphs, at), at)
+    return report
+
+
+def font_paths(folders, only):
+    found = []
+    for folder in [OWN, *folders]:
+        found += sorted(glob.glob(os.path.join(folder, "*.otf")))
+    kept = []
+    for path in found:
+        with open(path, "rb") as file:
+            if only in os.path.basename(path) and "CFF2" in fonts.directory(file.read()):
+                kept.append(path)
+    return kept
+
+
+def main():
+    parser = argparse.ArgumentParser(description=__doc__, formatter_class=argparse.RawDescriptionHelpFormatter)
+    parser.add_argument("folders", nargs="*", metavar="FOLDER")
+    parser.add_argument("--places", type=int, default=20)
+    parser.add_argument("--glyphs", type=int, default=0)
+    parser.add_argument("--seed", default="1")
+    parser.add_argument("--only", default="")
+    parser.add_argument("--program", default=build.built("cff2_parts"))
+    parser.add_argument("--jobs", type=int, default=2)
+    parser.add_argument("--no-install", action="store_true")
+    words = parser.parse_args()
+    if not words.no_install:
+        fonts.install(PACKAGES)
+    build.program(words.program)
+    paths = font_paths(words.folders, words.only)
+    with concurrent.futures.ProcessPoolExecutor(words.jobs) as pool:
+        reports = list(pool.map(compare_font, [words] * len(paths), paths))
+    print("| Font | Glyphs at the default | Glyphs at places | Coordinates | Of them near a half | Differ |\n|---|---|---|---|---|---|")
+    for it in reports:
+        print(f"| {it.label} | {it.defaults} | {it.drawn} | {it.coordinates} | {it.halves} | {len(it.wrong)} |")
+    wrong = [line for it in reports for line in it.wrong]
+    print("", *(f"- {line}" for line in wrong[:40]), sep="\n")
+    total = [sum(getattr(it, name) for it in reports) for name in ("defaults", "drawn", "coordinates", "halves")]
+    print(f"{len(reports)} fonts: {total[0]} glyphs at the default, {total[1]} at places with {total[2]} coordinates, {total[3]} near a half; {len(wrong)} differ.")
+    sys.exit(1 if wrong or not total[0] or not total[1] else 0)
+
+
+if __name__ == "__main__":
+    main()

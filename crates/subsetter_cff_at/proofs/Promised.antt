@@ -1,0 +1,402 @@
+-- What is made is a table that says, read afresh, what was requested.
+use Rattle.std.proofs.Common.{◌≡◌, ℕ, zero, suc, ◌<◌, ◌≤◌, pos, FitsSigned, true, List, [], ◌∷◌, length, map, Option, Some, None, refl, ap, arith, ◌∙◌, sym, subst}
+use Rattle.std.specs.Prelude.{nat_lt, slice_get, slice_index, unwrap_or, Ok}
+use Rattle.std.specs.Int.{w16}
+use Rattle.std.specs.List.{AllByRecursion}
+use Rattle.std.specs.Option.{ok_or, option_map}
+use Rattle.std.proofs.lemmas.Bool.{ltb-true}
+use Rattle.std.proofs.lemmas.List.{length-map}
+use Rattle.std.proofs.lemmas.Option.{none-some, same_Some, slice_get-map, slice_get_within, get_or_from_slice_get}
+use Rattle.subsetter_base.specs.Bytes.{◌>>=◌}
+use Rattle.subsetter_base.specs.Places.{place}
+use Rattle.subsetter_base.specs.declared.error.Error.TheVariants.{MalformedFont, OverflowError}
+use Rattle.subsetter_cffdata.proofs.Options.{step}
+use Rattle.subsetter_cffdata.specs.Dict.{Entry, entries}
+use Rattle.subsetter_cffdata.specs.Numbers.{Number}
+use Rattle.subsetter_cffdata.specs.Values.{value}
+use Rattle.subsetter_type2.specs.Machine.{Trace, trace}
+use Rattle.subsetter_cff.specs.Read.Cff.{Cff, char_strings, char_string}
+use Rattle.subsetter_cff.specs.Read.GlyphTrace.{glyph_trace, library}
+use Rattle.subsetter_cff.specs.Read.Lookup.{last_of}
+use Rattle.subsetter_cff.specs.Read.Matrices.{stated_matrices, unit_matrix}
+use Rattle.subsetter_cff.specs.Read.Operators.{char_strings_operator, font_dicts_operator, font_dict_select_operator, font_matrix_operator, subroutines_operator}
+use Rattle.subsetter_cff.specs.Read.Private.{Private, private_of, private_entries, own_entries}
+use Rattle.subsetter_cff.specs.Write.Layout.{FontDict, Parts}
+use Rattle.subsetter_cff.specs.Write.ReadsAs.{IsReadAs, ReadsAs, GlyphReadsAs}
+use Rattle.subsetter_cff.proofs.ReadLaws.Results.{bind_ok, same_Ok, some_of, passed, number_there}
+use Rattle.subsetter_cff.proofs.WriteLaws.FontDicts.{none_left_out}
+use Rattle.subsetter_cff.proofs.WriteLaws.Keeping.{entry_of_some}
+use Rattle.subsetter_blend.specs.Laws.{IsDrawnAndWritten}
+use Rattle.subsetter_blend.specs.Resolved.{resolved}
+use Rattle.subsetter_blend.proofs.DrawnLaws.Listed.{resolved_draws_rounded}
+use Rattle.subsetter_cff2.specs.Cff2.{Cff2, wide_index, named_index, optional_offset, store_by, cff2_parts, parts_by}
+use Rattle.subsetter_cff2.specs.Front2.{front_at}
+use Rattle.subsetter_cff2.specs.Made2.{NewDict, new_dict, new_dicts, new_font_dict, new_matrix, new_parts, optional_matrix, made_of}
+use Rattle.subsetter_cff2.specs.MadeReads.{IsMadeOf, DictIsPlaced}
+use Rattle.subsetter_cff2.specs.Operators2.{store_operator}
+use Rattle.subsetter_cff2.specs.Private2 as source
+use Rattle.subsetter_cff2.specs.UsedDicts.{counted_dicts, place_in}
+use Rattle.subsetter_cff2.specs.Variation.{Variation, optional_variation}
+use Rattle.subsetter_cff2.proofs.MadeFits.{made_is_read, new_dict_is_placed}
+use Rattle.subsetter_cff_at.specs.Plain.{dict_bound, numbers_from, present, setting, glyph_text, placed_text, texts_from, filled, all_filled, no_glyph, Drawn, drawn, Opened, opened, parts_of, some_requested, made_table}
+use Rattle.subsetter_cff_at.specs.Promise.{DrawsGlyph, IsTableAt, IsRequest, MadeIsTable}
+use Rattle.subsetter_cff_at.specs.Request.{Request}
+use Rattle.subsetter_cff_at.specs.Units.{top_matrix, matrix_or, units_dict}
+use Rattle.subsetter_cff_at.proofs.Found.{number_here, length-numbers, has_number, text_here, length-texts, dict_at, length-dicts, in_used, used_of, few_used, requested_at, all_inside}
+
+-- ---- FontMatrix is that of a dict
+pub record MatrixOf (matrix : Option (List Number)) : Type 0 where
+  pub dict : List ℕ
+  pub is : optional_matrix (last_of font_matrix_operator (entries dict)) ≡ Some matrix
+
+matrix_by : (top : List ℕ) (own : Option (Option (List Number))) (units : ℕ) (matrix : Option (List Number)) → optional_matrix (last_of font_matrix_operator (entries top)) ≡ own
+    → matrix_or own units ≡ Some matrix → MatrixOf matrix
+matrix_by top None units matrix is e = absurd (none-some matrix e)
+matrix_by top (Some None) units matrix is e = record { dict = units_dict units; is = e }
+matrix_by top (Some (Some m)) units matrix is e = record { dict = top; is = is ∙ e }
+
+-- the entries of the top dict are those of bytes
+top_of : (bytes : List ℕ) (axes : ℕ) (cff : Cff2) → cff2_parts bytes axes ≡ Some cff → (top : List ℕ) × (entries top ≡ cff.top)
+unfolding cff2_parts parts_by
+top_of bytes axes cff e =
+    let a = step (front_at bytes) _ cff e in
+    let b = step (wide_index bytes a.0.1) _ cff a.1.1 in
+    let c = step (named_index bytes (last_of char_strings_operator (entries a.0.0))) _ cff b.1.1 in
+    let d = step (named_index bytes (last_of font_dicts_operator (entries a.0.0))) _ cff c.1.1 in
+    let f = step (optional_offset (last_of store_operator (entries a.0.0))) _ cff d.1.1 in
+    let g = step (store_by bytes axes f.0) _ cff f.1.1 in
+    let h = step (optional_offset (last_of font_dict_select_operator (entries a.0.0))) _ cff g.1.1 in
+    (a.0.0, ap (λ (x : Cff2). x.top) (same_Some _ _ h.1.1))
+
+pub matrix_of : (bytes : List ℕ) (axes units : ℕ) (cff : Cff2) (matrix : Option (List Number)) → cff2_parts bytes axes ≡ Some cff → top_matrix cff units ≡ Some matrix → MatrixOf matrix
+unfolding top_matrix
+matrix_of bytes axes units cff matrix is e =
+    let top = top_of bytes axes cff is in
+    matrix_by top.0 (optional_matrix (last_of font_matrix_operator cff.top)) units matrix (ap (λ (es : List Entry). optional_matrix (last_of font_matrix_operator es)) top.1) e
+
+-- ---- what was drawn
+pub record DrawnSteps (cff : Cff2) (v : Option Variation) (tokens depth : ℕ) (glyphs : List (Option ℕ)) (d : Drawn) : Type 0 where
+  pub numbers : List (Option ℕ)
+  pub numbers_are : numbers_from cff 0 glyphs ≡ Ok numbers
+  pub used : List ℕ
+  pub used_are : counted_dicts (dict_bound cff) (present numbers) ≡ Ok used
+  pub dicts_are : new_dicts cff v used ≡ Ok d.dicts
+  pub texts_are : texts_from cff v tokens depth d.dicts d.places 0 glyphs ≡ Ok d.texts
+  pub places_are : d.places ≡ map (place_in used) numbers
+
+pub drawn_steps : (cff : Cff2) (v : Option Variation) (tokens depth : ℕ) (glyphs : List (Option ℕ)) (d : Drawn) → drawn cff v tokens depth glyphs ≡ Ok d → DrawnSteps cff v tokens depth glyphs d
+unfolding drawn
+drawn_steps cff v tokens depth glyphs d e =
+    let a = bind_ok (numbers_from cff 0 glyphs) _ d e in
+    let b = bind_ok (counted_dicts (dict_bound cff) (present a.0)) _ d a.1.1 in
+    let c = bind_ok (new_dicts cff v b.0) _ d b.1.1 in
+    let f = bind_ok (texts_from cff v tokens depth c.0 (map (place_in b.0) a.0) 0 glyphs) _ d c.1.1 in
+    let same : record { dicts = c.0; places = map (place_in b.0) a.0; texts = f.0 } ≡ d = same_Ok _ _ f.1.1 in
+    subst (λ (x : Drawn). DrawnSteps cff v tokens depth glyphs x) same (record { numbers = a.0; numbers_are = a.1.0; used = b.0; used_are = b.1.0; dicts_are = c.1.0; texts_are = f.1.0; places_are = refl })
+
+-- ---- a requested glyph
+pub record GlyphFound (cff : Cff2) (v : Option Variation) (tokens depth glyph advance : ℕ) (d : Drawn) : Type 0 where
+  pub number : ℕ
+  pub number_is : source.font_dict_number cff glyph ≡ Some number
+  pub place : ℕ
+  pub place_at : slice_get d.places glyph ≡ Some place
+  pub dict : NewDict
+  pub dict_at : slice_get d.dicts place ≡ Some dict
+  pub dict_is : new_dict cff v number ≡ Ok dict
+  pub small : advance < 32768
+  pub charstring : List ℕ
+  pub charstring_is : source.char_string cff glyph ≡ Some charstring
+  pub bytes : List ℕ
+  pub ran : resolved (setting cff v dict.subroutines) tokens depth dict.data_index (pos advance) charstring ≡ Ok bytes
+  pub text_at : slice_get d.texts glyph ≡ Some (Some bytes)
+
+record TextFound (cff : Cff2) (v : Option Variation) (tokens depth : ℕ) (dict : NewDict) (glyph advance : ℕ) (bytes : List ℕ) : Type 0 where
+  small : advance < 32768
+  charstring : List ℕ
+  charstring_is : source.char_string cff glyph ≡ Some charstring
+  ran : resolved (setting cff v dict.subroutines) tokens depth dict.data_index (pos advance) charstring ≡ Ok bytes
+
+text_found : (cff : Cff2) (v : Option Variation) (tokens depth : ℕ) (dict : NewDict) (glyph advance : ℕ) (bytes : List ℕ) → glyph_text cff v tokens depth dict glyph advance ≡ Ok bytes → TextFound cff v tokens depth dict glyph advance bytes
+unfolding glyph_text
+text_found cff v tokens depth dict glyph advance bytes e =
+    let a = passed (nat_lt advance 32768) OverflowError _ bytes e in
+    let b = bind_ok (ok_or (source.char_string cff glyph) MalformedFont) _ bytes a.1 in
+    record { small = ltb-true advance 32768 a.0; charstring = b.0; charstring_is = some_of (source.char_string cff glyph) MalformedFont b.0 b.1.0; ran = b.1.1 }
+
+placed_found : (cff : Cff2) (v : Option Variation) (tokens depth : ℕ) (dicts : List NewDict) (place glyph advance : ℕ) (bytes : List ℕ) → placed_text cff v tokens depth dicts place glyph advance ≡ Ok bytes
+    → (dict : NewDict) × ((slice_get dicts place ≡ Some dict) × (glyph_text cff v tokens depth dict glyph advance ≡ Ok bytes))
+unfolding placed_text
+placed_found cff v tokens depth dicts place glyph advance bytes e =
+    let a = bind_ok (ok_or (slice_get dicts place) MalformedFont) _ bytes e in
+    (a.0, (some_of (slice_get dicts place) MalformedFont a.0 a.1.0, a.1.1))
+
+-- the number of a requested glyph's font dict, and its place among the used ones
+pub record PlaceFound (cff : Cff2) (numbers : List (Option ℕ)) (used : List ℕ) (glyph : ℕ) : Type 0 where
+  pub number : ℕ
+  pub number_is : source.font_dict_number cff glyph ≡ Some number
+  pub below : number < dict_bound cff
+  pub place : ℕ
+  pub place_at : slice_get (map (place_in used) numbers) glyph ≡ Some place
+  pub used_at : slice_get used place ≡ Some number
+
+pub number_place : (cff : Cff2) (glyphs numbers : List (Option ℕ)) (used : List ℕ) → numbers_from cff 0 glyphs ≡ Ok numbers → counted_dicts (dict_bound cff) (present numbers) ≡ Ok used
+    → (glyph advance : ℕ) → slice_get glyphs glyph ≡ Some (Some advance) → PlaceFound cff numbers used glyph
+number_place cff glyphs numbers used numbers_are used_are glyph advance is =
+    let n = number_here cff glyphs glyph (Some advance) numbers numbers_are is in
+    let h = has_number cff glyph advance n.number n.is in
+    let at : slice_get numbers glyph ≡ Some (Some h.value) = n.at ∙ ap Some h.is in
+    let few = few_used (dict_bound cff) (present numbers) used used_are in
+    let inside = in_used (dict_bound cff) (present numbers) h.value h.below (used_of numbers glyph h.value at) in
+    let found : place used h.value ≡ Some inside.at = ap (λ (l : List ℕ). place l h.value) few.0 ∙ inside.is in
+    record {
+      number = h.value;
+      number_is = h.found;
+      below = h.below;
+      place = inside.at;
+      place_at = slice_get-map (place_in used) numbers glyph ∙ ap (option_map (place_in used)) at ∙ ap (λ (o : Option ℕ). Some (unwrap_or o 0)) found;
+      used_at = number_there used h.value inside.at found;
+    }
+
+module _ (cff : Cff2) (v : Option Variation) (tokens depth : ℕ) (glyphs : List (Option ℕ)) (d : Drawn) (s : DrawnSteps cff v tokens depth glyphs d) where
+  pub as_many : length d.places ≡ length glyphs
+  as_many = ap length s.places_are ∙ length-map s.numbers (place_in s.used) ∙ length-numbers cff 0 glyphs s.numbers s.numbers_are
+
+  pub place_found : (glyph advance : ℕ) → slice_get glyphs glyph ≡ Some (Some advance) → PlaceFound cff s.numbers s.used glyph
+  place_found = number_place cff glyphs s.numbers s.used s.numbers_are s.used_are
+
+  pub glyph_found : (glyph advance : ℕ) → slice_get glyphs glyph ≡ Some (Some advance) → GlyphFound cff v tokens depth glyph advance d
+  glyph_found glyph advance is =
+      let p = place_found glyph advance is in
+      let f = dict_at cff v s.used d.dicts p.place p.number s.dicts_are p.used_at in
+      let t = text_here cff v tokens depth d.dicts d.places glyphs glyph (Some advance) d.texts s.texts_are as_many is in
+      let a = bind_ok (placed_text cff v tokens depth d.dicts t.place glyph advance) (λ text. Ok (Some text)) t.text t.is in
+      let b = placed_found cff v tokens depth d.dicts t.place glyph advance a.0 a.1.0 in
+      let here : t.place ≡ p.place = same_Some _ _ (sym t.place_at ∙ ap (λ (l : List ℕ). slice_get l glyph) s.places_are ∙ p.place_at) in
+      let same : b.0 ≡ f.dict = same_Some _ _ (sym b.1.0 ∙ ap (slice_get d.dicts) here ∙ f.at) in
+      let g = text_found cff v tokens depth f.dict glyph advance a.0 (ap (λ (x : NewDict). glyph_text cff v tokens depth x glyph advance) (sym same) ∙ b.1.1) in
+      record {
+        number = p.number;
+        number_is = p.number_is;
+        place = p.place;
+        place_at = ap (λ (l : List ℕ). slice_get l glyph) s.places_are ∙ p.place_at;
+        dict = f.dict;
+        dict_at = f.at;
+        dict_is = f.is;
+        small = g.small;
+        charstring = g.charstring;
+        charstring_is = g.charstring_is;
+        bytes = a.0;
+        ran = g.ran;
+        text_at = t.at ∙ ap Some (sym (same_Ok _ _ a.1.1));
+      }
+
+-- ---- a glyph of the new table
+traced : (cff : Cff) (tokens depth glyph : ℕ) (bytes : List ℕ) (private : Private) (u : Trace) → char_string cff glyph ≡ Some bytes → private_of cff glyph ≡ Some private
+    → trace (library cff private) tokens depth bytes ≡ Some u → glyph_trace cff tokens depth glyph ≡ Some u
+unfolding glyph_trace
+traced cff tokens depth glyph bytes private u e f h = rw (e, f) h
+
+own_of : (cff : Cff) (glyph : ℕ) (es : List Entry) → private_of cff glyph ≡ Some (record { entries = es; subroutines = [] }) → own_entries (record { entries = es; subroutines = [] }) ≡ es → private_entries cff glyph ≡ Some es
+own_of cff glyph es e own = rw e (ap Some own)
+
+source_private : (cff : Cff2) (glyph number : ℕ) (private : source.Private2) → source.font_dict_number cff glyph ≡ Some number → source.private_numbered cff number ≡ Some private → source.private_of cff glyph ≡ Some private
+source_private cff glyph number private e f = rw e f
+
+filled_at : (texts : List (Option (List ℕ))) (i : ℕ) (text : Option (List ℕ)) → slice_get texts i ≡ Some text → slice_get (all_filled texts) i ≡ Some (filled text)
+filled_at texts i text at = slice_get-map filled texts i ∙ ap (option_map filled) at
+
+pub text_of : (copy : Cff) (texts : List (Option (List ℕ))) (i : ℕ) (text : Option (List ℕ)) → char_strings copy ≡ Some (map Some (all_filled texts)) → slice_get texts i ≡ Some text → char_string copy i ≡ Some (filled text)
+text_of copy texts i text e at = rw e (entry_of_some (all_filled texts) i (filled text) (filled_at texts i text at))
+
+fits_width : (n : ℕ) → n < 32768 → FitsSigned w16 (pos n)
+fits_width n lt = record { sfits = omega (arith, lt) }
+
+same_run : (cff : Cff2) (v : Option Variation) (tokens depth : ℕ) (locals other : List (Option (List ℕ))) (data_index index advance : ℕ) (charstring bytes : List ℕ) → locals ≡ other → data_index ≡ index
+    → resolved (setting cff v locals) tokens depth data_index (pos advance) charstring ≡ Ok bytes → resolved (setting cff v other) tokens depth index (pos advance) charstring ≡ Ok bytes
+same_run cff v tokens depth locals other data_index index advance charstring bytes p q e = rw (← p, ← q) e
+
+module _ (cff : Cff2) (v : Option Variation) (tokens depth glyph advance : ℕ) (d : Drawn) (f : GlyphFound cff v tokens depth glyph advance d) (p : Parts) (copy : Cff) (reads : ReadsAs p copy) (texts_are : p.char_strings ≡ all_filled d.texts)
+    (dicts_are : p.font_dicts ≡ map new_font_dict d.dicts) (read : GlyphReadsAs p copy glyph) (dict_in : slice_get p.font_dicts f.place ≡ Some read.font_dict) where
+  placed : DictIsPlaced cff v f.number f.dict
+  placed = new_dict_is_placed cff v f.number f.dict f.dict_is
+
+  same_dict : read.font_dict ≡ new_font_dict f.dict
+  same_dict = same_Some _ _ (sym dict_in ∙ ap (λ (l : List FontDict). slice_get l f.place) dicts_are ∙ slice_get-map new_font_dict d.dicts f.place ∙ ap (option_map new_font_dict) f.dict_at)
+
+  entries_are : read.font_dict.private ≡ placed.at_place.entries
+  entries_are = ap (λ (x : FontDict). x.private) same_dict ∙ placed.entries_are
+
+  bytes_are : char_string copy glyph ≡ Some f.bytes
+  bytes_are = text_of copy d.texts glyph (Some f.bytes) (reads.charstrings ∙ ap (λ (l : List (List ℕ)). Some (map Some l)) texts_are) f.text_at
+
+  drawn_is : IsDrawnAndWritten (setting cff v placed.source.subroutines) tokens depth placed.at_place.data_index (pos advance) f.charstring f.bytes
+  drawn_is = resolved_draws_rounded (setting cff v placed.source.subroutines) tokens depth placed.at_place.data_index (pos advance) f.charstring f.bytes (fits_width advance f.small)
+      (same_run cff v tokens depth f.dict.subroutines placed.source.subroutines f.dict.data_index placed.at_place.data_index advance f.charstring f.bytes placed.subroutines_are placed.data_index_is f.ran)
+
+  pub draws_glyph : DrawsGlyph cff v tokens depth glyph advance copy
+  draws_glyph = record {
+    private = placed.source;
+    private_is = source_private cff glyph f.number placed.source f.number_is placed.source_is;
+    at_place = placed.at_place;
+    at_place_is = placed.at_place_is;
+    entries_are = own_of copy glyph read.font_dict.private read.private (none_left_out subroutines_operator read.font_dict.private read.leads_nowhere) ∙ ap Some entries_are;
+    charstring = f.charstring;
+    charstring_is = f.charstring_is;
+    bytes = f.bytes;
+    bytes_are = bytes_are;
+    drawn = drawn_is;
+    trace_is = λ n deep one enough. traced copy n deep glyph f.bytes (record { entries = read.font_dict.private; subroutines = [] }) _ bytes_are read.private (drawn_is.written.plays _ n deep one enough);
+  }
+
+-- ---- the whole
+index_of : (places : List ℕ) (i place : ℕ) → slice_get places i ≡ Some place → slice_index places i ≡ place
+index_of places i place at = get_or_from_slice_get places i place 0 at
+
+pub record TableSteps (bytes : List ℕ) (r : Request) (tokens depth : ℕ) (out : List ℕ) : Type 0 where
+  pub requested : some_requested r.glyphs ≡ true
+  pub cff : Cff2
+  pub cff_is : cff2_parts bytes (length r.at) ≡ Some cff
+  pub matrix : Option (List Number)
+  pub matrix_is : top_matrix cff r.units ≡ Some matrix
+  pub variation : Option Variation
+  pub variation_is : optional_variation cff.store r.at ≡ Some variation
+  pub glyphs : Drawn
+  pub glyphs_are : drawn cff variation tokens depth r.glyphs ≡ Ok glyphs
+  pub made : made_of (new_parts matrix r.box glyphs.dicts glyphs.places (all_filled glyphs.texts)) ≡ Ok out
+
+pub record OpenSteps (bytes : List ℕ) (r : Request) (o : Opened) : Type 0 where
+  pub cff_is : cff2_parts bytes (length r.at) ≡ Some o.cff
+  pub matrix_is : top_matrix o.cff r.units ≡ Some o.matrix
+  pub variation_is : optional_variation o.cff.store r.at ≡ Some o.variation
+
+pub open_steps : (bytes : List ℕ) (r : Request) (o : Opened) → opened bytes r ≡ Ok o → OpenSteps bytes r o
+unfolding opened
+open_steps bytes r o e =
+    let a = bind_ok (ok_or (cff2_parts bytes (length r.at)) MalformedFont) _ o e in
+    let b = bind_ok (ok_or (top_matrix a.0 r.units) MalformedFont) _ o a.1.1 in
+    let c = bind_ok (ok_or (optional_variation a.0.store r.at) MalformedFont) _ o b.1.1 in
+    let same : record { cff = a.0; matrix = b.0; variation = c.0 } ≡ o = same_Ok _ _ c.1.1 in
+    subst (λ (x : Opened). OpenSteps bytes r x) same (record {
+      cff_is = some_of (cff2_parts bytes (length r.at)) MalformedFont a.0 a.1.0;
+      matrix_is = some_of (top_matrix a.0 r.units) MalformedFont b.0 b.1.0;
+      variation_is = some_of (optional_variation a.0.store r.at) MalformedFont c.0 c.1.0;
+    })
+
+pub table_steps : (bytes : List ℕ) (r : Request) (tokens depth : ℕ) (out : List ℕ) → made_table bytes r tokens depth ≡ Ok out → TableSteps bytes r tokens depth out
+unfolding made_table
+table_steps bytes r tokens depth out e =
+    let a = passed (some_requested r.glyphs) MalformedFont _ out e in
+    let b = bind_ok (opened bytes r) (λ o. drawn o.cff o.variation tokens depth r.glyphs >>= parts_of o r) out a.1 in
+    let c = bind_ok (drawn b.0.cff b.0.variation tokens depth r.glyphs) (parts_of b.0 r) out b.1.1 in
+    let o = open_steps bytes r b.0 b.1.0 in
+    record {
+      requested = a.0;
+      cff = b.0.cff;
+      cff_is = o.cff_is;
+      matrix = b.0.matrix;
+      matrix_is = o.matrix_is;
+      variation = b.0.variation;
+      variation_is = o.variation_is;
+      glyphs = c.0;
+      glyphs_are = c.1.0;
+      made = c.1.1;
+    }
+
+unit_of : (dicts : List NewDict) (i : ℕ) (f : FontDict) → slice_get (map new_font_dict dicts) i ≡ Some f → f.matrix ≡ unit_matrix
+unit_of [] i f at = absurd (none-some f at)
+unit_of (d ∷ dicts) zero f at = ap (λ (x : FontDict). x.matrix) (sym (same_Some _ f at))
+unit_of (d ∷ dicts) (suc i) f at = unit_of dicts i f at
+
+module _ (bytes : List ℕ) (r : Request) (tokens depth : ℕ) (out : List ℕ) (is : IsRequest r) (s : TableSteps bytes r tokens depth out) where
+  steps : DrawnSteps s.cff s.variation tokens depth r.glyphs s.glyphs
+  steps = drawn_steps s.cff s.variation tokens depth r.glyphs s.glyphs s.glyphs_are
+
+  texts_many : length (all_filled s.glyphs.texts) ≡ length r.glyphs
+  texts_many =
+      length-map s.glyphs.texts filled
+      ∙ length-texts s.cff s.variation tokens depth s.glyphs.dicts s.glyphs.places 0 r.glyphs s.glyphs.texts steps.texts_are (as_many s.cff s.variation tokens depth r.glyphs s.glyphs steps)
+
+  dicts_many : length s.glyphs.dicts ≡ length steps.used
+  dicts_many = length-dicts s.cff s.variation steps.used s.glyphs.dicts steps.dicts_are
+
+  abbrev matrix_dict : MatrixOf s.matrix
+  matrix_dict = matrix_of bytes (length r.at) r.units s.cff s.matrix s.cff_is s.matrix_is
+
+  some_used : 0 < length steps.used
+  some_used =
+      let a = requested_at r.glyphs s.requested in
+      let p = place_found s.cff s.variation tokens depth r.glyphs s.glyphs steps a.glyph a.advance a.is in
+      omega (arith, slice_get_within steps.used p.place p.number p.used_at)
+
+  some_glyph : 1 ≤ length r.glyphs
+  some_glyph = let a = requested_at r.glyphs s.requested in omega (arith, slice_get_within r.glyphs a.glyph (Some a.advance) a.is)
+
+  made_of_these : IsMadeOf s.cff s.variation matrix_dict.dict steps.used s.glyphs.dicts s.matrix r.box s.glyphs.places (all_filled s.glyphs.texts)
+  made_of_these = record {
+    dicts_are = steps.dicts_are;
+    few_dicts = omega (arith, dicts_many, (few_used (dict_bound s.cff) (present steps.numbers) steps.used steps.used_are).1);
+    matrix_is = matrix_dict.is;
+    box_fits = is.box_fits;
+    box_length = is.box_length;
+    as_many = as_many s.cff s.variation tokens depth r.glyphs s.glyphs steps ∙ sym texts_many;
+    inside =
+        subst (λ (l : List ℕ). AllByRecursion (λ n. n < length s.glyphs.dicts) l) (sym steps.places_are)
+        (subst (λ (k : ℕ). AllByRecursion (λ n. n < k) (map (place_in steps.used) steps.numbers)) (sym dicts_many) (all_inside steps.used steps.numbers some_used));
+    some_glyph = omega (arith, some_glyph, texts_many);
+    few_glyphs = omega (arith, is.few, texts_many);
+  }
+
+  abbrev parts : Parts
+  parts = new_parts s.matrix r.box s.glyphs.dicts s.glyphs.places (all_filled s.glyphs.texts)
+
+  module _ (read : IsReadAs out parts) where
+    glyph_read : (glyph : ℕ) → glyph < length r.glyphs → GlyphReadsAs parts read.cff glyph
+    glyph_read glyph lt = read.reads.glyphs glyph (omega (arith, lt, texts_many))
+
+    requested : (glyph advance : ℕ) → slice_get r.glyphs glyph ≡ Some (Some advance) → DrawsGlyph s.cff s.variation tokens depth glyph advance read.cff
+    requested glyph advance at =
+        let f = glyph_found s.cff s.variation tokens depth r.glyphs s.glyphs steps glyph advance at in
+        let g = glyph_read glyph (slice_get_within r.glyphs glyph (Some advance) at) in
+        draws_glyph s.cff s.variation tokens depth glyph advance s.glyphs f parts read.cff read.reads refl refl g
+        (ap (slice_get parts.font_dicts) (sym (index_of s.glyphs.places glyph f.place f.place_at)) ∙ g.font_dict_is)
+
+    not_requested : (glyph : ℕ) → slice_get r.glyphs glyph ≡ Some None → char_string read.cff glyph ≡ Some no_glyph
+    not_requested glyph at =
+        let t = text_here s.cff s.variation tokens depth s.glyphs.dicts s.glyphs.places r.glyphs glyph None s.glyphs.texts steps.texts_are (as_many s.cff s.variation tokens depth r.glyphs s.glyphs steps) at in
+        text_of read.cff s.glyphs.texts glyph None read.reads.charstrings (t.at ∙ ap Some (sym (same_Ok _ _ t.is)))
+
+    matrices : (glyph : ℕ) → glyph < length r.glyphs → stated_matrices read.cff glyph ≡ Some (map value (new_matrix s.matrix), map value unit_matrix)
+    matrices glyph lt =
+        let g = glyph_read glyph lt in
+        g.matrices_are ∙ ap (λ (m : List Number). Some (map value (new_matrix s.matrix), map value m)) (unit_of s.glyphs.dicts (slice_index s.glyphs.places glyph) g.font_dict g.font_dict_is)
+
+    pub table_is : made_table bytes r tokens depth ≡ Ok out → IsTableAt bytes r tokens depth out
+    table_is e = record {
+      source = s.cff;
+      source_is = s.cff_is;
+      variation = s.variation;
+      variation_is = s.variation_is;
+      copy = read.cff;
+      copy_is = read.read;
+      charstrings = map Some (all_filled s.glyphs.texts);
+      charstrings_are = read.reads.charstrings;
+      count = length-map (all_filled s.glyphs.texts) Some ∙ texts_many;
+      cids = λ glyph lt. (glyph_read glyph lt).cid;
+      drawn = requested;
+      empty = not_requested;
+      keyed = read.reads.keyed;
+      no_subroutines = read.reads.no_subroutines;
+      matrix = s.matrix;
+      matrix_is = s.matrix_is;
+      matrices_are = matrices;
+      box = read.reads.box;
+      layout = e;
+    }
+
+pub made_is_table : MadeIsTable
+made_is_table bytes r tokens depth out is e =
+    let s = table_steps bytes r tokens depth out e in
+    let p = parts bytes r tokens depth out is s in
+    let m = matrix_of bytes (length r.at) r.units s.cff s.matrix s.cff_is s.matrix_is in
+    let d = steps bytes r tokens depth out is s in
+    table_is bytes r tokens depth out is s (made_is_read s.cff s.variation m.dict d.used s.glyphs.dicts s.matrix r.box s.glyphs.places (all_filled s.glyphs.texts) out (made_of_these bytes r tokens depth out is s) s.made) e

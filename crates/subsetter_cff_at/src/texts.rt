@@ -1,0 +1,180 @@
+//! The charstrings of the requested glyphs at coordinates (OpenType, "CFF2 CharString Format").
+
+ghost use Rattle.std.specs.Prelude.{◌≡◌, ◌≤◌, ◌+◌, ◌++◌, ◌∷◌, [], length, map, IfOk, IfErr};
+ghost use Rattle.subsetter_base.specs.Gives.{Gives};
+ghost use Rattle.subsetter_base.specs.declared.error.Error.TheVariants.{OutOfMemory};
+ghost use Rattle.subsetter_base.specs.Within.{FailsWithin};
+ghost use Rattle.subsetter_cff2.specs.Made2View.{dict_view};
+ghost use Rattle.subsetter_cff_at.specs.Plain.{glyph_text, placed_text, text_if, texts_from, texts_size, text_size};
+ghost use Rattle.subsetter_cff_at.specs.View.{opened_of, AreTexts, DrawsNext, AreAllDrawn};
+
+use crate::opening::OpenTable;
+use std::alloc::Global;
+use subsetter_base::error::Error;
+use subsetter_blend::machine::Subroutines;
+use subsetter_blend::resolving::resolve;
+use subsetter_cff2::made::PlacedDict;
+use subsetter_type2::limits::Limits;
+use subsetter_type2::subroutines::SubroutineHandler;
+
+/// The charstrings of glyphs, one behind the other.
+#[derive(Drop)]
+pub struct Texts {
+    /// Their bytes.
+    pub char_strings: Vec<u8>,
+    /// Where each charstring ends, as an INDEX counts: from 1 on.
+    pub ends: Vec<usize>,
+    /// How many bytes those of the requested glyphs have.
+    pub requested: usize,
+}
+
+/// The charstring of a requested glyph under a private dict. An advance past 32,767, for which a charstring has no number, is
+/// `OverflowError`; a charstring that isn't there is `MalformedFont`.
+#[tactic(auto, unfolding(crate::specs::Plain::glyph_text))]
+fn glyph_text(
+    alloc: Global,
+    opened: &OpenTable<'_>,
+    dict: &PlacedDict<'_>,
+    glyph: u16,
+    advance: u16,
+    limits: Limits,
+) -> Result<Vec<u8>, Error>
+    ensures { Gives (λ v. v.items) result (glyph_text (opened_of opened.now).cff (opened_of opened.now).variation limits.tokens limits.depth (dict_view dict.now) glyph advance) }
+{
+    if advance > 32767 {
+        return Err(Error::OverflowError);
+    }
+    let Some(char_string) = opened.table.char_strings.get(u32::from(glyph)) else {
+        return Err(Error::MalformedFont);
+    };
+    let subroutines = Subroutines {
+        global: SubroutineHandler::new(opened.table.subroutines),
+        local: SubroutineHandler::new(dict.subroutines),
+    };
+    resolve(
+        alloc,
+        &subroutines,
+        &opened.variation,
+        &limits,
+        dict.data_index,
+        advance as i16,
+        char_string,
+    )
+}
+
+/// The charstring of a requested glyph, by the place of its private dict.
+#[tactic(auto, unfolding(crate::specs::Plain::placed_text))]
+fn placed_text(
+    alloc: Global,
+    opened: &OpenTable<'_>,
+    dicts: &[PlacedDict<'_>],
+    place: u8,
+    glyph: u16,
+    advance: u16,
+    limits: Limits,
+) -> Result<Vec<u8>, Error>
+    ensures { Gives (λ v. v.items) result (placed_text (opened_of opened.now).cff (opened_of opened.now).variation limits.tokens limits.depth (map dict_view dicts.now) place glyph advance) }
+{
+    if usize::from(place) >= dicts.len() {
+        return Err(Error::MalformedFont);
+    }
+    glyph_text(
+        alloc,
+        opened,
+        &dicts[usize::from(place)],
+        glyph,
+        advance,
+        limits,
+    )
+}
+
+/// No charstrings yet.
+fn no_texts(alloc: Global, count: usize) -> Result<Texts, Error>
+    ensures ok { IfOk result (AreTexts []) }
+    ensures err { IfErr result (λ e. e ≡ OutOfMemory) }
+{
+    Ok(Texts {
+        char_strings: Vec::with_capacity(alloc, count)?,
+        ends: Vec::with_capacity(alloc, count)?,
+        requested: 0,
+    })
+}
+
+/// Puts the bytes of a charstring behind the others.
+fn put(texts: Texts, bytes: &[u8], requested: usize) -> Result<Texts, Error>
+    ensures char_strings { IfOk result (λ t. t.char_strings.items ≡ texts.char_strings.items ++ bytes.now) }
+    ensures ends { IfOk result (λ t. t.ends.items ≡ texts.ends.items ++ (length t.char_strings.items + 1) ∷ []) }
+    ensures requested { IfOk result (λ t. t.requested ≡ requested) }
+    ensures err { IfErr result (λ e. e ≡ OutOfMemory) }
+{
+    let mut char_strings = texts.char_strings;
+    let mut ends = texts.ends;
+    char_strings.extend_from_slice(bytes)?;
+    ends.push(char_strings.len() + 1)?;
+    Ok(Texts {
+        char_strings,
+        ends,
+        requested,
+    })
+}
+
+/// Draws a glyph more. `OverflowError` also where the charstrings of the requested glyphs pass the bound on bytes.
+fn draw_next(
+    alloc: Global,
+    opened: &OpenTable<'_>,
+    dicts: &[PlacedDict<'_>],
+    place: u8,
+    glyph: u16,
+    advance: Option<u16>,
+    limits: Limits,
+    texts: Texts,
+) -> Result<Texts, Error>
+    ensures ok { IfOk result (λ t. DrawsNext (opened_of opened.now).cff (opened_of opened.now).variation limits.tokens limits.depth (map dict_view dicts.now) place glyph advance texts t) }
+    ensures err { IfErr result (λ e. FailsWithin limits.bytes (λ text. texts.requested + text_size text) e (text_if (opened_of opened.now).cff (opened_of opened.now).variation limits.tokens limits.depth (map dict_view dicts.now) place glyph advance)) }
+{
+    match advance {
+        None => {
+            let requested = texts.requested;
+            put(texts, &[14], requested)
+        }
+        Some(advance) => {
+            let text = placed_text(alloc, opened, dicts, place, glyph, advance, limits)?;
+            let requested = texts.requested.saturating_add(text.len());
+            if limits.is_past(requested) {
+                return Err(Error::OverflowError);
+            }
+            put(texts, &text, requested)
+        }
+    }
+}
+
+/// Draws all glyphs: the requested ones, and `endchar` for every other one. `OverflowError` where the charstrings of the requested
+/// glyphs pass the bound on bytes, before the next one is drawn.
+pub fn draw_texts(
+    alloc: Global,
+    opened: &OpenTable<'_>,
+    dicts: &[PlacedDict<'_>],
+    places: &[u8],
+    glyphs: &[Option<u16>],
+    limits: Limits,
+) -> Result<Texts, Error>
+    requires few { length glyphs.now ≤ 65535 }
+    requires places { length places.now ≡ length glyphs.now }
+    ensures ok { IfOk result (AreAllDrawn (opened_of opened.now).cff (opened_of opened.now).variation limits.tokens limits.depth (map dict_view dicts.now) places.now glyphs.now) }
+    ensures err { IfErr result (λ e. FailsWithin limits.bytes texts_size e (texts_from (opened_of opened.now).cff (opened_of opened.now).variation limits.tokens limits.depth (map dict_view dicts.now) places.now 0 glyphs.now)) }
+{
+    let mut texts = no_texts(alloc, glyphs.len())?;
+    for glyph in 0..glyphs.len() {
+        texts = draw_next(
+            alloc,
+            opened,
+            dicts,
+            places[glyph],
+            glyph as u16,
+            glyphs[glyph],
+            limits,
+            texts,
+        )?;
+    }
+    Ok(texts)
+}
