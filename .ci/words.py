@@ -45,7 +45,6 @@ INNOCENT = {
 COMMON = re.compile(r"(?<![\w-])(?:" + "|".join(INNOCENT) + r")(?![\w-])", re.I)
 # Document, a text in it, and why its words may stay.
 EXCEPTIONS = [
-    ("crates/pdf_text/NOTES.md", "Stands on", "documents below crates/ come with the doc comments"),
 ]
 # What a document quotes, or what no reader sees; the lines stay, so that their numbers do.
 # (code first, as it may quote the comments; a span of code ends with its paragraph)

@@ -108,7 +108,15 @@ fn a_square_is_drawn_at_its_coordinates(rt: HostRuntime) -> Result<(), Fail> {
     let alloc = rt.alloc();
     let limits = Limits::default();
     let both = [Some(500u16), Some(551)];
-    let square = made(alloc, &SQUARE, &[8192], &both, [0, 0, 1000, 1000], 1000, limits)?;
+    let square = made(
+        alloc,
+        &SQUARE,
+        &[8192],
+        &both,
+        [0, 0, 1000, 1000],
+        1000,
+        limits,
+    )?;
     assert!(rt; square.len() == 161);
     let end: &[u8] = &[
         0x00, 0x00, 0x00, 0x00, 0x01, 0x01, 0x01, 0x14, 0x8C, 0x8B, 0x8B, 0x8C, 0x8B, 0x8B, 0x0C,
@@ -119,8 +127,18 @@ fn a_square_is_drawn_at_its_coordinates(rt: HostRuntime) -> Result<(), Fail> {
     assert!(rt; square.as_slice().ends_with(end));
     // A glyph that isn't requested is empty.
     let second = [None, Some(551u16)];
-    let alone = made(alloc, &SQUARE, &[8192], &second, [0, 0, 1000, 1000], 1000, limits)?;
-    let end: &[u8] = &[0x00, 0x02, 0x01, 0x01, 0x02, 0x12, 0x0E, 0xF8, 0xBB, 0xF7, 0x11];
+    let alone = made(
+        alloc,
+        &SQUARE,
+        &[8192],
+        &second,
+        [0, 0, 1000, 1000],
+        1000,
+        limits,
+    )?;
+    let end: &[u8] = &[
+        0x00, 0x02, 0x01, 0x01, 0x02, 0x12, 0x0E, 0xF8, 0xBB, 0xF7, 0x11,
+    ];
     assert!(rt; alone.len() == 159);
     assert!(rt; &alone[132..143] == end);
     Ok(())
@@ -179,12 +197,7 @@ fn units_say_the_matrix(rt: HostRuntime) -> Result<(), Fail> {
 }
 
 /// How a table of the square is refused.
-fn refused(
-    alloc: Global,
-    bytes: &[u8],
-    glyphs: &[Option<u16>],
-    limits: Limits,
-) -> Option<Error> {
+fn refused(alloc: Global, bytes: &[u8], glyphs: &[Option<u16>], limits: Limits) -> Option<Error> {
     made(alloc, bytes, &[8192], glyphs, [0, 0, 0, 0], 1000, limits).err()
 }
 
@@ -210,6 +223,8 @@ fn wrong_tables_are_refused(rt: HostRuntime) -> Result<(), Fail> {
     let fewer = Limits::new(19, 1).ok_or("limits")?;
     assert!(rt; refused(alloc, &SQUARE, &both, fewer) == Some(Error::CFFError));
     assert!(rt; refused(alloc, &SQUARE, &both, limits.with_bytes(19)) == None);
-    assert!(rt; refused(alloc, &SQUARE, &both, limits.with_bytes(18)) == Some(Error::OverflowError));
+    assert!(rt;
+        refused(alloc, &SQUARE, &both, limits.with_bytes(18)) == Some(Error::OverflowError)
+    );
     Ok(())
 }

@@ -45,7 +45,7 @@ impl Model for Listing {
 }
 
 /// An operator with copies of its operands and its mask.
-fn listed(alloc: Global, operator: Operator, operands: &[i64], mask: &[u8]) -> Result<Listed, Error>
+fn copied(alloc: Global, operator: Operator, operands: &[i64], mask: &[u8]) -> Result<Listed, Error>
     ensures ok { IfOk result (λ l. event_of l ≡ record { operator = operator; operands = operands.now; mask = mask.now }) }
     ensures err { IfErr result (λ e. e ≡ OutOfMemory) }
 {
@@ -62,7 +62,7 @@ impl Takes for Listing {
     ghost taken = { λ e s. Ok (s ++ e ∷ []) };
 
     fn take(&mut self, operator: Operator, operands: &[i64], mask: &[u8]) -> Result<(), Error> {
-        let one = listed(self.alloc, operator, operands, mask)?;
+        let one = copied(self.alloc, operator, operands, mask)?;
         self.events.push(one)?;
         Ok(())
     }

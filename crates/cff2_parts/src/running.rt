@@ -77,7 +77,11 @@ fn find_glyph<'a>(alloc: Global, opened: &OpenTable<'a>, glyph: u16) -> Result<G
 }
 
 /// The operators of a glyph.
-fn events_of(alloc: Global, opened: &OpenTable<'_>, glyph: &Glyph<'_>) -> Result<Vec<Listed>, Error> {
+fn events_of(
+    alloc: Global,
+    opened: &OpenTable<'_>,
+    glyph: &Glyph<'_>,
+) -> Result<Vec<Listed>, Error> {
     list_events(
         alloc,
         &glyph.subroutines,
