@@ -72,9 +72,13 @@ no_table_for task bytes = no_table_by task.asked task.widths (face_of task bytes
 abbrev pub entry : List ℕ → ℕ → ℕ → Option ℕ
 entry loca format k = if format == 0 then option_map (λ half. 2 * half) (number loca (2 * k) 2) else number loca (4 * k) 4
 
+-- what is wrong with the range of a glyph's outline in glyf
+abbrev pub wrong_range : ℕ → List ℕ → ℕ → ℕ → Option Hint
+wrong_range g glyf start end = if nat_lt end start then Some (Descends g) else if nat_lt (length glyf) end then Some (Outside g) else None
+
 -- what is wrong with the outline of a glyph between two entries
 abbrev pub wrong_between : ℕ → List ℕ → Option ℕ → Option ℕ → Option Hint
-wrong_between g glyf (Some start) (Some end) = if nat_lt end start then Some (Descends g) else if nat_lt (length glyf) end then Some (Outside g) else None
+wrong_between g glyf (Some start) (Some end) = wrong_range g glyf start end
 wrong_between g glyf (Some start) None = Some (NoEntries g)
 wrong_between g glyf None end = Some (NoEntries g)
 
