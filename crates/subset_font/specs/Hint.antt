@@ -114,8 +114,15 @@ cff2_in None = None
 abbrev pub is_cff2 : Font → Option Hint
 is_cff2 font = cff2_in (stored font (codes "CFF2"))
 
+-- what isn't there of a face: the face itself or a listed glyph; or a table
+abbrev pub no_face_or_glyph : Task → List ℕ → Option Hint
+no_face_or_glyph task bytes = or_else (no_face bytes task.index) (no_glyph (face_of task bytes) task.asked)
+
+abbrev pub no_part : Task → List ℕ → Option Hint
+no_part task bytes = or_else (no_face_or_glyph task bytes) (no_table_for task bytes)
+
 abbrev pub hint_of_malformed : Task → List ℕ → Option Hint
-hint_of_malformed task bytes = or_else (or_else (or_else (no_face bytes task.index) (no_glyph (face_of task bytes) task.asked)) (no_table_for task bytes)) (no_outline task bytes)
+hint_of_malformed task bytes = or_else (no_part task bytes) (no_outline task bytes)
 
 abbrev pub hint_of_error : Refusal → Task → List ℕ → Option Hint
 hint_of_error UnknownKind task bytes = or_else (packed bytes) (no_face bytes task.index)

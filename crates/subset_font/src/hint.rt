@@ -4,7 +4,7 @@ ghost use Rattle.std.specs.Prelude.{◌≡◌, ◌≤◌};
 ghost use Rattle.subsetter_sfnt.specs.Extras.{all_extras};
 ghost use Rattle.subset_font.specs.Asked.{face_glyphs};
 ghost use Rattle.subset_font.specs.Made.{face_of};
-ghost use Rattle.subset_font.specs.Hint.{packed, face_count, no_face, first_past, no_glyph, no_table, no_table_for_widths, no_table_for, entry, wrong_range, wrong_between, wrong_outline, first_wrong, listed, no_outline, is_cff2, hint_of_malformed, hint_of_error, hint_of_mapping, axes_hint_of_error, axes_hint, hint_of};
+ghost use Rattle.subset_font.specs.Hint.{packed, face_count, no_face, first_past, no_glyph, no_table, no_table_for_widths, no_table_for, entry, wrong_range, wrong_between, wrong_outline, first_wrong, listed, no_outline, is_cff2, no_face_or_glyph, no_part, hint_of_malformed, hint_of_error, hint_of_mapping, axes_hint_of_error, axes_hint, hint_of};
 
 use crate::face::{count_glyphs, table};
 use crate::failure::Failure;
@@ -247,14 +247,25 @@ fn is_cff2(font: &[u8], index: u32) -> Option<Hint>
     }
 }
 
+/// What isn't there of a face: the face itself, or a listed glyph.
+fn no_face_or_glyph(font: &[u8], task: &Task<'_>) -> Option<Hint>
+    ensures { result ≡ no_face_or_glyph task.now font.now }
+{
+    no_face(font, task.index).or(no_glyph(font, task))
+}
+
+/// What isn't there of a face: the same, or a table.
+fn no_part(font: &[u8], task: &Task<'_>) -> Option<Hint>
+    ensures { result ≡ no_part task.now font.now }
+{
+    no_face_or_glyph(font, task).or(no_table_for(font, task))
+}
+
 /// What more can be said of a face that is malformed.
 fn hint_of_malformed(font: &[u8], task: &Task<'_>) -> Option<Hint>
     ensures { result ≡ hint_of_malformed task.now font.now }
 {
-    no_face(font, task.index)
-        .or(no_glyph(font, task))
-        .or(no_table_for(font, task))
-        .or(no_outline(font, task))
+    no_part(font, task).or(no_outline(font, task))
 }
 
 /// What more can be said of a font that is refused by an error.

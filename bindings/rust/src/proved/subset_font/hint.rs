@@ -218,12 +218,19 @@ fn is_cff2(font: &[u8], index: u32) -> Option<Hint> {
     }
 }
 
+/// What isn't there of a face: the face itself, or a listed glyph.
+fn no_face_or_glyph(font: &[u8], task: &Task<'_>) -> Option<Hint> {
+    no_face(font, task.index).or(no_glyph(font, task))
+}
+
+/// What isn't there of a face: the same, or a table.
+fn no_part(font: &[u8], task: &Task<'_>) -> Option<Hint> {
+    no_face_or_glyph(font, task).or(no_table_for(font, task))
+}
+
 /// What more can be said of a face that is malformed.
 fn hint_of_malformed(font: &[u8], task: &Task<'_>) -> Option<Hint> {
-    no_face(font, task.index)
-        .or(no_glyph(font, task))
-        .or(no_table_for(font, task))
-        .or(no_outline(font, task))
+    no_part(font, task).or(no_outline(font, task))
 }
 
 /// What more can be said of a font that is refused by an error.
