@@ -29,10 +29,12 @@ ALLOWED = {
     ("subset_font", "text_of"): (1, "`json_numbers` writes into a vector, which has no other error"),
     ("subset_font", "after_name"): (1, "`collect` takes memory and has no other error"),
     ("subset_font", "words"): (2, "the system's own error for memory"),
-    ("subset_font", "command"): (2, "passes on that of `read_words`"),
+    ("subset_args", "read_either"): (2, "passes on that of `read_by_options`"),
+    ("subset_font", "run_words"): (2, "passes on that of `read_words`"),
+    ("subset_font", "unread"): (1, "a failure to read of which the reader kept no error is one of memory"),
     ("subset_font", "read_list_file"): (2, "passes on that of `read_list`"),
-    ("subset_font", "perform"): (1, "`BufWriter::new` takes memory and has no other error"),
-    ("subset_font", "perform_axes"): (1, "`BufWriter::new` takes memory and has no other error"),
+    ("subset_font", "carry_buffered"): (1, "`BufWriter::new` takes memory and has no other error"),
+    ("subset_font", "axes_buffered"): (1, "`BufWriter::new` takes memory and has no other error"),
 }
 
 WORDS = re.compile(r"\bOutOfMemory\b|\b(?:AllocError|AllocFailed)\b(?!\s*[>,}]|<\w)")

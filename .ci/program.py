@@ -1195,6 +1195,15 @@ def check_closed(table, room):
         table.demand(os.path.exists(os.path.join(room, "out")) == is_made, f"{words}: stream {number} is closed: OUT", got)
 
 
+def check_number_of_output(table, room):
+    """No file gets the number of standard output that is closed at the start: OUT has the font alone, without a line."""
+    got = table.start(["-", "out", "0", "2"], room, preexec_fn=lambda: os.close(1), input=SIMPLE)
+    wanted = (0, b"") if table.is_cargo else (3, NO_OUTPUT)
+    table.otherwise += table.is_cargo
+    table.demand((got.returncode, got.stderr) == wanted, "standard output is closed, and IN is standard input", got)
+    table.demand(take(os.path.join(room, "out")) == SIMPLE_2, "standard output is closed: OUT", take(os.path.join(room, "out")))
+
+
 def main():
     words = argparse.ArgumentParser(usage=__doc__)
     words.add_argument("--program", default=os.path.join(ROOT, "crates", "subset_font", "out", "subset_font"))
@@ -1208,7 +1217,7 @@ def main():
         if given.only in str(row.words) or row.same:
             with tempfile.TemporaryDirectory(prefix="program-") as room:
                 table.run_row(row, room)
-    for check in (check_words, check_places, check_links, check_rights, check_streams, check_closed, check_many, check_memory,
+    for check in (check_words, check_places, check_links, check_rights, check_streams, check_closed, check_number_of_output, check_many, check_memory,
                   check_refused_memory, check_refused_names, check_little_room, check_kept_room, check_failed_calls):
         with tempfile.TemporaryDirectory(prefix="program-") as room:
             check(table, room)

@@ -72,9 +72,13 @@ no_table_for task bytes = no_table_by task.asked task.widths (face_of task bytes
 abbrev pub entry : List ℕ → ℕ → ℕ → Option ℕ
 entry loca format k = if format == 0 then option_map (λ half. 2 * half) (number loca (2 * k) 2) else number loca (4 * k) 4
 
+-- what is wrong with the range of a glyph's outline in glyf
+abbrev pub wrong_range : ℕ → List ℕ → ℕ → ℕ → Option Hint
+wrong_range g glyf start end = if nat_lt end start then Some (Descends g) else if nat_lt (length glyf) end then Some (Outside g) else None
+
 -- what is wrong with the outline of a glyph between two entries
 abbrev pub wrong_between : ℕ → List ℕ → Option ℕ → Option ℕ → Option Hint
-wrong_between g glyf (Some start) (Some end) = if nat_lt end start then Some (Descends g) else if nat_lt (length glyf) end then Some (Outside g) else None
+wrong_between g glyf (Some start) (Some end) = wrong_range g glyf start end
 wrong_between g glyf (Some start) None = Some (NoEntries g)
 wrong_between g glyf None end = Some (NoEntries g)
 
@@ -110,8 +114,15 @@ cff2_in None = None
 abbrev pub is_cff2 : Font → Option Hint
 is_cff2 font = cff2_in (stored font (codes "CFF2"))
 
+-- what isn't there of a face: the face itself or a listed glyph; or a table
+abbrev pub no_face_or_glyph : Task → List ℕ → Option Hint
+no_face_or_glyph task bytes = or_else (no_face bytes task.index) (no_glyph (face_of task bytes) task.asked)
+
+abbrev pub no_part : Task → List ℕ → Option Hint
+no_part task bytes = or_else (no_face_or_glyph task bytes) (no_table_for task bytes)
+
 abbrev pub hint_of_malformed : Task → List ℕ → Option Hint
-hint_of_malformed task bytes = or_else (or_else (or_else (no_face bytes task.index) (no_glyph (face_of task bytes) task.asked)) (no_table_for task bytes)) (no_outline task bytes)
+hint_of_malformed task bytes = or_else (no_part task bytes) (no_outline task bytes)
 
 abbrev pub hint_of_error : Refusal → Task → List ℕ → Option Hint
 hint_of_error UnknownKind task bytes = or_else (packed bytes) (no_face bytes task.index)

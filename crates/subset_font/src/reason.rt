@@ -20,11 +20,6 @@ impl<T: Drop> Noted<T> {
         }
     }
 
-    /// The reader or writer.
-    pub fn inner(&self) -> &T {
-        &self.inner
-    }
-
     /// Why it failed last.
     pub fn reason(&self) -> Option<io::Error> {
         self.reason

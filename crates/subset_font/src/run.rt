@@ -5,7 +5,7 @@ ghost use Rattle.std.specs.Process.{exit_status};
 ghost use Rattle.std.specs.Vec.Iter.{into_iter_items};
 ghost use Rattle.subset_font.specs.Chosen.{IsListFor, wanted_of, wanted_for, IsTaskOf};
 ghost use Rattle.subset_font.specs.Failure.{status_of_end};
-ghost use Rattle.subset_font.specs.declared.failure.Failure.TheVariants.{Error as Refused, Usage};
+ghost use Rattle.subset_font.specs.declared.failure.Failure.TheVariants.{Error as Refused, Read as CannotRead, Usage};
 ghost use Rattle.subsetter_base.specs.declared.error.Error.TheVariants.{OutOfMemory};
 
 use crate::axes::{axes_there, carry_axes, has_axis};
@@ -129,13 +129,41 @@ fn task_of<'a>(job: &'a Job, list: &'a Option<GlyphList>) -> Task<'a>
     }
 }
 
-/// Room for the bytes of a file and for one more, so that its end is seen without a growth. None is taken for a stream.
-fn room_of<F: OpenFile + Read + Drop, S: Read + Drop>(source: &Source<F, S>) -> io::Result<usize> {
+/// Opens the font's file or stream. Why it can't be opened is kept.
+fn open_font<R: Files + Input>(
+    rt: &R,
+    name: &str,
+    reason: &mut Option<io::Error>,
+) -> Result<Source<R::File, R::Reader>, Failure>
+    ensures { IfErr result (λ e. e ≡ CannotRead) }
+{
+    match open_source(rt, name) {
+        Ok(source) => Ok(source),
+        Err(error) => {
+            *reason = Some(error);
+            Err(Failure::Read)
+        }
+    }
+}
+
+/// Room for the bytes of a file and for one more, so that its end is seen without a growth. None is taken for a stream. Why
+/// the size can't be had is kept.
+fn room_of<F: OpenFile + Read + Drop, S: Read + Drop>(
+    source: &Source<F, S>,
+    reason: &mut Option<io::Error>,
+) -> Result<usize, Failure>
+    ensures { IfErr result (λ e. e ≡ CannotRead) }
+{
     let Source::File(file) = source else {
         return Ok(0);
     };
-    let about = file.metadata()?;
-    Ok(usize::try_from(about.len()).unwrap_or(0).saturating_add(1))
+    match file.metadata() {
+        Ok(about) => Ok(usize::try_from(about.len()).unwrap_or(0).saturating_add(1)),
+        Err(error) => {
+            *reason = Some(error);
+            Err(Failure::Read)
+        }
+    }
 }
 
 /// Does a task between a reader and two writers, the second of them behind a buffer.
@@ -156,16 +184,6 @@ fn carry_buffered<R: Read, W: Write, L: Write>(
     carry_out(alloc, task, input, room, source, output, &mut lines)
 }
 
-/// Opens the font's file or stream, and finds the room for its bytes.
-fn open_font<R: Files + Input>(
-    rt: &R,
-    name: &str,
-) -> io::Result<(Noted<Source<R::File, R::Reader>>, usize)> {
-    let source = open_source(rt, name)?;
-    let room = room_of(&source)?;
-    Ok((Noted::new(source), room))
-}
-
 /// Does a task on files and the standard streams. The output's file is made by its first write. Why the system refused one
 /// is kept.
 fn perform<R: Files + Print + Eprint + Input + AllocGlobal>(
@@ -177,13 +195,9 @@ fn perform<R: Files + Print + Eprint + Input + AllocGlobal>(
 ) -> Result<(), Failure>
     ensures { IfErr result (λ e. e ≢ Usage) }
 {
-    let (mut input, room) = match open_font(rt, job.input.as_str()) {
-        Ok(opened) => opened,
-        Err(error) => {
-            *reason = Some(error);
-            return Err(Failure::Read);
-        }
-    };
+    let opened = open_font(rt, job.input.as_str(), reason)?;
+    let room = room_of(&opened, reason)?;
+    let mut input = Noted::new(opened);
     let mut output = Noted::new(Target::new(rt, job.output.as_str()));
     let mut lines = Noted::new(lines_beside(rt, job.output.as_str()));
     let ended = carry_buffered(
@@ -302,13 +316,9 @@ fn perform_axes<R: Files + Print + Input + AllocGlobal>(
 ) -> Result<(), Failure>
     ensures { IfErr result (λ e. e ≢ Usage) }
 {
-    let (mut input, room) = match open_font(rt, input) {
-        Ok(opened) => opened,
-        Err(error) => {
-            *reason = Some(error);
-            return Err(Failure::Read);
-        }
-    };
+    let opened = open_font(rt, input, reason)?;
+    let room = room_of(&opened, reason)?;
+    let mut input = Noted::new(opened);
     let mut lines = Noted::new(io::writer(rt));
     let ended = axes_buffered(rt.alloc(), index, &mut input, room, source, &mut lines);
     *reason = reason_of(&ended, input.reason(), None, lines.reason());

@@ -117,15 +117,22 @@ fn no_table(font: &[u8], index: u32, tag: Tag) -> Option<Hint> {
     }
 }
 
+/// Whether a face lacks the table of the widths, where they are requested.
+fn no_table_for_widths(font: &[u8], index: u32, widths: bool) -> Option<Hint> {
+    if widths {
+        no_table(font, index, Tag::HMTX)
+    } else {
+        None
+    }
+}
+
 /// Whether a face lacks a table that only this task needs: one for its widths, or for the count of its glyphs.
 fn no_table_for(font: &[u8], task: &Task<'_>) -> Option<Hint> {
-    if let Asked::Every = task.asked {
-        return no_table(font, task.index, Tag::MAXP);
+    match task.asked {
+        Asked::Every => no_table(font, task.index, Tag::MAXP),
+        Asked::These(_) => no_table_for_widths(font, task.index, task.widths),
+        Asked::ByText(_) => no_table_for_widths(font, task.index, task.widths),
     }
-    if task.widths {
-        return no_table(font, task.index, Tag::HMTX);
-    }
-    None
 }
 
 /// An entry of `loca`: an offset, or in the format 0 half of one.
@@ -138,14 +145,8 @@ fn entry(loca: &[u8], format: u16, index: usize) -> Option<u64> {
     Some(u64::from(offset))
 }
 
-/// What is wrong with the outline of a glyph between two entries of `loca`.
-fn wrong_between(glyph: u16, glyf: &[u8], start: Option<u64>, end: Option<u64>) -> Option<Hint> {
-    let (start, end) = match (start, end) {
-        (Some(start), Some(end)) => (start, end),
-        _ => {
-            return Some(Hint::NoEntries(glyph));
-        }
-    };
+/// What is wrong with the range of an outline in `glyf`.
+fn wrong_range(glyph: u16, glyf: &[u8], start: u64, end: u64) -> Option<Hint> {
     if end < start {
         return Some(Hint::Descends(glyph));
     }
@@ -153,6 +154,15 @@ fn wrong_between(glyph: u16, glyf: &[u8], start: Option<u64>, end: Option<u64>) 
         return Some(Hint::Outside(glyph));
     }
     None
+}
+
+/// What is wrong with the outline of a glyph between two entries of `loca`.
+fn wrong_between(glyph: u16, glyf: &[u8], start: Option<u64>, end: Option<u64>) -> Option<Hint> {
+    match (start, end) {
+        (Some(start), Some(end)) => wrong_range(glyph, glyf, start, end),
+        (Some(_), None) => Some(Hint::NoEntries(glyph)),
+        (None, _) => Some(Hint::NoEntries(glyph)),
+    }
 }
 
 /// What is wrong with the place of a glyph's outline.
@@ -176,7 +186,8 @@ fn first_wrong(glyf: &[u8], loca: &[u8], format: u16, glyphs: &[u16]) -> Option<
 fn listed<'a>(asked: &Asked<'a>) -> &'a [u16] {
     match *asked {
         Asked::These(glyphs) => glyphs,
-        Asked::Every | Asked::ByText(_) => &[],
+        Asked::Every => &[],
+        Asked::ByText(_) => &[],
     }
 }
 
@@ -207,12 +218,19 @@ fn is_cff2(font: &[u8], index: u32) -> Option<Hint> {
     }
 }
 
+/// What isn't there of a face: the face itself, or a listed glyph.
+fn no_face_or_glyph(font: &[u8], task: &Task<'_>) -> Option<Hint> {
+    no_face(font, task.index).or(no_glyph(font, task))
+}
+
+/// What isn't there of a face: the same, or a table.
+fn no_part(font: &[u8], task: &Task<'_>) -> Option<Hint> {
+    no_face_or_glyph(font, task).or(no_table_for(font, task))
+}
+
 /// What more can be said of a face that is malformed.
 fn hint_of_malformed(font: &[u8], task: &Task<'_>) -> Option<Hint> {
-    no_face(font, task.index)
-        .or(no_glyph(font, task))
-        .or(no_table_for(font, task))
-        .or(no_outline(font, task))
+    no_part(font, task).or(no_outline(font, task))
 }
 
 /// What more can be said of a font that is refused by an error.
@@ -230,11 +248,19 @@ fn hint_of_mapping(font: &[u8], index: u32) -> Option<Hint> {
     no_table(font, index, Tag::new(b"cmap")).or(Some(Hint::NoUnicode))
 }
 
+/// What more can be said of a font whose axes can't be printed, by an error.
+fn axes_hint_of_error(error: Error, font: &[u8], index: u32) -> Option<Hint> {
+    match error {
+        Error::UnknownKind => packed(font).or(no_face(font, index)),
+        Error::MalformedFont => Some(Hint::WrongAxes),
+        _ => None,
+    }
+}
+
 /// What more can be said of a font whose axes can't be printed.
 pub fn find_axes_hint(failure: &Failure, font: &[u8], index: u32) -> Option<Hint> {
     match failure {
-        Failure::Error(Error::UnknownKind) => packed(font).or(no_face(font, index)),
-        Failure::Error(Error::MalformedFont) => Some(Hint::WrongAxes),
+        Failure::Error(error) => axes_hint_of_error(*error, font, index),
         _ => None,
     }
 }

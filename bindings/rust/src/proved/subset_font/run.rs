@@ -110,16 +110,40 @@ fn task_of<'a>(job: &'a Job, list: &'a Option<GlyphList>) -> Task<'a> {
     }
 }
 
-/// Room for the bytes of a file and for one more, so that its end is seen without a growth. None is taken for a stream.
-fn room_of<F: OpenFile + Read, S: Read>(source: &Source<F, S>) -> io::Result<usize> {
+/// Opens the font's file or stream. Why it can't be opened is kept.
+fn open_font<R: Files + Input>(
+    rt: &R,
+    name: &str,
+    reason: &mut Option<io::Error>,
+) -> Result<Source<R::File, R::Reader>, Failure> {
+    match open_source(rt, name) {
+        Ok(source) => Ok(source),
+        Err(error) => {
+            *reason = Some(error);
+            Err(Failure::Read)
+        }
+    }
+}
+
+/// Room for the bytes of a file and for one more, so that its end is seen without a growth. None is taken for a stream. Why
+/// the size can't be had is kept.
+fn room_of<F: OpenFile + Read, S: Read>(
+    source: &Source<F, S>,
+    reason: &mut Option<io::Error>,
+) -> Result<usize, Failure> {
     let file = match source {
         Source::File(file) => file,
         _ => {
             return Ok(0);
         }
     };
-    let about = file.metadata()?;
-    Ok(usize::try_from(about.len()).unwrap_or(0).saturating_add(1))
+    match file.metadata() {
+        Ok(about) => Ok(usize::try_from(about.len()).unwrap_or(0).saturating_add(1)),
+        Err(error) => {
+            *reason = Some(error);
+            Err(Failure::Read)
+        }
+    }
 }
 
 /// Does a task between a reader and two writers, the second of them behind a buffer.
@@ -141,16 +165,6 @@ fn carry_buffered<R: Read, W: Write, L: Write>(
     carry_out(alloc, task, input, room, source, output, &mut lines)
 }
 
-/// Opens the font's file or stream, and finds the room for its bytes.
-fn open_font<R: Files + Input>(
-    rt: &R,
-    name: &str,
-) -> io::Result<(Noted<Source<R::File, R::Reader>>, usize)> {
-    let source = open_source(rt, name)?;
-    let room = room_of(&source)?;
-    Ok((Noted::new(source), room))
-}
-
 /// Does a task on files and the standard streams. The output's file is made by its first write. Why the system refused one
 /// is kept.
 fn perform<R: Files + Print + Eprint + Input + AllocGlobal>(
@@ -160,13 +174,9 @@ fn perform<R: Files + Print + Eprint + Input + AllocGlobal>(
     source: &mut Vec<u8>,
     reason: &mut Option<io::Error>,
 ) -> Result<(), Failure> {
-    let (mut input, room) = match open_font(rt, job.input.as_str()) {
-        Ok(opened) => opened,
-        Err(error) => {
-            *reason = Some(error);
-            return Err(Failure::Read);
-        }
-    };
+    let opened = open_font(rt, job.input.as_str(), reason)?;
+    let room = room_of(&opened, reason)?;
+    let mut input = Noted::new(opened);
     let mut output = Noted::new(Target::new(rt, job.output.as_str()));
     let mut lines = Noted::new(lines_beside(rt, job.output.as_str()));
     let ended = carry_buffered(
@@ -283,13 +293,9 @@ fn perform_axes<R: Files + Print + Input + AllocGlobal>(
     source: &mut Vec<u8>,
     reason: &mut Option<io::Error>,
 ) -> Result<(), Failure> {
-    let (mut input, room) = match open_font(rt, input) {
-        Ok(opened) => opened,
-        Err(error) => {
-            *reason = Some(error);
-            return Err(Failure::Read);
-        }
-    };
+    let opened = open_font(rt, input, reason)?;
+    let room = room_of(&opened, reason)?;
+    let mut input = Noted::new(opened);
     let mut lines = Noted::new(io::writer(rt));
     let ended = axes_buffered(rt.alloc(), index, &mut input, room, source, &mut lines);
     *reason = reason_of(&ended, input.reason(), None, lines.reason());
