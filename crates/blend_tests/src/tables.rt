@@ -140,7 +140,8 @@ fn a_square_is_drawn_at_its_coordinates(rt: HostRuntime) -> Result<(), Fail> {
         0x00, 0x02, 0x01, 0x01, 0x02, 0x12, 0x0E, 0xF8, 0xBB, 0xF7, 0x11,
     ];
     assert!(rt; alone.len() == 159);
-    assert!(rt; &alone[132..143] == end);
+    // (its CharStrings INDEX is the last 23 bytes: 6 in front of the charstrings, of 1 and 16)
+    assert!(rt; &alone[136..147] == end);
     Ok(())
 }
 
@@ -217,10 +218,10 @@ fn wrong_tables_are_refused(rt: HostRuntime) -> Result<(), Fail> {
     // An advance past the numbers of a charstring.
     let wide = [Some(500u16), Some(32768)];
     assert!(rt; refused(alloc, &SQUARE, &wide, limits) == Some(Error::OverflowError));
-    // A token fewer than the square has, and a byte fewer than both charstrings have.
-    let tokens = Limits::new(20, 1).ok_or("limits")?;
+    // A token fewer than the 21 of the square, and a byte fewer than both charstrings have.
+    let tokens = Limits::new(21, 1).ok_or("limits")?;
     assert!(rt; refused(alloc, &SQUARE, &both, tokens) == None);
-    let fewer = Limits::new(19, 1).ok_or("limits")?;
+    let fewer = Limits::new(20, 1).ok_or("limits")?;
     assert!(rt; refused(alloc, &SQUARE, &both, fewer) == Some(Error::CFFError));
     assert!(rt; refused(alloc, &SQUARE, &both, limits.with_bytes(19)) == None);
     assert!(rt;
