@@ -59,8 +59,10 @@ EXAMPLES = [
 ]
 # Logs of a gate: which words were given, and what it printed; the first alone is recorded.
 PASSED = "1:02 rt ci: passed\nthe bindings (bindings): passed in 60 s\n"
+KEPT = "".join(f"0:16 rt: {it} is kept: an earlier run on this machine proved the same files\n" for it in ("cmap", "late_file", "cmap"))
 LOGS = [
     ("a gate that passed", True, [], PASSED + "812 passed, 0 failed\n"),
+    ("a gate with crates proved before", True, [], KEPT + PASSED + "812 passed, 0 failed\n"),
     ("a gate with a named skip", True, ["SKIP=js"], PASSED + "the page (js): skipped, as was asked for\n812 passed, 0 failed\n"),
     ("a gate that failed", False, [], PASSED + "812 passed, 1 failed\n"),
     ("a gate of another history", False, [], PASSED + "812 passed, 0 failed\n"),
@@ -136,6 +138,7 @@ def try_logs(folder):
         shown = open(readme, encoding="utf-8").read()
         line = " ".join(["make test", *words])
         is_well = (status == 0 and f"`{line}`" in shown and "61 minutes on" in shown) if is_kept else status != 0 and after == before
+        is_well = is_well and (", 2 crates proved before (" in shown) == (KEPT in text)
         missed += not is_well
         print(f"{'recorded' if after != before else 'refused'}{'' if is_well else ', WRONGLY'}: {name}: {said.strip()[:150]}")
         run(folder, "git", "checkout", "-q", "--", ".")

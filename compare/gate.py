@@ -40,7 +40,7 @@ def run(words):
 
 
 def kept(text, words):
-    """The lines of a gate that passed which are kept: what its parts took, what was skipped, and the sum."""
+    """The lines of a gate that passed which are kept: crates proved before, what its parts took, what was skipped, and the sum."""
     lines = [line.strip() for line in text.strip().split("\n")]
     if not re.fullmatch(r"[1-9]\d* passed, 0 failed", lines[-1]):
         sys.exit(f"gate: the last line is {lines[-1]!r}, and no gate that passed")
@@ -49,7 +49,9 @@ def kept(text, words):
         sys.exit(f"gate: {failed[0]}")
     if not words and any(line.endswith("skipped, as was asked for") for line in lines):
         sys.exit("gate: parts were skipped: name them, as in SKIP=NAME,..")
-    return [line for line in lines if re.search(r"\): passed in \d+ s$|skipped, as was asked for$", line)] + lines[-1:]
+    before = {found[1] for found in (re.search(r"rt: (\w+) is kept: an earlier run on this machine proved", line) for line in lines) if found}
+    parts = [line for line in lines if re.search(r"\): passed in \d+ s$|skipped, as was asked for$", line)]
+    return [f"{len(before)} crates proved before by `rt ci` on the machine"] * bool(before) + parts + lines[-1:]
 
 
 def clean_commit():

@@ -64,8 +64,10 @@ def gate():
     """The last whole gate that was seen to pass."""
     found = results_of.result("gate")
     minutes = re.search(r"^(\d+) minutes$", "\n".join(found.body), re.M)[1]
+    before = re.search(r"^(\d+) crates proved before", "\n".join(found.body), re.M)
     return (f"The last whole `{found.command}` seen to pass was of commit {results_of.mark(found)}, on {found.date}: {minutes} minutes on "
-            f"{re.split('[,;]', found.machine)[0]} ([result](results:{comparisons.page_of('gate')})).")
+            f"{re.split('[,;]', found.machine)[0]}{f', {before[1]} crates proved before' if before else ''} "
+            f"([result](results:{comparisons.page_of('gate')})).")
 
 
 BLOCKS = {
