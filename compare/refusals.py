@@ -209,15 +209,16 @@ def base_of(name, data, glyphs, room, front=()):
 def check_program(name, data, glyphs, room, front=()):
     """The program ends with its status at each refused request, and OUT isn't touched."""
     base, whole = base_of(name, data, glyphs, room, front)
-    memory, in_reading = (1, b"out of memory\n"), (3, b"cannot read in\n")
+    memory, in_reading = (1, b"out of memory\n"), (3, b"cannot read in\nout of memory\n")
     texts = {"reading": [in_reading], "before": [memory], "after": [memory]}
     if "--gids-file" in front:
         # The file that is read first is the list.
-        texts = {"reading": [(3, b"cannot read list\n")], "before": [memory], "after": [memory, in_reading]}
-    counts = dict.fromkeys([*texts, "no change"], 0)
+        texts = {"reading": [(3, b"cannot read list\nout of memory\n")], "before": [memory], "after": [memory, in_reading]}
+    counts, buffers = dict.fromkeys([*texts, "no change"], 0), 0
     for number in itertools.count(1):
         got = run_font(room, glyphs, front, REFUSE=number)
         if got.refused == 0:
+            demand(buffers <= 1, f"subset_font on {name}: {buffers} buffers before the first read", base)
             return counts
         what = f"subset_font on {name}, request {number} ({got.stage})"
         gives_back(base, got, what)
@@ -226,13 +227,18 @@ def check_program(name, data, glyphs, room, front=()):
             demand((got.out, got.err, take(room, "out")) == (base.out, b"", whole), what, got)
             counts["no change"] += 1
             continue
-        demand(not got.is_less and (got.status, got.err) in texts.get(got.stage, []), what, got)
+        # (once IN is open, and before it is read, the buffer in front of the standard output is asked for)
+        is_buffer = got.stage == "reading" and got.calls["read"] == 0 and (got.status, got.err) == memory
+        buffers += is_buffer
+        demand(not got.is_less and (is_buffer or (got.status, got.err) in texts.get(got.stage, [])), what, got)
         demand(got.out == b"" and take(room, "out") == OLD, f"{what}: something was written", got)
         counts[got.stage] += 1
 
 
+# What the system says of a failed call: EIO.
+REASON = b"Input/output error (os error 5)\n"
 # What the program does without: to look at the file that the lines go to and at OUT, and a file beside OUT.
-DISPENSABLE = {("open", 3), *(("size", number) for number in (1, 2, 4, 5, 6))}
+DISPENSABLE = {("open", 3), *(("size", number) for number in (2, 3, 4, 5, 6))}
 
 
 def check_files(name, data, glyphs, room):
@@ -247,12 +253,12 @@ def check_files(name, data, glyphs, room):
             if (what, number) in DISPENSABLE:
                 demand(told == (0, b"") and got.out == base.out and out == whole, case, got)
             elif what == "write1":
-                demand(told == (3, b"cannot write standard output\n") and out == whole, case, got)
+                demand(told == (3, b"cannot write standard output\n" + REASON) and out == whole, case, got)
                 demand(base.out.startswith(got.out), case, got)
             elif what in ("write", "rename", "sync") or (what, number) == ("open", 2):
-                demand(told == (3, b"cannot write out\n") and got.out == b"" and out == OLD, case, got)
+                demand(told == (3, b"cannot write out\n" + REASON) and got.out == b"" and out == OLD, case, got)
             else:
-                demand(told == (3, b"cannot read in\n") and got.out == b"" and out == OLD, case, got)
+                demand(told == (3, b"cannot read in\n" + REASON) and got.out == b"" and out == OLD, case, got)
             gives_back(base, got, case)
         demand(base.calls[what] > 0, f"subset_font on {name} makes no call of {what}", base)
         counts[what] = base.calls[what]
@@ -260,9 +266,11 @@ def check_files(name, data, glyphs, room):
 
 
 def check_silence(room):
-    """Where the standard error fails, too, the status tells all the same."""
-    got = run([FONT, "none", "out", "0", "1"], room, FAIL="write2:1")
-    demand((got.status, got.err) == (3, b""), "subset_font without a standard error", got)
+    """Where the standard error fails, too, the status tells all the same; a line of two that fails leaves the other."""
+    lines = [b"cannot read none\n", b"No such file or directory (os error 2)\n"]
+    for number, left in ((1, lines[1]), (2, lines[0]), (3, b"".join(lines))):
+        got = run([FONT, "none", "out", "0", "1"], room, FAIL=f"write2:{number}")
+        demand((got.status, got.err) == (3, left), f"subset_font where write {number} to the standard error fails", got)
 
 
 # ---- all

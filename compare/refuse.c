@@ -7,8 +7,8 @@
  *     SPARE=BYTES    from when a file is made on, a request is refused where more than so many bytes above what is held
  *                    then would be held
  *     WITHIN=clock   requests count from the first reading of the clock to the second: what a program times
- *     FAIL=WHAT:N    the Nth call of WHAT fails: open, size, read, write, write1 and write2 for the standard streams,
- *                    rename, or sync
+ *     FAIL=WHAT:N    the Nth call of WHAT fails: open (of `/` apart), size, read, write, write1 and write2 for the standard
+ *                    streams, rename, or sync
  *     ERROR=E        it says the error of that number, and not EIO
  *     TOLD=FILE      gets the counts at the end, where the last refused request stood, and whether it gave back a part of a
  *                    block (`less`) or asked for memory (`more`)
@@ -106,6 +106,8 @@ int clock_gettime(clockid_t id, struct timespec *now) {
 }
 
 static int opened(int folder, const char *name, int how, mode_t rights) {
+    /* (the program opens `/` to hold the numbers of closed standard streams: no file of a request) */
+    if (name[0] == '/' && !name[1]) return syscall(SYS_openat, folder, name, how, rights);
     if (fails(OPEN)) return -1;
     int writes = (how & O_ACCMODE) != O_RDONLY;
     stage = writes ? WRITING : stage == BEFORE ? READING : stage;
