@@ -5,8 +5,9 @@
 
 It needs Debian (it installs libharfbuzz0b and python3-fonttools by apt-get, which wants root, unless --no-install) and
 cff2_parts, which `rt run` builds in crates/cff2_parts (--program names another). The fonts are that crate's own and each font
-with the table `CFF2` in a FOLDER: Cantarell-VF.otf is in Debian's source package fonts-cantarell, and others are among the
-tests in that of harfbuzz.
+with the table `CFF2` in a FOLDER. Cantarell-VF.otf (`prebuilt` of Debian's source package fonts-cantarell) and
+AdobeVFPrototype.otf (`test/subset/data/fonts` of harfbuzz) have to be among them, unless --only names others; harfbuzz has
+more in `test/api/fonts` and `test/shape/data/text-rendering-tests/fonts`.
 
 It compares
 
@@ -15,16 +16,16 @@ It compares
     places   at N places (20), random and the same in each run by the seed, for all glyphs (or N of them): the written
              charstring, as fontTools draws it, must have the parts of HarfBuzz's drawing of the source, and each coordinate
              must be HarfBuzz's, rounded once by halves up. Where HarfBuzz's float is within 0.001 of a half, it must be what
-             exact fractions, by fontTools' reading of the operands and this script's reading of regions, come to. The width
-             must be the advance that was requested, and no operator may have more than 48 operands
+             exact fractions, by fontTools' reading of the operands and this script's reading of regions, come to. The edges of
+             its stems must be those of these fractions, each rounded once, with the same masks. The width must be the advance
+             that was requested, and no operator may have more than 48 operands
 
 A glyph that the port refuses is counted as a difference. The last line says how many were compared, and the status is 1
 where one differs, or nothing was compared.
 """
-import argparse
-import concurrent.futures
 import fractions
 import glob
+import itertools
 import math
 import os
 import random
@@ -32,6 +33,7 @@ import subprocess
 import sys
 
 import build
+import by_font
 import fonts
 import instance
 
@@ -45,6 +47,8 @@ CLOSED = 0.01
 ADVANCE = 1234
 # A program is given so many glyphs at a time.
 GLYPHS_AT_ONCE = 200
+# Real fonts, of which all glyphs have to be compared.
+WHOLE = ["Cantarell-VF.otf", "AdobeVFPrototype.otf"]
 
 
 # ---- the port
@@ -244,17 +248,30 @@ def drawn_exactly(events):
     return pen.path
 
 
-def longest(charstring):
-    """The greatest number of operands in front of an operator of a charstring without subroutines."""
-    class Counter(recorder()):
-        pass
-
+def written(charstring):
+    """The operators of a charstring without subroutines, but for `endchar`."""
     from fontTools.misc import psCharStrings
 
-    reader = Counter([], [])
+    reader = recorder()([], [])
     reader.events = []
     reader.execute(psCharStrings.T2CharString(bytecode=charstring))
-    return max((len(operands) for _, operands, _ in reader.events), default=0)
+    return reader.events
+
+
+def hints(events, width=0):
+    """The edges of stems in their order, horizontal and vertical ones, and the masks; so many operands in front are the width."""
+    found = {"horizontal": [], "vertical": [], "masks": []}
+    for number, (code, operands, mask) in enumerate(events):
+        kind = {(1,): "horizontal", (18,): "horizontal", (3,): "vertical", (23,): "vertical", (19,): "vertical", (20,): "vertical"}.get(code)
+        if kind:
+            found[kind] += itertools.accumulate(operands[width if number == 0 else 0:])
+        if mask:
+            found["masks"].append((code, mask))
+    return found
+
+
+def rounded_hints(found):
+    return {kind: these if kind == "masks" else [half_up(edge) for edge in these] for kind, these in found.items()}
 
 
 # ---- HarfBuzz
@@ -296,7 +313,7 @@ class Report:
 
     def __init__(self, path):
         self.label = os.path.basename(path)
-        self.defaults = self.drawn = self.coordinates = self.halves = 0
+        self.defaults = self.drawn = self.coordinates = self.halves = self.edges = 0
         self.wrong = []
 
     def say(self, text):
@@ -338,11 +355,19 @@ def compare_place(report, source, harfbuzz, answers, at):
         if "error" in answer:
             report.say(f"glyph {glyph} at {at} is refused: {answer['error']}")
             continue
-        ours, width = drawn(answer["bytes"])
+        try:
+            (ours, width), events = drawn(answer["bytes"]), written(answer["bytes"])
+        except Exception as error:
+            report.say(f"glyph {glyph} at {at}: fontTools doesn't read what is written: {error!r}")
+            continue
         if width != ADVANCE:
             report.say(f"glyph {glyph} at {at}: its width is {width}")
-        if longest(answer["bytes"]) > 48:
+        if any(len(operands) > 48 for _, operands, _ in events):
             report.say(f"glyph {glyph} at {at}: an operator has more than 48 operands")
+        edges = rounded_hints(hints(source.events(glyph, at)))
+        report.edges += len(edges["horizontal"]) + len(edges["vertical"])
+        if hints(events, width=1) != edges:
+            report.say(f"glyph {glyph} at {at}: other stems or masks")
         theirs = rounded(report, source, glyph, at, harfbuzz.drawn(glyph))
         report.drawn += 1
         report.coordinates += sum(len(part) - 1 for part in ours)
@@ -381,31 +406,39 @@ def font_paths(folders, only):
     return kept
 
 
+def versions():
+    from fontTools import version
+
+    return f"{instance.harfbuzz_version()}, fontTools {version}"
+
+
+def lacking(words, paths):
+    """Those of WHOLE that aren't among the fonts, unless --only names others."""
+    names = {os.path.basename(path) for path in paths}
+    return [name for name in WHOLE if words.only in name and name not in names]
+
+
 def main():
-    parser = argparse.ArgumentParser(description=__doc__, formatter_class=argparse.RawDescriptionHelpFormatter)
-    parser.add_argument("folders", nargs="*", metavar="FOLDER")
-    parser.add_argument("--places", type=int, default=20)
-    parser.add_argument("--glyphs", type=int, default=0)
-    parser.add_argument("--seed", default="1")
-    parser.add_argument("--only", default="")
+    parser = by_font.parser(__doc__, glyphs=0)
     parser.add_argument("--program", default=build.built("cff2_parts"))
-    parser.add_argument("--jobs", type=int, default=2)
     parser.add_argument("--no-install", action="store_true")
     words = parser.parse_args()
     if not words.no_install:
         fonts.install(PACKAGES)
     build.program(words.program)
     paths = font_paths(words.folders, words.only)
-    with concurrent.futures.ProcessPoolExecutor(words.jobs) as pool:
-        reports = list(pool.map(compare_font, [words] * len(paths), paths))
-    print("| Font | Glyphs at the default | Glyphs at places | Coordinates | Of them near a half | Differ |\n|---|---|---|---|---|---|")
+    if lacking(words, paths):
+        sys.exit(f"cff2.py: {' and '.join(lacking(words, paths))} lacks")
+    reports = by_font.reports(words, compare_font, paths)
+    print(f"Commit {instance.commit()}; {versions()}; seed {words.seed}, {words.places} locations.\n")
+    print("| Font | Glyphs at the default | Glyphs at locations | Coordinates | Of them near a half | Edges of stems | Differ |\n|---|---|---|---|---|---|---|")
     for it in reports:
-        print(f"| {it.label} | {it.defaults} | {it.drawn} | {it.coordinates} | {it.halves} | {len(it.wrong)} |")
+        print(f"| {it.label} | {it.defaults} | {it.drawn} | {it.coordinates} | {it.halves} | {it.edges} | {len(it.wrong)} |")
     wrong = [line for it in reports for line in it.wrong]
-    print("", *(f"- {line}" for line in wrong[:40]), sep="\n")
-    total = [sum(getattr(it, name) for it in reports) for name in ("defaults", "drawn", "coordinates", "halves")]
-    print(f"{len(reports)} fonts: {total[0]} glyphs at the default, {total[1]} at places with {total[2]} coordinates, {total[3]} near a half; {len(wrong)} differ.")
-    sys.exit(1 if wrong or not total[0] or not total[1] else 0)
+    print("", *by_font.lines(wrong), sep="\n")
+    total = [sum(getattr(it, name) for it in reports) for name in ("defaults", "drawn", "coordinates", "halves", "edges")]
+    print(f"{len(reports)} fonts: {total[0]} glyphs at the default, {total[1]} at locations with {total[2]} coordinates, {total[3]} near a half, and {total[4]} edges of stems; {len(wrong)} differ.")
+    by_font.end(wrong, min(total[:2]))
 
 
 if __name__ == "__main__":

@@ -17,6 +17,7 @@ def sources(*crates):
 # What the calls are made of, by kind.
 SUBSET = sources("subsetter", "subsetter_base", "subsetter_sfnt", "subsetter_cff", "subsetter_cffdata", "subsetter_type2")
 INSTANCE = sources("subsetter_instance", "subsetter_points", "subsetter_variation", "subsetter_variable")
+CFF2 = sources("subsetter_cff_at", "subsetter_cff2", "subsetter_blend", "subsetter_variation", "subsetter_cff", "subsetter_type2", "subsetter_cffdata", "subsetter_base")
 BENCH = sources("subset_bench")
 PROGRAM = sources("subset_font", "subset_args", "subset_lines", "cid_embed", "cmap", "late_file")
 C = sources("subsetter_c", "cid_embed", "cid_embed_at") + ("bindings/c/*",)
@@ -135,6 +136,9 @@ COMPARISONS = [
     Comparison("instances, times", "What do subsets at coordinates take beside HarfBuzz and fontTools?",
                f"{DEBIAN} compare/instance_times.py {VARIABLE} --results compare/results", lines_like(r"\d+ rows, \d+ past their bound"),
                SUBSET + INSTANCE + BENCH, data=("instance_times.csv",), timed=True),
+    Comparison("cff2", "Are glyphs of CFF2 fonts at coordinates those of fontTools and HarfBuzz, each coordinate rounded once?",
+               f"{DEBIAN} compare/cff2.py {VARIABLE}", lines_like(r"\d+ fonts: .* differ"), CFF2 + sources("cff2_parts"),
+               f"{DEBIAN} compare/cff2.py {VARIABLE} --places 3 --glyphs 40"),
     Comparison("javascript", "Does the WebAssembly answer the native library's bytes?", "node bindings/js/tests/compare.mjs --fonts 600 --copies 2500",
                lines_like(r"^\d+ (real fonts|damaged copies): \d+ done"), SUBSET + INSTANCE + JAVASCRIPT,
                "node bindings/js/tests/compare.mjs --fonts 300 --copies 2000"),

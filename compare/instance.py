@@ -27,9 +27,7 @@ A glyph that the port refuses is listed, with the error, and has to be refused o
 table with the commit, which --to writes to a file and --results as instance.csv into a folder; the status is 1 where a
 difference isn't within these bounds, or nothing was compared.
 """
-import argparse
 import collections
-import concurrent.futures
 import ctypes
 import glob
 import math
@@ -37,9 +35,9 @@ import os
 import random
 import struct
 import subprocess
-import sys
 
 import build
+import by_font
 import fonts
 
 PACKAGES = ["fonts-inter-variable", "libharfbuzz0b", "python3-freetype", "python3-fonttools"]
@@ -70,8 +68,6 @@ def port_lines(program, path, glyphs, place):
         if name == "glyph":
             glyph = int(words[0])
             answers[glyph] = {}
-        elif name == "instance":
-            continue
         elif name == "instance":
             continue
         elif name == "error":
@@ -449,13 +445,17 @@ def font_paths(folders, only):
     return [path for path in found if only in os.path.basename(path) and is_variable(path)]
 
 
+def harfbuzz_version():
+    harfbuzz = ctypes.CDLL("libharfbuzz.so.0")
+    harfbuzz.hb_version_string.restype = ctypes.c_char_p
+    return f"HarfBuzz {harfbuzz.hb_version_string().decode()}"
+
+
 def versions():
     from fontTools import version
     import freetype
 
-    harfbuzz = ctypes.CDLL("libharfbuzz.so.0")
-    harfbuzz.hb_version_string.restype = ctypes.c_char_p
-    return f"HarfBuzz {harfbuzz.hb_version_string().decode()}, FreeType {'.'.join(map(str, freetype.version()))}, fontTools {version}"
+    return f"{harfbuzz_version()}, FreeType {'.'.join(map(str, freetype.version()))}, fontTools {version}"
 
 
 def commit():
@@ -501,14 +501,8 @@ def write_results(folder, words, reports):
 
 
 def main():
-    parser = argparse.ArgumentParser(description=__doc__, formatter_class=argparse.RawDescriptionHelpFormatter)
-    parser.add_argument("folders", nargs="*", metavar="FOLDER")
-    parser.add_argument("--places", type=int, default=20)
-    parser.add_argument("--glyphs", type=int, default=100)
-    parser.add_argument("--seed", default="1")
-    parser.add_argument("--only", default="")
+    parser = by_font.parser(__doc__, glyphs=100)
     parser.add_argument("--program", default=build.PARTS)
-    parser.add_argument("--jobs", type=int, default=2)
     parser.add_argument("--to")
     parser.add_argument("--results", metavar="FOLDER")
     parser.add_argument("--no-install", action="store_true")
@@ -516,14 +510,11 @@ def main():
     if not words.no_install:
         fonts.install(PACKAGES)
     build.program(words.program)
-    paths = font_paths(words.folders, words.only)
-    with concurrent.futures.ProcessPoolExecutor(words.jobs) as pool:
-        reports = list(pool.map(compare_font, [words] * len(paths), paths))
+    reports = by_font.reports(words, compare_font, font_paths(words.folders, words.only))
     wrong = [line for report in reports for line in report.wrong]
     refused = sorted({line for report in reports for line in report.refused})
     lines = summary(words, reports)
-    lines += ["", f"{len(wrong)} differences out of bounds."] + [f"- {line}" for line in wrong[:40]]
-    lines += [f"- refused: {line}" for line in refused[:40]]
+    lines += ["", f"{len(wrong)} differences out of bounds.", *by_font.lines(wrong), *by_font.lines([f"refused: {line}" for line in refused])]
     text = "\n".join(lines) + "\n"
     print(text, end="")
     if words.to:
@@ -531,10 +522,7 @@ def main():
             file.write(text)
     if words.results:
         write_results(words.results, words, reports)
-    compared = sum(sum(report.rows[ROWS[6]].apart.values()) for report in reports)
-    if not compared:
-        print("nothing was compared")
-    sys.exit(1 if wrong or not compared else 0)
+    by_font.end(wrong, sum(sum(report.rows[ROWS[6]].apart.values()) for report in reports))
 
 
 if __name__ == "__main__":

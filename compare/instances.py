@@ -26,9 +26,7 @@ changes N copies of the fonts in fvar, avar, gvar, HVAR, MVAR or glyf, at a rand
 as variable.py reads, or to refuse what that refuses, each within a second. --hostile makes four small fonts that ask for
 much, each of which has to be refused within a tenth of a second. The status is 1 where something differs.
 """
-import argparse
 import collections
-import concurrent.futures
 import os
 import random
 import subprocess
@@ -37,6 +35,7 @@ import tempfile
 import time
 
 import build
+import by_font
 import fonts
 import instance
 import made
@@ -514,14 +513,8 @@ def say_fonts(words, reports):
 
 
 def main():
-    parser = argparse.ArgumentParser(description=__doc__, formatter_class=argparse.RawDescriptionHelpFormatter)
-    parser.add_argument("folders", nargs="*", metavar="FOLDER")
-    parser.add_argument("--places", type=int, default=20)
-    parser.add_argument("--glyphs", type=int, default=100)
+    parser = by_font.parser(__doc__, glyphs=100)
     parser.add_argument("--damage", type=int)
-    parser.add_argument("--seed", default="1")
-    parser.add_argument("--only", default="")
-    parser.add_argument("--jobs", type=int, default=2)
     parser.add_argument("--results", metavar="FOLDER")
     parser.add_argument("--hostile", action="store_true")
     words = parser.parse_args()
@@ -530,19 +523,16 @@ def main():
         sys.exit(0 if hostile() else 1)
     fonts.install(instance.PACKAGES)
     paths = instance.font_paths(words.folders, words.only)
-    with concurrent.futures.ProcessPoolExecutor(words.jobs) as pool:
-        if words.damage:
-            pieces = [(path, number) for number in range(-(-words.damage // (50 * len(paths)))) for path in paths]
-            reports = list(pool.map(damage_piece, [words] * len(pieces), *zip(*pieces), [50] * len(pieces)))
-            compared = say_damage(reports)
-        else:
-            reports = list(pool.map(compare_font, [words] * len(paths), paths))
-            compared = say_fonts(words, reports)
+    if words.damage:
+        pieces = [(path, number) for number in range(-(-words.damage // (50 * len(paths)))) for path in paths]
+        reports = by_font.reports(words, damage_piece, *zip(*pieces), [50] * len(pieces))
+        compared = say_damage(reports)
+    else:
+        reports = by_font.reports(words, compare_font, paths)
+        compared = say_fonts(words, reports)
     wrong = [line for report in reports for line in report.wrong]
-    print("\n".join(f"- {line}" for line in wrong[:40]) + "\n" * bool(wrong), end="")
-    if not compared:
-        print("nothing was compared")
-    sys.exit(1 if wrong or not compared else 0)
+    print("".join(f"{line}\n" for line in by_font.lines(wrong)), end="")
+    by_font.end(wrong, compared)
 
 
 if __name__ == "__main__":
