@@ -112,9 +112,12 @@ class Looker:
     # ---- the bills of materials
 
     def kit(self):
-        """The kit's line, as README.md has it."""
+        """The kit's line in PROVED. Its logic, which is what proves, is README.md's; kits of several names have the same."""
         with open(os.path.join(ROOT, "README.md"), encoding="utf-8") as file:
-            return re.search(r"`(rattle-kit-\S+ logic \w+)`", file.read())[1]
+            logic = re.search(r"`rattle-kit-\S+ (logic \w+)`", file.read())[1]
+        line = self.read("PROVED").decode().split("\n")[2]
+        self.demand(re.fullmatch(rf"rattle-kit-\S+ {logic}", line), f"PROVED has the kit {line}, and README.md {logic}")
+        return line
 
     def bill(self, name):
         """The bill of a package: its version and licence, its sum, exactly its files with their sums, and what is linked."""
@@ -166,10 +169,10 @@ class Looker:
     def proved(self):
         text = self.read("PROVED").decode()
         head = subprocess.run(["git", "-C", ROOT, "rev-parse", "HEAD"], capture_output=True, text=True).stdout.strip()
-        kit, lines = self.kit(), text.split("\n")
+        lines = text.split("\n")
         self.demand(lines[0] == f"subsetter {self.version}", f"PROVED is of {lines[0]}")
         self.demand(lines[1].split()[1:2] == [head], f"PROVED is of the {lines[1]}, and this is {head}")
-        self.demand(lines[2] == kit, f"PROVED has the kit {lines[2]}, and README.md {kit}")
+        self.kit()
         said = dict(it.partition(": logic=")[::2] for it in lines if ": logic=" in it)
         wanted = {f"subsetter_c, compiled for {it}": TRIPLES[it] for it in self.targets}
         if "program" not in self.skip:
