@@ -6,8 +6,8 @@ program.py [--program FILE] [--only WORD] [--cargo] [--system s390x|windows --ru
 With --cargo it is the build of bindings/rust: what that does otherwise is a row of `CLOSED` or of `STD_ASKS`, with the reason, and
 has to be so. Where its row would hold as for the other build, it is a row too many, and fails.
 
-With --run that program starts FILE, which is of another system: s390x by qemu, Windows by wine. What can't be the same there is in
-ELSEWHERE, with the reason: rows that have to end otherwise, and checks that aren't run.
+With --run that program starts FILE, which is of another system: s390x by qemu, Windows by wine. What can't be the same there is
+listed with its reason: checks that aren't run in UNCHECKED, and in OTHERWISE rows that end otherwise, and fail where they don't.
 
 Each row has words, a standard input and files, and says the status, the standard output, the standard error, and the files
 that are there afterwards. The options are also compared with `--help`, docs/CLI.md and the manual page, and the version with

@@ -1,4 +1,5 @@
-"""The crate where there is no std: a program without it by Debian's Rust 1.96, and the crate refused where a `usize` has 16 bits."""
+"""The crate where there is no std: a program without it by Debian's Rust 1.96; the crate compiled for a processor without a system, and
+checked for macOS, with a library that Rust builds of its source; and refused where a `usize` has 16 bits."""
 import os
 import subprocess
 from pathlib import Path
@@ -61,8 +62,24 @@ def check_narrow(tools, out):
         raise Failed(f"a `usize` of 16 bits: cargo check ends with {done.returncode}: {done.stdout[-500:]}")
 
 
+# Targets of which Debian has no library: the words of Cargo, the parts of Rust's library, and the features. Nothing is linked or run.
+UNLINKED = {
+    "thumbv7em-none-eabi": ("build", "core,alloc", ["--no-default-features", "--features", "variable-fonts"]),
+    "aarch64-apple-darwin": ("check", "std,panic_abort", ["--all-features"]),
+}
+
+
+def compile_unlinked(tools, out, target):
+    """Compiles the crate for a target, or checks it."""
+    word, parts, features = UNLINKED[target]
+    words = [tools / "build-std/cargo", word, "--quiet", "--lib", "--offline", f"-Zbuild-std={parts}", "--target", target, *features]
+    ran(words + ["--target-dir", out / "build/unlinked", "--manifest-path", ROOT / "bindings/rust/Cargo.toml"], os.environ)
+
+
 def tested(tools, out, run):
     """What passed."""
     size = program(tools, out, files(out / "no_std"))
     check_narrow(tools, out)
-    return f"a program of {size} bytes runs; 16 bits are refused"
+    for target in UNLINKED:
+        compile_unlinked(tools, out, target)
+    return f"a program of {size} bytes runs; 16 bits are refused; the crate compiles for {' and '.join(UNLINKED)}"
