@@ -1252,6 +1252,7 @@ OTHERWISE = {
     "s390x": {},
     "windows": {
         "simple simple 0 2": "no file takes the name of one that is open, as IN is: status 3, and IN is as it was",
+        "/dev/stdin out 0 2": "no file of that name is there: status 3",
     },
 }
 # Windows' numbers of the reasons that the rows name by Unix's: no such file or folder; access to a folder as a file; a full disk (wine has /dev/full).

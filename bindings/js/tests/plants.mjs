@@ -48,6 +48,7 @@ const PLANTS = [
     [MODULE, "subsetter.mjs", "Math.round(value * 65536)", "Math.floor(value * 65536)"],
     [MODULE, "subsetter.mjs", "Math.round(value * 65536)", "Math.floor(value * 65536 + 0.5)"],
     [MODULE, "subsetter.mjs", "Math.round(value * 65536)", "Math.trunc(value * 65536)"],
+    [MODULE, "subsetter.mjs", "Math.round(value * 65536)", "Math.round(Math.fround(value) * 65536)"],
     [MODULE, "subsetter.mjs", "Math.max(-(2 ** 31), Math.min(Math.round(value * 65536), 2 ** 31 - 1))", "Math.round(value * 65536)"],
     [MODULE, "subsetter.mjs", "    return words;\n}", "    return words.slice(2);\n}"],
     [MODULE, "subsetter.mjs", "    return words;\n}", "    return words.slice(0, -2);\n}"],
