@@ -1252,7 +1252,9 @@ OTHERWISE = {
     "s390x": {},
     "windows": {
         "simple simple 0 2": "no file takes the name of one that is open, as IN is: status 3, and IN is as it was",
-        "/dev/stdin out 0 2": "no file of that name is there: status 3",
+        "/dev/stdin out 0 2": "a name of Unix: status 3",
+        "simple /dev/stdout 0 2": "the same: the font goes to no stream of the program's",
+        str([b"simple", b"\xff", b"0", b"2"]): "words are of 16 bits there, and wine makes one of any byte",
     },
 }
 # Windows' numbers of the reasons that the rows name by Unix's: no such file or folder; access to a folder as a file; a full disk (wine has /dev/full).
@@ -1277,6 +1279,8 @@ def main():
         if given.only in str(row.words) or row.same:
             with tempfile.TemporaryDirectory(prefix="program-") as room:
                 table.run_row(row, room)
+    for words in OTHERWISE.get(given.system, {}):
+        table.demand(words in [str(row.words) for row in ROWS], words, f"listed for {given.system}, and no row")
     unchecked = UNCHECKED.get(given.system, {})
     for check in (check_words, check_places, check_links, check_rights, check_streams, check_closed, check_number_of_output, check_many, check_memory,
                   check_refused_memory, check_refused_names, check_little_room, check_kept_room, check_failed_calls):
