@@ -1,4 +1,4 @@
-use Rattle.std.proofs.Common.{◌≡◌, ℕ, ℤ, ap, ◌∙◌, rules, w32}
+use Rattle.std.proofs.Common.{ℕ, ℤ, ap, ◌∙◌, rules, w32}
 use mir.Val.{SFits}
 use Rattle.std.proofs.lemmas.Int.{to_z-of_z}
 use Rattle.pdf_values.specs.Heights.{descent_of}
