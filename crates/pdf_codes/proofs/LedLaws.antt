@@ -1,11 +1,10 @@
 -- Where the codes of entries lead: to their CIDs.
-use Rattle.std.proofs.Common.{◌≡◌, ℕ, zero, suc, ◌<◌, Bool, true, eqb, List, [], ◌∷◌, length, get_or, map, Option, Some, None, refl, sym, ap, ◌∙◌, inl, inr, arith}
+use Rattle.std.proofs.Common.{◌≡◌, ℕ, zero, suc, ◌<◌, true, eqb, List, [], ◌∷◌, length, get_or, Some, None, refl, sym, ap, ◌∙◌, inl, inr, arith}
 use Rattle.std.proofs.lemmas.Bool.{cases_eq, eqb-true}
 use Rattle.std.proofs.lemmas.List.{length-map}
 use Rattle.subsetter_base.specs.Places.{place, with_glyphs}
 use Rattle.subsetter_base.proofs.Lists.{and_parts}
 use Rattle.subsetter_base.proofs.Options.{just_is}
-use Rattle.pdf_text.specs.Encoding.{Pair}
 use Rattle.pdf_codes.specs.declared.codes.Codes.{Codes}
 use Rattle.pdf_codes.specs.declared.codes.Codes.TheVariants.{Consecutive}
 use Rattle.pdf_codes.specs.Codes.{Used, AreCids, AreCodes, glyph_at, glyphs_of}

@@ -1,5 +1,5 @@
 -- The texts of glyphs in use, one by one.
-use Rattle.std.proofs.Common.{◌≡◌, ℕ, zero, suc, ◌<◌, List, [], ◌∷◌, length, get_or, map, Vec, Global, arith}
+use Rattle.std.proofs.Common.{◌≡◌, ℕ, zero, suc, ◌<◌, List, [], ◌∷◌, length, get_or, Vec, Global, arith}
 use Rattle.pdf_codes.specs.declared.shown.Shown.{Shown}
 use Rattle.pdf_codes.specs.Shown.{texts_view, units_view, uses_of}
 use Rattle.pdf_codes.specs.Units.{units_of}

@@ -6,9 +6,8 @@ use Rattle.std.proofs.lemmas.List.{map-append}
 use Rattle.subsetter_base.specs.Places.{place, with_glyph, with_glyphs}
 use Rattle.subsetter_base.specs.Remap.{place_by, with_value}
 use Rattle.subsetter_base.proofs.Options.{just_is}
-use Rattle.pdf_codes.specs.declared.codes.Codes.{Codes}
 use Rattle.pdf_codes.specs.declared.codes.Codes.TheVariants.{Consecutive, Source, EachText}
-use Rattle.pdf_codes.specs.Codes.{Used, AreCodes, glyphs_of, keyed, pairs_of, same, with_pairs}
+use Rattle.pdf_codes.specs.Codes.{Used, glyphs_of, keyed, same, with_pairs}
 use Rattle.pdf_codes.specs.Laws.{CodesStay, CodesAreDetermined}
 use Rattle.pdf_codes.proofs.Pairs.{pair_stays}
 

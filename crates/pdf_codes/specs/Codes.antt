@@ -1,5 +1,5 @@
 -- The codes of glyphs in use (ISO 32000-1, 9.7.6.2).
-use Rattle.std.specs.Prelude.{◌≡◌, ◌<◌, ℕ, Bool, ◌==◌, ◌&&◌, nat_eq, if◌then◌else◌, List, [], ◌∷◌, ◌++◌, map, length, get_or, Option, Some}
+use Rattle.std.specs.Prelude.{◌≡◌, ◌<◌, ℕ, Bool, ◌==◌, ◌&&◌, nat_eq, if◌then◌else◌, List, [], ◌∷◌, map, length, get_or, Some}
 use Rattle.std.specs.Cmp.Lexicographic.{pointwise}
 use Rattle.subsetter_base.specs.Places.{place, with_glyphs, HasAllAboveZero}
 use Rattle.subsetter_base.specs.Remap.{place_by, with_value}

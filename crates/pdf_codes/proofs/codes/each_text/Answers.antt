@@ -1,7 +1,7 @@
 use Rattle.std.proofs.Common.{◌≡◌, ℕ, ◌++◌, List, map, ap, ◌∙◌, Some, drop, ◌+◌}
 use Rattle.std.proofs.lemmas.Result.{err_from_is_err_and}
 use Rattle.subsetter_base.specs.Remap.{place_by}
-use Rattle.pdf_codes.specs.Codes.{Used, keyed, pairs_of, same, used_of, with_pairs}
+use Rattle.pdf_codes.specs.Codes.{Used, pairs_of, same, used_of, with_pairs}
 use Rattle.pdf_codes.proofs.EachSteps.{all_more, all_refused, codes_more, keys}
 use Rattle.pdf_codes.proofs.codes.each_text.Goals as goal
 

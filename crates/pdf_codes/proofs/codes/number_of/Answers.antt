@@ -1,6 +1,5 @@
-use Rattle.std.proofs.Common.{◌≡◌, ℕ, Option, None, false, ap, refl, sym, ◌∙◌, inr, rules, arith}
+use Rattle.std.proofs.Common.{◌≡◌, false, ap, refl, ◌∙◌, inr, rules, arith}
 use Rattle.std.specs.Prelude.{is_some, not}
-use Rattle.std.specs.Option.{option_map}
 use Rattle.pdf_codes.proofs.Pairs.{grown, list_put, none_found, number_put}
 use Rattle.pdf_codes.proofs.codes.number_of.Goals as goal
 

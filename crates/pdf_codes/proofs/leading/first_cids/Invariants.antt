@@ -1,4 +1,4 @@
-use Rattle.std.proofs.Common.{◌≡◌, ◌<◌, ◌≤◌, ℕ, length, drop, get_or, None}
+use Rattle.std.proofs.Common.{◌≡◌, ◌≤◌, ℕ, length, drop, get_or, None}
 use Rattle.std.specs.Option.{option_or}
 use Rattle.pdf_text.specs.View.{pairs_view}
 use Rattle.pdf_codes.specs.Leading.{cid_of, limit}

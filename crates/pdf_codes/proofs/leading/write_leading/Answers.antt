@@ -1,7 +1,4 @@
-use Rattle.std.proofs.Common.{◌≡◌, ℕ, List, sym, ap, ◌∙◌}
-use Rattle.std.proofs.lemmas.Result.{IfOk-weaker}
-use Rattle.pdf_text.specs.CmapName.{name_of_codes, named_text}
-use Rattle.pdf_text.specs.Encoding.{Pair}
+use Rattle.std.proofs.Common.{◌≡◌, ap, ◌∙◌}
 use Rattle.pdf_text.specs.View.{pairs_view}
 use Rattle.pdf_codes.specs.Leading.{pairs_of_codes}
 use Rattle.pdf_codes.proofs.ReadBack.{name_led, read_led, text_led}

@@ -1,4 +1,4 @@
-use Rattle.std.proofs.Common.{◌≡◌, ◌<◌, ◌≤◌, ℕ, length, drop, get_or, []}
+use Rattle.std.proofs.Common.{◌≡◌, ◌≤◌, ℕ, length, drop, get_or, []}
 use Rattle.pdf_text.specs.View.{lines_view}
 use Rattle.pdf_codes.specs.Texts.{first_text, limit, or_else, texts_view}
 use Rattle.pdf_codes.proofs.texts.first_texts.Given as goal
