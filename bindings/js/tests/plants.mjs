@@ -116,6 +116,7 @@ const PLANTS = [
     [HEAP, "module/heap.rs", "let top = (at + ALIGNMENT - 1) / ALIGNMENT * ALIGNMENT;", "let top = at + 8;"],
     [HEAP, "module/heap.rs", "unsafe { *HEAP.0.get() = Blocks::new(top) };", "unsafe { (*HEAP.0.get()).top = top };"],
     [HEAP, "module/heap.rs", "cmp::min(layout.size(), bytes)", "cmp::min(layout.size(), bytes) / 2"],
+    [HEAP, "module/heap.rs", "cmp::min(layout.size(), bytes)", "cmp::min(layout.size(), bytes) - 1"],
     [HEAP, "module/heap.rs", "                (*blocks).take_back(at, layout.size());\n", ""],
     [HEAP, "module/heap.rs", "if size_and_list(bytes) == size_and_list(layout.size()) {", "if bytes <= 2 * layout.size() {"],
     [HEAP, "module/heap.rs", "Some(end) if reach(end) => {", "Some(end) if reach(end) || true => {"],
