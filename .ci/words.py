@@ -1,10 +1,11 @@
 #!/usr/bin/env python3
-"""Finds words in the documents that this project used in a meaning of its own, and that CONTRIBUTING.md's table of words
+"""Finds words in the documents and in what programs print that this project used in a meaning of its own, and that CONTRIBUTING.md's table of words
 replaces: a line `FILE:LINE: WORD (NEW)` for each, and status 1 then, or where git can't name the documents.
 
 It reads every Markdown file that git keeps, but for CHANGELOG.md and compare/results, which are records, and docs/EVIDENCE.md,
 which `compare/all` writes. It passes over blocks and spans of code, comments, the targets of links, and what stands between
-`from compare/results/..` and `end`. The messages of the programs and the doc comments of public items aren't checked yet.
+`from compare/results/..` and `end`. Of the crates in SOURCES it reads the messages, which are the texts between quotation marks
+outside tests, and the doc comments of files and of public items; and the manual page. The other crates aren't checked yet.
 
 It also fails where the table of CONTRIBUTING.md has other words than WORDS, and where an exception isn't needed any more."""
 import os
@@ -46,6 +47,12 @@ COMMON = re.compile(r"(?<![\w-])(?:" + "|".join(INNOCENT) + r")(?![\w-])", re.I)
 # Document, a text in it, and why its words may stay.
 EXCEPTIONS = [
 ]
+# The crates whose messages and doc comments are checked, and the manual page of the program.
+SOURCES = ("subset_args", "subset_font", "subset_lines")
+MANUAL = "crates/subset_font/subset_font.1"
+# A comment of a file, or one of an item with the item behind it; and a text between quotation marks.
+COMMENT = re.compile(r"^[ ]*//!.*$|^(?P<item>(?:[ ]*///.*\n)+)(?:[ ]*#\[.*\n)*[ ]*(?:pub |[A-Z]\w*(?: \{|\(|,))", re.M)
+MESSAGE = re.compile(r'b?"((?:[^"\\]|\\.)*)"', re.S)
 # What a document quotes, or what no reader sees; the lines stay, so that their numbers do.
 # (code first, as it may quote the comments; a span of code ends with its paragraph)
 QUOTED = [figures.FENCE, re.compile(r"(?<!`)(`+)(?!`)((?:(?!\n\n).)+?)(?<!`)\1(?!`)", re.S), figures.BLOCK, re.compile(r"<!--.*?-->", re.S),
@@ -96,6 +103,28 @@ def faults_of_document(path, known, used):
     return [f"{path}:{text.count(chr(10), 0, start) + 1}: {' '.join(hit.split())} ({known.get(word, '?')})" for start, hit, word in sorted(found)]
 
 
+def sources():
+    """The sources whose words are checked."""
+    found = repository.git("ls-files", "-z", "--", *(f"crates/{it}/src/*.rt" for it in SOURCES)).split("\0")
+    return sorted(it for it in found if it and not it.endswith("/tests.rt"))
+
+
+def parts_of_source(text):
+    """The doc comments of files and of public items in a source, and its messages, each with where it begins."""
+    for found in COMMENT.finditer(text):
+        yield found.start(), re.sub(r"^( *)//[/!]", r"\1   ", found["item"] or found[0], flags=re.M)
+    for found in MESSAGE.finditer(re.sub(r"//.*|ghost use .*|(?:ensures|requires) .*|'\"'|b'\"'", blank, text)):
+        yield found.start(1), found[1]
+
+
+def faults_of_source(path, known):
+    """The replaced words of a source, by their lines."""
+    text, found = repository.read(path), []
+    for start, part in parts_of_source(text):
+        found += [(start + hit.start(), hit[0], word) for word, pattern in PATTERNS.items() for hit in pattern.finditer(own_text(part))]
+    return [f"{path}:{text.count(chr(10), 0, start) + 1}: {' '.join(hit.split())} ({known.get(word, '?')})" for start, hit, word in sorted(found)]
+
+
 def main():
     repository.ready()
     documents, known, used = list(filter(is_checked, repository.documents())), table(), set()
@@ -104,7 +133,10 @@ def main():
         faults += faults_of_document(path, known, used)
     faults += [f"{path}: the exception {kept!r} isn't needed" for number, (path, kept, _) in enumerate(EXCEPTIONS)
                if number not in used and path in documents]
-    print("\n".join([*faults, f"{len(faults)} faults in {len(documents)} documents"]))
+    for path in sources():
+        faults += faults_of_source(path, known)
+    faults += faults_of_document(MANUAL, known, used)
+    print("\n".join([*faults, f"{len(faults)} faults in {len(documents)} documents and {len(sources()) + 1} sources"]))
     return not faults
 
 

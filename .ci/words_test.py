@@ -33,6 +33,15 @@ PLANTS = [
     ("a word in a table", "CONTRIBUTING.md", None, "\n| it | is told |\n", r"CONTRIBUTING\.md:\d+: told \("),
     ("a word behind a lone mark", "docs/WALK.md", None, "\nA mark `alone.\n\nIt is told.\n\nAnd ` another.\n", r"docs/WALK\.md:\d+: told \("),
     ("a further document", "docs/FURTHER.md", None, "As it does.\n", r"docs/FURTHER\.md:1: As it does \("),
+    ("a message", "crates/subset_args/src/texts.rt", "{word} is no option", "{word} is told", r"crates/subset_args/src/texts\.rt:\d+: told \("),
+    ("a message of two lines", "crates/subset_font/src/help.rt", "under new numbers from 1,", "as it\ndoes, from 1,", r"crates/subset_font/src/help\.rt:\d+: as it does \("),
+    ("a message of bytes", "crates/subset_lines/src/notes.rt", 'b"axes: none"', 'b"axes: none said"', r"crates/subset_lines/src/notes\.rt:\d+: said \("),
+    ("the comment of a file", "crates/subset_lines/src/quoted.rt", "//! Texts as JSON strings", "//! Texts told as JSON strings", r"crates/subset_lines/src/quoted\.rt:1: told \("),
+    ("of a public function", "crates/subset_args/src/coordinates.rt", "/// The coordinates of a text, as", "/// The coordinates that are said, as", r"crates/subset_args/src/coordinates\.rt:\d+: said \("),
+    ("of a public item with an attribute", "crates/subset_font/src/hint.rt", "/// What more is known of a refusal.", "/// What more stands there.", r"crates/subset_font/src/hint\.rt:\d+: stands \("),
+    ("of a variant", "crates/subset_args/src/mistakes.rt", "/// IN is missing.", "/// IN was asked for.", r"crates/subset_args/src/mistakes\.rt:\d+: asked \("),
+    ("of a field", "crates/subset_args/src/options.rt", "/// OUT, if an option gives it.", "/// OUT, if an option tells it.", r"crates/subset_args/src/options\.rt:\d+: tells \("),
+    ("the manual page", "crates/subset_font/subset_font.1", None, "It is told.\n", r"crates/subset_font/subset_font\.1:\d+: told \("),
     ("a row that goes", "CONTRIBUTING.md", re.compile(r"\| `as it does` \|.*\n"), "", r"CONTRIBUTING\.md: its table has no row `as it does`"),
     ("a row that nothing looks for", "CONTRIBUTING.md", "| `said` |", "| `saith` | says |\n| `said` |", r"CONTRIBUTING\.md: \.ci/words\.py looks for no word `saith`"),
     ("an exception that isn't needed", CHECK, "EXCEPTIONS = [\n", 'EXCEPTIONS = [\n    ("README.md", "it stands here", "none"),\n', r"README\.md: the exception 'it stands here' isn't needed"),
@@ -72,7 +81,8 @@ def all_at_once(room):
 
 def innocent(room):
     """What is wrong where the words are quoted or common, and in the documents that aren't checked."""
-    for path, text in (("docs/PDF.md", INNOCENT), ("CHANGELOG.md", "\nIt is told.\n"), ("compare/results/times.md", "\nIt is told.\n")):
+    for path, text in (("crates/subset_args/src/nearest.rt", "\n/// It is told.\nfn nothing() {}\n// It is told.\n"), ("crates/subset_font/src/tests.rt", '\nconst TOLD: &str = "told";\n'),
+                       ("docs/PDF.md", INNOCENT), ("CHANGELOG.md", "\nIt is told.\n"), ("compare/results/times.md", "\nIt is told.\n")):
         planted.edit(room, "an innocent word", path, None, text)
     status, shown = planted.run(room, CHECK)
     planted.git(room, "checkout", "-q", "--", ".")
