@@ -30,7 +30,7 @@ PLANTS = [
     ("the bound of another program", "README.md isn't what compare/results gives", [("README.md", r"at most 0\.\d\d of the Rust crate's", "at most 0.25 of the Rust crate's")]),
     ("damaged fonts of another result", "README.md isn't what compare/results gives", [("README.md", r"1,000,000 damaged fonts 7,570", "100,000 damaged fonts 752")]),
     ("fewer differences by hand", "README.md isn't what compare/results gives", [("README.md", r"7,570", "757")]),
-    ("another commit", "README.md isn't what compare/results gives", [("README.md", r"damage-kinds\.md\) `[0-9a-f]{7}`", "damage-kinds.md) `1fba716`")]),
+    ("another commit", "README.md isn't what compare/results gives", [("README.md", r"damage-kinds\.md\) `[0-9a-f]{7,40}`", "damage-kinds.md) `1fba716`")]),
     ("no word of changed code", "README.md isn't what compare/results gives", [("README.md", r"`1fba716`, code changed since", "`1fba716`")]),
     ("minutes of the gate by hand", "README.md isn't what compare/results gives", [("README.md", r"\d+ minutes on", "5 minutes on")]),
     ("a block that names another result", "README.md isn't what compare/results gives", [("README.md", r"from compare/results/damage-kinds\.md: readme", "from compare/results/damage-library.md: readme")]),
@@ -45,7 +45,7 @@ PLANTS = [
     ("a time by hand in its result", "aren't what a run wrote", [(RESULTS + "cff.csv", r"LinLibertine_R\.otf,80 low,369046,92618", "LinLibertine_R.otf,80 low,369046,12618"), ("README.md", r"\| 93 \| 278 \|", "| 13 | 278 |")]),
     ("a damaged font by hand in its result", "says: Of", [(RESULTS + "damage.jsonl", r'(\A.*?"copies": )100000', r"\g<1>200000")]),
     ("minutes by hand in their result", "aren't what a run wrote", [(RESULTS + "gate.md", r"(?m)^\d+ minutes$", "5 minutes"), ("README.md", r"\d+ minutes on", "5 minutes on")]),
-    ("a result of another history", "isn't behind HEAD", [(RESULTS + "gate.md", r"Commit: `[0-9a-f]{7}`", "Commit: `3ff537e`")]),
+    ("a result of another history", "isn't behind HEAD", [(RESULTS + "gate.md", r"Commit: `[0-9a-f]{7,40}`", "Commit: `3ff537e`")]),
     ("no result", "isn't there", [(RESULTS + "bytes.md", None, "")]),
     ("a result without its commit", "doesn't say its commit", [(RESULTS + "times.md", r"- Commit: .*\n", "")]),
 ]

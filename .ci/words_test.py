@@ -41,6 +41,7 @@ PLANTS = [
     ("of a public item with an attribute", "crates/subset_font/src/hint.rt", "/// What more is known of a refusal.", "/// What more stands there.", r"crates/subset_font/src/hint\.rt:\d+: stands \("),
     ("of a variant", "crates/subset_args/src/mistakes.rt", "/// IN is missing.", "/// IN was asked for.", r"crates/subset_args/src/mistakes\.rt:\d+: asked \("),
     ("of a field", "crates/subset_args/src/options.rt", "/// OUT, if an option gives it.", "/// OUT, if an option tells it.", r"crates/subset_args/src/options\.rt:\d+: tells \("),
+    ("a message of further bytes", "crates/subset_lines/src/axes.rt", 'b"instance "', 'b"asked instance "', r"crates/subset_lines/src/axes\.rt:\d+: asked \("),
     ("the manual page", "crates/subset_font/subset_font.1", None, "It is told.\n", r"crates/subset_font/subset_font\.1:\d+: told \("),
     ("a row that goes", "CONTRIBUTING.md", re.compile(r"\| `as it does` \|.*\n"), "", r"CONTRIBUTING\.md: its table has no row `as it does`"),
     ("a row that nothing looks for", "CONTRIBUTING.md", "| `said` |", "| `saith` | says |\n| `said` |", r"CONTRIBUTING\.md: \.ci/words\.py looks for no word `saith`"),
@@ -81,7 +82,7 @@ def all_at_once(room):
 
 def innocent(room):
     """What is wrong where the words are quoted or common, and in the documents that aren't checked."""
-    for path, text in (("crates/subset_args/src/nearest.rt", "\n/// It is told.\nfn nothing() {}\n// It is told.\n"), ("crates/subset_font/src/tests.rt", '\nconst TOLD: &str = "told";\n'),
+    for path, text in (("crates/subset_args/src/nearest.rt", "\n/// It is told.\nfn nothing() {}\n// It is \"told\".\n"), ("crates/subset_font/src/tests.rt", '\nconst TOLD: &str = "told";\n'),
                        ("docs/PDF.md", INNOCENT), ("CHANGELOG.md", "\nIt is told.\n"), ("compare/results/times.md", "\nIt is told.\n")):
         planted.edit(room, "an innocent word", path, None, text)
     status, shown = planted.run(room, CHECK)

@@ -23,7 +23,7 @@ PROGRAM = sources("subset_font", "subset_args", "subset_lines", "cid_embed", "cm
 C = sources("subsetter_c", "cid_embed", "cid_embed_at") + ("bindings/c/*",)
 BINDINGS = C + ("bindings/python/**", "bindings/rust-native/**", "bindings/plants", "bindings/test")
 PORTABLE = SUBSET + INSTANCE + C + ("bindings/rust/src/**",)
-JAVASCRIPT = C + ("bindings/js/*.mjs", "bindings/js/Makefile", "bindings/js/module/**")
+JAVASCRIPT = C + ("bindings/rust/src/**", "bindings/js/*.mjs", "bindings/js/Makefile", "bindings/js/module/**")
 
 
 def at_most(number, digits=2):
@@ -142,6 +142,9 @@ COMPARISONS = [
     Comparison("javascript", "Does the WebAssembly answer the native library's bytes?", "node bindings/js/tests/compare.mjs --fonts 600 --copies 2500",
                lines_like(r"^\d+ (real fonts|damaged copies): \d+ done"), SUBSET + INSTANCE + JAVASCRIPT,
                "node bindings/js/tests/compare.mjs --fonts 300 --copies 2000"),
+    Comparison("javascript, modules", "Is the crate as WebAssembly smaller or faster than the proved library, translated?",
+               "node bindings/js/tests/modules.mjs FIRST.tgz SECOND.tgz FONT:GLYPHS..", lines_like(r"^Beside the first the second has.*"), JAVASCRIPT,
+               timed=True, by_hand=True),
     Comparison("javascript, times", "What does a call take in JavaScript, beside the native library?", "node bindings/js/tests/compare.mjs --times",
                lambda result: f"at most {at_most(max(float(row['Opened : native']) for row in result.tables[0]), 1)} times the native library's time",
                SUBSET + JAVASCRIPT, timed=True),

@@ -4,8 +4,8 @@ import subprocess
 
 # Of manylinux the tags that have a second, older name.
 OLDER_NAMES = {(2, 5): "manylinux1", (2, 12): "manylinux2010", (2, 17): "manylinux2014"}
-# What every machine with glibc has under these names.
-OF_GLIBC = {"libc.so.6", "libm.so.6", "libpthread.so.0", "libdl.so.2", "ld-linux-x86-64.so.2", "ld-linux-aarch64.so.1"}
+# What every machine with glibc has under these names, with GCC's library.
+OF_GLIBC = {"libc.so.6", "libm.so.6", "libpthread.so.0", "libdl.so.2", "ld-linux-x86-64.so.2", "ld-linux-aarch64.so.1", "ld64.so.1", "libgcc_s.so.1"}
 
 
 def readelf(path, *words):
@@ -31,10 +31,10 @@ def libraries(path):
 def glibc(path):
     """The oldest glibc that has each symbol which it needs, as (2, 17)."""
     needed = set(re.findall(r"Name: (\S+)\s+Flags:", readelf(path, "-V").partition("Version needs section")[2]))
-    odd = {it for it in needed if not re.fullmatch(r"GLIBC_[0-9.]+", it)} | (set(libraries(path)) - OF_GLIBC)
+    odd = {it for it in needed if not re.fullmatch(r"(GLIBC|GCC)_[0-9.]+", it)} | (set(libraries(path)) - OF_GLIBC)
     if odd:
         raise ValueError(f"{path} needs more than glibc: {', '.join(sorted(odd))}")
-    return max((tuple(map(int, it[6:].split(".")[:2])) for it in needed), default=(2, 0))
+    return max((tuple(map(int, it[6:].split(".")[:2])) for it in needed if it.startswith("GLIBC_")), default=(2, 0))
 
 
 def manylinux(path):

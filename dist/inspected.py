@@ -7,6 +7,7 @@ import csv
 import gzip
 import hashlib
 import io
+import json
 import os
 import re
 import socket
@@ -16,9 +17,16 @@ import tempfile
 import zipfile
 
 ROOT = os.path.dirname(os.path.dirname(os.path.realpath(__file__)))
+# The targets that the kit compiles for, and all of Linux with what the head of a file says of the processor.
 TRIPLES = {"x86_64": "x86_64-unknown-linux-gnu", "aarch64": "aarch64-unknown-linux-gnu"}
-MACHINES = {"x86_64": b"\x3e\x00", "aarch64": b"\xb7\x00"}
+MACHINES = {"x86_64": b"\x3e\x00", "aarch64": b"\xb7\x00", "s390x": b"\x00\x16"}
+MACHINE_NAMES = {"x86_64": "Advanced Micro Devices X86-64", "aarch64": "AArch64", "s390x": "IBM S/390"}
 DATE = 315532800
+# What a DLL may need: libraries that every Windows has.
+OF_WINDOWS = {"KERNEL32.dll", "msvcrt.dll", "ntdll.dll", "bcrypt.dll", "ADVAPI32.dll", "USERENV.dll", "WS2_32.dll", "api-ms-win-core-synch-l1-2-0.dll"}
+# What a bill of materials has to list beside a package's own files, by a part of the name; a package has the first that fits.
+LINKED = [("windows", {"rust": "1.63.0", "mingw": "10.0.0", "gcc": "12.2.0"}), ("win_amd64", {"rust": "1.63.0", "mingw": "10.0.0", "gcc": "12.2.0"}),
+          ("s390x", {"rust": "1.63.0"}), (".tgz", {"rust": "1.63.0"}), ("native", {"kit": "KIT"}), (".crate", {}), ("", {"kit": "KIT"})]
 # What a package has beside the program, and the files in crates/subset_font.
 OF_PROGRAM = {
     "share/man/man1/subset_font.1": "subset_font.1",
@@ -42,12 +50,23 @@ BEYOND = (r"pshufb|palignr|pmaddubsw|pmulhrsw|phadd\w+|phsub\w+|psign[bwd]|pabs[
           r"|cmpxchg16b|lahf|sahf")
 
 
+def content(name, data):
+    """The files of a package by their paths in it, as far as they are no links."""
+    if name.endswith((".whl", ".zip")):
+        with zipfile.ZipFile(io.BytesIO(data)) as file:
+            return {it: file.read(it) for it in file.namelist()}
+    with tarfile.open(fileobj=io.BytesIO(gzip.decompress(data))) as tar:
+        return {it.name: tar.extractfile(it).read() for it in tar.getmembers() if it.isfile()}
+
+
 class Looker:
     def __init__(self, folder, skip, version):
         self.folder, self.skip, self.version = folder, skip, version
         self.number, _, own = version.partition("+")
         self.wheel_version, self.npm_version = f"{self.number}.post{own}", f"{self.number}-{own}"
         self.targets = [it for it in TRIPLES if it not in skip]
+        self.by_cargo = [it for it in ("s390x",) if it not in skip]
+        self.is_windows = "windows" not in skip
         self.wrong = []
         # (file, path in it, bytes) of all that is packed
         self.packed = []
@@ -68,16 +87,21 @@ class Looker:
 
     def names(self):
         """The names of all files, with those of the wheels as they stand there, since a test of its own reads their tags."""
-        wanted = {f"subsetter-{self.version}.crate", f"subsetter-native-{self.version}.crate", "PROVED", "SHA256SUMS"}
-        wanted |= {f"subsetter-{self.version}-linux-{it}.tar.gz" for it in self.targets}
+        wanted = {f"subsetter-{self.version}.crate", f"subsetter-native-{self.version}.crate"}
+        wanted |= {f"subsetter-{self.version}-linux-{it}.tar.gz" for it in self.targets + self.by_cargo}
+        wanted |= {f"subsetter-{self.version}-windows-x86_64.zip"} if self.is_windows else set()
         wanted |= set() if "js" in self.skip else {f"subsetter-proved-{self.npm_version}.tgz"}
         there = sorted(os.listdir(self.folder))
         wheels = [it for it in there if it.endswith(".whl")]
         for target in self.targets:
             own = [it for it in wheels if it.startswith(f"subsetter-{self.wheel_version}-py3-none-manylinux") and it.endswith(f"_{target}.whl")]
             self.demand(len(own) == 1, f"not one wheel of version {self.wheel_version} for {target}: {wheels}")
-        self.demand(len(wheels) == len(self.targets), f"the wheels are {wheels}")
-        self.demand(wanted == {*there} - {*wheels}, f"the files are {there}, and without the wheels they should be {sorted(wanted)}")
+        own = [it for it in wheels if it == f"subsetter-{self.wheel_version}-py3-none-win_amd64.whl"]
+        self.demand(len(own) == self.is_windows, f"not one wheel of version {self.wheel_version} for Windows: {wheels}")
+        self.demand(len(wheels) == len(self.targets) + self.is_windows, f"the wheels are {wheels}")
+        wanted |= {*wheels}
+        whole = wanted | {f"{it}.spdx.json" for it in wanted} | {"PROVED", "SHA256SUMS"}
+        self.demand(whole == {*there}, f"the files are {there}, and they should be {sorted(whole)}")
         return there
 
     def sums(self, there):
@@ -85,15 +109,70 @@ class Looker:
         wanted = [f"{hashlib.sha256(self.read(it)).hexdigest()}  {it}" for it in there if it != "SHA256SUMS"] + [""]
         self.demand(lines == wanted, "SHA256SUMS isn't the sums of the other files")
 
+    # ---- the bills of materials
+
+    def kit(self):
+        """The kit's line in PROVED. Its logic, which is what proves, is README.md's; kits of several names have the same."""
+        with open(os.path.join(ROOT, "README.md"), encoding="utf-8") as file:
+            logic = re.search(r"`rattle-kit-\S+ (logic \w+)`", file.read())[1]
+        line = self.read("PROVED").decode().split("\n")[2]
+        self.demand(re.fullmatch(rf"rattle-kit-\S+ {logic}", line), f"PROVED has the kit {line}, and README.md {logic}")
+        return line
+
+    def bill(self, name):
+        """The bill of a package: its version and licence, its sum, exactly its files with their sums, and what is linked."""
+        data, text = self.read(name), self.read(f"{name}.spdx.json").decode()
+        try:
+            said = json.loads(text)
+            own = {it["SPDXID"]: it for it in said["packages"]}
+            package, related = own["SPDXRef-Package"], {(it["spdxElementId"], it["relationshipType"], it["relatedSpdxElement"]) for it in said["relationships"]}
+        except (ValueError, KeyError) as why:
+            self.demand(False, f"{name}.spdx.json can't be read: {why!r}")
+            return
+        kinds = (".tgz", self.npm_version), (".whl", self.wheel_version), ("", self.version)
+        number = next(it for end, it in kinds if name.endswith(end))
+        sum_of = hashlib.sha256(data).hexdigest()
+        head = {"spdxVersion": "SPDX-2.3", "dataLicense": "CC0-1.0", "SPDXID": "SPDXRef-DOCUMENT", "name": name,
+                "documentNamespace": f"https://spdx.org/spdxdocs/{name}-{sum_of}",
+                "creationInfo": {"created": "1980-01-01T00:00:00Z", "creators": ["Tool: dist/make"]}}
+        self.demand({it: said.get(it) for it in head} == head, f"{name}.spdx.json: its head")
+        wanted = {"versionInfo": number, "packageFileName": name, "licenseDeclared": LICENCE, "licenseConcluded": LICENCE, "filesAnalyzed": True,
+                  "checksums": [{"algorithm": "SHA256", "checksumValue": sum_of}]}
+        self.demand({it: package.get(it) for it in wanted} == wanted, f"{name}.spdx.json: the package isn't {name} of version {number}")
+        self.bill_of_files(name, said, package, data)
+        self.bill_of_parts(name, own, related)
+        known = {"SPDXRef-DOCUMENT", *own, *(it["SPDXID"] for it in said["files"])}
+        self.demand(len(known) == 1 + len(said["packages"]) + len(said["files"]), f"{name}.spdx.json has an identifier twice")
+        ends = {it for one, _, other in related for it in (one, other)}
+        self.demand(ends == known, f"{name}.spdx.json: relationships of {sorted(ends ^ known)[:3]}")
+        contained = {other for one, kind, other in related if (one, kind) == ("SPDXRef-Package", "CONTAINS")}
+        self.demand(contained == {it["SPDXID"] for it in said["files"]}, f"{name}.spdx.json doesn't contain its files")
+        self.demand(("SPDXRef-DOCUMENT", "DESCRIBES", "SPDXRef-Package") in related, f"{name}.spdx.json describes no package")
+
+    def bill_of_files(self, name, said, package, data):
+        found = {}
+        for it in said["files"]:
+            found[it["fileName"]] = {sum_of["algorithm"]: sum_of["checksumValue"] for sum_of in it["checksums"]}
+        wanted = {f"./{path}": {"SHA1": hashlib.sha1(it).hexdigest(), "SHA256": hashlib.sha256(it).hexdigest()} for path, it in content(name, data).items()}
+        self.demand(found == wanted and wanted, f"{name}.spdx.json lists other files than the package has: {sorted({*found} ^ {*wanted})[:3]}")
+        code = hashlib.sha1("".join(sorted(it["SHA1"] for it in wanted.values())).encode()).hexdigest()
+        self.demand(package.get("packageVerificationCode") == {"packageVerificationCodeValue": code}, f"{name}.spdx.json: its verification code")
+
+    def bill_of_parts(self, name, own, related):
+        parts = next(it for part, it in LINKED if part in name)
+        wanted = {f"SPDXRef-Part-{it}": self.kit() if number == "KIT" else number for it, number in parts.items()}
+        linked = {other: own[other].get("versionInfo") for one, kind, other in related if (one, kind) == ("SPDXRef-Package", "STATIC_LINK") and other in own}
+        self.demand(linked == wanted, f"{name}.spdx.json: what is linked is {linked}, and not {wanted}")
+        port = [own[other].get("versionInfo") for one, kind, other in related if (one, kind) == ("SPDXRef-Package", "DESCENDANT_OF") and other in own]
+        self.demand(port == [self.number], f"{name}.spdx.json: it is a port of {port}")
+
     def proved(self):
         text = self.read("PROVED").decode()
         head = subprocess.run(["git", "-C", ROOT, "rev-parse", "HEAD"], capture_output=True, text=True).stdout.strip()
-        with open(os.path.join(ROOT, "README.md"), encoding="utf-8") as file:
-            kit = re.search(r"`(rattle-kit-\S+ logic \w+)`", file.read())[1]
         lines = text.split("\n")
         self.demand(lines[0] == f"subsetter {self.version}", f"PROVED is of {lines[0]}")
         self.demand(lines[1].split()[1:2] == [head], f"PROVED is of the {lines[1]}, and this is {head}")
-        self.demand(lines[2] == kit, f"PROVED has the kit {lines[2]}, and README.md {kit}")
+        self.kit()
         said = dict(it.partition(": logic=")[::2] for it in lines if ": logic=" in it)
         wanted = {f"subsetter_c, compiled for {it}": TRIPLES[it] for it in self.targets}
         if "program" not in self.skip:
@@ -145,9 +224,11 @@ class Looker:
         full = f"libsubsetter.so.{self.version.replace('+', '.')}"
         wanted = dict.fromkeys(["README.md", "include/subsetter.h", "lib/libsubsetter.a", f"lib/{full}", "lib/pkgconfig/subsetter.pc"])
         wanted.update(dict.fromkeys(["share/doc/subsetter/LICENSE", "share/doc/subsetter/NOTICE"]))
+        wanted.update(dict.fromkeys([f"lib/cmake/subsetter/subsetter-config{it}.cmake" for it in ("", "-version")]))
         wanted.update({"lib/libsubsetter.so.0": full, "lib/libsubsetter.so": "libsubsetter.so.0"})
         if target == "x86_64" and "program" not in self.skip:
             wanted.update(dict.fromkeys(["bin/subset_font", *OF_PROGRAM]))
+        proved = "That is proved" if target in self.by_cargo else "The file PROVED"
         found = self.tar(f"{name}.tar.gz", name, wanted)
         header, pc = found.get("include/subsetter.h", b""), found.get("lib/pkgconfig/subsetter.pc", b"").decode()
         with open(os.path.join(ROOT, "bindings", "c", "subsetter.h"), "rb") as file:
@@ -160,6 +241,7 @@ class Looker:
         readme = found.get("README.md", b"").decode()
         self.demand(readme.startswith(f"# subsetter {self.version} for Linux on {target}\n"), f"{name}: README.md")
         self.licensed(f"{name}: README.md", readme, f"The licence is {LICENCE}: ")
+        self.demand(proved in readme, f"{name}: README.md doesn't say what is proved")
         self.library(name, target, found.get(f"lib/{full}", b""), found.get("lib/libsubsetter.a", b""))
         if "bin/subset_font" in found:
             for path, source in OF_PROGRAM.items():
@@ -198,19 +280,18 @@ class Looker:
                     file.write(data)
             said = subprocess.run(["readelf", "-Wd", paths[0]], capture_output=True, text=True).stdout
             self.demand("SONAME" in said and "[libsubsetter.so.0]" in said, f"{name}: the soname isn't libsubsetter.so.0")
-            self.demand(re.findall(r"NEEDED.*\[(.*)\]", said) == ["libc.so.6"], f"{name}: it needs more than libc.so.6")
+            needed = {*re.findall(r"NEEDED.*\[(.*)\]", said)} - ({"libgcc_s.so.1", "ld64.so.1"} if target in self.by_cargo else set())
+            self.demand(needed == {"libc.so.6"}, f"{name}: it needs {sorted(needed)}")
             said = subprocess.run(["readelf", "-W", "--dyn-syms", paths[0]], capture_output=True, text=True).stdout
             shown = {it.split()[7] for it in said.split("\n") if re.search(r"\b(GLOBAL|WEAK)\b.*DEFAULT\s+\d+ ", it)}
-            with open(os.path.join(ROOT, "bindings", "c", "subsetter.h"), encoding="utf-8") as file:
-                text = re.sub(r"static inline[^{;]*|/\*.*?\*/", "", file.read(), flags=re.S)
-            wanted = {*re.findall(r"^(?:uint32_t|void) (subsetter_\w+)\(", text, re.M)}
+            wanted = self.calls()
             self.demand(shown == wanted and wanted, f"{name}: the shared library shows {sorted(shown)}")
             said = subprocess.run(["readelf", "-Ws", paths[1]], capture_output=True, text=True).stdout
             shown = {it.split()[7] for it in said.split("\n") if re.search(r"\b(GLOBAL|WEAK)\b.*DEFAULT\s+\d+ ", it)}
             self.demand(shown == wanted, f"{name}: the static library shows {sorted(shown)}")
             said = subprocess.run(["readelf", "-Wh", paths[1]], capture_output=True, text=True).stdout
             machines = {*re.findall(r"Machine:\s+(.*)", said)}
-            self.demand(machines == {{"x86_64": "Advanced Micro Devices X86-64", "aarch64": "AArch64"}[target]}, f"{name}: the static library is for {machines}")
+            self.demand(machines == {MACHINE_NAMES[target]}, f"{name}: the static library is for {machines}")
         self.demand(shared[18:20] == MACHINES[target], f"{name}: the shared library is for another processor")
         if target == "x86_64":
             self.baseline(f"{name}: the static library", static)
@@ -226,7 +307,52 @@ class Looker:
         found = {*re.findall(rf"^\s+[0-9a-f]+:\t(?:lock |rep[nz]* |data16 )*({BEYOND})\b", said, re.M)} - {"verr", "verw"}
         self.demand(not found, f"{name} has instructions that not every x86-64 has: {', '.join(sorted(found))}")
 
-    def wheel(self, target, shared):
+    def windows(self):
+        """The package for C on Windows; it gives the DLL."""
+        front = f"subsetter-{self.version}-windows-x86_64"
+        name, data = f"{front}.zip", self.read(f"{front}.zip")
+        if not data:
+            return b""
+        with zipfile.ZipFile(io.BytesIO(data)) as file:
+            heads = file.infolist()
+            found = {it.filename.removeprefix(f"{front}/"): file.read(it) for it in heads}
+        for head in heads:
+            mode = 0o100755 if head.filename.endswith(".dll") else 0o100644
+            self.demand((head.date_time, head.external_attr >> 16) == ((1980, 1, 1, 0, 0, 0), mode), f"{name}: {head.filename} has date {head.date_time}, mode {head.external_attr >> 16:o}")
+        wanted = {"LICENSE", "NOTICE", "README.md", "include/subsetter.h", "bin/subsetter.dll", "lib/libsubsetter.dll.a", "lib/libsubsetter.a"}
+        self.demand({*found} == wanted and [it.filename for it in heads] == sorted(it.filename for it in heads), f"{name}: it holds {sorted(found)}")
+        with open(os.path.join(ROOT, "bindings", "c", "subsetter.h"), "rb") as file:
+            self.demand(found.get("include/subsetter.h") == file.read(), f"{name}: its header isn't that of bindings/c")
+        self.carries(name, found, "")
+        readme = found.get("README.md", b"").decode()
+        self.demand(readme.startswith(f"# subsetter {self.version} for Windows on x86_64\n"), f"{name}: README.md")
+        self.licensed(f"{name}: README.md", readme, f"The licence is {LICENCE} (LICENSE, NOTICE).")
+        self.packed += [(name, path, it) for path, it in found.items()]
+        self.dll(name, found.get("bin/subsetter.dll", b""))
+        return found.get("bin/subsetter.dll", b"")
+
+    def dll(self, name, data):
+        """A DLL for x86-64 without a date, which needs nothing but Windows, and shows the calls of the header."""
+        at = int.from_bytes(data[60:64], "little")
+        self.demand(data[:2] == b"MZ" and data[at:at + 6] == b"PE\0\0\x64\x86", f"{name}: its DLL isn't one for x86-64")
+        self.demand(data[at + 8:at + 12] == bytes(4), f"{name}: its DLL has a date")
+        with tempfile.NamedTemporaryFile(prefix="look-") as file:
+            file.write(data)
+            file.flush()
+            said = subprocess.run(["objdump", "-p", file.name], capture_output=True, text=True, errors="replace").stdout
+        needed = {*re.findall(r"DLL Name: (\S+)", said)}
+        self.demand(needed and needed <= OF_WINDOWS, f"{name}: its DLL needs {sorted(needed - OF_WINDOWS)}")
+        table = said.partition("[Ordinal/Name Pointer] Table")[2]
+        shown = {*re.findall(r"^\s*\[\s*\d+\]\s+(?:\+base\[\s*\d+\]\s+)?(?:[0-9a-f]{4}\s+)?(\S+)$", table, re.M)}
+        self.demand(shown == self.calls() and shown, f"{name}: its DLL shows {sorted(shown ^ self.calls())}")
+
+    def calls(self):
+        """The calls of the header."""
+        with open(os.path.join(ROOT, "bindings", "c", "subsetter.h"), encoding="utf-8") as file:
+            text = re.sub(r"static inline[^{;]*|/\*.*?\*/", "", file.read(), flags=re.S)
+        return {*re.findall(r"^(?:uint32_t|void) (subsetter_\w+)\(", text, re.M)}
+
+    def wheel(self, target, shared, library="libsubsetter.so"):
         names = [it for it in os.listdir(self.folder) if it.endswith(f"_{target}.whl")]
         if len(names) != 1:
             return
@@ -235,9 +361,9 @@ class Looker:
             heads = file.infolist()
             found = {it.filename: file.read(it) for it in heads}
         for head in heads:
-            mode = 0o100755 if head.filename.endswith(".so") else 0o100644
+            mode = 0o100755 if head.filename.endswith(library) else 0o100644
             self.demand((head.date_time, head.external_attr >> 16) == ((1980, 1, 1, 0, 0, 0), mode), f"{names[0]}: {head.filename} has date {head.date_time}, mode {head.external_attr >> 16:o}")
-        own = {f"subsetter/{it}" for it in ("__init__.py", "py.typed", "libsubsetter.so")}
+        own = {f"subsetter/{it}" for it in ("__init__.py", "py.typed", library)}
         own |= {f"{info}/{it}" for it in ("METADATA", "WHEEL", "RECORD", "licenses/LICENSE", "licenses/NOTICE")}
         self.demand({*found} == own and len(heads) == len(found), f"{names[0]}: it holds {sorted(found)}")
         self.carries(names[0], found, f"{info}/licenses/")
@@ -248,7 +374,9 @@ class Looker:
             self.demand(f"\n{line}\n" in f"\n{metadata}", f"{names[0]}: METADATA has no line {line}")
         self.licensed(f"{names[0]}: METADATA", metadata, f"\nLicense-Expression: {LICENCE}\nLicense-File: LICENSE\nLicense-File: NOTICE\n")
         self.tags(names[0], found.get(f"{info}/WHEEL", b"").decode(), shared)
-        self.demand(found.get("subsetter/libsubsetter.so") == shared, f"{names[0]}: its library isn't that for C")
+        self.demand(found.get(f"subsetter/{library}") == shared, f"{names[0]}: its library isn't that for C")
+        is_proved = "That is proved of the library" in metadata and "by a proved library" in metadata
+        self.demand(is_proved == (target != "amd64"), f"{names[0]}: METADATA says that the library is {'' if is_proved else 'not '}proved")
         with open(os.path.join(ROOT, "bindings", "python", "subsetter", "__init__.py"), "rb") as file:
             self.demand(found.get("subsetter/__init__.py") == file.read(), f"{names[0]}: its module isn't that of bindings/python")
 
@@ -265,6 +393,8 @@ class Looker:
         tags = re.findall(r"^Tag: (.*)$", text, re.M)
         self.demand(tags == [f"py3-none-{it}" for it in name[:-4].split("-")[-1].split(".")] and tags, f"{name}: its tags are {tags}")
         self.demand("\nRoot-Is-Purelib: false\n" in text, f"{name}: it says that it's pure")
+        if tags == ["py3-none-win_amd64"]:
+            return
         with tempfile.NamedTemporaryFile(prefix="look-") as file:
             file.write(shared)
             file.flush()
@@ -342,8 +472,15 @@ def look(folder, skip, version):
         found = it.linux(target)
         libraries[target] = found.get("lib/libsubsetter.a")
         it.wheel(target, found.get(f"lib/libsubsetter.so.{version.replace('+', '.')}", b""))
+    for target in it.by_cargo:
+        it.linux(target)
+    if it.is_windows:
+        it.wheel("amd64", it.windows(), "subsetter.dll")
     it.crates_of_rust(libraries)
     if "js" not in skip:
         it.js()
+    for name in there:
+        if name not in ("PROVED", "SHA256SUMS") and not name.endswith(".spdx.json"):
+            it.bill(name)
     it.traces()
     return it.wrong, len(it.packed)

@@ -7,13 +7,12 @@ import base64
 import gzip
 import hashlib
 import io
-import json
 import tarfile
 import zipfile
 from typing import NamedTuple, Optional
 
 # The date of every file in a package: 1980-01-01, the first that a zip can say.
-DATE, ZIP_DATE = 315532800, (1980, 1, 1, 0, 0, 0)
+DATE, ZIP_DATE, DATE_TEXT = 315532800, (1980, 1, 1, 0, 0, 0), "1980-01-01T00:00:00Z"
 
 
 class File(NamedTuple):
@@ -97,6 +96,10 @@ def wheel(tree, info, metadata, tags, licences):
     return zipped(whole)
 
 
-def vendored(crate):
-    """What a folder of vendored crates holds beside a crate's files: the sum of the .crate."""
-    return json.dumps({"files": {}, "package": sha256(crate)}).encode()
+def unpacked(name, data):
+    """The files of a package by their paths in it, as far as they are no links."""
+    if name.endswith((".whl", ".zip")):
+        with zipfile.ZipFile(io.BytesIO(data)) as file:
+            return {it: file.read(it) for it in file.namelist()}
+    with tarfile.open(fileobj=io.BytesIO(data), mode="r:gz") as tar:
+        return {it.name: tar.extractfile(it).read() for it in tar.getmembers() if it.isfile()}

@@ -1,5 +1,5 @@
 /**
- * Fonts cut down to some of their glyphs, for embedding in PDF: the proved library as a WebAssembly module.
+ * Fonts cut down to some of their glyphs, for embedding in PDF: generated from proved sources, as a WebAssembly module.
  *
  *     import { load } from "subsetter-proved";
  *     const subsetter = await load();
@@ -43,7 +43,23 @@ const PAGE = 65536, ALIGNMENT = 16, MEMORY_AT_MOST = 2 ** 31;
 const WORD_AT_MOST = 2 ** 32 - 1;
 const TOKENS = 1000000, DEPTH = 64;
 
+/** The words of a call that it writes: for the font, the CIDs and the widths where the list lies, and its count. */
+const MADE = [0, 0, 0, 0, 0, 0];
+
 const aligned = (at) => Math.ceil(at / ALIGNMENT) * ALIGNMENT;
+
+/** Numbers of `size` bytes each, 2 or 4, as the module has them: the lowest byte first. */
+function listOf(size, numbers) {
+    const list = new Uint8Array(size * numbers.length), view = new DataView(list.buffer);
+    numbers.forEach((number, i) => (size === 2 ? view.setUint16(2 * i, number, true) : view.setUint32(4 * i, number, true)));
+    return list;
+}
+
+/** The numbers of such a list in a memory. */
+function numbersOf(size, buffer, at, count) {
+    const view = new DataView(buffer);
+    return Array.from({ length: count }, (_, i) => (size === 2 ? view.getUint16(at + 2 * i, true) : view.getUint32(at + 4 * i, true)));
+}
 
 const shown = (value) => (typeof value === "string" ? JSON.stringify(value) : String(value));
 
@@ -72,7 +88,7 @@ function bytesOf(data) {
     throw new TypeError("a font must be an ArrayBuffer or a view of one");
 }
 
-/** Glyph numbers as numbers of 16 bits; else TypeError or RangeError. */
+/** Glyph numbers, as a list; else TypeError or RangeError. */
 function glyphsOf(glyphs) {
     if (typeof glyphs !== "object" || typeof glyphs?.[Symbol.iterator] !== "function") {
         throw new TypeError("glyphs must be an iterable of numbers");
@@ -81,7 +97,7 @@ function glyphsOf(glyphs) {
     for (const glyph of glyphs) {
         numbers.push(whole(glyph, 0, 65535, "a glyph"));
     }
-    return Uint16Array.from(numbers);
+    return numbers;
 }
 
 /** Options, if they have no other names than these; else TypeError. */
@@ -132,7 +148,7 @@ function coordinatesOf(coordinates) {
         }
         words.push([...tag].reduce((word, letter) => word * 256 + letter.charCodeAt(0), 0), fixed(value));
     }
-    return Int32Array.from(words);
+    return words;
 }
 
 /** The choices of each call. */
@@ -182,22 +198,14 @@ class Library {
             return;
         }
         try {
-            // A memory of 64 bits counts its pages as BigInt.
-            try {
-                memory.grow(pages);
-            } catch (error) {
-                if (!(error instanceof TypeError)) {
-                    throw error;
-                }
-                memory.grow(BigInt(pages));
-            }
+            memory.grow(pages);
         } catch {
             throw new OutOfMemory("out of memory");
         }
     }
 
     get #base() {
-        return aligned(Number(this.#exports.__heap_base.value));
+        return aligned(this.#exports.__heap_base.value);
     }
 
     /** Where the last font ends. */
@@ -247,74 +255,71 @@ class Library {
         this.#places = this.#places.filter((it) => it !== place);
     }
 
-    /** Calls `name` with lists, which are put behind the fonts, and a struct of `size` bytes, which it writes. */
-    #call(name, words, lists, size) {
-        const exports = this.#sound(), parts = [...lists, new Uint8Array(size)];
+    /**
+     * Calls `name` on a struct of words of 32 bits, which lies behind the fonts and behind these lists: its status, and the
+     * struct afterwards. `words` gives the words by where the lists lie; `first` are the arguments before the struct.
+     */
+    #call(name, lists, words, ...first) {
+        const exports = this.#sound();
         let end = this.#end;
-        const places = parts.map((part) => {
+        const places = lists.map((list) => {
             const at = end;
-            end = aligned(at + part.byteLength);
+            end = aligned(at + list.byteLength);
             return at;
         });
+        const struct = listOf(4, words(...places)), at = end;
+        end = aligned(at + struct.byteLength);
         if (end > MEMORY_AT_MOST) {
             throw new OutOfMemory("out of memory");
         }
         this.#reach(exports.memory, end);
         const all = new Uint8Array(exports.memory.buffer);
-        parts.forEach((part, i) => all.set(new Uint8Array(part.buffer, part.byteOffset, part.byteLength), places[i]));
+        places.forEach((place, i) => all.set(lists[i], place));
+        all.set(struct, at);
         let status;
         try {
             // (what an earlier call handed over is forgotten with all else, and needn't be freed)
-            exports.heap_start(BigInt(end));
-            status = exports[name](...words(...places.map(BigInt)));
+            exports.heap_start(end);
+            status = exports[name](...first, at);
         } catch (error) {
             this.#isSpoilt = true;
             throw error;
         }
-        return { status, buffer: exports.memory.buffer, made: places.at(-1) };
+        // (it may be another buffer now)
+        const { buffer } = exports.memory;
+        return { status, buffer, words: numbersOf(4, buffer, at, struct.byteLength / 4) };
     }
 
     #text(status) {
-        const room = 64;
-        const { buffer, made } = this.#call(
-            "subsetter_error_text", (at) => [status, at + 16n, BigInt(room), at], [], 16 + room,
-        );
-        const length = Number(new DataView(buffer).getBigUint64(made, true));
-        return String.fromCharCode(...new Uint8Array(buffer, made + 16, length));
+        const { buffer, words: [at, length] } = this.#call("subsetter_error_text", [], () => [0, 0], status);
+        return String.fromCharCode(...new Uint8Array(buffer, at, length));
     }
 
     /** What the call `name` makes of a font that is held here: its three lists, as copies. */
-    make(name, font, index, glyphs, { tokens, depth, drop, bytes, coordinates }) {
-        const options = Uint32Array.of(20, tokens, depth, drop, bytes);
-        const lists = coordinates ? [coordinates, glyphs, options] : [glyphs, options];
+    make(name, font, index, glyphs, { tokens, depth, bytes, drop, coordinates = [] }) {
+        const lists = [listOf(2, glyphs), listOf(4, coordinates)];
         // (a coordinate is two numbers)
-        const count = (list) => BigInt(list === coordinates ? list.length / 2 : list.length);
-        const words = (...places) =>
-            [BigInt(font.at), BigInt(font.size), index, ...lists.flatMap((list, i) => [places[i], count(list)]), places.at(-1)];
-        const { status, buffer, made } = this.#call(name, words, lists, 48);
+        const given = (glyphsAt, coordinatesAt) =>
+            [font.at, font.size, index, glyphsAt, glyphs.length, coordinatesAt, coordinates.length / 2, tokens, depth, bytes, drop];
+        const { status, buffer, words } = this.#call(name, lists, (...places) => [...given(...places), ...MADE]);
         if (status !== DONE) {
             throw new (ERRORS[status] ?? SubsetterError)(this.#texts[status] ?? `status ${status}`);
         }
-        // Three times where a list lies, and its count.
-        const view = new DataView(buffer, made);
-        const part = (i, size) => {
-            const at = Number(view.getBigUint64(16 * i, true));
-            return buffer.slice(at, at + size * Number(view.getBigUint64(16 * i + 8, true)));
-        };
+        const [at, size, cidsAt, cidCount, widthsAt, widthCount] = words.slice(-MADE.length);
         return {
-            font: new Uint8Array(part(0, 1)),
-            cids: [...new Uint16Array(part(1, 2))],
-            widths: [...new Uint32Array(part(2, 4))],
+            font: new Uint8Array(buffer.slice(at, at + size)),
+            cids: numbersOf(2, buffer, cidsAt, cidCount),
+            widths: numbersOf(4, buffer, widthsAt, widthCount),
         };
     }
 
     subset(font, index, glyphs, choices) {
-        const name = choices.coordinates ? "subsetter_make_subset_at_by_words" : "subsetter_make_subset_by_words";
+        const name = choices.coordinates ? "subsetter_subset_at" : "subsetter_subset";
         return this.make(name, font, index, glyphs, choices).font;
     }
 
     embed(font, index, glyphs, choices) {
-        const name = choices.coordinates ? "subsetter_make_embedded_at_by_words" : "subsetter_make_embedded_by_words";
+        const name = choices.coordinates ? "subsetter_embed_at" : "subsetter_embed";
         return this.make(name, font, index, glyphs, choices);
     }
 }
@@ -394,9 +399,10 @@ async function moduleOf(source) {
     if (typeof url !== "string" && !(url instanceof URL)) {
         throw new TypeError("a module is a WebAssembly.Module, bytes, a Response or an address");
     }
-    if (url instanceof URL && url.protocol === "file:" && typeof process !== "undefined") {
+    // (Node's fetch reads no file)
+    if (String(url).startsWith("file:") && typeof process !== "undefined") {
         const { readFile } = await import("node:fs/promises");
-        return WebAssembly.compile(await readFile(url));
+        return WebAssembly.compile(await readFile(new URL(url)));
     }
     return compiled(await fetch(url));
 }

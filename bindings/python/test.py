@@ -544,8 +544,19 @@ def check_systems():
     """The name of the library on each system."""
     for system, name in (("linux", "libsubsetter.so"), ("freebsd14", "libsubsetter.so"), ("darwin", "libsubsetter.dylib"), ("win32", "subsetter.dll")):
         found = child(f"import sys; sys.platform = {system!r}; import subsetter; print(*subsetter._places(), sep='\\n')").split("\n")[:3]
-        places = [os.path.join(HERE, "subsetter", name), os.path.join(os.path.dirname(HERE), "c", "out", name), name]
+        places = [os.path.join(FOUND, "subsetter", name), os.path.join(os.path.dirname(FOUND), "c", "out", name), name]
         check(found == places, f"where the library is looked for on {system}: {found}")
+        # A library of this machine loads under each name, so that it is seen which file is taken.
+        with tempfile.TemporaryDirectory() as top:
+            folder = os.path.join(os.path.realpath(top), "subsetter")
+            shutil.copytree(os.path.join(FOUND, "subsetter"), folder, ignore=shutil.ignore_patterns("__pycache__", "*.so"))
+            beside = os.path.join(folder, name)
+            program = f"import sys, ctypes, threading, typing; sys.platform = {system!r}\n" + textwrap.dedent(CALLS).replace('".so" in line', '"subsetter" in line')
+            found = child(program, path=top)
+            check(f"{beside} isn't there" in found, f"no library on {system}: {found}")
+            shutil.copy(os.path.join(FOUND, "subsetter", "libsubsetter.so") if INSTALLED else BUILT, beside)
+            found = child(program, path=top)
+            check(found == beside + "\n", f"the library beside the module on {system}: {found}")
 
 
 def main():
@@ -565,7 +576,7 @@ def main():
     check((FOUND == HERE) != INSTALLED, f"the module of {FOUND}")
     if not INSTALLED:
         check_places()
-        check_systems()
+    check_systems()
     check_memory(fonts)
     check_threads(rows)
     check_other_threads(fonts)

@@ -2,9 +2,10 @@
 
 use crate::buffers::Sizes;
 use crate::calls::*;
-use crate::making::Made;
+use crate::making::{make, Made};
 use crate::status::{status_text, DONE, PANICKED, TOO_SMALL, VERSION};
 use fonts::capi::Coordinate;
+use fonts::Embedded;
 use std::cell::Cell;
 use std::ptr::{null, null_mut};
 
@@ -205,6 +206,19 @@ fn nothing_may_be_freed() {
         subsetter_free(&mut made);
         subsetter_free(&mut made);
     }
+}
+
+#[test]
+fn a_list_of_no_items_is_null_whatever_room_it_has() {
+    let (made, status) = make(Ok(Embedded {
+        font: Vec::with_capacity(7),
+        cids: Vec::with_capacity(7),
+        widths: Vec::with_capacity(7),
+    }));
+    assert_eq!(status, DONE);
+    assert!(made.font.is_null() && made.cids.is_null() && made.widths.is_null());
+    let counts = (made.font_size, made.cid_count, made.width_count);
+    assert_eq!(counts, (0, 0, 0));
 }
 
 #[test]

@@ -115,12 +115,12 @@ async function valuesOfCoordinates({ library, wasm, fonts }) {
     let passed = [], memory;
     const change = (exports) => {
         memory = exports.memory;
-        for (const name of ["subsetter_make_subset_at_by_words", "subsetter_make_embedded_at_by_words"]) {
+        for (const name of ["subsetter_subset_at", "subsetter_embed_at"]) {
             const call = exports[name];
-            exports[name] = (...words) => {
-                const [at, count] = [Number(words[3]), Number(words[4])];
+            exports[name] = (struct) => {
+                const [at, count] = new Uint32Array(memory.buffer, struct, 7).slice(5);
                 passed = [...new Int32Array(memory.buffer, at, 2 * count)];
-                return call(...words);
+                return call(struct);
             };
         }
         return exports;
@@ -371,11 +371,12 @@ async function stackEnds({ library, wasm }) {
         const subsetter = await library.load(wasm), source = plainFont(30, 16);
         const wanted = subsetter.subset(source, [7, 3]), opened = subsetter.open(source);
         let ended = 0, got = null;
+        // (Firefox has an error of its own for it; no function is called in a `catch`, where there may be no stack for that)
         const down = () => {
             try {
                 down();
             } catch (error) {
-                if (!(error instanceof RangeError)) throw error;
+                if (!(error instanceof RangeError || error.name === "InternalError")) throw error;
             }
             // On the way back there is more and more of the stack.
             if (got || ended > 300) return;
@@ -383,7 +384,7 @@ async function stackEnds({ library, wasm }) {
                 got = opened.subset([7, 3]);
             } catch (error) {
                 // (where there is no stack for a new instance there seems to be no memory for it)
-                if (!(error instanceof RangeError || error instanceof library.OutOfMemory)) throw error;
+                if (!(error instanceof RangeError || error.name === "InternalError" || error instanceof library.OutOfMemory)) throw error;
                 ended++;
             }
         };

@@ -1,53 +1,179 @@
-/** The module in Chromium, without a window: node tests/chromium.mjs. After `make`. Both forms, that of 32 bits and that of 64. */
-import { readFileSync } from "node:fs";
-import { fileURLToPath } from "node:url";
-import { equal } from "./assert.mjs";
-import { Browser, serve } from "./browser.mjs";
+/** Chromium without a window, driven by the DevTools protocol over a pipe. */
+import { spawn } from "node:child_process";
+import { mkdtempSync } from "node:fs";
+import { createServer } from "node:http";
+import { tmpdir } from "node:os";
+import { join } from "node:path";
+import { removed } from "./profiles.mjs";
 
-const read = (name) => readFileSync(fileURLToPath(new URL(name, import.meta.url)));
-const scripts = ["subsetter.mjs", "page/example.mjs", ...["assert", "rows", "calls", "made"].map((name) => `tests/${name}.mjs`)];
-const server = await serve({
-    "/index.html": () => "<!doctype html><meta charset=utf-8><title>Tests</title>",
-    "/rows.txt": () => read("../../../crates/subset_rows/data/rows.txt"),
-    "/subsetter.wasm": () => read("../out/subsetter.wasm"),
-    "/subsetter64.wasm": () => read("../out/subsetter64.wasm"),
-    ...Object.fromEntries(scripts.map((name) => [`/${name}`, () => read(`../${name}`)])),
-});
+export class Chromium {
+    #child;
+    #pending = new Map();
+    #listeners = [];
+    #next = 1;
+    #rest = "";
+    #profile;
+    #ended;
 
-/** What runs in the page. */
-async function tests(name, calls) {
-    const library = await import("/subsetter.mjs"), { runRows } = await import("/tests/rows.mjs"), { runCalls } = await import("/tests/calls.mjs");
-    const table = await (await fetch("/rows.txt")).text(), wasm = new Uint8Array(await (await fetch(name)).arrayBuffer());
-    const rows = [];
-    for (const source of [name, new URL(name, location.href), await fetch(name)]) rows.push(runRows(library, await library.load(source), table));
-    if (name === "/subsetter.wasm") rows.push(runRows(library, await library.load(), table));
-    const parts = await runCalls(library, wasm, table, calls);
-    // In a worker it is the same, and a module can be handed there.
-    const code = `import { load } from "${location.origin}/subsetter.mjs";
-        onmessage = async ({ data }) => { const s = await load(data); try { s.subset(new Uint8Array(), []) } catch (error) { postMessage(error.name) } };
-        postMessage("ready");`;
-    const worker = new Worker(URL.createObjectURL(new Blob([code], { type: "text/javascript" })), { type: "module" });
-    const told = () => new Promise((done, fail) => Object.assign(worker, { onmessage: ({ data }) => done(data), onerror: () => fail(new Error("the worker failed")) }));
-    await told();
-    worker.postMessage(await WebAssembly.compile(wasm));
-    return { rows, parts, worker: await told() };
+    constructor(flags = []) {
+        this.#profile = mkdtempSync(join(tmpdir(), "subsetter-chromium-"));
+        const words = [
+            "--headless=new", "--remote-debugging-pipe", "--no-first-run", "--disable-gpu", "--hide-scrollbars", "--disable-extensions",
+            "--disable-background-networking", "--disable-component-update", "--disable-sync", `--user-data-dir=${this.#profile}`,
+            // (Chromium's own sandbox doesn't run as root)
+            ...(process.getuid?.() === 0 ? ["--no-sandbox"] : []), "--disable-dev-shm-usage", ...flags, "about:blank",
+        ];
+        this.#child = spawn("chromium", words, { stdio: ["ignore", "ignore", "pipe", "pipe", "pipe"] });
+        let said = "";
+        this.#child.stderr.on("data", (part) => (said = (said + part).slice(-4000)));
+        this.#ended = new Promise((done) => {
+            const end = (why) => {
+                for (const { fail } of this.#pending.values()) fail(new Error(`Chromium ended (${why}): ${said}`));
+                this.#pending.clear();
+                done();
+            };
+            this.#child.on("error", end);
+            this.#child.on("close", end);
+        });
+        this.#child.stdio[3].on("error", () => {});
+        this.#child.stdio[4].setEncoding("utf8").on("data", (part) => {
+            const texts = (this.#rest + part).split("\0");
+            this.#rest = texts.pop();
+            texts.forEach((text) => this.#take(JSON.parse(text)));
+        });
+    }
+
+    #take(message) {
+        const waiting = this.#pending.get(message.id);
+        if (!waiting) return this.#listeners.forEach((listener) => listener(message));
+        this.#pending.delete(message.id);
+        if (message.error) waiting.fail(new Error(`${waiting.method}: ${message.error.message}`));
+        else waiting.done(message.result);
+    }
+
+    send(method, params = {}, sessionId = undefined) {
+        return new Promise((done, fail) => {
+            const id = this.#next++;
+            this.#pending.set(id, { done, fail, method });
+            this.#child.stdio[3].write(`${JSON.stringify({ id, method, params, sessionId })}\0`);
+        });
+    }
+
+    on(listener) {
+        this.#listeners.push(listener);
+    }
+
+    /** A new tab. */
+    async page({ width = 1100, height = 1500, scale = 1 } = {}) {
+        const { targetId } = await this.send("Target.createTarget", { url: "about:blank" });
+        const { sessionId } = await this.send("Target.attachToTarget", { targetId, flatten: true });
+        const page = new Page(this, sessionId, targetId);
+        for (const domain of ["Page", "Runtime", "Network", "DOM", "Log"]) await page.send(`${domain}.enable`);
+        await page.send("Page.setLifecycleEventsEnabled", { enabled: true });
+        await page.send("Emulation.setDeviceMetricsOverride", { width, height, deviceScaleFactor: scale, mobile: false });
+        return page;
+    }
+
+    /** Its name and version. */
+    async version() {
+        return (await this.send("Browser.getVersion")).product;
+    }
+
+    async close() {
+        await Promise.race([this.send("Browser.close").catch(() => {}), this.#ended]);
+        await Promise.race([this.#ended, new Promise((done) => setTimeout(done, 5000))]);
+        this.#child.kill("SIGKILL");
+        await this.#ended;
+        await removed(this.#profile);
+    }
 }
 
-const browser = new Browser();
-try {
-    for (const name of ["/subsetter.wasm", "/subsetter64.wasm"]) {
-        const page = await browser.page();
-        await page.go(`${server.url}/index.html`);
-        const { rows, parts, worker } = await page.value(`(${tests})(${JSON.stringify(name)}, 2000)`);
-        equal(new Set(rows).size, 1, "the rows by each way to load");
-        equal(worker, "UnknownKind", "what the worker answers");
-        equal(page.errors.filter((it) => !it.includes("404")).join("; "), "", "errors in the page");
-        console.log(`chromium, ${name.slice(1)}: ${rows[0]} rows by ${rows.length} ways to load, ${parts.length} parts, a worker`);
+class Page {
+    /** The addresses of all requests, and what went wrong in the page. */
+    requests = [];
+    errors = [];
+
+    constructor(browser, session, target) {
+        this.browser = browser;
+        this.session = session;
+        this.target = target;
+        browser.on(({ sessionId, method, params }) => {
+            if (sessionId !== session) return;
+            if (method === "Network.requestWillBeSent") this.requests.push(params.request.url);
+            if (method === "Runtime.exceptionThrown") this.errors.push(params.exceptionDetails.exception?.description ?? params.exceptionDetails.text);
+            if (method === "Log.entryAdded" && params.entry.level === "error") this.errors.push(params.entry.text);
+        });
     }
-} catch (error) {
-    console.log(`chromium: FAILED: ${error.stack}`);
-    process.exitCode = 1;
-} finally {
-    await browser.close();
-    await server.close();
+
+    send(method, params) {
+        return this.browser.send(method, params, this.session);
+    }
+
+    /** Goes to an address, and waits until all of it is loaded. (The load of the empty page before it may come later.) */
+    async go(url) {
+        const loaded = new Set();
+        let wake = () => {};
+        this.browser.on(({ sessionId, method, params }) => {
+            if (sessionId !== this.session || method !== "Page.lifecycleEvent" || params.name !== "load") return;
+            loaded.add(params.loaderId);
+            wake();
+        });
+        const { errorText, loaderId } = await this.send("Page.navigate", { url });
+        if (errorText) throw new Error(`${url}: ${errorText}`);
+        while (!loaded.has(loaderId)) await new Promise((done) => (wake = done));
+    }
+
+    /** The value of an expression in the page, awaited. */
+    async value(expression) {
+        const { result, exceptionDetails } = await this.send("Runtime.evaluate", { expression, awaitPromise: true, returnByValue: true });
+        if (exceptionDetails) throw new Error(exceptionDetails.exception?.description ?? exceptionDetails.text);
+        return result.value;
+    }
+
+    /** Waits until an expression is true. */
+    async until(expression, seconds = 60) {
+        for (const end = Date.now() + 1000 * seconds; Date.now() < end; ) {
+            if (await this.value(expression)) return;
+            await new Promise((done) => setTimeout(done, 30));
+        }
+        throw new Error(`not within ${seconds} s: ${expression}`);
+    }
+
+    async key(key, modifiers = 0) {
+        const codes = { Tab: 9, Enter: 13, " ": 32, Backspace: 8, a: 65, ArrowDown: 40 };
+        const text = key === "Enter" ? "\r" : key.length === 1 && !modifiers ? key : undefined;
+        const event = { key, code: key === " " ? "Space" : key, windowsVirtualKeyCode: codes[key] ?? key.toUpperCase().charCodeAt(0), modifiers };
+        await this.send("Input.dispatchKeyEvent", { type: text ? "keyDown" : "rawKeyDown", text, ...event });
+        await this.send("Input.dispatchKeyEvent", { type: "keyUp", ...event });
+    }
+
+    async type(text) {
+        for (const character of text) await this.send("Input.insertText", { text: character });
+    }
+
+    /** Drops files from outside onto the middle of what a selector names. */
+    async drop(selector, files) {
+        const { x, y } = await this.value(`(() => { const it = document.querySelector(${JSON.stringify(selector)}).getBoundingClientRect();
+            return { x: it.x + it.width / 2, y: it.y + it.height / 2 } })()`);
+        const data = { items: [], files, dragOperationsMask: 1 };
+        for (const type of ["dragEnter", "dragOver", "drop"]) await this.send("Input.dispatchDragEvent", { type, x, y, data });
+    }
+
+    async picture(options = {}) {
+        const { data } = await this.send("Page.captureScreenshot", { format: "png", captureBeyondViewport: true, ...options });
+        return Buffer.from(data, "base64");
+    }
+}
+
+/** A server on this machine alone: `answers` are contents by path, or functions that give them. */
+export async function serve(answers) {
+    const kinds = { mjs: "text/javascript", html: "text/html", wasm: "application/wasm", txt: "text/plain" };
+    const server = createServer((request, response) => {
+        const path = new URL(request.url, "http://localhost").pathname;
+        if (!(path in answers)) return response.writeHead(404).end();
+        const kind = kinds[path.split(".").pop()] ?? "application/octet-stream";
+        response.writeHead(200, { "content-type": kind }).end(answers[path]());
+    });
+    await new Promise((done) => server.listen(0, "127.0.0.1", done));
+    return { url: `http://127.0.0.1:${server.address().port}`, close: () => new Promise((done) => (server.close(done), server.closeAllConnections())) };
 }

@@ -1,7 +1,7 @@
 /**
  * The module's answers beside those of the native library, which must be the same, byte for byte:
  *
- *     node tests/compare.mjs [--fonts N] [--copies N] [--sixty-four]     the real fonts of this machine, and damaged copies
+ *     node tests/compare.mjs [--fonts N] [--copies N]     the real fonts of this machine, and damaged copies
  *     node tests/compare.mjs --times                                     a table of times (compare/all keeps it)
  *
  * It is run by hand after `make native` and says which commit it ran on. `bindings/js/test` compares 300 fonts and 2,000 copies.
@@ -104,8 +104,7 @@ async function sweep(words) {
     const number = (word, other) => (words.includes(word) ? Number(words[words.indexOf(word) + 1]) : other);
     const count = number("--fonts", 300), copies = number("--copies", 2000);
     const { load } = await import("../subsetter.mjs");
-    const file = words.includes("--sixty-four") ? "subsetter64.wasm" : "subsetter.wasm";
-    const subsetter = await load(readFileSync(OUT + file));
+    const file = "subsetter.wasm", subsetter = await load(readFileSync(OUT + file));
     const text = (counts) => Object.entries(counts).map(([status, times]) => `${times} ${NAMES[status] ?? "done"}`).join(", ");
     console.log(`${commit()}, ${file}, Node ${process.version}: the native library's answers, byte for byte`);
     for (const [kind, fonts] of [["real fonts", realFonts(count)], ["damaged copies", damagedFonts(copies)]]) {

@@ -1,5 +1,5 @@
-/** The module in Node: node tests/node.mjs PART.., of rows, calls, parts, package, fonts, drawings. After `make`. */
-import { execFileSync } from "node:child_process";
+/** The module in Node: node tests/node.mjs PART.., of rows, calls, parts, stale, package, fonts, drawings. After `make`. */
+import { execFileSync, spawnSync } from "node:child_process";
 import { mkdtempSync, readFileSync, readdirSync, rmSync, writeFileSync } from "node:fs";
 import { tmpdir } from "node:os";
 import { join } from "node:path";
@@ -36,7 +36,19 @@ async function calls() {
 
 async function parts() {
     await runParts(read("../out/parts.wasm"));
-    return "the heap and the wide integers";
+    return "the heap";
+}
+
+/** The module that is there is that of the sources: make has nothing to do, and would have once one of them were newer. */
+async function stale() {
+    const target = "out/subsetter.wasm", ask = (...words) => spawnSync("make", ["-q", ...words, target], { cwd: here("..") }).status;
+    equal(ask(), 0, "what make has to do for the module");
+    const sources = ["../rust/src/lib.rs", "../rust/src/proved/subsetter/mod.rs", "../capi/src/status.rs", "module/lib.rs", "module/heap.rs", "../../VERSION", "Makefile"];
+    for (const name of sources) {
+        ok(readFileSync(here(`../${name}`)).length > 0, `${name} is there`);
+        equal(ask("-W", name), 1, `what make has to do once ${name} is newer`);
+    }
+    return `${sources.length} sources`;
 }
 
 /** The file for npm, unpacked where a program would have it, and what its types name. */
@@ -50,7 +62,8 @@ async function packed() {
         writeFileSync(join(folder, "package.json"), '{"name": "user", "private": true}');
         execFileSync("npm", ["install", "--silent", "--offline", "--no-audit", "--no-fund", here(`../out/${file}`)], { cwd: folder });
         const program = `import { load, UnknownKind } from "subsetter-proved";
-            const subsetter = await load();
+            const subsetter = await load(), url = new URL("./node_modules/subsetter-proved/subsetter.wasm", import.meta.url);
+            for (const it of [url, url.href]) (await load(it)).open(new Uint8Array());
             try { subsetter.subset(new Uint8Array(), []) } catch (error) { console.log(error instanceof UnknownKind, subsetter.version) }`;
         writeFileSync(join(folder, "program.mjs"), program);
         const said = execFileSync(process.execPath, ["program.mjs"], { cwd: folder, encoding: "utf8" });
@@ -60,6 +73,7 @@ async function packed() {
         equal(manifest.license, "MIT OR Apache-2.0", "the licence");
         for (const name of ["LICENSE", "NOTICE"]) equal(readFileSync(join(folder, "node_modules/subsetter-proved", name), "utf8"), read(`../../../${name}`).toString(), name);
         ok(!("dependencies" in manifest), "no dependency is named");
+        ok(readFileSync(join(folder, "node_modules/subsetter-proved/subsetter.wasm")).equals(Buffer.from(wasm)), "its module is another one");
     } finally {
         rmSync(folder, { recursive: true });
     }
@@ -123,7 +137,7 @@ async function drawings() {
     return `${drawn} glyphs draw alike (${[...kinds].join(" and ")})`;
 }
 
-const all = { rows, calls, parts, package: packed, fonts, drawings };
+const all = { rows, calls, parts, stale, package: packed, fonts, drawings };
 for (const name of process.argv.slice(2)) {
     try {
         console.log(`node, ${name}: ${await all[name]()}`);

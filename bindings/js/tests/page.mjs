@@ -10,13 +10,13 @@ import { exampleFont } from "../page/example.mjs";
 import { Font } from "../page/outlines.mjs";
 import { load } from "../subsetter.mjs";
 import { equal, ok, same } from "./assert.mjs";
-import { Browser } from "./browser.mjs";
+import { Chromium } from "./chromium.mjs";
 import { plainFont } from "./made.mjs";
 
 const here = (name) => fileURLToPath(new URL(name, import.meta.url));
 const folder = mkdtempSync(join(tmpdir(), "subsetter-page-")), saved = join(folder, "saved");
 const subsetter = await load(readFileSync(here("../out/subsetter.wasm")));
-const browser = new Browser();
+const browser = new Chromium();
 
 async function opened(size, path = here("../out/page.html")) {
     const page = await browser.page(size);

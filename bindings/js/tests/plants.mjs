@@ -6,15 +6,18 @@
  * It is run by hand after `./test`, and isn't part of the gate. `let through` is a bug that no test sees.
  */
 import { spawnSync } from "node:child_process";
-import { cpSync, existsSync, mkdirSync, mkdtempSync, readFileSync, rmSync, writeFileSync } from "node:fs";
+import { cpSync, mkdirSync, mkdtempSync, readFileSync, rmSync, utimesSync, statSync, writeFileSync } from "node:fs";
 import { tmpdir } from "node:os";
 import { join } from "node:path";
 import { fileURLToPath } from "node:url";
 
 const MODULE = ["node tests/node.mjs rows calls", "node tests/node.mjs fonts"];
-const BROWSER = ["node tests/chromium.mjs"];
+const BROWSER = ["node tests/browsers.mjs chromium"];
+const BOTH = ["node tests/browsers.mjs chromium firefox"];
 const PACKAGE = ["make -s -o out/subsetter.wasm package && node tests/node.mjs package"];
 const HEAP = ["make -s out/parts.wasm && node tests/node.mjs parts"];
+const BUILD = ["node tests/node.mjs stale"];
+const EXPORTS = ["make -s && node tests/node.mjs rows calls"];
 const PAGE = ["node page/build.mjs out/subsetter.wasm out/page.html && node tests/page.mjs"];
 const READER = ["node tests/node.mjs drawings", ...PAGE];
 
@@ -22,10 +25,8 @@ const READER = ["node tests/node.mjs drawings", ...PAGE];
 const PLANTS = [
     [MODULE, "subsetter.mjs", "(hinting, \"hinting\") ? 0 : 1", "(hinting, \"hinting\") ? 0 : 2"],
     [MODULE, "subsetter.mjs", "(glyphNames, \"glyphNames\") ? 0 : 4", "(glyphNames, \"glyphNames\") ? 4 : 0"],
-    [MODULE, "subsetter.mjs", "Uint32Array.of(20, tokens, depth, drop, bytes)", "Uint32Array.of(20, depth, tokens, drop, bytes)"],
-    [MODULE, "subsetter.mjs", "Uint32Array.of(20, tokens, depth, drop, bytes)", "Uint32Array.of(12, tokens, depth)"],
-    [MODULE, "subsetter.mjs", "Uint32Array.of(20, tokens, depth, drop, bytes)", "Uint32Array.of(16, tokens, depth, drop)"],
-    [MODULE, "subsetter.mjs", "Uint32Array.of(20, tokens, depth, drop, bytes)", "Uint32Array.of(20, tokens, depth, bytes, drop)"],
+    [MODULE, "subsetter.mjs", "tokens, depth, bytes, drop];", "depth, tokens, bytes, drop];"],
+    [MODULE, "subsetter.mjs", "tokens, depth, bytes, drop];", "tokens, depth, drop, bytes];"],
     [MODULE, "subsetter.mjs", "bytes === undefined ? 0 : whole(bytes, 1, WORD_AT_MOST, \"bytes\")", "bytes === undefined ? 65536 : whole(bytes, 1, WORD_AT_MOST, \"bytes\")"],
     [MODULE, "subsetter.mjs", "whole(bytes, 1, WORD_AT_MOST, \"bytes\")", "whole(bytes, 0, WORD_AT_MOST, \"bytes\")"],
     [MODULE, "subsetter.mjs", "const TOKENS = 1000000, DEPTH = 64;", "const TOKENS = 1000000, DEPTH = 63;"],
@@ -34,9 +35,9 @@ const PLANTS = [
     [MODULE, "subsetter.mjs", "({ index = 0 })", "({ index = 1 })"],
     [MODULE, "subsetter.mjs", "whole(glyph, 0, 65535, \"a glyph\")", "whole(glyph & 65535, 0, 65535, \"a glyph\")"],
     [MODULE, "subsetter.mjs", "whole(glyph, 0, 65535, \"a glyph\")", "whole(glyph, 0, 65534, \"a glyph\")"],
-    [MODULE, "subsetter.mjs", "return Uint16Array.from(numbers);", "return Uint8Array.from(numbers);"],
-    [MODULE, "subsetter.mjs", "return Uint16Array.from(numbers);", "return Uint16Array.from(new Set(numbers));"],
-    [MODULE, "subsetter.mjs", "return Uint16Array.from(numbers);", "return Uint16Array.from(numbers).sort();"],
+    [MODULE, "subsetter.mjs", "view.setUint16(2 * i, number, true)", "view.setUint16(2 * i, number & 255, true)"],
+    [MODULE, "subsetter.mjs", "    return numbers;\n}", "    return [...new Set(numbers)];\n}"],
+    [MODULE, "subsetter.mjs", "    return numbers;\n}", "    return numbers.sort((a, b) => a - b);\n}"],
     [MODULE, "subsetter.mjs", "new Uint8Array(data.buffer, data.byteOffset, data.byteLength)", "new Uint8Array(data.buffer)"],
     [MODULE, "subsetter.mjs", "new Uint8Array(data.buffer, data.byteOffset, data.byteLength)", "new Uint8Array(data.buffer, data.byteOffset, data.length)"],
     [MODULE, "subsetter.mjs", "new Uint8Array(memory.buffer, at, size).set(bytes);", "new Uint8Array(memory.buffer, at, size).set(bytes.subarray(0, 4096));"],
@@ -48,34 +49,34 @@ const PLANTS = [
     [MODULE, "subsetter.mjs", "Math.round(value * 65536)", "Math.floor(value * 65536 + 0.5)"],
     [MODULE, "subsetter.mjs", "Math.round(value * 65536)", "Math.trunc(value * 65536)"],
     [MODULE, "subsetter.mjs", "Math.max(-(2 ** 31), Math.min(Math.round(value * 65536), 2 ** 31 - 1))", "Math.round(value * 65536)"],
-    [MODULE, "subsetter.mjs", "return Int32Array.from(words);", "return Int32Array.from(words.slice(2));"],
-    [MODULE, "subsetter.mjs", "return Int32Array.from(words);", "return Int32Array.from(words.slice(0, -2));"],
-    [MODULE, "subsetter.mjs", "list === coordinates ? list.length / 2 : list.length", "list.length"],
-    [MODULE, "subsetter.mjs", "list === coordinates ? list.length / 2 : list.length", "list === coordinates ? 0 : list.length"],
-    [MODULE, "subsetter.mjs", "coordinates ? [coordinates, glyphs, options] : [glyphs, options]", "coordinates ? [glyphs, coordinates, options] : [glyphs, options]"],
+    [MODULE, "subsetter.mjs", "    return words;\n}", "    return words.slice(2);\n}"],
+    [MODULE, "subsetter.mjs", "    return words;\n}", "    return words.slice(0, -2);\n}"],
+    [MODULE, "subsetter.mjs", "coordinates.length / 2, tokens", "coordinates.length, tokens"],
+    [MODULE, "subsetter.mjs", "coordinates.length / 2, tokens", "0, tokens"],
+    [MODULE, "subsetter.mjs", "const given = (glyphsAt, coordinatesAt) =>", "const given = (coordinatesAt, glyphsAt) =>"],
     [MODULE, "subsetter.mjs", "/^[\\0-\\x7f]{4}$/.test(tag)", "/^.{4}$/.test(tag)"],
     [MODULE, "subsetter.mjs", "/^[\\0-\\x7f]{4}$/.test(tag)", "/^[\\0-\\x7f]{1,4}$/.test(tag)"],
     [MODULE, "subsetter.mjs", "!Number.isFinite(value)", "Number.isNaN(value)"],
     [MODULE, "subsetter.mjs", "!Number.isFinite(value)", "Math.abs(value) === Infinity"],
     [MODULE, "subsetter.mjs", " || Symbol.iterator in coordinates", ""],
-    [MODULE, "subsetter.mjs", "const name = choices.coordinates ? \"subsetter_make_subset_at", "const name = choices.coordinates?.length ? \"subsetter_make_subset_at"],
+    [MODULE, "subsetter.mjs", "const name = choices.coordinates ? \"subsetter_subset_at", "const name = choices.coordinates?.length ? \"subsetter_subset_at"],
     [MODULE, "subsetter.mjs", "if (coordinates === undefined) {\n        return undefined;", "if (coordinates === undefined) {\n        return new Int32Array();"],
     [MODULE, "subsetter.mjs", "coordinates: coordinatesOf(coordinates),", "coordinates: coordinatesOf(undefined),"],
-    [MODULE, "subsetter.mjs", "? \"subsetter_make_embedded_at_by_words\"", "? \"subsetter_make_embedded_by_words\""],
-    [MODULE, "subsetter.mjs", "? \"subsetter_make_embedded_at_by_words\"", "? \"subsetter_make_subset_at_by_words\""],
-    [MODULE, "subsetter.mjs", "choices.coordinates ? \"subsetter_make_embedded_at_by_words\"", "choices.coordinates?.length ? \"subsetter_make_embedded_at_by_words\""],
+    [MODULE, "subsetter.mjs", "? \"subsetter_embed_at\"", "? \"subsetter_embed\""],
+    [MODULE, "subsetter.mjs", "? \"subsetter_embed_at\"", "? \"subsetter_subset_at\""],
+    [MODULE, "subsetter.mjs", "choices.coordinates ? \"subsetter_embed_at\"", "choices.coordinates?.length ? \"subsetter_embed_at\""],
     [MODULE, "subsetter.mjs", "        return this.make(name, font, index, glyphs, choices);", "        return this.make(name, font, choices.coordinates ? 0 : index, glyphs, choices);"],
-    [MODULE, "subsetter.mjs", "        return this.make(name, font, index, glyphs, choices);", "        try { return this.make(name, font, index, glyphs, choices); } catch { return this.make(\"subsetter_make_embedded_by_words\", font, index, glyphs, { ...choices, coordinates: undefined }); }"],
+    [MODULE, "subsetter.mjs", "        return this.make(name, font, index, glyphs, choices);", "        try { return this.make(name, font, index, glyphs, choices); } catch { return this.make(\"subsetter_embed\", font, index, glyphs, { ...choices, coordinates: undefined }); }"],
     [MODULE, "subsetter.mjs", "if (status !== DONE) {", "if (status !== DONE && status !== 7) {"],
     [MODULE, "subsetter.mjs", "if (status !== DONE) {", "if (status > 8) {"],
     [MODULE, "subsetter.mjs", "[, UnknownKind, MalformedFont, Unimplemented,", "[, UnknownKind, Unimplemented, MalformedFont,"],
     [MODULE, "subsetter.mjs", "this.#texts[status] ?? `status ${status}`", "`status ${status}`"],
-    [MODULE, "subsetter.mjs", "buffer.slice(at, at + size * Number", "buffer.slice(at, at + Number"],
-    [MODULE, "subsetter.mjs", "new Uint32Array(part(2, 4))", "new Uint16Array(part(2, 4))"],
-    [MODULE, "subsetter.mjs", "cids: [...new Uint16Array(part(1, 2))]", "cids: [...glyphs]"],
-    [MODULE, "subsetter.mjs", "return buffer.slice(", "return new Uint8Array(buffer).subarray("],
-    [MODULE, "subsetter.mjs", "exports.heap_start(BigInt(end));", "exports.heap_start(BigInt(this.#base));"],
-    [MODULE, "subsetter.mjs", "exports.heap_start(BigInt(end));", ""],
+    [MODULE, "subsetter.mjs", "buffer.slice(at, at + size)", "buffer.slice(at, at + size - 1)"],
+    [MODULE, "subsetter.mjs", "numbersOf(4, buffer, widthsAt, widthCount)", "numbersOf(2, buffer, widthsAt, widthCount)"],
+    [MODULE, "subsetter.mjs", "cids: numbersOf(2, buffer, cidsAt, cidCount)", "cids: [...glyphs]"],
+    [MODULE, "subsetter.mjs", "new Uint8Array(buffer.slice(at, at + size))", "new Uint8Array(buffer, at, size)"],
+    [MODULE, "subsetter.mjs", "exports.heap_start(end);", "exports.heap_start(this.#base);"],
+    [MODULE, "subsetter.mjs", "exports.heap_start(end);", ""],
     [MODULE, "subsetter.mjs", "this.#isSpoilt = true;", ""],
     [MODULE, "subsetter.mjs", "new Uint8Array(fresh.memory.buffer).set(old, this.#base);", ""],
     [MODULE, "subsetter.mjs", "this.#reach(fresh.memory, this.#end);", ""],
@@ -98,7 +99,7 @@ const PLANTS = [
     [MODULE, "subsetter.mjs", "value: name, configurable", "value: \"Error\", configurable"],
     [MODULE, "subsetter.mjs", "(version >> 16) & 255", "(version >> 8) & 255"],
     [MODULE, "subsetter.mjs", "if (!response.ok) {", "if (false) {"],
-    [BROWSER, "subsetter.mjs", "memory.grow(BigInt(pages));", "memory.grow(pages);"],
+    [MODULE, "subsetter.mjs", "const { buffer } = exports.memory;", "const { buffer } = all;"],
     [MODULE, "subsetter.mjs", "source === undefined ? new", "!source ? new"],
     [MODULE, "subsetter.mjs", "compiled(source);", "compiled(await fetch(source));"],
     [BROWSER, "subsetter.mjs", "return compiled(await fetch(url));", "return compiled(await fetch(url.href));"],
@@ -109,22 +110,29 @@ const PLANTS = [
     [PACKAGE, "package.json", ", \"LICENSE\", \"NOTICE\"]", ", \"LICENSE\"]"],
     [PACKAGE, "Makefile", "../../LICENSE ../../NOTICE", "../../LICENSE"],
     [PACKAGE, "Makefile", "../../LICENSE ../../NOTICE", "../../NOTICE"],
-    [HEAP, "module/heap.c", "lists[i] = 0;", "lists[i] = lists[i];"],
-    [HEAP, "module/heap.c", "lists[list] = *(word *)at;\n        return at;", "return at;"],
-    [HEAP, "module/heap.c", "top = at + size;", "top = at + n;"],
-    [HEAP, "module/heap.c", "top = (at + 15) & ~15ull;", "top = at + 8;"],
-    [HEAP, "module/heap.c", "__builtin_memcpy((void *)at, block, kept);", "__builtin_memcpy((void *)at, block, kept / 2);"],
-    [HEAP, "module/heap.c", "rattle_dealloc(block);\n", "\n"],
-    [HEAP, "module/heap.c", "if (n <= *(word *)((word)block - 8))", "if (n <= 2 * *(word *)((word)block - 8))"],
-    [HEAP, "module/heap.c", "return end <= memory_end();", "return 1;"],
-    [HEAP, "module/heap.c", "if (end > memory_end())\n            __builtin_wasm_memory_grow(0, pages);", ""],
-    [HEAP, "module/heap.c", "if (n > TOO_LARGE)\n        return 0;", ""],
-    [HEAP, "module/heap.c", "return ((n - 1) | (step - 1)) + 1;", "return (n - 1) | (step - 1);"],
-    [HEAP, "module/heap.c", "return (struct tried){ at != 0,", "return (struct tried){ 1,"],
-    [HEAP, "module/wide.c", "(cross >> 32) + (second >> 32)", "(second >> 32)"],
-    [HEAP, "module/wide.c", "x.low * y.high + x.high * y.low", "x.low * y.high"],
-    [HEAP, "module/wide.c", "x.high = x.high << n | x.low >> (64 - n);", "x.high = x.high << n;"],
-    [HEAP, "module/wide.c", "x.low = x.high >> (n - 64);", "x.low = x.high >> n;"],
+    [HEAP, "module/heap.rs", "self.given_back[list] = unsafe { *(at as *const usize) };", ""],
+    [HEAP, "module/heap.rs", "self.top = end;", "self.top = end - ALIGNMENT;"],
+    [HEAP, "module/heap.rs", "let top = (at + ALIGNMENT - 1) / ALIGNMENT * ALIGNMENT;", "let top = at + 8;"],
+    [HEAP, "module/heap.rs", "unsafe { *HEAP.0.get() = Blocks::new(top) };", "unsafe { (*HEAP.0.get()).top = top };"],
+    [HEAP, "module/heap.rs", "cmp::min(layout.size(), bytes)", "cmp::min(layout.size(), bytes) / 2"],
+    [HEAP, "module/heap.rs", "                (*blocks).take_back(at, layout.size());\n", ""],
+    [HEAP, "module/heap.rs", "if size_and_list(bytes) == size_and_list(layout.size()) {", "if bytes <= 2 * layout.size() {"],
+    [HEAP, "module/heap.rs", "Some(end) if reach(end) => {", "Some(end) if reach(end) || true => {"],
+    [HEAP, "module/heap.rs", "[pages + have / PAGE / 16, pages]", "[pages + have / PAGE / 16]"],
+    [HEAP, "module/heap.rs", "let size = (last | (step - 1)) + 1;", "let size = last | (step - 1);"],
+    [HEAP, "module/heap.rs", "        if layout.align() > ALIGNMENT {\n            return ptr::null_mut();\n        }\n", ""],
+    [HEAP, "module/heap.rs", "(size, 4 * power + last / step % 4)", "(size, 4 * power)"],
+    [EXPORTS, "module/lib.rs", "export!(subsetter_embed_at, embed_at(coordinates, glyphs), embed);\n", ""],
+    [EXPORTS, "module/lib.rs", "export!(subsetter_subset_at, subset_at(coordinates, glyphs), subset);", "export!(subsetter_subset_at, subset(glyphs), subset);"],
+    [EXPORTS, "module/lib.rs", "limited.with_bytes(bytes)", "limited"],
+    [EXPORTS, "module/lib.rs", "self.drop & 2 == 0, self.drop & 4 == 0", "self.drop & 4 == 0, self.drop & 2 == 0"],
+    [EXPORTS, "module/lib.rs", "self.widths = List::of(widths);", ""],
+    [EXPORTS, "module/lib.rs", "done.err().unwrap_or(DONE)", "done.err().map_or(DONE, |it| it.min(6))"],
+    [BUILD, "Makefile", "$(OUT)/libsubsetter.rlib: $(CRATE) Makefile", "$(OUT)/libsubsetter.rlib: Makefile"],
+    [BUILD, "Makefile", "$(OUT)/subsetter.wasm: $(OUT)/libsubsetter.rlib $(MODULE)", "$(OUT)/subsetter.wasm: $(OUT)/libsubsetter.rlib"],
+    [PACKAGE, "Makefile", "cp $(PACKED) $< $(OUT)/package", "cp $(PACKED) $(OUT)/package && head -c -1 $< > $(OUT)/package/subsetter.wasm"],
+    [PACKAGE, "subsetter.mjs", "String(url).startsWith(\"file:\")", "url instanceof URL && url.protocol === \"file:\""],
+    [BOTH, "subsetter.mjs", "} catch (error) {\n            this.#isSpoilt = true;\n            throw error;", "} catch (error) {\n            this.#isSpoilt = error instanceof WebAssembly.RuntimeError;\n            throw error;"],
     [READER, "page/outlines.mjs", "flags & 8 ? 1 : flags & 0x40 ? 2", "flags & 0x40 ? 2"],
     [READER, "page/outlines.mjs", "const bias = routines.length < 1240 ? 107", "const bias = routines.length < 1240 ? 108"],
     [READER, "page/outlines.mjs", "s.length % 2 ? s.shift() : 0;\n                for (let i = 0; i + 3 < s.length; i += 4, dy", "0;\n                for (let i = 0; i + 3 < s.length; i += 4, dy"],
@@ -150,21 +158,26 @@ const here = fileURLToPath(new URL("..", import.meta.url));
 const word = process.argv[2] ?? "";
 const room = mkdtempSync(join(tmpdir(), "subsetter-plants-")), copy = join(room, "bindings/js");
 mkdirSync(copy, { recursive: true });
-cpSync(join(here, "../../crates/subset_rows/data"), join(room, "crates/subset_rows/data"), { recursive: true });
-for (const name of ["VERSION", "crates.txt", "LICENSE", "NOTICE"]) {
-    if (existsSync(join(here, "../..", name))) cpSync(join(here, "../..", name), join(room, name));
+// (dates stay, so that make has nothing to do for what is built)
+const copied = { recursive: true, verbatimSymlinks: true, preserveTimestamps: true };
+for (const name of ["VERSION", "crates.txt", "LICENSE", "NOTICE", "crates/subset_rows/data", "bindings/rust/src", "bindings/capi/src", "bindings/c/subsetter.h"]) {
+    cpSync(join(here, "../..", name), join(room, name), copied);
 }
-cpSync(here, copy, { recursive: true, verbatimSymlinks: true });
+cpSync(here, copy, copied);
+process.env.TARGETS ??= join(here, "../../out/targets");
 const through = [];
 let tried = 0;
 try {
     for (const [tests, file, old, put] of PLANTS.filter((it) => it.slice(1).join(" ").includes(word))) {
-        const path = join(copy, file), text = readFileSync(path, "utf8");
+        const path = join(copy, file), text = readFileSync(path, "utf8"), { atime, mtime } = statSync(path);
         if (text.split(old).length !== 2) throw new Error(`${file} is to have this once: ${old}`);
         writeFileSync(path, text.replace(old, () => put));
         const run = (command) => spawnSync("bash", ["-c", command], { cwd: copy, encoding: "utf8", timeout: 300000 });
         const failed = tests.map(run).find(({ status }) => status !== 0);
         writeFileSync(path, text);
+        utimesSync(path, atime, mtime);
+        // (and what was built with the bug)
+        for (const name of ["subsetter.wasm", "parts.wasm"]) cpSync(join(here, "out", name), join(copy, "out", name), copied);
         tried++;
         if (!failed) through.push(`${file}: ${old} -> ${put}`);
         const why = failed && (failed.stdout + failed.stderr).split("\n").find((line) => /FAILED|rror/.test(line));

@@ -1,13 +1,15 @@
 """Fonts cut down to some of their glyphs, for embedding in PDF.
 
     import subsetter
-    font = subsetter.subset(open("font.ttf", "rb").read(), [36, 68])
+    with open("font.ttf", "rb") as file:
+        data = file.read()
+    font = subsetter.subset(data, [36, 68])
     embedded = subsetter.embed(data, [36, 68])  # .font, .cids, .widths
 
 The work is done by the library `libsubsetter.so` (on Windows `subsetter.dll`, on macOS `libsubsetter.dylib`), which the first
 call loads. It is the file that the environment's SUBSETTER_LIBRARY names, else it is looked for beside this file, in
-`bindings/c/out` of the repository that this file stands in, and by the system's loader, in this order. Calls share nothing, so threads may call at the same time, and Python's other
-threads go on while a call runs.
+`bindings/c/out` of the repository that has this file, and by the system's loader, in this order. Calls share nothing, so
+threads may call at the same time, and Python's other threads go on while a call runs.
 
 `OverflowError` isn't among the names of `from subsetter import *`, as it is also the name of a built-in exception; it is
 one of that kind.

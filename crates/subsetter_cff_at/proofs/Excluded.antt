@@ -34,6 +34,8 @@ use Rattle.subsetter_cff_at.specs.Plain.{dict_bound, present, setting, all_fille
 use Rattle.subsetter_cff_at.specs.Request.{Request}
 use Rattle.subsetter_cff_at.specs.Units.{top_matrix}
 use Rattle.subsetter_cff_at.proofs.Found.{few_used, requested_at}
+use Rattle.subsetter_cff_at.proofs.PrivateFaults.{private_stands}
+use Rattle.subsetter_cff_at.proofs.RunFaults.{charstring_stands}
 use Rattle.subsetter_cff_at.proofs.Promised.{DrawnSteps, drawn_steps, GlyphFound, glyph_found, place_found, OpenSteps, open_steps}
 
 -- nothing is both there and not
@@ -171,7 +173,7 @@ module _ (bytes : List ℕ) (r : Request) (tokens depth : ℕ) (o : Opened) (d :
         both (private_numbered o.cff found.number) p.source (ap (private_numbered o.cff) (same_Some _ _ (sym found.number_is ∙ is)) ∙ none) p.source_is)
     no_glyph_fault e (bad_private number private _ is there h) =
         (let t = text_made o.cff o.variation found.number found.dict private found.dict_is (same_private number private is there) in
-        refused_and_made (private_text o.variation private.dict) e t.0 h t.1)
+        refused_and_made (private_text o.variation private.dict) e t.0 (private_stands o.variation private.dict e h) t.1)
     no_glyph_fault _ (long_private number private at_place is there placed long) =
         (let p = new_dict_is_placed o.cff o.variation found.number found.dict found.dict_is in
         let same : p.source ≡ private = same_Some _ _ (sym p.source_is ∙ same_private number private is there) in
@@ -185,7 +187,8 @@ module _ (bytes : List ℕ) (r : Request) (tokens depth : ℕ) (o : Opened) (d :
         let cs : found.charstring ≡ charstring = same_Some _ _ (sym found.charstring_is ∙ here) in
         let locals : found.dict.subroutines ≡ private.subroutines = p.subroutines_are ∙ ap (λ (x : Private2). x.subroutines) same in
         let index : found.dict.data_index ≡ at_place.data_index = p.data_index_is ∙ ap (λ (x : Placed). x.data_index) place in
-        refused_and_made (resolved (setting o.cff o.variation private.subroutines) tokens depth at_place.data_index (pos advance) charstring) e found.bytes h (rw (← locals, ← index, ← cs) found.ran))
+        refused_and_made (resolved (setting o.cff o.variation private.subroutines) tokens depth at_place.data_index (pos advance) charstring) e found.bytes
+        (charstring_stands (setting o.cff o.variation private.subroutines) tokens depth at_place.data_index (pos advance) charstring e h) (rw (← locals, ← index, ← cs) found.ran))
     no_glyph_fault _ (wide_advance high) = (let small = found.small in omega arith)
 
   pub no_limit_fault : OpenSteps bytes r o → (e : Error) → HasLimitFault o.cff o.variation r tokens depth e → ⊥

@@ -1,5 +1,5 @@
 -- What is refused has a fault of that name.
-use Rattle.std.proofs.Common.{◌≡◌, ℕ, zero, suc, ◌+◌, ◌<◌, ◌^◌, ℤ, Bool, true, false, cond, eqb, ltb, get_or, List, [], ◌∷◌, ◌++◌, length, map, Option, Some, None, refl, ap, arith, ◌∙◌, sym, subst, inl, inr}
+use Rattle.std.proofs.Common.{◌≡◌, ℕ, zero, suc, ◌+◌, ◌<◌, ◌^◌, ℤ, pos, Bool, true, false, cond, eqb, ltb, get_or, List, [], ◌∷◌, ◌++◌, length, map, Option, Some, None, refl, ap, arith, ◌∙◌, sym, subst, inl, inr}
 use Rattle.std.specs.Prelude.{is_some, nat_lt, slice_get, unwrap_or, Result, Ok, Err}
 use Rattle.std.specs.List.{concat, filter, flat_map, list_any, range_with_len}
 use Rattle.std.specs.Option.{ok_or}
@@ -31,11 +31,13 @@ use Rattle.subsetter_cff2.specs.UsedDicts.{counted_dicts, place_in, used_dicts}
 use Rattle.subsetter_cff2.specs.Variation.{Variation, optional_variation}
 use Rattle.subsetter_cff2.proofs.MadeFits.{new_dict_is_placed}
 use Rattle.subsetter_cff_at.specs.Fault.{HasOpeningFault, HasGlyphFault, HasFault, RefusedStands, bad_front, bad_subroutines, bad_char_strings, bad_font_dicts, bad_store_offset, bad_store, bad_select, bad_matrix, bad_region, no_number, no_font_dict, no_private, bad_private, long_private, no_char_string, stops, wide_advance, many_font_dicts, long_matrix, large_char_strings, large_offset, none_requested, in_opening, in_glyph, in_limits}
-use Rattle.subsetter_cff_at.specs.Plain.{dict_bound, dict_number, number_if, numbers_from, present, glyph_text, placed_text, text_if, texts_from, all_filled, Drawn, drawn, Opened, opened, parts_of, some_requested, made_table}
+use Rattle.subsetter_cff_at.specs.Plain.{dict_bound, dict_number, number_if, numbers_from, present, glyph_text, placed_text, text_if, texts_from, all_filled, Drawn, drawn, Opened, opened, parts_of, setting, some_requested, made_table}
 use Rattle.subsetter_cff_at.specs.Request.{Request}
 use Rattle.subsetter_cff_at.specs.Units.{top_matrix}
 use Rattle.subsetter_cff_at.proofs.Found.{number_here, length-numbers, numbered, dict_at, dict_steps, few_used}
+use Rattle.subsetter_cff_at.proofs.PrivateFaults.{private_refused}
 use Rattle.subsetter_cff_at.proofs.Promised.{drawn_steps, number_place, open_steps}
+use Rattle.subsetter_cff_at.proofs.RunFaults.{charstring_refused}
 
 -- ---- the table as a whole
 parts_refused : (bytes : List ℕ) (r : Request) (top : List ℕ) (behind : ℕ) → front_at bytes ≡ Some (top, behind) → parts_by bytes (length r.at) (entries top) behind ≡ None → HasOpeningFault bytes r MalformedFont
@@ -107,7 +109,7 @@ dict_refused cff v tokens depth glyph advance number e is h =
     elim (bind_err (ok_or (private_numbered cff number) MalformedFont) _ e h) [
       | inl a ↦ (let n = none_of (private_numbered cff number) MalformedFont e a in subst F n.1 (no_private number is n.0))
       | inr a ↦ elim (bind_err (private_text v a.0.dict) _ e a.1.1) [
-        | inl b ↦ bad_private number a.0 e is (some_of (private_numbered cff number) MalformedFont a.0 a.1.0) b
+        | inl b ↦ bad_private number a.0 e is (some_of (private_numbered cff number) MalformedFont a.0 a.1.0) (private_refused v a.0.dict e b)
         | inr b ↦ absurd cc
       ]
     ]
@@ -269,7 +271,8 @@ text_refused cff v tokens depth glyph advance number dict e is made h =
         | inl b ↦ (let n = none_of (char_string cff glyph) MalformedFont e b in subst F n.1 (no_char_string n.0))
         | inr b ↦ (
             let p = new_dict_is_placed cff v number dict made in
-            stops number p.source p.at_place b.0 e is p.source_is p.at_place_is (some_of (char_string cff glyph) MalformedFont b.0 b.1.0) (rw (← p.subroutines_are, ← p.data_index_is) b.1.1)
+            stops number p.source p.at_place b.0 e is p.source_is p.at_place_is (some_of (char_string cff glyph) MalformedFont b.0 b.1.0)
+            (charstring_refused (setting cff v p.source.subroutines) tokens depth p.at_place.data_index (pos advance) b.0 e (rw (← p.subroutines_are, ← p.data_index_is) b.1.1))
             )
       ]
     ]

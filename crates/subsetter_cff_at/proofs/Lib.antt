@@ -1,6 +1,8 @@
 pub mod Steps
 pub mod Found
 pub mod Promised
+pub mod PrivateFaults
+pub mod RunFaults
 pub mod Faults
 pub mod Excluded
 pub mod Agreeing

@@ -9,18 +9,18 @@ use Rattle.subsetter_cff.specs.Read.Lookup.{last_of}
 use Rattle.subsetter_cff.specs.Read.Operators.{char_strings_operator, font_dicts_operator, font_dict_select_operator}
 use Rattle.subsetter_cff.specs.Write.Layout.{char_strings_place}
 use Rattle.subsetter_cff.specs.Write.WrittenNumbers.{any_long, entry_numbers}
-use Rattle.subsetter_blend.specs.Resolved.{resolved}
 use Rattle.subsetter_cff2.specs.Cff2.{Cff2, wide_index, named_index, optional_offset, store_by, cff2_parts}
 use Rattle.subsetter_cff2.specs.Front2.{front_at}
 use Rattle.subsetter_cff2.specs.Made2.{new_parts}
 use Rattle.subsetter_cff2.specs.Operators2.{store_operator}
 use Rattle.subsetter_cff2.specs.Private2.{Private2, font_dict_number, private_numbered, char_string}
 use Rattle.subsetter_cff2.specs.PrivateAt.{Placed, private_at_place}
-use Rattle.subsetter_cff2.specs.PrivateText.{private_text}
 use Rattle.subsetter_cff2.specs.UsedDicts.{used_dicts}
 use Rattle.subsetter_cff2.specs.Variation.{Variation, optional_variation}
 use Rattle.subsetter_cff_at.specs.Plain.{dict_bound, numbers_from, present, setting, Drawn, drawn, Opened, opened, all_filled, made_table}
+use Rattle.subsetter_cff_at.specs.PrivateFault.{HasPrivateFault}
 use Rattle.subsetter_cff_at.specs.Request.{Request}
+use Rattle.subsetter_cff_at.specs.RunFault.{HasCharstringFault}
 use Rattle.subsetter_cff_at.specs.Units.{top_matrix}
 
 -- ---- of the table as a whole
@@ -49,17 +49,17 @@ pub data HasGlyphFault (cff : Cff2) (v : Option Variation) (tokens depth glyph a
   no_font_dict : (number : ℕ) → font_dict_number cff glyph ≡ Some number → dict_bound cff ≤ number → HasGlyphFault cff v tokens depth glyph advance MalformedFont
   -- its font dict leads to no private dict, or that leads to no subroutines
   no_private : (number : ℕ) → font_dict_number cff glyph ≡ Some number → private_numbered cff number ≡ None → HasGlyphFault cff v tokens depth glyph advance MalformedFont
-  -- the private dict can't be placed: a blend or a vsindex with wrong operands or more than 513 operands, which is MalformedFont, or a
-  -- real that is kept and whose text is too long, which is OverflowError ("Private DICT Data")
-  bad_private : (number : ℕ) (private : Private2) (e : Error) → font_dict_number cff glyph ≡ Some number → private_numbered cff number ≡ Some private → private_text v private.dict ≡ Err e
+  -- an entry of its private dict: more than 513 operands, or a blend or a vsindex with wrong operands, which is MalformedFont, or a real
+  -- that is kept and whose text is too long, which is OverflowError ("Private DICT Data")
+  bad_private : (number : ℕ) (private : Private2) (e : Error) → font_dict_number cff glyph ≡ Some number → private_numbered cff number ≡ Some private → HasPrivateFault v private.dict e
       → HasGlyphFault cff v tokens depth glyph advance e
   long_private : (number : ℕ) (private : Private2) (at_place : Placed) → font_dict_number cff glyph ≡ Some number → private_numbered cff number ≡ Some private → private_at_place v private.dict ≡ Some at_place
       → any_long (entry_numbers at_place.entries) ≡ true → HasGlyphFault cff v tokens depth glyph advance OverflowError
   -- it has no charstring
   no_char_string : char_string cff glyph ≡ None → HasGlyphFault cff v tokens depth glyph advance MalformedFont
-  -- which stops with an error ("CFF2 CharString Format")
+  -- a token of it, its end, a limit, or a number that is written ("CFF2 CharString Format")
   stops : (number : ℕ) (private : Private2) (at_place : Placed) (charstring : List ℕ) (e : Error) → font_dict_number cff glyph ≡ Some number → private_numbered cff number ≡ Some private → private_at_place v private.dict ≡ Some at_place
-      → char_string cff glyph ≡ Some charstring → resolved (setting cff v private.subroutines) tokens depth at_place.data_index (pos advance) charstring ≡ Err e → HasGlyphFault cff v tokens depth glyph advance e
+      → char_string cff glyph ≡ Some charstring → HasCharstringFault (setting cff v private.subroutines) tokens depth at_place.data_index (pos advance) charstring e → HasGlyphFault cff v tokens depth glyph advance e
   -- its advance is past the numbers of a charstring
   wide_advance : 32767 < advance → HasGlyphFault cff v tokens depth glyph advance OverflowError
 

@@ -1,0 +1,50 @@
+"""Uses of the module: mypy has to accept each, but for the lines that end in `type: ignore`, which it has to refuse."""
+import array
+import mmap
+from decimal import Decimal
+from fractions import Fraction
+from typing import List, Type
+
+import subsetter
+
+
+def accepted(data: bytes, mapped: mmap.mmap) -> None:
+    font: bytes = subsetter.subset(data, [36, 68])
+    font = subsetter.subset(memoryview(font), range(3), 1, tokens=5, depth=3, most_bytes=7)
+    font = subsetter.subset(bytearray(font), {1, 2}, index=0, hinting=False, names=False, glyph_names=False)
+    font = subsetter.subset(mapped, iter((1, True)), coordinates={"wght": 650, "wdth": 87.5})
+    font = subsetter.subset(array.array("B", font), (), tokens=None, coordinates={"wght": Decimal(1), "wdth": Fraction(1, 2)})
+    font = subsetter.subset(data=data, glyphs=[1], coordinates=None)
+    embedded: subsetter.Embedded = subsetter.embed(font, [36], 0, tokens=1, coordinates={})
+    font, cids, widths = embedded
+    lists: List[List[int]] = [cids, widths, embedded.cids, embedded.widths]
+    whole: bytes = embedded.font
+    version: str = subsetter.__version__
+    print(lists, whole, version)
+    error: Type[subsetter.Error] = subsetter.CFFError
+    memory: Type[MemoryError] = subsetter.OutOfMemory
+    overflow: Type[OverflowError] = subsetter.OverflowError
+    print(error, memory, overflow)
+
+
+def refused(data: bytes) -> None:
+    subsetter.subset("text", [1])  # type: ignore[arg-type]
+    subsetter.subset(5, [1])  # type: ignore[arg-type]
+    subsetter.subset(data, 5)  # type: ignore[arg-type]
+    subsetter.subset(data, [1.5])  # type: ignore[list-item]
+    subsetter.subset(data, ["1"])  # type: ignore[list-item]
+    subsetter.subset(data)  # type: ignore[call-arg]
+    subsetter.subset(data, [1], 0, 5)  # type: ignore[misc]
+    subsetter.subset(data, [1], "0")  # type: ignore[arg-type]
+    subsetter.subset(data, [1], hint=False)  # type: ignore[call-arg]
+    subsetter.subset(data, [1], hinting=0)  # type: ignore[arg-type]
+    subsetter.subset(data, [1], tokens=1.5)  # type: ignore[arg-type]
+    subsetter.subset(data, [1], most_bytes="7")  # type: ignore[arg-type]
+    subsetter.embed(data, [1], coordinates=[("wght", 1)])  # type: ignore[arg-type]
+    subsetter.embed(data, [1], coordinates={"wght": "650"})  # type: ignore[dict-item]
+    subsetter.embed(data, [1], coordinates={b"wght": 650})  # type: ignore[dict-item]
+    text: str = subsetter.subset(data, [1])  # type: ignore[assignment]
+    font: bytes = subsetter.embed(data, [1])  # type: ignore[assignment]
+    widths: List[str] = subsetter.embed(data, [1]).widths  # type: ignore[assignment]
+    subsetter.embed(data, [1]).cid  # type: ignore[attr-defined]
+    print(text, font, widths, subsetter.no_such_name)  # type: ignore[attr-defined]
