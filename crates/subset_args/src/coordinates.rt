@@ -114,13 +114,31 @@ fn fixed(quarters: i64) -> Option<i32>
 }
 
 /// A number that is as near to each whole 65536th as so many halves, in quarters.
-fn quarters_of(halves: Halves) -> i64
+fn quarters_of(halves: Halves) -> u64
     requires { halves.count ≤ 8600000000 }
-    ensures value { result ≡ pos (quarters halves) }
+    ensures value { result ≡ quarters halves }
+    ensures bound { result ≤ 18000000000 }
+{
+    let count = 2 * halves.count;
+    if halves.more { count + 1 } else { count }
+}
+
+/// So many below 0.
+fn negative(count: u64) -> i64
+    requires { count ≤ 18000000000 }
+    ensures value { result ≡ neg_ℤ (pos count) }
     ensures bound { unsigned_abs result ≤ 18000000000 }
 {
-    let count = 2 * halves.count as i64;
-    if halves.more { count + 1 } else { count }
+    -(count as i64)
+}
+
+/// So many above 0.
+fn positive(count: u64) -> i64
+    requires { count ≤ 18000000000 }
+    ensures value { result ≡ pos count }
+    ensures bound { unsigned_abs result ≤ 18000000000 }
+{
+    count as i64
 }
 
 /// A value behind a minus, in 65536ths.
@@ -129,7 +147,7 @@ fn below_zero(word: &str) -> Option<i32>
     ensures { result ≡ below_zero word.now }
 {
     let size = size_of(word)?;
-    fixed(-quarters_of(size))
+    fixed(negative(quarters_of(size)))
 }
 
 /// A value without a minus, in 65536ths.
@@ -138,7 +156,7 @@ fn above_zero(word: &str) -> Option<i32>
     ensures { result ≡ above_zero word.now }
 {
     let size = size_of(word)?;
-    fixed(quarters_of(size))
+    fixed(positive(quarters_of(size)))
 }
 
 /// A value with a minus between two texts, in 65536ths: nothing is in front of it.
