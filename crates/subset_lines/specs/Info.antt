@@ -22,11 +22,11 @@ word_if false word = []
 -- none of the bits 1 to 3 is installable embedding
 abbrev pub words_of_bits : ℕ → List (List ℕ)
 words_of_bits bits =
-    word_if (bits % 16 / 2 == 0) (codes "installable embedding")
-    ++ word_if (has_bit bits 2) (codes "restricted license embedding")
-    ++ word_if (has_bit bits 4) (codes "preview and print embedding")
-    ++ word_if (has_bit bits 8) (codes "editable embedding")
-    ++ word_if (has_bit bits 256) (codes "no subsetting")
+    ((((word_if (bits % 16 / 2 == 0) (codes "installable embedding")
+    ++ word_if (has_bit bits 2) (codes "restricted license embedding"))
+    ++ word_if (has_bit bits 4) (codes "preview and print embedding"))
+    ++ word_if (has_bit bits 8) (codes "editable embedding"))
+    ++ word_if (has_bit bits 256) (codes "no subsetting"))
     ++ word_if (has_bit bits 512) (codes "bitmap embedding only")
 
 abbrev pub permission_words : Option ℕ → List (List ℕ)

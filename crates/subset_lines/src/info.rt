@@ -61,28 +61,32 @@ fn has_bit(bits: u16, mask: u16) -> bool
     bits / mask % 2 != 0
 }
 
-/// Adds words, if they hold.
-fn push_if(words: &mut Vec<&'static str>, holds: bool, word: &'static str) -> Result<(), AllocError>
-    ensures { OnOk result (map (λ w. w.now) words.new.items ≡ map (λ w. w.now) words.old.items ++ word_if holds word.now) }
+/// The words and further ones, if these hold.
+fn with_word(
+    words: Vec<&'static str>,
+    holds: bool,
+    word: &'static str,
+) -> Result<Vec<&'static str>, AllocError>
+    ensures { IfOk result (λ v. map (λ w. w.now) v.items ≡ map (λ w. w.now) words.items ++ word_if holds word.now) }
 {
+    let mut words = words;
     if holds {
         words.push(word)?;
     }
-    Ok(())
+    Ok(words)
 }
 
 /// What the bits of fsType permit (OpenType, "OS/2", "fsType"), in words.
 fn words_of_bits(alloc: Global, bits: u16) -> Result<Vec<&'static str>, AllocError>
     ensures { IfOk result (λ v. map (λ w. w.now) v.items ≡ words_of_bits bits) }
 {
-    let mut words = Vec::new(alloc);
-    push_if(&mut words, bits % 16 / 2 == 0, "installable embedding")?;
-    push_if(&mut words, has_bit(bits, 2), "restricted license embedding")?;
-    push_if(&mut words, has_bit(bits, 4), "preview and print embedding")?;
-    push_if(&mut words, has_bit(bits, 8), "editable embedding")?;
-    push_if(&mut words, has_bit(bits, 256), "no subsetting")?;
-    push_if(&mut words, has_bit(bits, 512), "bitmap embedding only")?;
-    Ok(words)
+    let words = Vec::new(alloc);
+    let words = with_word(words, bits % 16 / 2 == 0, "installable embedding")?;
+    let words = with_word(words, has_bit(bits, 2), "restricted license embedding")?;
+    let words = with_word(words, has_bit(bits, 4), "preview and print embedding")?;
+    let words = with_word(words, has_bit(bits, 8), "editable embedding")?;
+    let words = with_word(words, has_bit(bits, 256), "no subsetting")?;
+    with_word(words, has_bit(bits, 512), "bitmap embedding only")
 }
 
 /// The same of a face that may not have them.

@@ -87,8 +87,8 @@ fn fixed(quarters: i64) -> Option<i32> {
 }
 
 /// A number that is as near to each whole 65536th as so many halves, in quarters.
-fn quarters_of(halves: Halves) -> i64 {
-    let count = 2 * halves.count as i64;
+fn quarters_of(halves: Halves) -> u64 {
+    let count = 2 * halves.count;
     if halves.more {
         count + 1
     } else {
@@ -96,16 +96,26 @@ fn quarters_of(halves: Halves) -> i64 {
     }
 }
 
+/// So many below 0.
+fn negative(count: u64) -> i64 {
+    -(count as i64)
+}
+
+/// So many above 0.
+fn positive(count: u64) -> i64 {
+    count as i64
+}
+
 /// A value behind a minus, in 65536ths.
 fn below_zero(word: &str) -> Option<i32> {
     let size = size_of(word)?;
-    fixed(-quarters_of(size))
+    fixed(negative(quarters_of(size)))
 }
 
 /// A value without a minus, in 65536ths.
 fn above_zero(word: &str) -> Option<i32> {
     let size = size_of(word)?;
-    fixed(quarters_of(size))
+    fixed(positive(quarters_of(size)))
 }
 
 /// A value with a minus between two texts, in 65536ths: nothing is in front of it.
