@@ -191,7 +191,7 @@ fn coordinates_of(alloc: Global, parts: &[&str]) -> Result<Vec<(Tag, i32)>, Args
     Ok(coordinates)
 }
 
-/// The coordinates that a text says, as `wght=650,wdth=87.5`: the tag of an axis, four bytes, and a decimal number of at most
+/// The coordinates of a text, as `wght=650,wdth=87.5`: the tag of an axis, four bytes, and a decimal number of at most
 /// nine digits behind its point, in 65536ths.
 ///
 /// `Usage` where a part isn't one.

@@ -1,4 +1,4 @@
-//! What the arguments ask for.
+//! What the arguments request.
 
 ghost use Rattle.std.specs.Prelude.{◌≡◌, ◌⊎◌, ℕ, List, map, IfOk, IfErr, Some, None, string_bytes};
 ghost use Rattle.std.specs.Option.{option_copied, option_map};
@@ -15,7 +15,7 @@ use std::alloc::{AllocError, Global};
 use subsetter_base::Tag;
 use subsetter_words::{parts_of, u16_of, u32_of};
 
-/// Why the arguments ask for nothing.
+/// Why the arguments request nothing.
 #[derive(Clone, Copy, PartialEq, Eq, Debug)]
 pub enum ArgsError {
     /// They aren't as the usage says.
@@ -38,7 +38,7 @@ impl From<AllocError> for ArgsError {
 /// Which glyphs are to be kept.
 #[derive(Debug, Drop)]
 pub enum Glyphs {
-    /// Those of these old numbers, in the order asked for.
+    /// Those of these old numbers, in the requested order.
     Listed(Vec<u16>),
     /// Those that the file of this name lists.
     InFile(String),
@@ -59,11 +59,11 @@ pub struct Job {
     pub index: u32,
     /// The glyphs to keep.
     pub glyphs: Glyphs,
-    /// How far the charstring of a glyph may run, where it is said.
+    /// How far the charstring of a glyph may run, if that is given.
     pub limits: Option<RunLimits>,
     /// The options without a value that were given.
     pub switches: Switches,
-    /// The user coordinates on the axes of a variable font, in 65536ths, where they are said.
+    /// The user coordinates on the axes of a variable font, in 65536ths, if they are given.
     pub coordinates: Option<Vec<(Tag, i32)>>,
 }
 
@@ -76,7 +76,7 @@ pub enum Command {
     Version,
     /// To make a subset.
     Subset(Job),
-    /// To tell the axes of a face: the name of its file, and its place in a collection, from 0.
+    /// To print the axes of a face: the name of its file, and its index in a collection, from 0.
     Axes(String, u32),
 }
 
@@ -309,7 +309,7 @@ fn read_axes_words(words: &[String]) -> Result<Command, ArgsError>
     Ok(Command::Axes(input.clone()?, index))
 }
 
-/// What the arguments after the program's name ask for: `--axes FONT INDEX`, or `[OPTIONS] IN OUT INDEX GID[,GID..]`, where the
+/// What the arguments after the program's name request: `--axes FONT INDEX`, or `[OPTIONS] IN OUT INDEX GID[,GID..]`, where the
 /// last one is left out with `--gids`, `--gids-file` and `--text`; or IN with options before and after it, where one says OUT.
 ///
 /// `Usage` where an option is given twice or isn't followed by its value, where the count of the other arguments is another,

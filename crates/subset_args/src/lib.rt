@@ -1,4 +1,4 @@
-//! What the arguments of `subset_font` ask for, and the lists of glyphs that they name.
+//! What the arguments of `subset_font` request, and the lists of glyphs that they name.
 //!
 //! [`read_words`] reads them all; [`read_list`] reads the list that a file holds.
 //!

@@ -103,7 +103,7 @@ fn pick_by_text(alloc: Global, font: &[u8], index: u32, text: &str) -> Result<Pi
 
 /// The glyphs to keep of a font.
 ///
-/// `NoMapping` where a text is given and the face has no `cmap` for Unicode; `Error` where every glyph is asked for and
+/// `NoMapping` where a text is given and the face has no `cmap` for Unicode; `Error` where every glyph is requested and
 /// the face doesn't say how many it has, or where memory ran out.
 pub fn pick(alloc: Global, font: &[u8], index: u32, asked: &Asked<'_>) -> Result<Picked, Failure>
     ensures ok { IfOk result (λ p. IsAsked (record { bytes = font.now; index = index; extras = all_extras }) asked.now p.characters.items p.glyphs.items) }

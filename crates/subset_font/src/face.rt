@@ -23,7 +23,7 @@ pub enum Kind {
     Single,
 }
 
-/// Where a table stands, in bytes.
+/// Where a table is, in bytes.
 #[derive(Clone, Copy)]
 pub struct Place {
     pub offset: u32,
@@ -57,7 +57,7 @@ fn place_in_collection(file: &[u8], index: u32) -> Option<usize>
     }
 }
 
-/// Where the font's header stands.
+/// The offset of the font's header.
 #[tactic(auto, unfolding(subsetter_sfnt::specs::Read::header_place))]
 pub fn header_place(file: &[u8], index: u32) -> Option<usize>
     ensures place { result ≡ header_place (record { bytes = file.now; index = index; extras = all_extras }) }

@@ -50,7 +50,7 @@ impl Failure {
     }
 }
 
-/// A failure as the standard error tells it: its text, and after it the name of the file that failed.
+/// A failure as it is reported on standard error: its text, and after it the name of the file that failed.
 #[derive(Drop)]
 pub struct Told<'a> {
     /// Why the run failed.

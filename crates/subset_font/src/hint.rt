@@ -1,4 +1,4 @@
-//! What more can be said of a refusal: what the program sees at once.
+//! What more is known of a refusal: what the program sees at once.
 
 ghost use Rattle.std.specs.Prelude.{◌≡◌, ◌≤◌};
 ghost use Rattle.subsetter_sfnt.specs.Extras.{all_extras};
@@ -13,7 +13,7 @@ use std::fmt;
 use subsetter::{Error, Tag};
 use subsetter_base::read::Reader;
 
-/// What more is said of a refusal.
+/// What more is known of a refusal.
 #[derive(Clone, Copy, PartialEq, Eq, Debug, Drop)]
 pub enum Hint {
     /// The file is a WOFF.
@@ -298,7 +298,7 @@ fn axes_hint_of_error(error: Error, font: &[u8], index: u32) -> Option<Hint>
     }
 }
 
-/// What more can be said of a font whose axes can't be printed.
+/// What more is known of a font whose axes can't be printed.
 pub fn find_axes_hint(failure: &Failure, font: &[u8], index: u32) -> Option<Hint>
     ensures { result ≡ axes_hint failure.now font.now index }
 {
@@ -308,7 +308,7 @@ pub fn find_axes_hint(failure: &Failure, font: &[u8], index: u32) -> Option<Hint
     }
 }
 
-/// What more can be said of a font that is refused.
+/// What more is known of a font that is refused.
 pub fn find_hint(failure: &Failure, font: &[u8], task: &Task<'_>) -> Option<Hint>
     ensures { result ≡ hint_of failure.now task.now font.now }
 {

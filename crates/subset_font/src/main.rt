@@ -4,7 +4,7 @@
 //! subset_font --widths DejaVuSans.ttf subset.ttf 0 36,37,38
 //! ```
 //!
-//! `run` reads the arguments and the files, and tells what failed; `carried` is a run between a reader and two writers,
+//! `run` reads the arguments and the files, and reports what failed; `carried` is a run between a reader and two writers,
 //! of which it is proved what is written.
 #![tactic(auto)]
 

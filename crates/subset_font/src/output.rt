@@ -11,7 +11,7 @@ use crate::task::Form;
 use std::io::Write;
 use subset_lines::{Numbering, write_json, write_lines};
 
-/// Writes the font to one writer, and then tells the new numbers to the other.
+/// Writes the font to one writer, and then the new numbers to the other.
 ///
 /// `Write` where the first writer fails, `Output` where the other does.
 pub fn emit<W: Write, L: Write>(

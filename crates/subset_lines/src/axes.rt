@@ -101,7 +101,7 @@ pub struct FontAxes<'a> {
     pub names: &'a [u8],
 }
 
-/// The axes and the named instances that `fvar` lists, whose names stand in another table. A cut `fvar` is `MalformedFont`.
+/// The axes and the named instances that `fvar` lists, whose names are in another table. A cut `fvar` is `MalformedFont`.
 pub fn read_axes<'a>(alloc: Global, fvar: &'a [u8], names: &'a [u8]) -> Result<FontAxes<'a>, Error>
     ensures axes { IfOk result (λ a. axes fvar.now ≡ Some a.axes.items) }
     ensures instances { IfOk result (λ a. instances fvar.now ≡ Some (map (λ bytes. bytes.now) a.instances.items)) }

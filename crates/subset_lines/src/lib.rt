@@ -1,4 +1,4 @@
-//! The text that tells the new numbers of glyphs, as lines or as JSON, and the axes of a variable font.
+//! The text of the new numbers of glyphs, as lines or as JSON, and the axes of a variable font.
 //!
 //! [`write_lines`] writes a line `old -> new` for each glyph, with its character where there is one, and then a text;
 //! [`write_json`] one object. [`write_axes`] writes a line for each axis of a variable font and each named instance.

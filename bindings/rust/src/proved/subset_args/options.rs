@@ -122,13 +122,13 @@ impl Switches {
 pub struct Chosen<'a> {
     /// The options without a value.
     pub switches: Switches,
-    /// How far the charstring of a glyph may run, where it is said.
+    /// How far the charstring of a glyph may run, if that is given.
     pub limits: Option<RunLimits>,
-    /// Where the glyphs are found, where that is said.
+    /// Where the glyphs are found, if that is given.
     pub source: Option<Source<'a>>,
-    /// The user coordinates, where they are said.
+    /// The user coordinates, if they are given.
     pub at: Option<&'a str>,
-    /// OUT, where an option says it.
+    /// OUT, if an option gives it.
     pub output: Option<&'a str>,
     /// INDEX, where an option says it.
     pub index: Option<u32>,
@@ -365,7 +365,7 @@ pub fn parse_options<'a>(chosen: Chosen<'a>, words: &'a [String]) -> Option<Pars
     }
 }
 
-/// The options wherever they stand beside IN, and IN.
+/// The options before and after IN, and IN.
 #[derive(Clone, Copy, Debug)]
 pub struct Free<'a> {
     pub chosen: Chosen<'a>,

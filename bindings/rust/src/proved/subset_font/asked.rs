@@ -77,7 +77,7 @@ fn pick_by_text(alloc: Global, font: &[u8], index: u32, text: &str) -> Result<Pi
 
 /// The glyphs to keep of a font.
 ///
-/// `NoMapping` where a text is given and the face has no `cmap` for Unicode; `Error` where every glyph is asked for and
+/// `NoMapping` where a text is given and the face has no `cmap` for Unicode; `Error` where every glyph is requested and
 /// the face doesn't say how many it has, or where memory ran out.
 pub fn pick(alloc: Global, font: &[u8], index: u32, asked: &Asked<'_>) -> Result<Picked, Failure> {
     match asked {

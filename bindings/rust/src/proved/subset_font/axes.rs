@@ -36,7 +36,7 @@ fn names_of(font: &[u8], index: u32) -> &[u8] {
 
 /// Writes the lines of a face: one for each axis and each named instance, none of a face that isn't variable.
 ///
-/// `UnknownKind` where no font stands at its place, `MalformedFont` where `fvar` is cut; `Output` where the writer fails.
+/// `UnknownKind` where the file has no font at the index, `MalformedFont` where `fvar` is cut; `Output` where the writer fails.
 pub fn tell_axes<L: Write>(
     alloc: Global,
     font: &[u8],

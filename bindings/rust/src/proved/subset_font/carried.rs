@@ -36,11 +36,11 @@ fn make_from<R: Read>(
     made
 }
 
-/// Reads the font from the reader, writes its subset to one writer, and tells the new numbers to the other. The bytes that
+/// Reads the font from the reader, writes its subset to one writer, and the new numbers to the other. The bytes that
 /// were read are kept. Room for so many of them is taken at once.
 ///
 /// `Read` where the reader fails; `Error` or `NoMapping` where the glyphs or the font are refused, or the font has no
-/// widths that are asked for; `Write` and `Output` where a writer fails. A writer is first used when the subset is made.
+/// widths that are requested; `Write` and `Output` where a writer fails. A writer is first used when the subset is made.
 pub fn carry_out<R: Read, W: Write, L: Write>(
     alloc: Global,
     task: &Task<'_>,

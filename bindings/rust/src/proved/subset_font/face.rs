@@ -14,7 +14,7 @@ pub enum Kind {
     Single,
 }
 
-/// Where a table stands, in bytes.
+/// Where a table is, in bytes.
 #[derive(Clone, Copy)]
 pub struct Place {
     pub offset: u32,
@@ -43,7 +43,7 @@ fn place_in_collection(file: &[u8], index: u32) -> Option<usize> {
     }
 }
 
-/// Where the font's header stands.
+/// The offset of the font's header.
 pub fn header_place(file: &[u8], index: u32) -> Option<usize> {
     match kind_at(file, 0)? {
         Kind::Single => Some(0),

@@ -60,7 +60,7 @@ impl Failure {
     }
 }
 
-/// A failure as the standard error tells it: its text, and after it the name of the file that failed.
+/// A failure as it is reported on standard error: its text, and after it the name of the file that failed.
 pub struct Told<'a> {
     /// Why the run failed.
     pub failure: &'a Failure,

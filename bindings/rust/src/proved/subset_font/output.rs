@@ -7,7 +7,7 @@ use crate::proved::subset_font::task::Form;
 use crate::proved::subset_lines::{write_json, write_lines, Numbering};
 use crate::rattle::io::Write;
 
-/// Writes the font to one writer, and then tells the new numbers to the other.
+/// Writes the font to one writer, and then the new numbers to the other.
 ///
 /// `Write` where the first writer fails, `Output` where the other does.
 pub fn emit<W: Write, L: Write>(

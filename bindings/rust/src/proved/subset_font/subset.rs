@@ -18,9 +18,9 @@ pub struct Made {
     pub font: Vec<u8>,
     /// What knows the new numbers.
     pub mapper: GlyphRemapper,
-    /// The glyphs that were asked for.
+    /// The requested glyphs.
     pub picked: Picked,
-    /// The text of the widths, which is empty where they aren't asked for.
+    /// The text of the widths, which is empty where they aren't requested.
     pub text: Vec<u8>,
 }
 

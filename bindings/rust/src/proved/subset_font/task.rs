@@ -9,7 +9,7 @@ use crate::proved::subsetter::{Extras, Limits, Options, Tag};
 /// Which glyphs are kept.
 #[derive(Clone, Copy)]
 pub enum Asked<'a> {
-    /// Those of these old numbers, in the order asked for.
+    /// Those of these old numbers, in the requested order.
     These(&'a [u16]),
     /// Every glyph of the face.
     Every,
@@ -17,7 +17,7 @@ pub enum Asked<'a> {
     ByText(&'a str),
 }
 
-/// How the new numbers are told.
+/// How the new numbers are printed.
 #[derive(Clone, Copy)]
 pub enum Form {
     /// By a line for each glyph.
@@ -37,11 +37,11 @@ pub struct Task<'a> {
     pub index: u32,
     /// How far a charstring may run, and what is kept besides outlines and metrics.
     pub options: Options,
-    /// Whether the widths of the glyphs are told.
+    /// Whether the widths of the glyphs are printed.
     pub widths: bool,
-    /// How the new numbers are told.
+    /// How the new numbers are printed.
     pub form: Form,
-    /// The user coordinates on the axes of a variable font, in 65536ths, where they are said.
+    /// The user coordinates on the axes of a variable font, in 65536ths, if they are given.
     pub at: Option<&'a [(Tag, i32)]>,
 }
 
@@ -53,7 +53,7 @@ fn bounded(limits: Limits, bytes: Option<u32>) -> Limits {
     }
 }
 
-/// The limits that are said, else the default ones.
+/// The limits that are given, else the default ones.
 pub fn limits_of(limits: Option<RunLimits>) -> Limits {
     match limits {
         Some(said) => {
@@ -73,7 +73,7 @@ pub fn extras_of(switches: Switches) -> Extras {
     }
 }
 
-/// The user coordinates, where they are said.
+/// The user coordinates, if they are given.
 pub fn at_of(coordinates: &Option<Vec<(Tag, i32)>>) -> Option<&[(Tag, i32)]> {
     match coordinates {
         Some(coordinates) => Some(coordinates.as_slice()),
@@ -81,7 +81,7 @@ pub fn at_of(coordinates: &Option<Vec<(Tag, i32)>>) -> Option<&[(Tag, i32)]> {
     }
 }
 
-/// How the new numbers are told: with `--quiet` not at all, with `--json` as JSON.
+/// How the new numbers are printed: with `--quiet` not at all, with `--json` as JSON.
 pub fn form_of(switches: Switches) -> Form {
     if switches.quiet {
         return Form::Silence;

@@ -82,7 +82,7 @@ pub struct FontAxes<'a> {
     pub names: &'a [u8],
 }
 
-/// The axes and the named instances that `fvar` lists, whose names stand in another table. A cut `fvar` is `MalformedFont`.
+/// The axes and the named instances that `fvar` lists, whose names are in another table. A cut `fvar` is `MalformedFont`.
 pub fn read_axes<'a>(
     alloc: Global,
     fvar: &'a [u8],
