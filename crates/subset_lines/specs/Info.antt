@@ -41,15 +41,22 @@ outlines_name Missing = codes "none"
 
 -- ---- lines
 
-abbrev pub permission_line : List ℕ → List ℕ
-permission_line word = codes "permission " ++ word ++ codes "\n"
+abbrev pub line_behind : List ℕ → List ℕ → List ℕ
+line_behind front word = front ++ word ++ codes "\n"
+
+-- a line for each of the words, behind a text
+abbrev pub lines_behind : List ℕ → List (List ℕ) → List ℕ
+lines_behind front [] = []
+lines_behind front (word ∷ words) = line_behind front word ++ lines_behind front words
 
 abbrev pub permission_lines : List (List ℕ) → List ℕ
-permission_lines [] = []
-permission_lines (word ∷ words) = permission_line word ++ permission_lines words
+permission_lines words = lines_behind (codes "permission ") words
+
+abbrev pub outlines_end : Bool → List ℕ
+outlines_end is_variable = if is_variable then codes ", variable\n" else codes "\n"
 
 abbrev pub outlines_line : Info → List ℕ
-outlines_line info = codes "outlines " ++ outlines_name info.outlines ++ (if info.is_variable then codes ", variable\n" else codes "\n")
+outlines_line info = codes "outlines " ++ outlines_name info.outlines ++ outlines_end info.is_variable
 
 abbrev pub glyphs_line : Option ℕ → List ℕ
 glyphs_line None = codes "glyphs not given\n"
@@ -100,8 +107,11 @@ abbrev pub table_objects : List ℕ → List (Tag × ℕ) → List ℕ
 table_objects before [] = []
 table_objects before (t ∷ tables) = (before ++ table_object t.0 t.1) ++ table_objects (codes ",") tables
 
+abbrev pub variable_member : Bool → List ℕ
+variable_member is_variable = if is_variable then codes ",\"variable\":true" else codes ",\"variable\":false"
+
 abbrev pub outlines_members : Info → List ℕ
-outlines_members info = codes "{\"outlines\":" ++ quoted (outlines_name info.outlines) ++ (if info.is_variable then codes ",\"variable\":true" else codes ",\"variable\":false")
+outlines_members info = codes "{\"outlines\":" ++ quoted (outlines_name info.outlines) ++ variable_member info.is_variable
 
 abbrev pub counts_members : Info → List ℕ
 counts_members info = codes ",\"faces\":" ++ decimal info.faces ++ codes ",\"bytes\":" ++ decimal info.bytes ++ codes ",\"glyphs\":" ++ number_or_null info.glyphs
@@ -112,5 +122,8 @@ refusal_members info words = codes ",\"permission\":[" ++ strings [] words ++ co
 abbrev pub tables_member : List (Tag × ℕ) → List ℕ
 tables_member tables = codes ",\"tables\":[" ++ table_objects [] tables ++ codes "]}\n"
 
+abbrev pub info_members : Info → List (List ℕ) → List ℕ
+info_members info words = outlines_members info ++ counts_members info ++ refusal_members info words ++ tables_member info.tables.now
+
 abbrev pub info_json : Info → List ℕ
-info_json info = outlines_members info ++ counts_members info ++ refusal_members info (permission_words info.permission) ++ tables_member info.tables.now
+info_json info = info_members info (permission_words info.permission)

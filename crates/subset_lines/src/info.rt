@@ -1,12 +1,12 @@
 //! What a face is: its outlines, its tables, and what its maker permits.
 
-ghost use Rattle.std.specs.Prelude.{◌≡◌, ◌++◌, ◌&&◌, ◌==◌, not, [], ◌∷◌, ◌<◌, OnOk, IfOk, codes, decimal, map};
+ghost use Rattle.std.specs.Prelude.{◌≡◌, ◌++◌, ◌&&◌, ◌==◌, not, [], ◌∷◌, ◌<◌, OnOk, IfOk, Some, codes, decimal, map};
 ghost use Rattle.std.specs.Io.KnownBytes.{Appends};
 ghost use Rattle.std.specs.Option.{option_copied};
 ghost use Rattle.subset_lines.specs.Axes.{shown};
 ghost use Rattle.subset_lines.specs.Json.{number_or_null};
 ghost use Rattle.subset_lines.specs.Quoted.{quoted};
-ghost use Rattle.subset_lines.specs.Info.{has_bit, word_if, words_of_bits, permission_words, outlines_name, permission_line, permission_lines, outlines_line, glyphs_line, counts_lines, if_any, refusal_lines, table_line, table_lines, head_lines, info_lines, strings, string_or_null, table_object, table_objects, outlines_members, counts_members, refusal_members, tables_member, info_json};
+ghost use Rattle.subset_lines.specs.Info.{has_bit, word_if, words_of_bits, permission_words, outlines_name, line_behind, lines_behind, permission_lines, outlines_end, outlines_line, glyphs_line, counts_lines, if_any, refusal_lines, table_line, table_lines, head_lines, info_lines, strings, string_or_null, table_object, table_objects, variable_member, outlines_members, counts_members, refusal_members, tables_member, info_members, info_json};
 
 use crate::axes::{tag_bytes, write_tag};
 use crate::entry::Unwritten;
@@ -67,7 +67,7 @@ fn with_word(
     holds: bool,
     word: &'static str,
 ) -> Result<Vec<&'static str>, AllocError>
-    ensures { IfOk result (λ v. map (λ w. w.now) v.items ≡ map (λ w. w.now) words.items ++ word_if holds word.now) }
+    ensures { IfOk result (λ v. map (λ w. w.now) v.items ≡ map (λ w. w.now) words.entry.items ++ word_if holds word.now) }
 {
     let mut words = words;
     if holds {
@@ -113,25 +113,42 @@ fn outlines_name(outlines: Outlines) -> &'static [u8]
 
 // ---- as lines
 
-/// Writes words of permission as a line.
+/// Writes words as a line behind a text.
 #[tactic(auto, using(crate::proofs::Written::both))]
-fn write_permission<W: Write>(word: &str, out: &mut W) -> Result<(), Unwritten>
-    ensures { OnOk result (Appends (W.contents out.old) (W.contents out.new) (permission_line word.now)) }
+fn write_line_behind<W: Write>(front: &[u8], word: &str, out: &mut W) -> Result<(), Unwritten>
+    ensures { OnOk result (Appends (W.contents out.old) (W.contents out.new) (line_behind front.now word.now)) }
 {
-    write_text(b"permission ", out)?;
+    write_text(front, out)?;
     write_text(word.as_bytes(), out)?;
     write_text(b"\n", out)
 }
 
 /// Writes a line for each.
 #[tactic(auto, using(crate::proofs::Written::at_first, crate::proofs::Written::after_part, crate::proofs::Written::at_last))]
+fn write_lines_behind<W: Write>(front: &[u8], words: &[&str], out: &mut W) -> Result<(), Unwritten>
+    ensures { OnOk result (Appends (W.contents out.old) (W.contents out.new) (lines_behind front.now (map (λ w. w.now) words.now))) }
+{
+    for word in words {
+        write_line_behind(front, word, out)?;
+    }
+    Ok(())
+}
+
+/// Writes a line for each of the words of permission.
 fn write_permissions<W: Write>(words: &[&str], out: &mut W) -> Result<(), Unwritten>
     ensures { OnOk result (Appends (W.contents out.old) (W.contents out.new) (permission_lines (map (λ w. w.now) words.now))) }
 {
-    for word in words {
-        write_permission(word, out)?;
+    write_lines_behind(b"permission ", words, out)
+}
+
+/// Writes the end of the line of the outlines.
+fn write_outlines_end<W: Write>(is_variable: bool, out: &mut W) -> Result<(), Unwritten>
+    ensures { OnOk result (Appends (W.contents out.old) (W.contents out.new) (outlines_end is_variable)) }
+{
+    if is_variable {
+        return write_text(b", variable\n", out);
     }
-    Ok(())
+    write_text(b"\n", out)
 }
 
 /// Writes the line of the outlines.
@@ -141,10 +158,7 @@ fn write_outlines<W: Write>(info: &Info<'_>, out: &mut W) -> Result<(), Unwritte
 {
     write_text(b"outlines ", out)?;
     write_text(outlines_name(info.outlines), out)?;
-    if info.is_variable {
-        return write_text(b", variable\n", out);
-    }
-    write_text(b"\n", out)
+    write_outlines_end(info.is_variable, out)
 }
 
 /// Writes the line of the count of glyphs.
@@ -183,8 +197,19 @@ fn write_if_any<W: Write>(front: &[u8], text: Option<&[u8]>, out: &mut W) -> Res
     write_text(b"\n", out)
 }
 
+/// Writes with which error `subset` refuses every glyph, and what is known of its cause.
+fn write_refused<W: Write>(
+    text: &[u8],
+    reason: Option<&[u8]>,
+    out: &mut W,
+) -> Result<(), Unwritten>
+    ensures { OnOk result (Appends (W.contents out.old) (W.contents out.new) (refusal_lines (Some text.now) (option_copied reason.entry))) }
+{
+    write_if_any(b"subset refuses: ", Some(text), out)?;
+    write_if_any(b"reason: ", reason, out)
+}
+
 /// Writes what `subset` answers for every glyph.
-#[tactic(auto, using(crate::proofs::Written::both))]
 fn write_refusal<W: Write>(
     refusal: Option<&[u8]>,
     reason: Option<&[u8]>,
@@ -192,11 +217,10 @@ fn write_refusal<W: Write>(
 ) -> Result<(), Unwritten>
     ensures { OnOk result (Appends (W.contents out.old) (W.contents out.new) (refusal_lines (option_copied refusal.entry) (option_copied reason.entry))) }
 {
-    if refusal.is_none() {
-        return write_text(b"subset accepts every glyph\n", out);
+    match refusal {
+        Some(text) => write_refused(text, reason, out),
+        None => write_text(b"subset accepts every glyph\n", out),
     }
-    write_if_any(b"subset refuses: ", refusal, out)?;
-    write_if_any(b"reason: ", reason, out)
 }
 
 /// Writes the line of a table: `table glyf 46248`.
@@ -309,6 +333,16 @@ fn write_objects<W: Write>(tables: &[(Tag, u32)], out: &mut W) -> Result<(), Unw
     Ok(())
 }
 
+/// Writes the member that says whether the outlines vary.
+fn write_variable_member<W: Write>(is_variable: bool, out: &mut W) -> Result<(), Unwritten>
+    ensures { OnOk result (Appends (W.contents out.old) (W.contents out.new) (variable_member is_variable)) }
+{
+    if is_variable {
+        return write_text(b",\"variable\":true", out);
+    }
+    write_text(b",\"variable\":false", out)
+}
+
 /// Writes the members of the outlines.
 #[tactic(auto, using(crate::proofs::Written::both))]
 fn write_outlines_members<W: Write>(info: &Info<'_>, out: &mut W) -> Result<(), Unwritten>
@@ -316,10 +350,7 @@ fn write_outlines_members<W: Write>(info: &Info<'_>, out: &mut W) -> Result<(), 
 {
     write_text(b"{\"outlines\":", out)?;
     write_quoted(outlines_name(info.outlines), out)?;
-    if info.is_variable {
-        return write_text(b",\"variable\":true", out);
-    }
-    write_text(b",\"variable\":false", out)
+    write_variable_member(info.is_variable, out)
 }
 
 /// Writes the members of numbers.
@@ -365,6 +396,16 @@ fn write_tables_member<W: Write>(tables: &[(Tag, u32)], out: &mut W) -> Result<(
     write_text(b"]}\n", out)
 }
 
+/// Writes all members, which are one JSON object.
+fn write_members<W: Write>(info: &Info<'_>, words: &[&str], out: &mut W) -> Result<(), Unwritten>
+    ensures { OnOk result (Appends (W.contents out.old) (W.contents out.new) (info_members info.now (map (λ w. w.now) words.now))) }
+{
+    write_outlines_members(info, out)?;
+    write_counts_members(info, out)?;
+    write_refusal_members(info, words, out)?;
+    write_tables_member(info.tables, out)
+}
+
 /// Writes what a face is as one JSON object. Then it passes on what the writer keeps back.
 #[tactic(auto, using(crate::proofs::Written::both, crate::proofs::Written::flushed))]
 pub fn write_info_json<W: Write>(
@@ -377,9 +418,6 @@ pub fn write_info_json<W: Write>(
     let Ok(words) = permission_words(alloc, info.permission) else {
         return Err(Unwritten);
     };
-    write_outlines_members(info, out)?;
-    write_counts_members(info, out)?;
-    write_refusal_members(info, &words, out)?;
-    write_tables_member(info.tables, out)?;
+    write_members(info, &words, out)?;
     flush(out)
 }
