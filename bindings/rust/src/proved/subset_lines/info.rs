@@ -97,29 +97,43 @@ fn outlines_name(outlines: Outlines) -> &'static [u8] {
 
 // ---- as lines
 
-/// Writes words of permission as a line.
-fn write_permission<W: Write>(word: &str, out: &mut W) -> Result<(), Unwritten> {
-    write_text(b"permission ", out)?;
+/// Writes words as a line behind a text.
+fn write_line_behind<W: Write>(front: &[u8], word: &str, out: &mut W) -> Result<(), Unwritten> {
+    write_text(front, out)?;
     write_text(word.as_bytes(), out)?;
     write_text(b"\n", out)
 }
 
 /// Writes a line for each.
-fn write_permissions<W: Write>(words: &[&str], out: &mut W) -> Result<(), Unwritten> {
+fn write_lines_behind<W: Write>(
+    front: &[u8],
+    words: &[&str],
+    out: &mut W,
+) -> Result<(), Unwritten> {
     for word in words {
-        write_permission(word, out)?;
+        write_line_behind(front, word, out)?;
     }
     Ok(())
+}
+
+/// Writes a line for each of the words of permission.
+fn write_permissions<W: Write>(words: &[&str], out: &mut W) -> Result<(), Unwritten> {
+    write_lines_behind(b"permission ", words, out)
+}
+
+/// Writes the end of the line of the outlines.
+fn write_outlines_end<W: Write>(is_variable: bool, out: &mut W) -> Result<(), Unwritten> {
+    if is_variable {
+        return write_text(b", variable\n", out);
+    }
+    write_text(b"\n", out)
 }
 
 /// Writes the line of the outlines.
 fn write_outlines<W: Write>(info: &Info<'_>, out: &mut W) -> Result<(), Unwritten> {
     write_text(b"outlines ", out)?;
     write_text(outlines_name(info.outlines), out)?;
-    if info.is_variable {
-        return write_text(b", variable\n", out);
-    }
-    write_text(b"\n", out)
+    write_outlines_end(info.is_variable, out)
 }
 
 /// Writes the line of the count of glyphs.
@@ -157,17 +171,26 @@ fn write_if_any<W: Write>(front: &[u8], text: Option<&[u8]>, out: &mut W) -> Res
     write_text(b"\n", out)
 }
 
+/// Writes with which error `subset` refuses every glyph, and what is known of its cause.
+fn write_refused<W: Write>(
+    text: &[u8],
+    reason: Option<&[u8]>,
+    out: &mut W,
+) -> Result<(), Unwritten> {
+    write_if_any(b"subset refuses: ", Some(text), out)?;
+    write_if_any(b"reason: ", reason, out)
+}
+
 /// Writes what `subset` answers for every glyph.
 fn write_refusal<W: Write>(
     refusal: Option<&[u8]>,
     reason: Option<&[u8]>,
     out: &mut W,
 ) -> Result<(), Unwritten> {
-    if refusal.is_none() {
-        return write_text(b"subset accepts every glyph\n", out);
+    match refusal {
+        Some(text) => write_refused(text, reason, out),
+        None => write_text(b"subset accepts every glyph\n", out),
     }
-    write_if_any(b"subset refuses: ", refusal, out)?;
-    write_if_any(b"reason: ", reason, out)
 }
 
 /// Writes the line of a table: `table glyf 46248`.
@@ -262,14 +285,19 @@ fn write_objects<W: Write>(tables: &[(Tag, u32)], out: &mut W) -> Result<(), Unw
     Ok(())
 }
 
+/// Writes the member that says whether the outlines vary.
+fn write_variable_member<W: Write>(is_variable: bool, out: &mut W) -> Result<(), Unwritten> {
+    if is_variable {
+        return write_text(b",\"variable\":true", out);
+    }
+    write_text(b",\"variable\":false", out)
+}
+
 /// Writes the members of the outlines.
 fn write_outlines_members<W: Write>(info: &Info<'_>, out: &mut W) -> Result<(), Unwritten> {
     write_text(b"{\"outlines\":", out)?;
     write_quoted(outlines_name(info.outlines), out)?;
-    if info.is_variable {
-        return write_text(b",\"variable\":true", out);
-    }
-    write_text(b",\"variable\":false", out)
+    write_variable_member(info.is_variable, out)
 }
 
 /// Writes the members of numbers.
@@ -306,6 +334,14 @@ fn write_tables_member<W: Write>(tables: &[(Tag, u32)], out: &mut W) -> Result<(
     write_text(b"]}\n", out)
 }
 
+/// Writes all members, which are one JSON object.
+fn write_members<W: Write>(info: &Info<'_>, words: &[&str], out: &mut W) -> Result<(), Unwritten> {
+    write_outlines_members(info, out)?;
+    write_counts_members(info, out)?;
+    write_refusal_members(info, words, out)?;
+    write_tables_member(info.tables, out)
+}
+
 /// Writes what a face is as one JSON object. Then it passes on what the writer keeps back.
 pub fn write_info_json<W: Write>(
     alloc: Global,
@@ -318,9 +354,6 @@ pub fn write_info_json<W: Write>(
             return Err(Unwritten);
         }
     };
-    write_outlines_members(info, out)?;
-    write_counts_members(info, out)?;
-    write_refusal_members(info, &words, out)?;
-    write_tables_member(info.tables, out)?;
+    write_members(info, &words, out)?;
     flush(out)
 }
