@@ -14,7 +14,7 @@ demo: # builds the program by Cargo, subsets a line of text, draws it; no kit, n
 	@.ci/install demo
 	@demo/run
 
-test: # the whole gate: proves what has changed on this machine (at first all), tests the rest; SKIP=NAME,.. | 60 min at first
+test: # the whole gate: proves all (some kits keep what they proved on a machine), tests the rest; SKIP=NAME,.. | 75 min
 	@.ci/gate $(skip)
 
 quick: # the tests that need no proof and no kit; SKIP=NAME,.. | 3 min

@@ -1,10 +1,13 @@
 #!/usr/bin/env python3
 """Runs the built program subset_font on a table of rows, and compares all that it leaves behind.
 
-program.py [--program FILE] [--only WORD] [--cargo]
+program.py [--program FILE] [--only WORD] [--cargo] [--system s390x|windows --run FILE]
 
 With --cargo it is the build of bindings/rust: what that does otherwise is a row of `CLOSED` or of `STD_ASKS`, with the reason, and
 has to be so. Where its row would hold as for the other build, it is a row too many, and fails.
+
+With --run that program starts FILE, which is of another system: s390x by qemu, Windows by wine. What can't be the same there is
+listed with its reason: checks that aren't run in UNCHECKED, and in OTHERWISE rows that end otherwise, and fail where they don't.
 
 Each row has words, a standard input and files, and says the status, the standard output, the standard error, and the files
 that are there afterwards. The options are also compared with `--help`, docs/CLI.md and the manual page, and the version with
@@ -825,9 +828,18 @@ def asked_by_std(words):
     return sorted([size for size, _ in STD_ASKS] + [24 * len(words)] + [len(os.fsencode(word)) for word in words if word])
 
 
+def is_reason(line, wanted):
+    """Whether a line is the wanted one, or Windows' reason for one of Unix."""
+    number = re.fullmatch(rb".+ \(os error (\d+)\)", wanted)
+    here = re.fullmatch(rb".+ \(os error (\d+)\)", line)
+    return line == wanted or bool(number and here) and int(here[1]) in WINDOWS_NUMBERS.get(int(number[1]), ())
+
+
 class Table:
-    def __init__(self, program, is_cargo=False):
+    def __init__(self, program, is_cargo=False, runner=None, system=None):
         self.program, self.same, self.ran, self.wrong = program, {"simple 2": SIMPLE_2}, 0, 0
+        # what starts it, and the system that it is of where that isn't this one
+        self.command, self.system = [*([runner] if runner else []), program], system
         # whether it is the build by Cargo, and how many rows are otherwise there, as listed
         self.is_cargo, self.otherwise = is_cargo, 0
 
@@ -847,7 +859,14 @@ class Table:
         return self.same.setdefault(name, font)
 
     def start(self, words, room, **given):
-        return subprocess.run([self.program, *words], cwd=room, capture_output=True, timeout=60, **given)
+        return subprocess.run([*self.command, *words], cwd=room, capture_output=True, timeout=600 if self.system else 60, **given)
+
+    def is_said(self, got, wanted):
+        """Whether standard error is as wanted. Windows has words and numbers of its own for the system's reason."""
+        if self.system != "windows" or got == wanted:
+            return got == wanted
+        there, lines_wanted = got.split(b"\n"), wanted.split(b"\n")
+        return len(there) == len(lines_wanted) and all(is_reason(*it) for it in zip(there, lines_wanted))
 
     def run_row(self, row, room):
         words = row.words.split() if isinstance(row.words, str) else row.words
@@ -872,13 +891,17 @@ class Table:
             problems.append(f"status {got.returncode}, wanted {row.status}")
         if got.stdout != out:
             problems.append(f"standard output {got.stdout[:200]!r}, wanted {out and out[:200]!r}")
-        if err is not None and got.stderr != err:
+        if err is not None and not self.is_said(got.stderr, err):
             problems.append(f"standard error {got.stderr[:200]!r}, wanted {err!r}")
         for name in sorted(after.keys() | wanted.keys()):
             if after.get(name) != wanted.get(name):
                 problems.append(f"the file {name} has {after.get(name, b'')[:60]!r} (or isn't there)")
         self.ran += 1
-        if problems:
+        if str(row.words) in OTHERWISE.get(self.system, {}):
+            self.otherwise += 1
+            if not problems or got.returncode not in (0, 1, 2, 3):
+                self.fail(row.words, f"status {got.returncode}, listed for {self.system} as otherwise")
+        elif problems:
             self.fail(row.words, "; ".join(problems) + f" (with the files {row.files!r:.200})" * bool(row.files))
 
 
@@ -1045,7 +1068,7 @@ def check_rights(table, room):
     os.chmod(room, 0o777)
 
     def start(*words):
-        return subprocess.run([program, *words], cwd=room, capture_output=True, timeout=60, **who)
+        return subprocess.run([*table.command[:-1], program, *words], cwd=room, capture_output=True, timeout=60, **who)
     put(room, "in", SIMPLE, 0o444)
     shut = put(room, "shut", OLD, 0o444)
     if is_root:
@@ -1081,27 +1104,27 @@ def check_streams(table, room):
     """Standard streams that fail or are the same file."""
     put(room, "in", SIMPLE)
     with open("/dev/full", "wb") as full:
-        got = subprocess.run([table.program, "in", "out", "0", "2"], cwd=room, stdout=full, stderr=subprocess.PIPE)
+        got = subprocess.run([*table.command, "in", "out", "0", "2"], cwd=room, stdout=full, stderr=subprocess.PIPE)
         table.demand((got.returncode, got.stderr) == (3, cannot_write("standard output", errno.ENOSPC)), "standard output is full", got)
         table.demand(take(os.path.join(room, "out")) == table.same["simple 2"], "and OUT is whole", got)
         for words in (["--help"], ["--version"]):
-            got = subprocess.run([table.program, *words], cwd=room, stdout=full, stderr=subprocess.PIPE)
+            got = subprocess.run([*table.command, *words], cwd=room, stdout=full, stderr=subprocess.PIPE)
             table.demand((got.returncode, got.stderr) == (3, cannot_write("standard output", errno.ENOSPC)), words, got)
-        got = subprocess.run([table.program, "in", "-", "0", "2"], cwd=room, stdout=full, stderr=subprocess.PIPE)
+        got = subprocess.run([*table.command, "in", "-", "0", "2"], cwd=room, stdout=full, stderr=subprocess.PIPE)
         table.demand((got.returncode, got.stderr) == (3, cannot_write("-", errno.ENOSPC)), "OUT is standard output, which is full", got)
-        got = subprocess.run([table.program, "in", "-", "0", "2"], cwd=room, stdout=subprocess.PIPE, stderr=full)
+        got = subprocess.run([*table.command, "in", "-", "0", "2"], cwd=room, stdout=subprocess.PIPE, stderr=full)
         table.demand((got.returncode, got.stdout) == (3, table.same["simple 2"]), "the lines go to standard error, which is full", got)
     with open(os.path.join(room, "said"), "wb") as file:
-        got = subprocess.run([table.program, "in", "out", "0", "2"], cwd=room, stdout=file, stderr=subprocess.PIPE)
+        got = subprocess.run([*table.command, "in", "out", "0", "2"], cwd=room, stdout=file, stderr=subprocess.PIPE)
     table.demand(take(os.path.join(room, "said")) == lines((2, 1)) and got.stderr == b"", "standard output is a file beside OUT", got)
     reading, writing = os.pipe()
     os.close(reading)
     for words, told in (("in out 0 2", "standard output"), ("in - 0 2", "-"), ("--help", "standard output")):
-        got = subprocess.run([table.program, *words.split()], cwd=room, stdout=writing, stderr=subprocess.PIPE)
+        got = subprocess.run([*table.command, *words.split()], cwd=room, stdout=writing, stderr=subprocess.PIPE)
         table.demand((got.returncode, got.stderr) == (3, cannot_write(told, errno.EPIPE)), f"{words}: nobody reads", got)
     os.close(writing)
     with open(os.path.join(room, "both"), "wb") as file:
-        got = subprocess.run([table.program, "in", "both", "0", "2"], cwd=room, stdout=file, stderr=subprocess.PIPE)
+        got = subprocess.run([*table.command, "in", "both", "0", "2"], cwd=room, stdout=file, stderr=subprocess.PIPE)
     table.demand(take(os.path.join(room, "both")) == table.same["simple 2"] and got.stderr == lines((2, 1)),
                  "standard output is OUT", got)
 
@@ -1363,26 +1386,71 @@ def check_number_of_output(table, room):
     table.demand(take(os.path.join(room, "out")) == SIMPLE_2, "standard output is closed: OUT", take(os.path.join(room, "out")))
 
 
+# ---- other systems
+
+REFUSED_BY_HAND = "compare/refuse.c stands in front of the calls of this machine's library, which the program of another system hasn't"
+# What can't be the same elsewhere: checks that aren't run there, each with the reason.
+UNCHECKED = {
+    "s390x": {
+        "check_memory": "the limit on memory would be qemu's own",
+        **dict.fromkeys(("check_refused_memory", "check_refused_names", "check_little_room", "check_kept_room", "check_failed_calls"), REFUSED_BY_HAND),
+    },
+    "windows": {
+        "check_places": "rights of Unix, and a limit on the size of a file",
+        "check_links": "links and pipes of Unix",
+        "check_rights": "users of Unix",
+        "check_streams": "/dev/full, and pipes that nobody reads",
+        "check_closed": "wine opens streams that are closed",
+        "check_number_of_output": "wine opens streams that are closed",
+        "check_memory": "the limit on memory would be wine's own",
+        **dict.fromkeys(("check_refused_memory", "check_refused_names", "check_little_room", "check_kept_room", "check_failed_calls"), REFUSED_BY_HAND),
+    },
+}
+# Rows that end otherwise there, each with the reason. One that doesn't is a row too many.
+OTHERWISE = {
+    "s390x": {},
+    "windows": {
+        "simple simple 0 2": "no file takes the name of one that is open, as IN is: status 3, and IN is as it was",
+        "/dev/stdin out 0 2": "a name of Unix: status 3",
+        "simple /dev/stdout 0 2": "the same: the font goes to no stream of the program's",
+        str([b"simple", b"\xff", b"0", b"2"]): "words are of 16 bits there, and wine makes one of any byte",
+    },
+}
+# Windows' numbers of the reasons that the rows name by Unix's: no such file or folder; access to a folder as a file; a full disk (wine has /dev/full).
+WINDOWS_NUMBERS = {errno.ENOENT: (2, 3), errno.EISDIR: (5,), errno.ENOSPC: (112,)}
+
+
 def main():
     words = argparse.ArgumentParser(usage=__doc__)
     words.add_argument("--program", default=os.path.join(ROOT, "crates", "subset_font", "out", "subset_font"))
     words.add_argument("--only", default="")
     words.add_argument("--cargo", action="store_true")
+    words.add_argument("--system", choices=sorted(UNCHECKED))
+    words.add_argument("--run")
     given = words.parse_args()
-    if not os.path.exists(given.program):
-        sys.exit(f"program.py: no {given.program}")
-    table = Table(os.path.realpath(given.program), given.cargo)
+    if (given.system is None) != (given.run is None):
+        sys.exit("program.py: --system and --run belong together")
+    for it in (given.program, given.run):
+        if it and not os.path.exists(it):
+            sys.exit(f"program.py: no {it}")
+    table = Table(os.path.realpath(given.program), given.cargo, given.run, given.system)
     for row in ROWS:
         if given.only in str(row.words) or row.same:
             with tempfile.TemporaryDirectory(prefix="program-") as room:
                 table.run_row(row, room)
+    for words in OTHERWISE.get(given.system, {}):
+        table.demand(words in [str(row.words) for row in ROWS], words, f"listed for {given.system}, and no row")
+    unchecked = UNCHECKED.get(given.system, {})
     for check in (check_words, check_places, check_links, check_rights, check_streams, check_closed, check_number_of_output, check_many, check_memory,
                   check_refused_memory, check_refused_names, check_little_room, check_kept_room, check_failed_calls):
+        if check.__name__ in unchecked:
+            print(f"program: {check.__name__} isn't run on {given.system}: {unchecked[check.__name__]}")
+            continue
         with tempfile.TemporaryDirectory(prefix="program-") as room:
             check(table, room)
     check_contents(table)
     if given.cargo:
-        print(f"program: {table.otherwise} runs end otherwise, as listed for the build by Cargo")
+        print(f"program: {table.otherwise} runs end otherwise, as listed for the build by Cargo{' and the system' if given.system else ''}")
     print(f"program: {table.ran} rows, {table.wrong} differ")
     sys.exit(1 if table.wrong else 0)
 

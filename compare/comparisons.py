@@ -174,6 +174,8 @@ COMPARISONS = [
     Comparison("portable, times", "What does the generated crate take beside the proved library and the Rust crate?",
                "compare/portable_times.py --results compare/results/portable_times.csv", lines_like(r"^The geometric mean.*|\d+ rows, \d+ past a bound"),
                PORTABLE, data=("portable_times.csv",), timed=True),
+    Comparison("platforms", "Does the generated crate answer alike on other processors and systems?", "compare/platforms.py",
+               lines_like(r"^\d+ platforms, .*"), ("bindings/rust/src/**", "bindings/platforms/src/**"), "compare/platforms.py --count 800"),
     Comparison("growth", "How do times grow with the number of kept glyphs?", "compare/run.py --growth docs/growth.svg",
                lambda result: "a picture of four fonts", SUBSET + BENCH, original=True, data=("../../docs/growth.svg",), timed=True),
     Comparison("bytes", "How many bytes has a subset, of how many of the source?", "compare/bytes.py --results compare/results",

@@ -13,6 +13,9 @@
 #![warn(missing_docs)]
 #![deny(unsafe_op_in_unsafe_fn)]
 
+#[cfg(not(panic = "unwind"))]
+compile_error!("a panic is caught before it reaches C, so the profile has to say panic = \"unwind\"");
+
 mod buffers;
 mod calls;
 mod heap;

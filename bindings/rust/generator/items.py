@@ -54,7 +54,7 @@ def condition(tokens, attribute):
     feature = FEATURE.search(text)
     if tokens.is_plain and feature:
         return 0 if "not(" in text else LEVELS[feature.group(1)]
-    if tokens.is_plain and text in ("#[cfg(unix)]", "#[cfg(not(unix))]", "#[cfg(windows)]", "#[cfg(not(windows))]"):
+    if tokens.is_plain and text in ("#[cfg(unix)]", "#[cfg(not(unix))]", "#[cfg(windows)]", "#[cfg(not(windows))]", '#[cfg(target_pointer_width="16")]'):
         return 0
     if tokens.is_plain and text.startswith("#[cfg_attr("):
         return 0

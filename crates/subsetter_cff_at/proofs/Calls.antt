@@ -1,9 +1,9 @@
 -- What calls in memory answer, as the plain way does.
-use Rattle.std.proofs.Common.{◌≡◌, ℕ, ◌+◌, ◌-◌, ◌^◌, ◌<◌, ◌≤◌, true, List, [], ◌∷◌, ◌++◌, length, map, Option, Some, refl, ap, arith, ◌∙◌, sym, inl, inr}
+use Rattle.std.proofs.Common.{◌≡◌, ℕ, ◌+◌, ◌-◌, ◌^◌, ◌<◌, ◌≤◌, true, false, List, [], ◌∷◌, ◌++◌, length, map, Option, Some, refl, ap, arith, ◌∙◌, sym, inl, inr}
 use Rattle.std.specs.Prelude.{min, IfOk, Result, Ok, Err}
 use Rattle.std.proofs.lemmas.List.{length-map}
 use Rattle.subsetter_base.specs.Gives.{Fails}
-use Rattle.subsetter_base.specs.Within.{FailsWithin}
+use Rattle.subsetter_base.specs.Within.{FailsWithin, is_past}
 use Rattle.subsetter_base.specs.declared.error.Error.{Error}
 use Rattle.subsetter_cff.proofs.ReadLaws.Failing.{fails_on}
 use Rattle.subsetter_cff.proofs.ReadLaws.Results.{same_Ok}
@@ -15,9 +15,9 @@ use Rattle.subsetter_cff2.specs.Made2.{NewDict, new_dicts}
 use Rattle.subsetter_cff2.specs.Made2View.{dict_view}
 use Rattle.subsetter_cff2.specs.UsedDicts.{counted_dicts, place_in}
 use Rattle.subsetter_cff2.specs.Variation.{Variation}
-use Rattle.subsetter_cff_at.specs.Plain.{dict_bound, numbers_from, present, filled, all_filled, placed_text, text_if, texts_from, texts_size, drawn, Opened, opened, drawn_of, parts_of, some_requested, made_table}
+use Rattle.subsetter_cff_at.specs.Plain.{dict_bound, numbers_from, present, filled, all_filled, placed_text, text_if, texts_from, texts_size, Drawn, drawn, Opened, opened, drawn_of, parts_of, some_requested, made_table}
 use Rattle.subsetter_cff_at.specs.Request.{Request}
-use Rattle.subsetter_cff_at.specs.View.{DrawsNext, FailsMaking, drawn_size}
+use Rattle.subsetter_cff_at.specs.View.{DrawsNext, FailsMaking, KeepsBound, drawn_size}
 use Rattle.subsetter_cff_at.specs.declared.texts.Texts.{Texts}
 use Rattle.subsetter_cff_at.proofs.Found.{few_used, length-numbers, length-dicts, length-texts}
 use Rattle.subsetter_cff_at.proofs.Promised.{drawn_steps}
@@ -105,6 +105,10 @@ texts_fail bound cff v tokens depth glyphs numbers used dicts e a b c h = elim h
   )
 ]
 
+-- what is drawn keeps a bound
+pub drawn_keeps : (bound : Option ℕ) (read : Result Drawn Error) (d : Drawn) → read ≡ Ok d → is_past bound (drawn_size d) ≡ false → KeepsBound bound read
+drawn_keeps bound read d e h = rw e h
+
 -- ---- the table
 making_fails_at : (bytes : List ℕ) (r : Request) (tokens depth : ℕ) (o : Opened) (e : Error) → some_requested r.glyphs ≡ true → opened bytes r ≡ Ok o → Fails e (drawn o.cff o.variation tokens depth r.glyphs) → Fails e (made_table bytes r tokens depth)
 unfolding made_table
@@ -121,3 +125,8 @@ making_fails bound bytes r tokens depth o e some open_is h = elim h [
   | inl f ↦ inl (making_fails_at bytes r tokens depth o e some open_is f)
   | inr p ↦ inr (p.0, record { most = p.1.most; is_set = p.1.is_set; longer = λ d is. p.1.longer d (sym (drawn_there bytes r tokens depth o open_is) ∙ is) })
 ]
+
+pub making_keeps : {X : Type 0} (a : Result X Error) (bound : Option ℕ) (bytes : List ℕ) (r : Request) (tokens depth : ℕ) (o : Opened) → opened bytes r ≡ Ok o → KeepsBound bound (drawn o.cff o.variation tokens depth r.glyphs)
+    → IfOk a (λ _. KeepsBound bound (drawn_of bytes r tokens depth))
+making_keeps (Ok x) bound bytes r tokens depth o open_is h = rw (drawn_there bytes r tokens depth o open_is) h
+making_keeps (Err e) bound bytes r tokens depth o open_is h = tt

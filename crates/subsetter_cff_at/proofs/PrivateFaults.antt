@@ -1,5 +1,5 @@
 -- A private dict can't be placed exactly where it has such a fault.
-use Rattle.std.proofs.Common.{◌≡◌, ℕ, ◌+◌, ◌-◌, ◌*◌, ◌<◌, ◌≤◌, ℤ, Bool, true, false, List, [], ◌∷◌, ◌++◌, length, take, Option, Some, None, refl, ap, ◌∙◌, sym, subst, inl, inr, ◌⊎◌}
+use Rattle.std.proofs.Common.{◌≡◌, ℕ, ◌+◌, ◌-◌, ◌*◌, ◌<◌, ℤ, Bool, true, false, List, [], ◌∷◌, ◌++◌, length, take, Option, Some, None, refl, ap, ◌∙◌, sym, subst, inl, inr}
 use Rattle.std.specs.Prelude.{Result, Ok, Err, nat_le, if◌then◌else◌}
 use Rattle.std.specs.List.{list_any}
 use Rattle.std.specs.Option.{ok_or, option_and_then, option_map}
@@ -14,11 +14,11 @@ use Rattle.subsetter_cffdata.specs.Operands.{offset_operand}
 use Rattle.subsetter_cff.specs.Write.Rewritten.{written_entry}
 use Rattle.subsetter_cff.proofs.ReadLaws.Refusals.{bind_err, none_of, none_or}
 use Rattle.subsetter_cff.proofs.ReadLaws.Results.{some_of}
-use Rattle.subsetter_cff2.specs.Blend.{blended, blended_from}
+use Rattle.subsetter_cff2.specs.Blend.{blended}
 use Rattle.subsetter_cff2.specs.EntryLists.{entry_lists}
 use Rattle.subsetter_cff2.specs.PrivateAt.{Registers, Step, at_start, blended_by, chosen, last_natural, pushed, silent, step_by}
 use Rattle.subsetter_cff2.specs.PrivateKinds.{kind_by}
-use Rattle.subsetter_cff2.specs.PrivateText.{PlacedText, TextStep, behind, operator_text, placed_text, private_text, said_text, step_text, step_text_of}
+use Rattle.subsetter_cff2.specs.PrivateText.{PlacedText, TextStep, behind, placed_text, private_text, said_text, step_text}
 use Rattle.subsetter_cff2.specs.Variation.{Variation, data_scalars}
 use Rattle.subsetter_cff2.specs.declared.kinds.PrivateOperator.{PrivateOperator}
 use Rattle.subsetter_cff2.specs.declared.kinds.PrivateOperator.TheVariants.{Blends, ChoosesData, Edges, Numbers, Dropped}

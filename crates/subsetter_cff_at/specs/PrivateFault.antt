@@ -1,6 +1,6 @@
 -- What can stand against a private dict at coordinates, under the name of the error that it is answered by (OpenType, "CFF2": "Private DICT
 -- Data").
-use Rattle.std.specs.Prelude.{◌≡◌, ◌≢◌, ℕ, ◌<◌, ◌+◌, ◌-◌, ◌*◌, ℤ, true, List, ◌∷◌, length, take, Option, Some, None, Ok}
+use Rattle.std.specs.Prelude.{◌≡◌, ℕ, ◌<◌, ◌+◌, ◌-◌, ◌*◌, ℤ, true, List, ◌∷◌, length, take, Option, Some, None, Ok}
 use Rattle.std.specs.List.{list_any}
 use Rattle.subsetter_base.specs.declared.error.Error.{Error}
 use Rattle.subsetter_base.specs.declared.error.Error.TheVariants.{MalformedFont, OverflowError}

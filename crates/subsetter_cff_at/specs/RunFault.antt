@@ -1,6 +1,6 @@
 -- What can stop a glyph's charstring, under the name of the error that it is answered by (OpenType, "CFF2 CharString Format"; Technical
 -- Note 5177, sections 3 and 4).
-use Rattle.std.specs.Prelude.{◌≡◌, ◌≢◌, ℕ, zero, suc, ◌<◌, ◌≤◌, ◌+◌, ◌-◌, ◌*◌, ◌/◌, ℤ, true, false, List, [], ◌∷◌, length, Option, Some, None, Ok, Err}
+use Rattle.std.specs.Prelude.{◌≡◌, ◌≢◌, ℕ, zero, suc, ◌<◌, ◌≤◌, ◌+◌, ◌*◌, ◌/◌, ℤ, true, false, List, [], ◌∷◌, length, Option, Some, None, Ok}
 use Rattle.std.specs.Option.{option_and_then}
 use Rattle.subsetter_base.specs.declared.error.Error.{Error}
 use Rattle.subsetter_base.specs.declared.error.Error.TheVariants.{CFFError, OverflowError}
@@ -8,7 +8,6 @@ use Rattle.subsetter_cffdata.specs.declared.charstring_number.CharStringNumber.{
 use Rattle.subsetter_cffdata.specs.declared.operator.Operator.{Operator}
 use Rattle.subsetter_type2.specs.Machine.{Lead, rests_after, unended}
 use Rattle.subsetter_type2.specs.Token.{Operand, Operation, token_of}
-use Rattle.subsetter_blend.specs.declared.kind.Kind.{Kind}
 use Rattle.subsetter_blend.specs.declared.kind.Kind.TheVariants.{ChoosesData, Blends, CountsStems, Draws, CallsLocal, CallsGlobal, Masks}
 use Rattle.subsetter_blend.specs.Blend.{blended}
 use Rattle.subsetter_blend.specs.Flex.{opened}

@@ -1,9 +1,9 @@
 -- What requests, open tables and drawn glyphs in memory show.
-use Rattle.std.specs.Prelude.{◌≡◌, ◌⊎◌, ℕ, ◌+◌, ◌-◌, ◌^◌, min, Some, None, List, [], ◌∷◌, ◌++◌, length, map, Option, Result, Ok}
+use Rattle.std.specs.Prelude.{◌≡◌, ◌⊎◌, ℕ, ◌+◌, ◌-◌, ◌^◌, min, false, Some, None, List, [], ◌∷◌, ◌++◌, length, map, Option, Result, Ok, IfOk}
 use Rattle.std.specs.List.{concat}
 use Rattle.subsetter_base.specs.Bytes.{◌>>=◌}
 use Rattle.subsetter_base.specs.Gives.{Fails}
-use Rattle.subsetter_base.specs.Within.{IsTooLong}
+use Rattle.subsetter_base.specs.Within.{IsTooLong, is_past}
 use Rattle.subsetter_base.specs.declared.error.Error.{Error}
 use Rattle.subsetter_base.specs.declared.error.Error.TheVariants.{OverflowError}
 use Rattle.subsetter_cffdata.specs.Index.{offsets}
@@ -77,3 +77,7 @@ drawn_size d = texts_size d.texts
 -- the table can't be made, for this reason; or the charstrings of the requested glyphs pass the bound on bytes
 abbrev pub FailsMaking : List ℕ → Request → ℕ → ℕ → Option ℕ → Error → Type 0
 FailsMaking bytes r tokens depth bound e = Fails e (made_table bytes r tokens depth) ⊎ ((e ≡ OverflowError) × IsTooLong bound drawn_size (drawn_of bytes r tokens depth))
+
+-- the charstrings of the requested glyphs don't pass a bound on bytes, where they can be drawn
+abbrev pub KeepsBound : Option ℕ → Result Drawn Error → Type 0
+KeepsBound bound read = IfOk read (λ d. is_past bound (drawn_size d) ≡ false)

@@ -1,9 +1,9 @@
 //! The glyphs of the new table: their font dicts and their charstrings.
 
-ghost use Rattle.std.specs.Prelude.{◌≡◌, ◌≤◌, ◌<◌, length, IfOk, IfErr};
-ghost use Rattle.subsetter_base.specs.Within.{FailsWithin};
+ghost use Rattle.std.specs.Prelude.{◌≡◌, ◌≤◌, ◌<◌, ◌-◌, ◌^◌, ℕ, false, min, length, IfOk, IfErr};
+ghost use Rattle.subsetter_base.specs.Within.{FailsWithin, is_past};
 ghost use Rattle.subsetter_cff_at.specs.Plain.{drawn};
-ghost use Rattle.subsetter_cff_at.specs.View.{opened_of, IsDrawn, drawn_size};
+ghost use Rattle.subsetter_cff_at.specs.View.{opened_of, IsDrawn, KeepsBound, drawn_size};
 
 use crate::numbers::{dict_bound, find_numbers, present};
 use crate::opening::OpenTable;
@@ -23,6 +23,13 @@ pub struct DrawnGlyphs<'a> {
     pub glyphs: NewGlyphs,
 }
 
+/// A count of bytes that ends at the greatest `usize` passes a bound where the whole count does, as a bound has 32 bits.
+fn count_is_whole(limits: Limits, counted: usize)
+    ensures { (n : ℕ) → counted ≡ min n (2 ^ 64 - 1) → is_past limits.bytes counted ≡ false → is_past limits.bytes n ≡ false }
+{
+    let _counted = counted;
+}
+
 /// Draws the requested glyphs. `OverflowError` also where their charstrings pass the bound on bytes.
 #[tactic(auto, unfolding(crate::specs::Plain::drawn))]
 pub fn draw<'a>(
@@ -34,6 +41,7 @@ pub fn draw<'a>(
     requires { length glyphs.now ≤ 65535 }
     ensures ok { IfOk result (IsDrawn (opened_of opened.now).cff (opened_of opened.now).variation limits.tokens limits.depth glyphs.now) }
     ensures few { IfOk result (λ d. length d.dicts.items < 256) }
+    ensures within { IfOk result (λ _. KeepsBound limits.bytes (drawn (opened_of opened.now).cff (opened_of opened.now).variation limits.tokens limits.depth glyphs.now)) }
     ensures err { IfErr result (λ e. FailsWithin limits.bytes drawn_size e (drawn (opened_of opened.now).cff (opened_of opened.now).variation limits.tokens limits.depth glyphs.now)) }
 {
     let numbers = find_numbers(alloc, &opened.table, glyphs)?;
@@ -42,6 +50,7 @@ pub fn draw<'a>(
     let places = place_all(alloc, &used, &numbers)?;
     let dicts = place_dicts(alloc, &opened.table, &opened.variation.variation, &used)?;
     let texts = draw_texts(alloc, opened, &dicts, &places, glyphs, limits)?;
+    count_is_whole(limits, texts.requested);
     Ok(DrawnGlyphs {
         dicts,
         glyphs: NewGlyphs {

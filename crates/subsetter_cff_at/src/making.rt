@@ -10,7 +10,7 @@ ghost use Rattle.subsetter_cff.specs.Write.TableBy.{table_bytes};
 ghost use Rattle.subsetter_cff_at.specs.Fault.{HasFault};
 ghost use Rattle.subsetter_cff_at.specs.Plain.{drawn_of, made_table, some_requested};
 ghost use Rattle.subsetter_cff_at.specs.Promise.{IsTableAt};
-ghost use Rattle.subsetter_cff_at.specs.View.{drawn_size, request_of, FailsMaking};
+ghost use Rattle.subsetter_cff_at.specs.View.{drawn_size, request_of, FailsMaking, KeepsBound};
 
 use crate::drawing::{DrawnGlyphs, draw};
 use crate::opening::open_table;
@@ -39,6 +39,7 @@ fn make_exactly(
 ) -> Result<CffPieces, Error>
     requires { length request.now.glyphs.now ≤ 65535 }
     ensures ok { IfOk result (λ t. made_table bytes.now (request_of request.now) limits.tokens limits.depth ≡ Ok (table_bytes t)) }
+    ensures within { IfOk result (λ _. KeepsBound limits.bytes (drawn_of bytes.now (request_of request.now) limits.tokens limits.depth)) }
     ensures err { IfErr result (λ e. FailsMaking bytes.now (request_of request.now) limits.tokens limits.depth limits.bytes e) }
 {
     if !some_requested(request.glyphs) {
@@ -92,6 +93,8 @@ pub fn make_table(
     ensures ok { IfOk result (λ t. IsTableAt bytes.now (request_of request.now) limits.tokens limits.depth (table_bytes t)) }
     // And then no fault stands in the table.
     ensures clean { IfOk result (λ t. (e : SpecError) → HasFault bytes.now (request_of request.now) limits.tokens limits.depth e → ⊥) }
+    // And the charstrings of the requested glyphs have no more bytes than they may have.
+    ensures within { IfOk result (λ _. KeepsBound limits.bytes (drawn_of bytes.now (request_of request.now) limits.tokens limits.depth)) }
     // What is refused has a fault of that name, or the bound on bytes is set and the charstrings would pass it.
     ensures err { IfErr result (λ e. (e ≡ OutOfMemory) ⊎ (HasFault bytes.now (request_of request.now) limits.tokens limits.depth e ⊎ ((e ≡ OverflowError) × IsTooLong limits.bytes drawn_size (drawn_of bytes.now (request_of request.now) limits.tokens limits.depth)))) }
 {

@@ -1,9 +1,9 @@
 //! The charstrings of the requested glyphs at coordinates (OpenType, "CFF2 CharString Format").
 
-ghost use Rattle.std.specs.Prelude.{◌≡◌, ◌≤◌, ◌+◌, ◌++◌, ◌∷◌, [], length, map, IfOk, IfErr};
+ghost use Rattle.std.specs.Prelude.{◌≡◌, ◌≤◌, ◌+◌, ◌++◌, ◌∷◌, [], false, length, map, IfOk, IfErr};
 ghost use Rattle.subsetter_base.specs.Gives.{Gives};
 ghost use Rattle.subsetter_base.specs.declared.error.Error.TheVariants.{OutOfMemory};
-ghost use Rattle.subsetter_base.specs.Within.{FailsWithin};
+ghost use Rattle.subsetter_base.specs.Within.{FailsWithin, is_past};
 ghost use Rattle.subsetter_cff2.specs.Made2View.{dict_view};
 ghost use Rattle.subsetter_cff_at.specs.Plain.{glyph_text, placed_text, text_if, texts_from, texts_size, text_size};
 ghost use Rattle.subsetter_cff_at.specs.View.{opened_of, AreTexts, DrawsNext, AreAllDrawn};
@@ -88,9 +88,10 @@ fn placed_text(
     )
 }
 
-/// No charstrings yet.
-fn no_texts(alloc: Global, count: usize) -> Result<Texts, Error>
+/// No charstrings yet, which pass no bound on bytes.
+fn no_texts(alloc: Global, count: usize, limits: Limits) -> Result<Texts, Error>
     ensures ok { IfOk result (AreTexts []) }
+    ensures within { IfOk result (λ t. is_past limits.bytes t.requested ≡ false) }
     ensures err { IfErr result (λ e. e ≡ OutOfMemory) }
 {
     Ok(Texts {
@@ -130,6 +131,7 @@ fn draw_next(
     texts: Texts,
 ) -> Result<Texts, Error>
     ensures ok { IfOk result (λ t. DrawsNext (opened_of opened.now).cff (opened_of opened.now).variation limits.tokens limits.depth (map dict_view dicts.now) place glyph advance texts t) }
+    ensures within { IfOk result (λ t. is_past limits.bytes texts.requested ≡ false → is_past limits.bytes t.requested ≡ false) }
     ensures err { IfErr result (λ e. FailsWithin limits.bytes (λ text. texts.requested + text_size text) e (text_if (opened_of opened.now).cff (opened_of opened.now).variation limits.tokens limits.depth (map dict_view dicts.now) place glyph advance)) }
 {
     match advance {
@@ -161,9 +163,10 @@ pub fn draw_texts(
     requires few { length glyphs.now ≤ 65535 }
     requires places { length places.now ≡ length glyphs.now }
     ensures ok { IfOk result (AreAllDrawn (opened_of opened.now).cff (opened_of opened.now).variation limits.tokens limits.depth (map dict_view dicts.now) places.now glyphs.now) }
+    ensures within { IfOk result (λ t. is_past limits.bytes t.requested ≡ false) }
     ensures err { IfErr result (λ e. FailsWithin limits.bytes texts_size e (texts_from (opened_of opened.now).cff (opened_of opened.now).variation limits.tokens limits.depth (map dict_view dicts.now) places.now 0 glyphs.now)) }
 {
-    let mut texts = no_texts(alloc, glyphs.len())?;
+    let mut texts = no_texts(alloc, glyphs.len(), limits)?;
     for glyph in 0..glyphs.len() {
         texts = draw_next(
             alloc,

@@ -2,6 +2,8 @@
 
 #![allow(dead_code)] // (each test takes a part of it)
 
+pub mod answers;
+
 use std::collections::HashMap;
 use std::env;
 use std::fs;
@@ -168,15 +170,20 @@ impl Table {
 
 /// The worked rows.
 pub fn table() -> Table {
+    table_of(concat!(
+        env!("CARGO_MANIFEST_DIR"),
+        "/../../crates/subset_rows/data/rows.txt"
+    ))
+}
+
+/// The worked rows of a file.
+pub fn table_of(name: &str) -> Table {
     let mut table = Table {
         fonts: HashMap::new(),
         texts: HashMap::new(),
         rows: Vec::new(),
     };
-    table.read(concat!(
-        env!("CARGO_MANIFEST_DIR"),
-        "/../../crates/subset_rows/data/rows.txt"
-    ));
+    table.read(name);
     assert!(table.rows.len() > 300);
     table
 }

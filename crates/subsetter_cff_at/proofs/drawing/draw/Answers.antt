@@ -3,9 +3,9 @@ use Rattle.std.proofs.lemmas.Result.{err_from_is_err_and}
 use Rattle.subsetter_cff2.specs.Made2.{new_dicts}
 use Rattle.subsetter_cff2.specs.Made2View.{dict_view}
 use Rattle.subsetter_cff2.specs.UsedDicts.{place_in}
-use Rattle.subsetter_cff_at.specs.Plain.{dict_bound, present}
+use Rattle.subsetter_cff_at.specs.Plain.{dict_bound, present, texts_size, drawn}
 use Rattle.subsetter_cff_at.specs.View.{opened_of}
-use Rattle.subsetter_cff_at.proofs.Calls.{used_is, few_dicts, few_places, places_many, ends_many, drawn_is, texts_same, texts_fail}
+use Rattle.subsetter_cff_at.proofs.Calls.{used_is, few_dicts, few_places, places_many, ends_many, drawn_is, drawn_keeps, texts_same, texts_fail}
 use Rattle.subsetter_cff_at.proofs.drawing.draw.Goals as goal
 
 pub place_all-requires : goal.place_all-requires
@@ -71,3 +71,22 @@ returns-clause-few c =
     let are = used_is cff numbers c.in_ok-found.found.items c.deref-2.result.now c.dict_bound.result used found c.deref-2.ensures.value c.dict_bound.ensures.value c.in_ok-used.ensures in
     let dicts = ap (new_dicts cff v) (sym c.deref-5.ensures.value) ∙ c.in_ok-dicts.ensures in
     few_dicts cff v (dict_bound cff) (present numbers) used c.in_ok-dicts.dicts.items are dicts
+
+pub returns-clause-within : goal.returns-clause-within
+returns-clause-within c =
+    let cff = (opened_of c.args.opened.now).cff in
+    let v = (opened_of c.args.opened.now).variation in
+    let tokens = c.args.limits.tokens in
+    let depth = c.args.limits.depth in
+    let glyphs = c.args.glyphs.now in
+    let numbers = c.in_ok-numbers.numbers.items in
+    let used = c.in_ok-used.used.items in
+    let found = c.in_ok-found.ensures.ok ∙ ap present c.deref.ensures.value in
+    let are = used_is cff numbers c.in_ok-found.found.items c.deref-2.result.now c.dict_bound.result used found c.deref-2.ensures.value c.dict_bound.ensures.value c.in_ok-used.ensures in
+    let placed = c.in_ok-places.ensures.ok ∙ ap (λ (l : List ℕ). map (place_in l) c.deref-4.result.now) c.deref-3.ensures.value ∙ ap (map (place_in used)) c.deref-4.ensures.value in
+    let dicts = ap (new_dicts cff v) (sym c.deref-5.ensures.value) ∙ c.in_ok-dicts.ensures in
+    let all = c.in_ok-texts.ensures.ok in
+    let same = texts_same cff v tokens depth glyphs (map dict_view c.deref-6.result.now) (map dict_view c.in_ok-dicts.dicts.items) c.deref-7.result.now (map (place_in used) numbers) all.texts (ap (map dict_view) c.deref-6.ensures.value) (c.deref-7.ensures.value ∙ placed) all.are in
+    drawn_keeps c.args.limits.bytes (drawn cff v tokens depth glyphs) (record { dicts = map dict_view c.in_ok-dicts.dicts.items; places = map (place_in used) numbers; texts = all.texts })
+    (drawn_is cff v tokens depth glyphs numbers used (map dict_view c.in_ok-dicts.dicts.items) all.texts c.in_ok-numbers.ensures are dicts same)
+    (c.count_is_whole.ensures (texts_size all.texts) all.shown.requested c.in_ok-texts.ensures.within)

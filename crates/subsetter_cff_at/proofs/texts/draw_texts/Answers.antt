@@ -28,6 +28,7 @@ loop-glyph-preserved c =
           ∙ ap (λ (l : List (Option ℕ)). with_texts inv.before (texts_from cff v tokens depth dicts (drop i places) i l)) (sym (drop_more glyphs i None lt))
           ∙ inv.whole) next.is;
       shown = one_more inv.before c.loop-glyph.texts c.in_ok-texts-2.texts next.text inv.shown next.put;
+      within = c.in_ok-texts-2.ensures.within inv.within;
     }
 
 pub returns-in_err-texts-2-clause-err : goal.returns-in_err-texts-2-clause-err

@@ -1,0 +1,111 @@
+//! What the calls answer for a row.
+
+use super::{Call, Row};
+use subsetter::{embed, embed_with_limits, embed_with_options, Embedded, Error, Options};
+use subsetter::{subset, subset_with_limits, subset_with_options, GlyphRemapper};
+
+/// A subset alone, as what a row of a subset wants.
+fn alone(answer: Result<Vec<u8>, Error>) -> Result<Embedded, Error> {
+    answer.map(|font| Embedded {
+        font,
+        cids: Vec::new(),
+        widths: Vec::new(),
+    })
+}
+
+/// All answers that the row's calls give, with what each call is.
+pub fn answers(row: &Row) -> Vec<(&'static str, Result<Embedded, Error>)> {
+    let (font, index, glyphs) = (&row.font[..], row.index, &row.glyphs[..]);
+    // (`let .. else` needs Rust 1.65)
+    let limits = match row.limits() {
+        Some(limits) => limits,
+        None => {
+            assert!(row.status == 9 || row.choice.tokens == 0, "{}", row.name);
+            return Vec::new();
+        }
+    };
+    let options = row.options(limits);
+    let (is_default, keeps_all) = (options == Options::new(), row.choice.drop == 0);
+    let mut found = Vec::new();
+    if row.call == Call::EmbedAt {
+        return embeddings_at(row, &options);
+    }
+    if row.embeds() {
+        found.push(("options", embed_with_options(font, index, glyphs, &options)));
+        if keeps_all {
+            found.push(("limits", embed_with_limits(font, index, glyphs, &limits)));
+        }
+        if is_default {
+            found.push(("plain", embed(font, index, glyphs)));
+        }
+        return found;
+    }
+    let mapper = GlyphRemapper::new_from_glyphs(glyphs);
+    if row.call == Call::SubsetAt {
+        return answers_at(row, &mapper, &options);
+    }
+    let by_options = subset_with_options(font, index, &mapper, &options);
+    found.push(("options", alone(by_options)));
+    if keeps_all {
+        let within = subset_with_limits(font, index, &mapper, &limits);
+        found.push(("limits", alone(within)));
+    }
+    if is_default {
+        found.push(("plain", alone(subset(font, index, &mapper))));
+    }
+    found
+}
+
+/// All answers that the calls with coordinates give.
+#[cfg(feature = "variable-fonts")]
+fn answers_at(
+    row: &Row,
+    mapper: &GlyphRemapper,
+    options: &Options,
+) -> Vec<(&'static str, Result<Embedded, Error>)> {
+    use subsetter::{subset_with_variations, subset_with_variations_and_options};
+    let (font, index) = (&row.font[..], row.index);
+    let at = match row.variations() {
+        Some(at) => at,
+        None => return Vec::new(),
+    };
+    let by_options = subset_with_variations_and_options(font, index, &at, mapper, options);
+    let mut found = vec![("options at coordinates", alone(by_options))];
+    if *options == Options::new() {
+        let plain = subset_with_variations(font, index, &at, mapper);
+        found.push(("variations", alone(plain)));
+    }
+    found
+}
+
+#[cfg(not(feature = "variable-fonts"))]
+fn answers_at(
+    _row: &Row,
+    _mapper: &GlyphRemapper,
+    _options: &Options,
+) -> Vec<(&'static str, Result<Embedded, Error>)> {
+    Vec::new()
+}
+
+/// All answers that the calls with coordinates give with CIDs and widths.
+#[cfg(feature = "variable-fonts")]
+fn embeddings_at(row: &Row, options: &Options) -> Vec<(&'static str, Result<Embedded, Error>)> {
+    use subsetter::{embed_with_variations, embed_with_variations_and_options};
+    let (font, index, glyphs) = (&row.font[..], row.index, &row.glyphs[..]);
+    let at = match row.variations() {
+        Some(at) => at,
+        None => return Vec::new(),
+    };
+    let by_options = embed_with_variations_and_options(font, index, &at, glyphs, options);
+    let mut found = vec![("options at coordinates", by_options)];
+    if *options == Options::new() {
+        let plain = embed_with_variations(font, index, &at, glyphs);
+        found.push(("variations", plain));
+    }
+    found
+}
+
+#[cfg(not(feature = "variable-fonts"))]
+fn embeddings_at(_row: &Row, _options: &Options) -> Vec<(&'static str, Result<Embedded, Error>)> {
+    Vec::new()
+}

@@ -1,0 +1,6 @@
+use Rattle.std.proofs.Common.{◌≡◌, ◌++◌, map, drop, Some}
+use Rattle.subsetter_base.specs.Places.{place}
+use Rattle.pdf_codes.proofs.codes.numbers.Given as goal
+
+abbrev pub invariant-loop-glyph : goal.invariant-loop-glyph
+invariant-loop-glyph l = map Some l.numbers.items ++ map (place l.mapper) (drop l.glyph-index l.glyphs) ≡ map (place l.mapper) l.glyphs

@@ -1,0 +1,91 @@
+//! The glyphs in use, as a caller has them.
+
+ghost use Rattle.std.specs.Prelude.{◌≡◌, ◌≤◌, length, map, IfOk, IfErr};
+ghost use Rattle.subsetter_base.specs.declared.error.Error.TheVariants.{OutOfMemory};
+ghost use Rattle.pdf_codes.specs.Codes.{glyphs_of, used_of};
+ghost use Rattle.pdf_codes.specs.Shown.{has_long_text, texts_view, units_view, use_of, uses_of};
+ghost use Rattle.pdf_codes.specs.Units.{units_of};
+
+use crate::codes::Entry;
+use crate::units::{is_long, units_of};
+use std::alloc::Global;
+use subsetter_base::Error;
+
+/// A glyph in use, and its text: none, a character, or several (a ligature).
+#[derive(Clone, Copy)]
+pub struct Shown<'a> {
+    pub glyph: u16,
+    pub text: &'a [char],
+}
+
+/// Whether a text has more than 256 UTF-16 units, which no ToUnicode CMap may have (512 bytes, ISO 32000-1, 9.10.3).
+/// Characters that are left out don't count.
+pub fn has_long_text(shown: &[Shown<'_>]) -> bool
+    ensures { result ≡ has_long_text (uses_of shown.now) }
+{
+    for entry in shown {
+        if is_long(entry.text) {
+            return true;
+        }
+    }
+    false
+}
+
+/// The glyphs in use, in order.
+///
+/// # Errors
+///
+/// `OutOfMemory` alone.
+pub fn glyphs_of(alloc: Global, shown: &[Shown<'_>]) -> Result<Vec<u16>, Error>
+    ensures ok { IfOk result (λ glyphs. glyphs.items ≡ glyphs_of (uses_of shown.now)) }
+    ensures err { IfErr result (λ e. e ≡ OutOfMemory) }
+{
+    let mut glyphs = Vec::with_capacity(alloc, shown.len())?;
+    for entry in shown {
+        glyphs.push(entry.glyph)?;
+    }
+    Ok(glyphs)
+}
+
+/// The texts in UTF-16.
+pub fn texts_of(alloc: Global, shown: &[Shown<'_>]) -> Result<Vec<Vec<u16>>, Error>
+    ensures ok { IfOk result (λ texts. texts_view texts.items ≡ units_view (uses_of shown.now)) }
+    ensures len { IfOk result (λ texts. length texts.items ≡ length shown.now) }
+    ensures err { IfErr result (λ e. e ≡ OutOfMemory) }
+{
+    let mut texts = Vec::with_capacity(alloc, shown.len())?;
+    for entry in shown {
+        texts.push(units_of(alloc, entry.text)?)?;
+    }
+    Ok(texts)
+}
+
+/// A glyph in use with the units of its text.
+fn entry_of<'a>(shown: Shown<'_>, units: &'a [u16]) -> Entry<'a>
+    requires { units.now ≡ units_of shown.text.now }
+    ensures { used_of result ≡ use_of shown.entry }
+{
+    Entry {
+        glyph: shown.glyph,
+        units,
+    }
+}
+
+/// Each glyph in use with the units of its text.
+#[tactic(auto, using(crate::proofs::ShownSteps::text_here))]
+pub fn entries_of<'a>(
+    alloc: Global,
+    shown: &[Shown<'_>],
+    texts: &'a [Vec<u16>],
+) -> Result<Vec<Entry<'a>>, Error>
+    requires are { texts_view texts.now ≡ units_view (uses_of shown.now) }
+    requires len { length texts.now ≡ length shown.now }
+    ensures ok { IfOk result (λ entries. map used_of entries.items ≡ uses_of shown.now) }
+    ensures err { IfErr result (λ e. e ≡ OutOfMemory) }
+{
+    let mut entries = Vec::with_capacity(alloc, shown.len())?;
+    for place in 0..shown.len() {
+        entries.push(entry_of(shown[place], &texts[place]))?;
+    }
+    Ok(entries)
+}

@@ -1,0 +1,4 @@
+pub mod Heights
+pub mod Lines
+pub mod Movement
+pub mod Values

@@ -1,0 +1,54 @@
+-- Where a font is moved to along its axes (OpenType, "fvar", "MVAR").
+use Rattle.std.specs.Prelude.{ℕ, ◌&&◌, if◌then◌else◌, int_le, List, find, Option, ℤ, pos, neg_ℤ, ◌+ℤ◌}
+use Rattle.std.specs.Int.{int_max, int_min}
+use Rattle.std.specs.Option.{option_copied, option_map, option_map_or}
+use Rattle.std.specs.Result.{result_unwrap_or}
+use Rattle.std.specs.Str.{bytes_eq}
+use Rattle.subsetter_base.specs.declared.tag.Tag.{Tag}
+use Rattle.subsetter_variation.specs.Axes.{user_coordinate}
+use Rattle.subsetter_variation.specs.FontMetrics.{metric_delta}
+use Rattle.subsetter_variation.specs.ItemVariations.{whole_or_fault}
+use Rattle.subsetter_variation.specs.declared.axes.Axis.{Axis}
+use Rattle.pdf_moved.specs.declared.movement.Movement.{Movement as Given}
+
+-- the normalized coordinates, in 16384ths; the axes, and settings of user coordinates, in 65536ths; and `MVAR`, if it is there
+pub record Movement : Type 0 where
+  pub at : List ℤ
+  pub axes : List Axis
+  pub settings : List (Tag × ℤ)
+  pub mvar : Option (List ℕ)
+
+abbrev pub movement_view : Given → Movement
+movement_view m = record { at = m.at.now; axes = m.axes.now; settings = m.settings.now; mvar = option_copied m.mvar }
+
+-- ---- user coordinates
+
+-- no greater than one number, and no less than another
+unfoldable pub within : ℤ → ℤ → ℤ → ℤ
+within greatest least c = int_max (int_min c greatest) least
+
+-- that on an axis, clamped to it; an axis has nothing on a side where its end isn't past its default
+abbrev pub clamped : Axis → List (Tag × ℤ) → ℤ
+clamped a settings = within (int_max a.maximum a.default) (int_min a.minimum a.default) (user_coordinate a settings)
+
+-- the first axis of a tag
+abbrev pub axis_of : List ℕ → List Axis → Option Axis
+axis_of tag axes = find (λ a. bytes_eq a.tag.0 tag) axes
+
+-- that on this axis, if there is one
+abbrev pub coordinate_on : List ℕ → Movement → Option ℤ
+coordinate_on tag m = option_map (λ a. clamped a m.settings) (axis_of tag m.axes)
+
+-- ---- metrics
+
+-- what a metric varies by, in whole units; 0 where nothing is there to be read
+abbrev pub delta_of : Movement → List ℕ → ℤ
+delta_of m tag = option_map_or (λ mvar. result_unwrap_or (whole_or_fault (metric_delta mvar m.at tag)) (pos 0)) m.mvar (pos 0)
+
+-- a sum that a metric can be, else the metric
+abbrev pub if_small : ℤ → ℤ → ℤ
+if_small sum v = if int_le (neg_ℤ (pos 65536)) sum && int_le sum (pos 65536) then sum else v
+
+-- a metric with what it varies by
+unfoldable pub varied : Movement → List ℕ → ℤ → ℤ
+varied m tag v = if_small (v +ℤ delta_of m tag) v

@@ -1,0 +1,95 @@
+//! Where a font is moved to along its axes (OpenType, "fvar", "MVAR").
+
+ghost use Rattle.std.specs.Prelude.{◌≡◌, ◌≤◌, ◌^◌, unsigned_abs};
+ghost use Rattle.pdf_moved.specs.Movement.{axis_of, clamped, coordinate_on, delta_of, if_small, movement_view, varied, within};
+
+use subsetter_base::Tag;
+use subsetter_variation::axes::{Axis, user_coordinate};
+use subsetter_variation::font_metrics::metric_delta;
+
+/// Where a font is moved to.
+#[derive(Clone, Copy)]
+pub struct Movement<'a> {
+    /// The normalized coordinates, in 16384ths.
+    pub at: &'a [i32],
+    pub axes: &'a [Axis],
+    /// User coordinates, each a tag and a value in 65536ths.
+    pub settings: &'a [(Tag, i32)],
+    /// The table `MVAR`, if there is one.
+    pub mvar: Option<&'a [u8]>,
+}
+
+/// A number that is no greater than one and no less than another.
+#[tactic(auto, unfolding(crate::specs::Movement::within))]
+fn within(greatest: i32, least: i32, coordinate: i32) -> i32
+    ensures { result ≡ within greatest least coordinate }
+{
+    coordinate.min(greatest).max(least)
+}
+
+/// The user coordinate on an axis, clamped to it.
+fn clamped(axis: Axis, settings: &[(Tag, i32)]) -> i32
+    ensures { result ≡ clamped axis settings.now }
+{
+    let greatest = axis.maximum.max(axis.default);
+    let least = axis.minimum.min(axis.default);
+    within(greatest, least, user_coordinate(&axis, settings))
+}
+
+/// The first axis of a tag.
+fn axis_of(axes: &[Axis], tag: Tag) -> Option<Axis>
+    ensures { result ≡ axis_of tag.0 axes.now }
+{
+    for axis in axes {
+        if axis.tag == tag {
+            return Some(*axis);
+        }
+    }
+    None
+}
+
+/// The user coordinate on the first axis of a tag, clamped to it, if there is such an axis.
+pub fn coordinate_on(movement: Movement<'_>, tag: Tag) -> Option<i32>
+    ensures { result ≡ coordinate_on tag.0 (movement_view movement.entry) }
+{
+    let axis = axis_of(movement.axes, tag)?;
+    Some(clamped(axis, movement.settings))
+}
+
+/// What a metric varies by, in whole units; 0 where nothing is there to be read.
+fn delta_of(movement: Movement<'_>, tag: Tag) -> i64
+    ensures { result ≡ delta_of (movement_view movement.entry) tag.0 }
+{
+    let Some(mvar) = movement.mvar else {
+        return 0;
+    };
+    match metric_delta(mvar, movement.at, tag) {
+        Ok(delta) => delta,
+        Err(_) => 0,
+    }
+}
+
+/// A sum that a metric can be, else the metric.
+fn if_small(sum: i128, metric: i32) -> i32
+    requires { unsigned_abs metric ≤ 2 ^ 16 }
+    ensures value { result ≡ if_small sum metric }
+    ensures small { unsigned_abs result ≤ 2 ^ 16 }
+{
+    if -65536 <= sum && sum <= 65536 {
+        return sum as i32;
+    }
+    metric
+}
+
+/// A metric with what it varies by.
+#[tactic(auto, unfolding(crate::specs::Movement::varied))]
+pub fn varied(movement: Movement<'_>, tag: Tag, metric: i32) -> i32
+    requires { unsigned_abs metric ≤ 2 ^ 16 }
+    ensures value { result ≡ varied (movement_view movement.entry) tag.0 metric }
+    ensures small { unsigned_abs result ≤ 2 ^ 16 }
+{
+    if_small(
+        i128::from(metric) + i128::from(delta_of(movement, tag)),
+        metric,
+    )
+}
