@@ -88,7 +88,7 @@ PLANTS = [
     ("a table that is gone not listed", "proved/subset_font/tables.rs", "rows.push(old_row(bytes, new))?;", "if old_row(bytes, new).new.is_some() {\n            rows.push(old_row(bytes, new))?;\n        }"),
     ("the sizes of the files swapped", "proved/subset_font/outcome.rs", "size_lines(alloc, &tables, font.len() as u64, new.len() as u64)", "size_lines(alloc, &tables, new.len() as u64, font.len() as u64)"),
     ("a quotation mark not escaped", "proved/subset_lines/quoted.rs", "if byte == b'\"' || byte == b'\\\\' {", "if byte == b'\\\\' {"),
-    ("why a subset is refused not given", "proved/subset_font/info.rs", "Some(hint) => Ok(Some(", "Some(hint) if false => Ok(Some("),
+    ("why a subset is refused not given", "proved/subset_font/info.rs", 'Some(hint) => Ok(Some(format!(in alloc; "{hint}")?)),', "Some(_) => Ok(None),"),
     ("the statuses swapped in the help", "proved/subset_font/help.rs", "2 an argument is wrong, 3 a file", "3 an argument is wrong, 2 a file"),
 ]
 

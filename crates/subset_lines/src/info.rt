@@ -198,11 +198,7 @@ fn write_if_any<W: Write>(front: &[u8], text: Option<&[u8]>, out: &mut W) -> Res
 }
 
 /// Writes with which error `subset` refuses every glyph, and what is known of its cause.
-fn write_refused<W: Write>(
-    text: &[u8],
-    reason: Option<&[u8]>,
-    out: &mut W,
-) -> Result<(), Unwritten>
+fn write_refused<W: Write>(text: &[u8], reason: Option<&[u8]>, out: &mut W) -> Result<(), Unwritten>
     ensures { OnOk result (Appends (W.contents out.old) (W.contents out.new) (refusal_lines (Some text.now) (option_copied reason.entry))) }
 {
     write_if_any(b"subset refuses: ", Some(text), out)?;

@@ -141,7 +141,11 @@ fn write_tag_open<W: Write>(tag: Tag, out: &mut W) -> Result<(), Unwritten>
 
 /// Writes a member that has a size.
 #[tactic(auto, using(crate::proofs::Written::both))]
-fn write_size_member<W: Write>(label: &[u8], size: Option<u32>, out: &mut W) -> Result<(), Unwritten>
+fn write_size_member<W: Write>(
+    label: &[u8],
+    size: Option<u32>,
+    out: &mut W,
+) -> Result<(), Unwritten>
     ensures { OnOk result (Appends (W.contents out.old) (W.contents out.new) (label.now ++ number_or_null size)) }
 {
     write_text(label, out)?;
@@ -169,7 +173,11 @@ fn write_object<W: Write>(table: &TableSize, out: &mut W) -> Result<(), Unwritte
 
 /// Writes the same behind a text.
 #[tactic(auto, using(crate::proofs::Written::both))]
-fn write_table_object<W: Write>(before: &[u8], table: &TableSize, out: &mut W) -> Result<(), Unwritten>
+fn write_table_object<W: Write>(
+    before: &[u8],
+    table: &TableSize,
+    out: &mut W,
+) -> Result<(), Unwritten>
     ensures { OnOk result (Appends (W.contents out.old) (W.contents out.new) (before.now ++ table_object table.now)) }
 {
     write_text(before, out)?;

@@ -74,12 +74,17 @@ pub fn table_sizes(alloc: Global, old: &[u8], new: &[u8]) -> Result<Vec<TableSiz
     Ok(rows)
 }
 
+/// The tag of a table and its size, from its record.
+fn tag_and_size(bytes: &[u8]) -> (Tag, u32) {
+    (tag_in(bytes), place_in(bytes).length)
+}
+
 /// The tables of a directory with their sizes.
 pub fn tables_of(alloc: Global, records: &[u8]) -> Result<Vec<(Tag, u32)>, AllocError> {
     let mut tables = Vec::new(alloc);
     let mut r = Reader::new(records);
     while let Some(bytes) = r.read_bytes(16) {
-        tables.push((tag_in(bytes), place_in(bytes).length))?;
+        tables.push(tag_and_size(bytes))?;
     }
     Ok(tables)
 }

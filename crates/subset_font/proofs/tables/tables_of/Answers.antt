@@ -13,5 +13,5 @@ loop-bytes-preserved c =
     rw c.in-Some.ensures.moves (record {
       same = c.loop-bytes.invariant.same;
       within = read.within;
-      rest = rows_later tag_and_size _ _ (record_of bytes) _ _ _ read.first (c.in_ok-push.ensures.items ∙ ap (λ v. c.loop-bytes.tables.items ++ v ∷ []) (cc)) c.loop-bytes.invariant.rest;
+      rest = rows_later tag_and_size _ _ (record_of bytes) _ _ _ read.first (c.in_ok-push.ensures.items ∙ ap (λ v. c.loop-bytes.tables.items ++ v ∷ []) c.tag_and_size.ensures) c.loop-bytes.invariant.rest;
     })

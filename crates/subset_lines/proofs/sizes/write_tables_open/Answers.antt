@@ -1,4 +1,4 @@
-use Rattle.std.proofs.Common.{◌++◌, []}
+use Rattle.std.proofs.Common.{[]}
 use Rattle.std.specs.Prelude.{codes}
 use Rattle.subset_lines.specs.Sizes.{table_objects}
 use Rattle.subset_lines.proofs.Written.{then}
