@@ -1058,6 +1058,15 @@ def check_links(table, room):
     table.demand(sorted(os.listdir(room)) == names, "links leave", os.listdir(room))
 
 
+def check_device(table, room):
+    """A device takes a font, though it has no disk that the bytes could reach."""
+    put(room, "simple", SIMPLE)
+    name = "NUL" if table.system == "windows" else "/dev/null"
+    got = table.start(["simple", name, "0", "2"], room)
+    table.demand((got.returncode, got.stdout, got.stderr) == (0, lines((2, 1)), b""), f"OUT is the device {name}", got)
+    table.demand(os.listdir(room) == ["simple"], f"OUT is the device {name}: files", os.listdir(room))
+
+
 def check_rights(table, room):
     """Where files of others or shut folders are in the way. The program is run as a user who isn't root."""
     wanted, is_root = table.same["simple 2"], os.geteuid() == 0
@@ -1441,7 +1450,7 @@ def main():
     for words in OTHERWISE.get(given.system, {}):
         table.demand(words in [str(row.words) for row in ROWS], words, f"listed for {given.system}, and no row")
     unchecked = UNCHECKED.get(given.system, {})
-    for check in (check_words, check_places, check_links, check_rights, check_streams, check_closed, check_number_of_output, check_many, check_memory,
+    for check in (check_words, check_places, check_links, check_device, check_rights, check_streams, check_closed, check_number_of_output, check_many, check_memory,
                   check_refused_memory, check_refused_names, check_little_room, check_kept_room, check_failed_calls):
         if check.__name__ in unchecked:
             print(f"program: {check.__name__} isn't run on {given.system}: {unchecked[check.__name__]}")

@@ -1,0 +1,6 @@
+pub mod BoxSteps
+pub mod ColumnSteps
+pub mod CountSteps
+pub mod KeySteps
+pub mod Most
+pub mod OriginSteps

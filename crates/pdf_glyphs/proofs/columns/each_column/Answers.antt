@@ -1,0 +1,8 @@
+use Rattle.std.proofs.Common.{arith}
+use Rattle.pdf_glyphs.specs.Vertical.{vertical_view}
+use Rattle.pdf_glyphs.proofs.ColumnSteps.{columns_done}
+use Rattle.pdf_glyphs.proofs.columns.each_column.Goals as goal
+
+pub returns-clause-ok : goal.returns-clause-ok
+returns-clause-ok c =
+    columns_done (vertical_view c.args.tables) c.args.glyphs.now c.args.widths.now c.loop-index.index c.loop-index.columns.items _ (omega arith) c.loop-index.invariant.so_far

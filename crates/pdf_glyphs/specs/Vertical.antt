@@ -1,0 +1,101 @@
+-- Vertical metrics of glyphs (OpenType, "vhea", "vmtx", "VORG"), as a PDF has them (ISO 32000-1, 9.7.4.3).
+use Rattle.std.specs.Prelude.{ℕ, zero, suc, ◌+◌, ◌-◌, ◌*◌, ◌/◌, ◌^◌, ◌==◌, min, nat_lt, if◌then◌else◌, List, [], ◌∷◌, Option, Some, None, ℤ, pos, neg_ℤ, ◌+ℤ◌}
+use Rattle.std.specs.Option.{option_and_then, option_copied, option_map, option_map_or, option_or, unwrap_or}
+use Rattle.pdf_text.specs.declared.columns.Column.{Column}
+use Rattle.pdf_values.specs.Fields.{field, signed_field}
+use Rattle.pdf_values.specs.Head.{units_per_em}
+use Rattle.pdf_values.specs.Rounding.{thousandths}
+use Rattle.pdf_glyphs.specs.Boxes.{Outlines, glyph_box, outlines_view}
+use Rattle.pdf_glyphs.specs.declared.metrics.VerticalTables.{VerticalTables}
+
+-- the bytes of the tables that are there
+pub record Vertical : Type 0 where
+  pub vhea : Option (List ℕ)
+  pub vmtx : Option (List ℕ)
+  pub vorg : Option (List ℕ)
+  pub outlines : Outlines
+
+abbrev pub vertical_view : VerticalTables → Vertical
+vertical_view t = record { vhea = option_copied t.vhea; vmtx = option_copied t.vmtx; vorg = option_copied t.vorg; outlines = outlines_view t.outlines }
+
+-- ---- "vmtx"
+
+-- numOfLongVerMetrics: for so many glyphs `vmtx` has an advance height and a top side bearing, for the others a bearing
+abbrev pub pair_count : Vertical → ℕ
+pair_count t = unwrap_or (field t.vhea 34 2) 0
+
+-- the advance height, which is the last one for the glyphs without one of their own
+abbrev pub advance_of : Vertical → ℕ → Option ℕ
+advance_of t g = if pair_count t == 0 then None else field t.vmtx (4 * min g (pair_count t - 1)) 2
+
+-- the top side bearing
+abbrev pub bearing_of : Vertical → ℕ → Option ℤ
+bearing_of t g = signed_field t.vmtx (if nat_lt g (pair_count t) then 4 * g + 2 else 2 * (pair_count t + g))
+
+-- ---- "VORG"
+
+-- a record: a glyph, and vertOriginY
+pub record Origin : Type 0 where
+  pub glyph : ℕ
+  pub y : ℤ
+
+-- record number k behind the header, if the table has it
+abbrev pub origin_at : Option (List ℕ) → ℕ → Option Origin
+origin_at vorg k = option_and_then (λ g. option_map (λ y. record { glyph = g; y = y }) (signed_field vorg (4 * k + 10))) (field vorg (4 * k + 8) 2)
+
+-- the y that a record has for a glyph, else that of the later ones
+abbrev pub by_record : Option Origin → ℕ → Option ℤ → Option ℤ
+by_record None g later = later
+by_record (Some o) g later = if o.glyph == g then Some o.y else later
+
+-- the y of a glyph by so many records, from one on
+abbrev pub origin_from : Option (List ℕ) → ℕ → ℕ → ℕ → Option ℤ
+origin_from vorg k zero g = None
+origin_from vorg k (suc n) g = by_record (origin_at vorg k) g (origin_from vorg (k + 1) n g)
+
+-- numVertOriginYMetrics
+abbrev pub record_count : Option (List ℕ) → ℕ
+record_count vorg = unwrap_or (field vorg 6 2) 0
+
+-- by all records
+abbrev pub origin_of : Option (List ℕ) → ℕ → Option ℤ
+origin_of vorg g = origin_from vorg 0 (record_count vorg) g
+
+-- else defaultVertOriginY
+abbrev pub vorg_y : Option (List ℕ) → ℕ → Option ℤ
+vorg_y vorg g = option_or (origin_of vorg g) (signed_field vorg 4)
+
+-- ---- the column
+
+-- the top of a glyph's box; 0 if it is empty
+abbrev pub box_top : Outlines → ℕ → ℤ
+box_top t g = option_map_or (λ b. b.y_max) (glyph_box t g) (pos 0)
+
+-- the y of the origin, in the font's units: of TrueType outlines the top of the box and the top side bearing, else by "VORG"
+abbrev pub origin_by : Option (List ℕ) → Vertical → ℕ → Option ℤ
+origin_by None t g = vorg_y t.vorg g
+origin_by (Some glyf) t g = option_map (λ b. box_top t.outlines g +ℤ b) (bearing_of t g)
+
+abbrev pub origin_y : Vertical → ℕ → Option ℤ
+origin_y t g = origin_by t.outlines.glyf t g
+
+-- half of a width, to the nearest, halves up; as much as 32 bits with a sign hold
+abbrev pub half : ℕ → ℤ
+half w = pos (min ((w + 1) / 2) (2 ^ 31 - 1))
+
+-- advance and origin in thousandths: an advance goes downwards, and an origin that isn't said is PDF's own, 880
+abbrev pub column : ℕ → ℕ → ℕ → Option ℤ → Column
+column units w a y = record { advance = neg_ℤ (thousandths (pos a) units); x = half w; y = option_map_or (λ v. thousandths v units) y (pos 880) }
+
+-- PDF's own column (DW2)
+abbrev pub own_column : ℕ → Column
+own_column w = record { advance = neg_ℤ (pos 1000); x = half w; y = pos 880 }
+
+-- the column of a glyph that has a width; PDF's own where it has no advance height
+abbrev pub vertical_metric : Vertical → ℕ → ℕ → Column
+vertical_metric t g w = option_map_or (λ a. column (units_per_em t.outlines.head) w a (origin_y t g)) (advance_of t g) (own_column w)
+
+-- of each glyph
+abbrev pub columns_of : Vertical → List ℕ → List ℕ → List Column
+columns_of t (g ∷ gs) (w ∷ ws) = vertical_metric t g w ∷ columns_of t gs ws
+columns_of t _ _ = []

@@ -1,0 +1,142 @@
+//! Vertical metrics of a glyph (OpenType, "vhea", "vmtx"), as a PDF has them (ISO 32000-1, 9.7.4.3).
+
+ghost use Rattle.std.specs.Prelude.{◌≡◌, ◌≤◌, ◌<◌, ◌^◌, ◌+ℤ◌, IfSome, neg_ℤ, pos, unsigned_abs};
+ghost use Rattle.std.specs.Option.{option_map, option_map_or};
+ghost use Rattle.pdf_values.specs.Rounding.{thousandths};
+ghost use Rattle.pdf_glyphs.specs.Boxes.{outlines_view};
+ghost use Rattle.pdf_glyphs.specs.Vertical.{advance_of, bearing_of, box_top, half, origin_of, origin_y, pair_count, vertical_metric, vertical_view};
+
+use crate::boxes::{OutlineTables, glyph_box};
+use pdf_text::Column;
+use pdf_values::fields::{number_in, signed_in};
+use pdf_values::{thousandths, units_per_em};
+
+/// The tables that vertical metrics are found by; none where the font lacks one.
+#[derive(Clone, Copy)]
+pub struct VerticalTables<'a> {
+    pub vhea: Option<&'a [u8]>,
+    pub vmtx: Option<&'a [u8]>,
+    /// Of no effect where there is a `glyf`.
+    pub vorg: Option<&'a [u8]>,
+    pub outlines: OutlineTables<'a>,
+}
+
+/// For how many glyphs `vmtx` has an advance height.
+fn pair_count(tables: VerticalTables<'_>) -> u16
+    ensures { result ≡ pair_count (vertical_view tables.entry) }
+{
+    match number_in(tables.vhea, 34) {
+        Some(count) => count,
+        None => 0,
+    }
+}
+
+/// The advance height of a glyph.
+fn advance_of(tables: VerticalTables<'_>, glyph: u16) -> Option<u16>
+    ensures { result ≡ advance_of (vertical_view tables.entry) glyph }
+{
+    let count = pair_count(tables);
+    if count == 0 {
+        return None;
+    }
+    number_in(tables.vmtx, 4 * usize::from(glyph.min(count - 1)))
+}
+
+/// The top side bearing of a glyph.
+fn bearing_of(tables: VerticalTables<'_>, glyph: u16) -> Option<i16>
+    ensures { result ≡ bearing_of (vertical_view tables.entry) glyph }
+{
+    let count = pair_count(tables);
+    let at = if glyph < count {
+        4 * usize::from(glyph) + 2
+    } else {
+        2 * (usize::from(count) + usize::from(glyph))
+    };
+    signed_in(tables.vmtx, at)
+}
+
+/// The top of a glyph's box; 0 if it is empty.
+fn box_top(tables: OutlineTables<'_>, glyph: u16) -> i16
+    ensures { result ≡ box_top (outlines_view tables.entry) glyph }
+{
+    match glyph_box(tables, glyph) {
+        Some(header) => header.y_max,
+        None => 0,
+    }
+}
+
+/// The sum of a glyph's top and its top side bearing.
+fn origin_of_box(tables: VerticalTables<'_>, glyph: u16) -> Option<i32>
+    ensures exact { result ≡ option_map (λ b. box_top (vertical_view tables.entry).outlines glyph +ℤ b) (bearing_of (vertical_view tables.entry) glyph) }
+    ensures small { IfSome result (λ v. unsigned_abs v ≤ 2 ^ 16) }
+{
+    let bearing = bearing_of(tables, glyph)?;
+    Some(i32::from(box_top(tables.outlines, glyph)) + i32::from(bearing))
+}
+
+/// The y of the origin: of TrueType outlines by box and bearing, else by VORG.
+fn origin_y(tables: VerticalTables<'_>, glyph: u16, recorded: Option<i16>) -> Option<i32>
+    requires { recorded ≡ origin_of (vertical_view tables).vorg glyph }
+    ensures exact { result ≡ origin_y (vertical_view tables.entry) glyph }
+    ensures small { IfSome result (λ v. unsigned_abs v ≤ 2 ^ 16) }
+{
+    if tables.outlines.glyf.is_some() {
+        return origin_of_box(tables, glyph);
+    }
+    match recorded {
+        Some(y) => Some(i32::from(y)),
+        None => Some(i32::from(signed_in(tables.vorg, 4)?)),
+    }
+}
+
+/// Half of a width.
+fn half(width: u32) -> i32
+    ensures { result ≡ half width }
+{
+    (width / 2 + width % 2).min(i32::MAX as u32) as i32
+}
+
+/// An advance height in thousandths, downwards.
+fn downwards(advance: u16, units: u16) -> i32
+    requires { 0 < units }
+    ensures { result ≡ neg_ℤ (thousandths (pos advance) units) }
+{
+    -thousandths(i32::from(advance), u32::from(units))
+}
+
+/// The y of an origin in thousandths.
+fn scaled_y(y: Option<i32>, units: u16) -> i32
+    requires above { 0 < units }
+    requires small { IfSome y (λ v. unsigned_abs v ≤ 2 ^ 16) }
+    ensures { result ≡ option_map_or (λ v. thousandths v units) y (pos 880) }
+{
+    match y {
+        Some(v) => thousandths(v, u32::from(units)),
+        None => 880,
+    }
+}
+
+/// The column of a glyph with a width, of which VORG has this y.
+pub fn vertical_metric(
+    tables: VerticalTables<'_>,
+    glyph: u16,
+    width: u32,
+    recorded: Option<i16>,
+) -> Column
+    requires { recorded ≡ origin_of (vertical_view tables).vorg glyph }
+    ensures { result ≡ vertical_metric (vertical_view tables.entry) glyph width }
+{
+    let Some(advance) = advance_of(tables, glyph) else {
+        return Column {
+            advance: -1000,
+            x: half(width),
+            y: 880,
+        };
+    };
+    let units = units_per_em(tables.outlines.head);
+    Column {
+        advance: downwards(advance, units),
+        x: half(width),
+        y: scaled_y(origin_y(tables, glyph, recorded), units),
+    }
+}
