@@ -3,7 +3,7 @@ use Rattle.std.proofs.Common.{◌≡◌, ◌≢◌, ◌⊎◌, inl, inr, ℕ, Li
 use Rattle.std.specs.Prelude.{IfOk, IfErr, IfSome, OnOk}
 use Rattle.subsetter_sfnt.specs.Read.{Font}
 use Rattle.subset_font.specs.Asked.{IsUnasked}
-use Rattle.subsetter_base.specs.declared.error.Error.TheVariants.{OutOfMemory, UnknownKind, MalformedFont}
+use Rattle.subsetter_base.specs.declared.error.Error.TheVariants.{UnknownKind, MalformedFont}
 use Rattle.subset_font.specs.Made.{face_of, IsUnmade}
 use Rattle.subset_font.specs.Outcome.{IsOutcome, IsNoOutcome}
 use Rattle.subset_font.specs.Carried.{IsOfMaking, IsFailureOf, IsBeforeWriting}

@@ -1,7 +1,7 @@
-use Rattle.std.proofs.Common.{ℕ, List, [], ◌∷◌, ◌++◌, sym, ap, ◌∙◌}
+use Rattle.std.proofs.Common.{ℕ, List, sym, ap, ◌∙◌}
 use Rattle.subsetter_base.specs.Bytes.{range}
 use Rattle.subsetter_sfnt.specs.Read.{record_of}
-use Rattle.subset_font.specs.Tables.{new_rows, records_in}
+use Rattle.subset_font.specs.Tables.{records_in}
 use Rattle.subset_font.proofs.Directory.{reads_record, news_later}
 use Rattle.subset_font.proofs.tables.push_new_rows.Goals as goal
 

@@ -1,4 +1,4 @@
-use Rattle.std.proofs.Common.{◌≡◌, ◌-◌, ◌≤◌, ◌++◌, map, length}
+use Rattle.std.proofs.Common.{◌≡◌, ◌-◌, ◌≤◌, ◌++◌, length}
 use Rattle.subset_font.specs.Tables.{new_rows, records_in}
 use Rattle.subset_font.proofs.Directory.{records_from}
 use Rattle.subset_font.proofs.tables.push_new_rows.Given as goal

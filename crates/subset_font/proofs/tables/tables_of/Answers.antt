@@ -1,7 +1,7 @@
 use Rattle.std.proofs.Common.{ℕ, List, [], ◌∷◌, ◌++◌, sym, ap, ◌∙◌}
 use Rattle.subsetter_base.specs.Bytes.{range}
 use Rattle.subsetter_sfnt.specs.Read.{record_of}
-use Rattle.subset_font.specs.Tables.{tag_and_size, records_in}
+use Rattle.subset_font.specs.Tables.{tag_and_size}
 use Rattle.subset_font.proofs.Directory.{reads_record, rows_later}
 use Rattle.subset_font.proofs.tables.tables_of.Goals as goal
 
