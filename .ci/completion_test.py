@@ -21,19 +21,26 @@ HERE = os.path.dirname(os.path.realpath(__file__))
 PROGRAM = os.path.join(os.path.dirname(HERE), "crates", "subset_font")
 ARGUMENTS = os.path.join(os.path.dirname(HERE), "crates", "subset_args", "src", "options.rt")
 
-ALL = ["--gids", "--gids-file", "--text", "-o", "--output-file", "--face-index", "--at", "--no-hinting", "--no-names", "--no-glyph-names",
-       "--limits", "--widths", "--json", "--quiet", "--axes", "-h", "--help", "--version"]
+ALL = ["--gids", "--gids-file", "--text", "--text-file", "--unicodes", "--unicodes-file", "-o", "--output-file", "--face-index", "--at", "--no-hinting", "--no-names",
+       "--no-glyph-names", "--limits", "--widths", "--verbose", "--json", "--quiet", "--axes", "--info", "-h", "--help", "--version"]
 FILES = ["list.txt", "one font.ttf", "other.otf"]
 # What is typed, of which the last word is completed, and what is offered.
 TRIES = [
     (["--no-"], ["--no-glyph-names", "--no-hinting", "--no-names"]),
     (["--gids"], ["--gids", "--gids-file"]),
     (["--wid"], ["--widths"]),
+    (["--text"], ["--text", "--text-file"]),
+    (["--uni"], ["--unicodes", "--unicodes-file"]),
+    (["--ver"], ["--verbose", "--version"]),
+    (["--inf"], ["--info"]),
     (["--widths", "--js"], ["--json"]),
     (["in.ttf", "--face"], ["--face-index"]),
     (["oth"], ["other.otf"]),
     (["--json", "li"], ["list.txt"]),
     (["--gids-file", "li"], ["list.txt"]),
+    (["--text-file", "li"], ["list.txt"]),
+    (["--unicodes-file", "li"], ["list.txt"]),
+    (["--info", "oth"], ["other.otf"]),
     (["-o", "oth"], ["other.otf"]),
     (["--output-file", "oth"], ["other.otf"]),
     (["--text", "oth"], []),
@@ -41,6 +48,7 @@ TRIES = [
     (["--limits", "li"], []),
     (["--face-index", "li"], []),
     (["--gids", "li"], []),
+    (["--unicodes", "li"], []),
 ]
 
 

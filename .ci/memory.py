@@ -34,7 +34,16 @@ ALLOWED = {
     ("subset_font", "unread"): (1, "a failure to read of which the reader kept no error is one of memory"),
     ("subset_font", "read_list_file"): (2, "passes on that of `read_list`"),
     ("subset_font", "carry_buffered"): (1, "`BufWriter::new` takes memory and has no other error"),
-    ("subset_font", "axes_buffered"): (1, "`BufWriter::new` takes memory and has no other error"),
+    ("subset_font", "show_buffered"): (1, "`BufWriter::new` takes memory and has no other error"),
+    ("subset_font", "try_all"): (2, "passes on that of `make_of`"),
+    ("subset_font", "show_info"): (2, "`tables_of` and `try_all` have no other error"),
+    ("subset_font", "has_name"): (1, "`text_of_name` writes into a vector, which has no other error"),
+    ("subset_font", "push_name"): (1, "`text_of_name` writes into a vector, which has no other error"),
+    ("subset_font", "instance_settings"): (2, "`settings_of` and `find_named` have no other error"),
+    ("subset_font", "known_axes"): (2, "passes on that of `axes_there`"),
+    ("subset_font", "lines_of_sizes"): (1, "`size_lines` writes into a vector, which has no other error"),
+    ("subset_font", "members_of"): (1, "`json_members` writes into a vector, which has no other error"),
+    ("subset_font", "with_more"): (1, "`more_of` has no other error"),
 }
 
 WORDS = re.compile(r"\bOutOfMemory\b|\b(?:AllocError|AllocFailed)\b(?!\s*[>,}]|<\w)")

@@ -31,8 +31,8 @@ sys.dont_write_bytecode = True
 import made  # noqa: E402
 
 USAGE = b"usage: subset_font IN OUT INDEX GID[,GID..]\n"
-OPTIONS = ["-o", "--output-file", "--face-index", "--gids", "--widths", "--limits", "--at", "--axes", "--no-hinting", "--no-names", "--no-glyph-names", "--gids-file", "--text", "--json",
-           "--quiet", "--help", "-h", "--version", "--"]
+OPTIONS = ["-o", "--output-file", "--face-index", "--gids", "--widths", "--limits", "--at", "--axes", "--info", "--no-hinting", "--no-names", "--no-glyph-names", "--gids-file",
+           "--text", "--text-file", "--unicodes", "--unicodes-file", "--json", "--verbose", "--quiet", "--help", "-h", "--version", "--"]
 
 
 # ---- fonts
@@ -173,6 +173,7 @@ FONTS = {
     "axes_cut_names": axes_font(ONE_AXIS, [(1,)], further=[("name", made.u16s(0, 1) + b"\0")]),
     "axes": axes_font(TWO_AXES, [(-1 / 65536, 87.5), (650, -1.25)], 14),
     "axes_only": axes_font([(b"wght", 0, 0.1, 0.12), (b"w\x7ft\x1f", 0.123, 0.1234, 1)], [], 0),
+    "axes_quoted": axes_font([(b'w"t\\', 100, 400, 900)], [(1,)], further=names((3, 1, 0x0409, 257, 'a"b\\c', 0))),
     "axes_cut_0": axes_font(TWO_AXES, [(1, 2)], 11),
     "axes_cut_1": axes_font(TWO_AXES, [(1, 2)], cut=1),
     "axes_cut_2": axes_font(TWO_AXES, [], cut=1),
@@ -214,6 +215,13 @@ def tables_of(font):
     return found
 
 
+# `variable` with two named instances.
+FONTS["instances"] = made.font(sorted([
+    *(it for it in tables_of(VARIABLE).items() if it[0] != "fvar"),
+    ("fvar", made.u16s(1, 0, 16, 2, 1, 20, 3, 8) + b"wght" + fixed(100, 400, 900) + made.u16s(0, 256) + b"".join(made.u16s(257 + k, 0) + fixed(it) for k, it in enumerate((650, 500, 900)))),
+    *names((3, 1, 0x0409, 257, "Semi Bold", 0), (3, 1, 0x0409, 259, "Black", 0))]))
+
+
 def sum_of(data):
     """The sum of a table's words."""
     data += bytes(-len(data) % 4)
@@ -246,6 +254,8 @@ class Row:
     after: dict = field(default_factory=dict)
     # a name for the row whose OUT others have too
     same: str = None
+    # the font whose size is that of IN: `@old@` in what is printed is replaced by it, and `@new@` by that of OUT
+    source: str = "six"
 
 
 def lines(*pairs):
@@ -283,6 +293,10 @@ def gid(part):
     return wrong(f'GID "{part}" is not a glyph number', "expected: numbers from 0 to 65535, with commas, as 36,37,38")
 
 
+def in_codes(part, option="--unicodes"):
+    return wrong(f'{option}: "{part}" is not a character number', "expected: numbers as U+0041 and ranges as U+0041-005A")
+
+
 def in_list(part):
     return wrong(f'--gids-file: "{part}" is not a glyph number', "expected: numbers to 65535 and ranges as 36-38, or * alone")
 
@@ -292,7 +306,7 @@ def limits(word):
 
 
 def coordinate(part):
-    return wrong(f'--at: "{part}" is not TAG=VALUE', "expected: a tag and a decimal number, as wght=650")
+    return wrong(f'--at: "{part}" is not TAG=VALUE', "expected: a tag and a decimal number, as wght=650, or a name")
 
 
 def further(word, wanted="IN OUT INDEX GID, with no blanks between glyph numbers"):
@@ -316,11 +330,11 @@ def no_option(word, nearest=None):
 
 
 def glyphs_twice(option):
-    return wrong(f"{option}: the glyphs are requested twice", "expected: one of GID, --gids, --text and --gids-file")
+    return wrong(f"{option}: the glyphs are requested twice", "expected: GID or one of --gids, --text and --unicodes or their -file")
 
 
 def beside_option(word):
-    return wrong(f'GID "{word}": an option requests the glyphs', "expected: one of GID, --gids, --text and --gids-file")
+    return wrong(f'GID "{word}": an option requests the glyphs', "expected: GID or one of --gids, --text and --unicodes or their -file")
 
 
 def in_argument(part):
@@ -331,10 +345,11 @@ def beside_input(word):
     return wrong(f'"{word}" is one argument too many', "expected: IN and options, where -o or --face-index is one")
 
 
-NO_SOURCE = wrong("no option requests glyphs", "expected: --gids, --text or --gids-file")
+NO_SOURCE = wrong("no option requests glyphs", "expected: --gids, --text, --unicodes, or a file of one")
 NO_OUTPUT_OPTION = wrong("-o OUT is missing", "expected: a file for the new font, or - for standard output")
 INPUT_TWICE = wrong("--gids-file: standard input is requested twice", "expected: - for IN or for FILE, not for both")
-AXES_LATE = wrong("--axes isn't the first argument", "expected: --axes IN INDEX")
+SHOWN = "--axes or --info, and then [--json] IN [INDEX]"
+AXES_LATE = wrong("--axes isn't the first argument", "expected: " + SHOWN)
 NOT_UTF_8 = wrong("an argument isn't UTF-8", "expected: UTF-8, or - and a redirection for such a file")
 
 
@@ -352,6 +367,26 @@ def cannot_write(name, number):
     return f"cannot write {name}{because(number)}".encode()
 
 
+# ---- and of coordinates
+
+WGHT = "axes: wght 100 to 900\n"
+
+
+def no_axis(*tags, axes=WGHT):
+    return ("".join(f"no axis {it} in the font\n" for it in tags) + axes).encode()
+
+
+def clamped(given, taken):
+    return f"{given} is clamped to {taken}\n{WGHT}".encode()
+
+
+def no_instance(names):
+    return f"no such instance in font\n{names}\n".encode()
+
+
+NO_INSTANCES = no_instance("the font has no named instances with names")
+
+
 # ---- and of a font that is refused
 
 def no_table(tag, first="malformed font"):
@@ -363,6 +398,36 @@ def wrong_glyph(number, what):
 
 
 NO_ENTRIES_9 = wrong_glyph(9, "loca has no entries for it")
+
+
+# ---- what is printed of tables
+
+def table_list(name):
+    """The tables of a font with their sizes, in the order of its directory."""
+    font = FONTS[name]
+    records = [font[12 + 16 * k:28 + 16 * k] for k in range(int.from_bytes(font[4:6], "big"))]
+    return [(it[:4], int.from_bytes(it[12:16], "big")) for it in records]
+
+
+def sizes(*tables):
+    """Lines of these (tag, size, size or None)."""
+    return b"".join(b"table %s %d -> %s\n" % (tag.encode(), old, b"none" if new is None else b"%d" % new) for tag, old, new in tables) + b"font @old@ -> @new@\n"
+
+
+def info(outlines, faces, size, glyphs, answer, font, permission=()):
+    """The lines of `--info`, of a face whose tables are those of a font."""
+    head = [f"outlines {outlines}", f"faces {faces}", f"bytes {size}", f"glyphs {glyphs}", *(f"permission {it}" for it in permission), answer]
+    return "".join(f"{it}\n" for it in head).encode() + b"".join(b"table %s %d\n" % it for it in table_list(font))
+
+
+# Glyphs 0, 2 and 1 of `six`: outlines of 0, 12 and 12 bytes; `loca` of four entries of two bytes, and four metrics in `hmtx`.
+SIX_SIZES = [(b"glyf", 60, 24), (b"head", 54, 54), (b"hhea", 36, 36), (b"hmtx", 24, 12), (b"loca", 28, 8), (b"maxp", 32, 32)]
+SIX_TABLES = sizes(*((tag.decode(), old, new) for tag, old, new in SIX_SIZES))
+# The bits of fsType, and their words (OpenType, "OS/2").
+PERMISSIONS = [(0, ["installable embedding"]), (1, ["installable embedding"]), (2, ["restricted license embedding"]), (4, ["preview and print embedding"]), (8, ["editable embedding"]),
+               (256, ["installable embedding", "no subsetting"]), (512, ["installable embedding", "bitmap embedding only"]),
+               (6, ["restricted license embedding", "preview and print embedding"]), (0x308, ["editable embedding", "no subsetting", "bitmap embedding only"]), (0x10, ["installable embedding"])]
+FONTS |= {f"fs_{bits}": six(("OS/2", bytes(8) + made.u16s(bits) + bytes(86))) for bits, _ in PERMISSIONS}
 
 
 def usage(*rows):
@@ -387,7 +452,7 @@ ROWS = [
            ("simple out 4294967296 2", index("4294967296")), ("simple out +0 2", index("+0")), (["simple", "out", "", "2"], index("")),
            ("simple", missing("OUT")), ("simple out", missing("INDEX")), ("simple out zero 2", index("zero")), ("simple out 0 1,x,y", gid("x")),
            ("simple out x y", index("x")), ("simple out 0 1 2 3", further("2")), ("- out 0 qq", gid("qq"))),
-    Row("six out 0 65535", 1, err=b"malformed font\nGID 65535: the face has 6 glyphs, from 0 on\n", after=USED),
+    Row("six out 0 65535", 1, err=b"malformed font\nGID 65535: the glyphs of the face are 0 to 5\n", after=USED),
     Row("none out 0 2", 3, err=cannot_read("none", errno.ENOENT), after=USED),
     Row(". out 0 2", 3, err=cannot_read(".", errno.EISDIR), after=USED),
     Row("simple none/out 0 2", 3, err=cannot_write("none/out", errno.ENOENT)),
@@ -397,13 +462,13 @@ ROWS = [
     Row("--no-such simple out 0 2", 2, err=no_option("--no-such"), after=USED),
     Row("--no-such out 0 2", 3, err=cannot_read("--no-such", errno.ENOENT), after=USED),
     # refusals, and what more is said of them
-    Row("six out 0 1,6", 1, err=b"malformed font\nGID 6: the face has 6 glyphs, from 0 on\n", after=USED),
-    Row("six out 0 9,1,7,6", 1, err=b"malformed font\nGID 9: the face has 6 glyphs, from 0 on\n", after=USED),
-    Row("mixed out 1 1,6", 1, err=b"malformed font\nGID 6: the face has 6 glyphs, from 0 on\n", after=USED),
+    Row("six out 0 1,6", 1, err=b"malformed font\nGID 6: the glyphs of the face are 0 to 5\n", after=USED),
+    Row("six out 0 9,1,7,6", 1, err=b"malformed font\nGID 9: the glyphs of the face are 0 to 5\n", after=USED),
+    Row("mixed out 1 1,6", 1, err=b"malformed font\nGID 6: the glyphs of the face are 0 to 5\n", after=USED),
     Row("mixed out 0 9", 1, err=NO_ENTRIES_9, after=USED),
-    Row("mixed out 2 9", 1, err=b"malformed font\nINDEX 2: the collection has 2 faces, from 0 on\n", after=USED),
+    Row("mixed out 2 9", 1, err=b"malformed font\nINDEX 2: the faces of the collection are 0 to 1\n", after=USED),
     Row("--widths simple out 0 9", 1, err=no_table("hmtx"), after=USED),
-    Row("faces out 2 1", 1, err=b"malformed font\nINDEX 2: the collection has 2 faces, from 0 on\n", after=USED),
+    Row("faces out 2 1", 1, err=b"malformed font\nINDEX 2: the faces of the collection are 0 to 1\n", after=USED),
     Row("woff out 0 1", 1, err=b"unknown font kind\nWOFF: unpack it first\n", after=USED),
     Row("woff2 out 0 1", 1, err=b"unknown font kind\nWOFF2: unpack it first\n", after=USED),
     Row("empty out 0 1", 1, err=b"unknown font kind\n", after=USED),
@@ -441,22 +506,44 @@ ROWS = [
     Row("at_650 out 0 1,2,3", out=lines((1, 1), (2, 2), (3, 3)), same="at 650"),
     Row("--at wght=650 variable out 0 1,2,3", out=lines((1, 1), (2, 2), (3, 3)), same="at 650"),
     Row("--at wght=900,wght=649.999999999,wdth=-87.5 variable out 0 1,2,3", out=lines((1, 1), (2, 2), (3, 3)), same="at 650",
-        err=b"no axis wdth in the font\n"),
+        err=no_axis("wdth")),
     Row("--widths --at wght=650 variable out 0 1,2,3", out=lines((1, 1), (2, 2), (3, 3)) + b"[0 [500 510 500 500]]\n", same="at 650"),
     Row("variable out 0 2,1", out=lines((2, 1), (1, 2)), same="at the default"),
     Row("--at wght=400 variable out 0 2,1", out=lines((2, 1), (1, 2)), same="at the default"),
-    Row("--at slnt=-32767.5 variable out 0 2,1", out=lines((2, 1), (1, 2)), same="at the default", err=b"no axis slnt in the font\n"),
-    Row("--quiet --at wdth=1,wght=650,opsz=1 variable out 0 1,2,3", same="at 650", err=b"no axis wdth in the font\nno axis opsz in the font\n"),
-    Row("--at wght=650 simple out 0 2", out=lines((2, 1)), same="simple 2", err=b"no axis wght in the font\n"),
-    Row("--at wght=650 cff out 0 0", out=lines((0, 0)), same="cff 0", err=b"no axis wght in the font\n"),
-    Row("--at wght=650 variable out 0 4", 1, err=b"malformed font\nGID 4: the face has 4 glyphs, from 0 on\n", after=USED),
+    Row("--at slnt=-32767.5 variable out 0 2,1", out=lines((2, 1), (1, 2)), same="at the default", err=no_axis("slnt")),
+    Row("--quiet --at wdth=1,wght=650,opsz=1 variable out 0 1,2,3", same="at 650", err=no_axis("wdth", "opsz")),
+    Row("--at wght=650 simple out 0 2", out=lines((2, 1)), same="simple 2", err=no_axis("wght", axes="axes: none\n")),
+    Row("--at wght=650 cff out 0 0", out=lines((0, 0)), same="cff 0", err=no_axis("wght", axes="axes: none\n")),
+    Row("--at wght=650 variable out 0 4", 1, err=b"malformed font\nGID 4: the glyphs of the face are 0 to 3\n", after=USED),
     Row("--limits 20,64 --at wght=650 variable out 0 2", 1, err=b"overflow occurred\n", after=USED),
     *(Row(f"--at {it} variable out 0 1", 2, err=coordinate(it), after=USED)
-      for it in ("wght", "wght=", "wght=+1", "wght=1.", "wght=.5", "wght=1.0000000000", "wght=1-", "wght=--1", "wgh=1", "weight=1",
-                 "wght=32768", "wght=1=1", "wght=1e2")),
+      for it in ("wght=", "wght=+1", "wght=1.", "wght=.5", "wght=1.0000000000x", "wght=1-", "wght=--1", "wgh=1", "weight=1",
+                 "wght=32768", "wght=1=1", "wght=1e2", "wght=32767.99999237060546875", "wght=-32768.000007629394531250001", "wght=1.-5", "wght=1.5.5", "wght=65536.1")),
+    # (any number of digits, to the nearest 65536th, halves up)
+    Row("--at wght=650.00000762939453124999999999999999999 variable out 0 1,2,3", out=lines((1, 1), (2, 2), (3, 3)), same="at 650"),
+    Row("--at wght=649.99999237060546875 variable out 0 1,2,3", out=lines((1, 1), (2, 2), (3, 3)), same="at 650"),
+    Row("--at wght=900.00000762939453124999999999999999999 variable out 0 1", out=lines((1, 1)), same="at 900"),
+    Row("--at wght=900.00000762939453125 variable out 0 1", out=lines((1, 1)), same="at 900", err=clamped("wght=900.00002", "900")),
+    Row("--at wght=32767.9999923706054687499 variable out 0 1", out=lines((1, 1)), same="at 900", err=clamped("wght=32767.99998", "900")),
+    Row("--at wght=-0.00000762939453125 variable out 0 1", out=lines((1, 1)), same="at 100", err=clamped("wght=0", "100")),
+    Row("--at wght=-0.0000076293945312500000000000000001 variable out 0 1", out=lines((1, 1)), same="at 100", err=clamped("wght=-0.00002", "100")),
+    Row("--at wght=-32768.00000762939453125 variable out 0 1", out=lines((1, 1)), same="at 100", err=clamped("wght=-32768", "100")),
+    Row("--at wght=99.9999 variable out 0 1", out=lines((1, 1)), same="at 100", err=clamped("wght=99.99989", "100")),
+    Row("--quiet --at wght=1000,wdth=1 variable out 0 1", same="at 900", err=b"wght=1000 is clamped to 900\nno axis wdth in the font\n" + WGHT.encode()),
+    # named instances
+    Row("--at wght=650 instances out 0 1,2", out=lines((1, 1), (2, 2)), same="an instance"),
+    *(Row(["--at", name, "instances", "out", "0", "1,2"], out=lines((1, 1), (2, 2)), same="an instance") for name in ("Semi Bold", "semi bold", "SEMI BOLD")),
+    Row("instances --at black --gids 1,2 -o out", out=lines((1, 1), (2, 2)), same="the last instance"),
+    Row("--at wght=900 instances out 0 1,2", out=lines((1, 1), (2, 2)), same="the last instance"),
+    Row("--at bold instances out 0 1", 1, err=no_instance("named instances: Semi Bold, Black"), after=USED),
+    Row("--at wght variable out 0 1", 1, err=NO_INSTANCES, after=USED),
+    Row("--at Bold simple out 0 2", 1, err=NO_INSTANCES, after=USED),
+    Row("--at Bold woff out 0 2", 1, err=b"unknown font kind\nWOFF: unpack it first\n", after=USED),
+    Row("--at Bold axes_cut_0 out 0 0", 1, err=b"malformed font\n", after=USED),
+    *usage((["--at", "", "variable", "out", "0", "1"], coordinate(""))),
     *usage(("--at wght=650, variable out 0 1", coordinate("")), ("--at wght=650,wdth variable out 0 1", coordinate("wdth")),
            ("--at wght=x variable out 0 y", gid("y")), ("--at", no_value("--at"))),
-    Row("--at wght=-32768 variable out 0 1", out=lines((1, 1)), same="at 100"),
+    Row("--at wght=-32768 variable out 0 1", out=lines((1, 1)), same="at 100", err=clamped("wght=-32768", "100")),
     Row("--at wght=100 variable out 0 1", out=lines((1, 1)), same="at 100"),
     Row("--at wght=1 --at wght=1 variable out 0 1", 2, err=twice("--at"), after=USED),
     # the axes
@@ -474,20 +561,57 @@ ROWS = [
     Row("--axes cff 0"),
     *(Row(f"--axes axes_cut_{k} 0", 1, err=b"malformed font\nfvar: the table can't be read\n") for k in range(3)),
     Row("--axes woff 0", 1, err=b"unknown font kind\nWOFF: unpack it first\n"),
-    Row("--axes faces 2", 1, err=b"unknown font kind\nINDEX 2: the collection has 2 faces, from 0 on\n"),
+    Row("--axes faces 2", 1, err=b"unknown font kind\nINDEX 2: the faces of the collection are 0 to 1\n"),
     Row("--axes faces 1"),
     Row("--axes none 0", 3, err=cannot_read("none", errno.ENOENT)),
     Row("--axes", 2, err=missing("IN")),
-    Row("--axes variable", 2, err=missing("INDEX")),
-    Row("--axes variable 0 1", 2, err=further("1", "--axes IN INDEX")),
+    Row("--axes variable", out=b"axis wght 100 400 900\n"),
+    Row("--axes --json variable", out=b'{"axes":[{"tag":"wght","least":100,"default":400,"greatest":900}],"instances":[]}\n'),
+    Row("--axes --json axes 0", out=b'{"axes":[{"tag":"wght","least":-32768,"default":389.34425,"greatest":32767.99998},{"tag":"w?t?","least":0,"default":0.5,"greatest":0.00002}],'
+        b'"instances":[{"name":null,"coordinates":{"wght":-0.00002,"w?t?":87.5}},{"name":null,"coordinates":{"wght":650,"w?t?":-1.25}}]}\n'),
+    Row("--axes --json axes_quoted 0", out=b'{"axes":[{"tag":"w\\"t\\\\","least":100,"default":400,"greatest":900}],"instances":[{"name":"a\\"b\\\\c","coordinates":{"w\\"t\\\\":1}}]}\n'),
+    Row("--axes --json simple", out=b'{"axes":[],"instances":[]}\n'),
+    Row("--axes variable 0 1", 2, err=further("1", SHOWN)),
+    Row("--axes --json variable 0 1", 2, err=further("1", SHOWN)),
+    Row("--axes --json", 2, err=missing("IN")),
+    Row("--axes --json variable x", 2, err=index("x")),
+    # what a face is
+    Row("--info six", out=info("TrueType", 1, "@old@", 6, "subset accepts every glyph", "six")),
+    Row("--info faces 1", out=info("TrueType", 2, "@old@", "not given", "subset refuses: malformed font\nreason: the face has no table maxp", "simple"), source="faces"),
+    Row("--info variable", out=info("TrueType, variable", 1, "@old@", 4, "subset accepts every glyph", "variable"), source="variable"),
+    Row("--info cff2 0", out=info("CFF2", 1, "@old@", 6, "subset refuses: unsupported feature in font\nreason: CFF2: its outlines aren't read", "cff2"), source="cff2"),
+    Row("--info descends", out=info("TrueType", 1, "@old@", 6, "subset refuses: malformed font\nreason: glyph 3: its loca entries descend", "descends"), source="descends"),
+    *(Row(f"--info fs_{bits}", out=info("TrueType", 1, "@old@", 6, "subset accepts every glyph", f"fs_{bits}", words), source=f"fs_{bits}") for bits, words in PERMISSIONS),
+    Row("--info none", 3, err=cannot_read("none", errno.ENOENT)),
+    Row("--info woff", 1, err=b"unknown font kind\nWOFF: unpack it first\n"),
+    Row("--info faces 2", 1, err=b"unknown font kind\nINDEX 2: the faces of the collection are 0 to 1\n"),
+    Row("--info", 2, err=missing("IN")),
+    Row("--info six 0 1", 2, err=further("1", SHOWN)),
+    Row("six -o out --gids 1 --info", 2, err=wrong("--info isn't the first argument", "expected: " + SHOWN), after=USED),
+    Row("--info --json six", out=b'{"outlines":"TrueType","variable":false,"faces":1,"bytes":@old@,"glyphs":6,"permission":[],"refusal":null,"reason":null,"tables":[%s]}\n' % b",".join(
+        b'{"tag":"%s","bytes":%d}' % it for it in table_list("six"))),
+    Row("--info --json fs_6", out=b'{"outlines":"TrueType","variable":false,"faces":1,"bytes":@old@,"glyphs":6,"permission":["restricted license embedding","preview and print embedding"],'
+        b'"refusal":null,"reason":null,"tables":[%s]}\n' % b",".join(b'{"tag":"%s","bytes":%d}' % it for it in table_list("fs_6")), source="fs_6"),
+    Row("--info --json faces", out=b'{"outlines":"TrueType","variable":false,"faces":2,"bytes":@old@,"glyphs":null,"permission":[],"refusal":"malformed font","reason":"the face has no table maxp",'
+        b'"tables":[%s]}\n' % b",".join(b'{"tag":"%s","bytes":%d}' % it for it in table_list("simple")), source="faces"),
     Row("--axes variable x", 2, err=index("x")),
     Row("--axes variable 4294967296", 2, err=index("4294967296")),
     Row("--quiet --axes variable 0", 2, err=AXES_LATE),
     # JSON and silence
-    Row("--json six out 0 2,1", out=b'{"glyphs":[{"old":2,"new":1},{"old":1,"new":2}]}\n', same="six 2,1"),
-    Row("--json --widths six out 0 2,1", out=b'{"glyphs":[{"old":2,"new":1},{"old":1,"new":2}],"widths":[0,200,100]}\n',
+    Row("--json six out 0 2,1", out=b'{"glyphs":[{"old":2,"new":1},{"old":1,"new":2}],"sizes":{"old":@old@,"new":@new@},"notes":[]}\n', same="six 2,1"),
+    Row("--json --widths six out 0 2,1", out=b'{"glyphs":[{"old":2,"new":1},{"old":1,"new":2}],"widths":[0,200,100],"sizes":{"old":@old@,"new":@new@},"notes":[]}\n',
         same="six 2,1"),
-    Row("--json --text A small out 0", out=b'{"glyphs":[{"character":65,"old":1,"new":1}]}\n', same="six 1"),
+    Row("--json --text A small out 0", out=b'{"glyphs":[{"character":65,"old":1,"new":1}],"sizes":{"old":@old@,"new":@new@},"notes":[]}\n', same="six 1", source="small"),
+    Row("--json --at wdth=1,wght=1000 variable out 0 1", out=b'{"glyphs":[{"old":1,"new":1}],"sizes":{"old":@old@,"new":@new@},'
+        b'"notes":["no axis wdth in the font","wght=1000 is clamped to 900","axes: wght 100 to 900"]}\n', same="at 900", err=b"no axis wdth in the font\nwght=1000 is clamped to 900\n" + WGHT.encode(),
+        source="variable"),
+    Row("--verbose six out 0 2,1", out=lines((2, 1), (1, 2)) + SIX_TABLES, same="six 2,1"),
+    Row("--verbose --widths six out 0 2,1", out=lines((2, 1), (1, 2)) + b"[0 [0 200 100]]\n" + SIX_TABLES, same="six 2,1"),
+    Row("--verbose --json six out 0 2,1", out=b'{"glyphs":[{"old":2,"new":1},{"old":1,"new":2}],"sizes":{"old":@old@,"new":@new@},"tables":[%s],"notes":[]}\n' % b",".join(
+        b'{"tag":"%s","old":%d,"new":%d}' % it for it in SIX_SIZES), same="six 2,1"),
+    Row("--verbose --text A small out 0", out=b"U+0041 1 -> 1\n" + sizes(("cmap", len(tables_of(FONTS["small"])["cmap"]), None), ("glyf", 60, 12), ("head", 54, 54), ("hhea", 36, 36), ("hmtx", 24, 8), ("loca", 28, 6), ("maxp", 32, 32)), same="six 1", source="small"),
+    Row("--quiet --verbose six out 0 2,1", same="six 2,1"),
+    Row("--verbose --verbose six out 0 1", 2, err=twice("--verbose"), after=USED),
     Row("--quiet six out 0 2,1", same="six 2,1"),
     Row("--quiet --json --widths six out 0 2,1", same="six 2,1"),
     Row("--json --json six out 0 1", 2, err=twice("--json"), after=USED),
@@ -506,12 +630,12 @@ ROWS = [
     Row("--gids-file list six out 0", out=lines((3, 1), (1, 2), (2, 3), (1, 2), (0, 0), (1, 2), (2, 3), (5, 4)),
         files={"list": b"3,1 2\n1\r\n0-2\t5"}, same="six 3,1,2,5"),
     Row("six out 0 3,1,2,5", out=lines((3, 1), (1, 2), (2, 3), (5, 4)), same="six 3,1,2,5"),
-    Row("--gids-file list six out 0", 1, err=b"malformed font\nGID 65534: the face has 6 glyphs, from 0 on\n",
+    Row("--gids-file list six out 0", 1, err=b"malformed font\nGID 65534: the glyphs of the face are 0 to 5\n",
         files={"list": b"65534-65535"}, after=USED),
-    Row("--gids-file list six out 0", 1, err=b"malformed font\nGID 65535: the face has 6 glyphs, from 0 on\n",
+    Row("--gids-file list six out 0", 1, err=b"malformed font\nGID 65535: the glyphs of the face are 0 to 5\n",
         files={"list": b"3,1 2\n1\r\n0-2\t65535"}, after=USED),
     Row("--gids-file list simple out 0", 1, err=no_table("maxp"), files={"list": b"*"}, after=USED),
-    Row("--gids-file list six out 0", 1, err=b"malformed font\nGID 65535: the face has 6 glyphs, from 0 on\n",
+    Row("--gids-file list six out 0", 1, err=b"malformed font\nGID 65535: the glyphs of the face are 0 to 5\n",
         files={"list": b"1-2 65535"}, after=USED),
     *(Row("--gids-file list six out 0", 2, err=in_list(text.decode()), files={"list": text}, after=USED) for text in (
         b"3-1", b"65536", b"3-", b"-3", b"-", b"1-2-3", b"0-65536", b"+1", b"1;2", b"x", b"**", b"1\xc2\xa02")),
@@ -526,6 +650,37 @@ ROWS = [
     Row("--gids-file - six - 0", out="six 2,1", err=lines((2, 1), (1, 2)), stdin=b"2,1", after=USED),
     Row("--gids-file ./- - out 0", out=lines((2, 1)), stdin=SIMPLE, files={"-": b"2"}, same="simple 2"),
     Row("--gids-file list six out 0 1", 2, err=beside_option("1"), files={"list": b"1"}, after=USED),
+    # characters, and texts in files
+    Row("--unicodes U+0041,U+0042 small out 0", out=b"U+0041 1 -> 1\nU+0042 2 -> 2\n", same="six 1,2"),
+    *(Row(["--unicodes", it, "small", "out", "0"], out=b"U+0041 1 -> 1\nU+0042 2 -> 2\n", same="six 1,2") for it in ("41,42", "U+0041-0042", "u+41-U+42", "0000000041-42", "U+41,,42", "41-41,42-42")),
+    Row("small --unicodes 43,41,78,41 -o out", out=b"U+0043 3 -> 1\nU+0041 1 -> 2\nU+0078 0 -> 0\nU+0041 1 -> 2\n", same="six 3,1"),
+    Row("--unicodes 41,1f600 both out 0", out=b"U+0041 4 -> 1\nU+1F600 5 -> 2\n", same="six 4,5"),
+    Row("--unicodes D7FF-E000 small out 0", out=b"U+D7FF 0 -> 0\nU+E000 0 -> 0\n", same="six none"),
+    Row("--unicodes 10FFFF,DC00 small out 0", out=b"U+10FFFF 0 -> 0\n", same="six none"),
+    Row(["--unicodes", "", "small", "out", "0"], same="six none"),
+    Row("--unicodes-file list small out 0", out=b"U+0041 1 -> 1\nU+0042 2 -> 2\n", files={"list": b" U+0041\r\n\t42,\n"}, same="six 1,2"),
+    Row("--unicodes-file - small out 0", out=b"U+0041 1 -> 1\nU+0042 2 -> 2\n", stdin=b"41-42", same="six 1,2"),
+    Row("--text-file list small out 0", out=b"U+0041 1 -> 1\nU+0042 2 -> 2\n", files={"list": b"\nA\r\nB\n"}, same="six 1,2"),
+    Row("--text-file - small out 0", out=b"U+0043 3 -> 1\nU+0041 1 -> 2\n", stdin=b"CA", same="six 3,1"),
+    Row("small --text-file list -o out", out=b"U+0020 0 -> 0\nU+0009 0 -> 0\n", files={"list": b" \t"}, same="six none"),
+    Row("--text-file list both out 0", out=b"U+0041 4 -> 1\nU+1F600 5 -> 2\n", files={"list": "A\n\U0001F600".encode()}, same="six 4,5"),
+    Row("--unicodes 41 mac out 0", 1, err=b"no Unicode cmap in font\ncmap: no table for Unicode in format 4 or 12\n", after=USED),
+    Row("--unicodes 41 six out 0", 1, err=no_table("cmap", "no Unicode cmap in font"), after=USED),
+    Row("--text-file list six out 0", 1, err=no_table("cmap", "no Unicode cmap in font"), files={"list": b"A"}, after=USED),
+    *usage(*((["--unicodes", it, "small", "out", "0"], in_codes(part)) for it, part in (
+        ("x", "x"), ("U+", "U+"), ("U+110000", "U+110000"), ("41,42-41", "42-41"), ("41-", "41-"), ("-41", "-41"), ("+41", "+41"), ("U++41", "U++41"), ("V+41", "V+41"), ("41-42-43", "41-42-43"),
+        ("U+41+41", "U+41+41"), ("*", "*"), ("0x41", "0x41"), ("41 42", "41 42"), ("fffffffff", "fffffffff"))),
+           ("--unicodes", no_value("--unicodes")), ("--text-file", no_value("--text-file")), ("--unicodes-file", no_value("--unicodes-file")),
+           ("--unicodes 41 --text A small out 0", glyphs_twice("--text")), ("--text A --text-file list small out 0", glyphs_twice("--text-file")),
+           ("--text A --unicodes 41 small out 0", glyphs_twice("--unicodes")), ("--text A --unicodes-file list small out 0", glyphs_twice("--unicodes-file")),
+           ("--unicodes 41 small out 0 1", beside_option("1")),
+           *((f"--{it}-file - - out 0", wrong(f"--{it}-file: standard input is requested twice", "expected: - for IN or for FILE, not for both")) for it in ("text", "unicodes")),
+           ("- -o out --text-file -", wrong("--text-file: standard input is requested twice", "expected: - for IN or for FILE, not for both"))),
+    *(Row("--unicodes-file list small out 0", 2, err=in_codes(part, "--unicodes-file"), files={"list": text}, after=USED) for text, part in (
+        (b"41 x", "x"), (b"41\n42-41", "42-41"), (b"41\xff", "?"), (b"U+ 41", "U+"))),
+    *(Row("--text-file list small out 0", 2, err=wrong("--text-file: the text is not UTF-8", "expected: a text in UTF-8"), files={"list": text}, after=USED) for text in (b"\xff", b"A\xc3\n\xa9")),
+    *(Row(f"--{it}-file none small out 0", 3, err=cannot_read("none", errno.ENOENT), after=USED) for it in ("text", "unicodes")),
+    Row("--text-file . small out 0", 3, err=cannot_read(".", errno.EISDIR), after=USED),
     # the list of an argument
     Row("--gids 2,1 six out 0", out=lines((2, 1), (1, 2)), same="six 2,1"),
     Row("--gids 1-3,5 six out 0", out=lines((1, 1), (2, 2), (3, 3), (5, 4)), same="six 1-3,5"),
@@ -533,7 +688,7 @@ ROWS = [
     Row("--gids 3,1-2,1,0-2,,5 six out 0", out=lines((3, 1), (1, 2), (2, 3), (1, 2), (0, 0), (1, 2), (2, 3), (5, 4)), same="six 3,1,2,5"),
     Row(["--gids", "", "six", "out", "0"], same="six none"),
     Row("--gids 3-3 six out 0", out=lines((3, 1)), same="six 3"),
-    Row("--gids 65535-65535 six out 0", 1, err=b"malformed font\nGID 65535: the face has 6 glyphs, from 0 on\n", after=USED),
+    Row("--gids 65535-65535 six out 0", 1, err=b"malformed font\nGID 65535: the glyphs of the face are 0 to 5\n", after=USED),
     Row("--gids * simple out 0", 1, err=no_table("maxp"), after=USED),
     *usage(*((f"--gids {it} six out 0", in_argument(part)) for it, part in (
         ("3-1", "3-1"), ("65536", "65536"), ("1,qq", "qq"), ("1-2-3", "1-2-3"), ("0-65536", "0-65536"), ("*,1", "*"), ("**", "**"), ("+1", "+1"), ("-", "-"),
@@ -544,12 +699,12 @@ ROWS = [
     *(Row(words, out=lines((2, 1), (1, 2)), same="six 2,1") for words in (
         "six --gids 2,1 -o out", "six -o out --gids 2,1", "-o out --gids 2,1 six", "--gids 2,1 six -o out", "--output-file out six --gids 2,1",
         "-o out --gids 2,1 --face-index 0 -- six", "six --face-index 4294967295 --gids 2,1 -o out")),
-    Row("six -o out --widths --gids 2,1 --json", out=b'{"glyphs":[{"old":2,"new":1},{"old":1,"new":2}],"widths":[0,200,100]}\n', same="six 2,1"),
+    Row("six -o out --widths --gids 2,1 --json", out=b'{"glyphs":[{"old":2,"new":1},{"old":1,"new":2}],"widths":[0,200,100],"sizes":{"old":@old@,"new":@new@},"notes":[]}\n', same="six 2,1"),
     Row("small --text AB -o out", out=b"U+0041 1 -> 1\nU+0042 2 -> 2\n", same="six 1,2"),
     Row("six -o out --gids-file list", out=lines((2, 1), (1, 2)), files={"list": b"2 1"}, same="six 2,1"),
     Row("faces --face-index 1 --gids 2 -o out", out=lines((2, 1)), same="simple 2"),
-    Row("mixed --face-index 1 --gids 1,6 -o out", 1, err=b"malformed font\nGID 6: the face has 6 glyphs, from 0 on\n", after=USED),
-    Row("faces --face-index 2 --gids 2 -o out", 1, err=b"malformed font\nINDEX 2: the collection has 2 faces, from 0 on\n", after=USED),
+    Row("mixed --face-index 1 --gids 1,6 -o out", 1, err=b"malformed font\nGID 6: the glyphs of the face are 0 to 5\n", after=USED),
+    Row("faces --face-index 2 --gids 2 -o out", 1, err=b"malformed font\nINDEX 2: the faces of the collection are 0 to 1\n", after=USED),
     Row("variable --at wght=650 --gids 1-3 -o out", out=lines((1, 1), (2, 2), (3, 3)), same="at 650"),
     Row("six --gids 2,1 -o -", out="six 2,1", err=lines((2, 1), (1, 2)), after=USED),
     Row("- --gids 2 -o out", out=lines((2, 1)), stdin=SIMPLE, same="simple 2"),
@@ -567,7 +722,7 @@ ROWS = [
            ("-o x --gids 1 six out 0", beside_input("out")), ("six -o out --gids 1 -- mac", beside_input("mac")), ("-o out --gids 1 -- six mac", beside_input("mac")),
            ("-o out --gids 1 --no-hintings six", no_option("--no-hintings", "--no-hinting")), ("six -o out --gids 1 --no-hintings", no_option("--no-hintings", "--no-hinting")),
            ("--no-hintings -o out --gids 1", no_option("--no-hintings", "--no-hinting")), ("six -o out --gids 1 --axes", AXES_LATE),
-           ("six -o out --gids 1 --help", late("--help")), ("- -o out --gids-file -", INPUT_TWICE), ("six -o out --gids 1 --at wght", coordinate("wght")),
+           ("six -o out --gids 1 --help", late("--help")), ("- -o out --gids-file -", INPUT_TWICE), ("six -o out --gids 1 --at wght=x", coordinate("wght=x")),
            ("six -o out --widths --gids 1 --widths", twice("--widths")), ("six -o out --gids 1 --limits 5", limits("5"))),
     # the glyphs of a text
     Row("--text AB small out 0", out=b"U+0041 1 -> 1\nU+0042 2 -> 2\n", same="six 1,2"),
@@ -603,7 +758,7 @@ ROWS = [
     Row("simple - 0 2", out="simple 2", err=lines((2, 1)), after=USED),
     Row("--quiet - - 0 2", out="simple 2", stdin=SIMPLE, after=USED),
     Row("- - 0 2", out="simple 2", err=lines((2, 1)), stdin=SIMPLE, after=USED),
-    Row("--json simple - 0 2", out="simple 2", err=b'{"glyphs":[{"old":2,"new":1}]}\n', after=USED),
+    Row("--json simple - 0 2", out="simple 2", err=b'{"glyphs":[{"old":2,"new":1}],"sizes":{"old":@old@,"new":@new@},"notes":[]}\n', after=USED, source="simple"),
     Row("simple /dev/stdout 0 2", out="simple 2", err=lines((2, 1)), after=USED),
     Row("simple /dev/null 0 2", out=lines((2, 1)), after=USED),
     Row("- out 0 2", 1, err=b"unknown font kind\n", after=USED),
@@ -645,7 +800,7 @@ CLOSED = [
     (1, "--help", (3, None, NO_OUTPUT), (0, None, b"")),
     (1, "--version", (3, None, NO_OUTPUT), (0, None, b"")),
     (1, "--axes variable 0", (3, None, NO_OUTPUT), (0, None, b"")),
-    (1, "--at wdth=1 simple out 0 2", (3, None, NO_OUTPUT), (0, None, b"no axis wdth in the font\n")),
+    (1, "--at wdth=1 simple out 0 2", (3, None, NO_OUTPUT), (0, None, no_axis("wdth", axes="axes: none\n"))),
     (1, "--quiet simple out 0 2", (0, None, b""), None),
     (1, "simple out 0 9", (1, None, NO_ENTRIES_9), None),
     (2, "simple - 0 2", (3, SIMPLE_2, None), (0, SIMPLE_2, None)),
@@ -727,13 +882,17 @@ class Table:
         wanted = {name: self.known(it, after.get(name)) if isinstance(it, str) else it for name, it in wanted.items()}
         wanted = {name: it for name, it in wanted.items() if it is not None}
         out = self.same.get(row.out) if isinstance(row.out, str) else row.out
+        new = out if isinstance(row.out, str) else after.get("out")
+        sizes_of = {b"@old@": b"%d" % len(before[row.source]), b"@new@": b"%d" % len(new or b"")}
+        out, err = ((re.sub(b"@old@|@new@", lambda found: sizes_of[found[0]], it) if isinstance(it, bytes) else it) for it in (out if not isinstance(row.out, str) else None, row.err))
+        out = new if isinstance(row.out, str) else out
         problems = []
         if got.returncode != row.status:
             problems.append(f"status {got.returncode}, wanted {row.status}")
         if got.stdout != out:
             problems.append(f"standard output {got.stdout[:200]!r}, wanted {out and out[:200]!r}")
-        if row.err is not None and not self.is_said(got.stderr, row.err):
-            problems.append(f"standard error {got.stderr[:200]!r}, wanted {row.err!r}")
+        if err is not None and not self.is_said(got.stderr, err):
+            problems.append(f"standard error {got.stderr[:200]!r}, wanted {err!r}")
         for name in sorted(after.keys() | wanted.keys()):
             if after.get(name) != wanted.get(name):
                 problems.append(f"the file {name} has {after.get(name, b'')[:60]!r} (or isn't there)")

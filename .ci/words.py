@@ -4,8 +4,8 @@ replaces: a line `FILE:LINE: WORD (NEW)` for each, and status 1 then, or where g
 
 It reads every Markdown file that git keeps, but for CHANGELOG.md and compare/results, which are records, and docs/EVIDENCE.md,
 which `compare/all` writes. It passes over blocks and spans of code, comments, the targets of links, and what stands between
-`from compare/results/..` and `end`. It also reads the manual page, and of the program's crates, in SOURCES, the messages: the texts
-between quotation marks outside tests. Doc comments aren't checked yet.
+`from compare/results/..` and `end`. Of the crates in SOURCES it reads the messages, which are the texts between quotation marks
+outside tests, and the doc comments of files and of public items; and the manual page. The other crates aren't checked yet.
 
 It also fails where the table of CONTRIBUTING.md has other words than WORDS, and where an exception isn't needed any more."""
 import os
@@ -47,10 +47,11 @@ COMMON = re.compile(r"(?<![\w-])(?:" + "|".join(INNOCENT) + r")(?![\w-])", re.I)
 # Document, a text in it, and why its words may stay.
 EXCEPTIONS = [
 ]
-# The crates whose messages are checked, and the manual page of the program.
+# The crates whose messages and doc comments are checked, and the manual page of the program.
 SOURCES = ("subset_args", "subset_font", "subset_lines")
 MANUAL = "crates/subset_font/subset_font.1"
-# A text between quotation marks.
+# A comment of a file, or one of an item with the item behind it; and a text between quotation marks.
+COMMENT = re.compile(r"^[ ]*//!.*$|^(?P<item>(?:[ ]*///.*\n)+)(?:[ ]*#\[.*\n)*[ ]*(?:pub |[A-Z]\w*(?: \{|\(|,))", re.M)
 MESSAGE = re.compile(r'b?"((?:[^"\\]|\\.)*)"', re.S)
 # What a document quotes, or what no reader sees; the lines stay, so that their numbers do.
 # (code first, as it may quote the comments; a span of code ends with its paragraph)
@@ -108,8 +109,10 @@ def sources():
     return sorted(it for it in found if it and not it.endswith("/tests.rt"))
 
 
-def messages(text):
-    """The messages of a source, each with where it begins."""
+def parts_of_source(text):
+    """The doc comments of files and of public items in a source, and its messages, each with where it begins."""
+    for found in COMMENT.finditer(text):
+        yield found.start(), re.sub(r"^( *)//[/!]", r"\1   ", found["item"] or found[0], flags=re.M)
     for found in MESSAGE.finditer(re.sub(r"//.*|ghost use .*|(?:ensures|requires) .*|'\"'|b'\"'", blank, text)):
         yield found.start(1), found[1]
 
@@ -117,7 +120,7 @@ def messages(text):
 def faults_of_source(path, known):
     """The replaced words of a source, by their lines."""
     text, found = repository.read(path), []
-    for start, part in messages(text):
+    for start, part in parts_of_source(text):
         found += [(start + hit.start(), hit[0], word) for word, pattern in PATTERNS.items() for hit in pattern.finditer(own_text(part))]
     return [f"{path}:{text.count(chr(10), 0, start) + 1}: {' '.join(hit.split())} ({known.get(word, '?')})" for start, hit, word in sorted(found)]
 

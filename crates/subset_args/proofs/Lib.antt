@@ -1,3 +1,8 @@
 pub mod Counting
 pub mod Parts
 pub mod Said
+pub mod Quotients
+pub mod Digits
+pub mod CharacterParts
+pub mod Hex
+pub mod Scalars

@@ -1,26 +1,14 @@
 -- User coordinates on the axes of a variable font, as an argument writes them: `wght=650,wdth=87.5`.
-use Rattle.std.specs.Prelude.{ℕ, ◌+◌, ◌*◌, ◌^◌, ◌==◌, nat_lt, Bool, if◌then◌else◌, List, [], ◌∷◌, length, Option, Some, None, ℤ, pos, negsuc, neg_ℤ}
+use Rattle.std.specs.Prelude.{ℕ, ◌+◌, ◌*◌, ◌^◌, ◌==◌, ◌&&◌, nat_lt, Bool, if◌then◌else◌, List, [], ◌∷◌, length, Option, Some, None, ℤ, pos, negsuc, neg_ℤ}
 use Rattle.std.specs.Option.{option_map, option_and_then}
 use Rattle.std.specs.List.{slice_split, before_first, after_first, position_or_len}
+use Rattle.std.specs.Str.{all_ascii_digits}
+use Rattle.std.specs.Str.Parse.{digits_value}
 use Rattle.subsetter_base.specs.declared.tag.Tag.{Tag}
 use Rattle.subsetter_variation.specs.Nearest.{nearest}
 use Rattle.subsetter_words.specs.Numbers.{number_in_bits}
 
 -- ---- a decimal number, in 65536ths
-
--- how many parts of a unit so many digits behind the point count: one to nine digits
-abbrev pub parts_of_unit : ℕ → Option ℕ
-parts_of_unit n =
-    if n == 1 then Some (10 ^ 1)
-    else if n == 2 then Some (10 ^ 2)
-    else if n == 3 then Some (10 ^ 3)
-    else if n == 4 then Some (10 ^ 4)
-    else if n == 5 then Some (10 ^ 5)
-    else if n == 6 then Some (10 ^ 6)
-    else if n == 7 then Some (10 ^ 7)
-    else if n == 8 then Some (10 ^ 8)
-    else if n == 9 then Some (10 ^ 9)
-    else None
 
 -- a number of parts of a unit
 pub record Decimal : Type 0 where
@@ -37,13 +25,19 @@ is_minus b = b == 45
 abbrev pub has_byte : (ℕ → Bool) → List ℕ → Bool
 has_byte test word = nat_lt (position_or_len test word) (length word)
 
--- digits in front of the point, and behind it
+abbrev pub with_parts : ℕ → ℕ → Decimal
+with_parts count parts = record { count = count; parts = parts }
+
+-- digits in front of the point, and one or more behind it
+abbrev pub with_digits : List ℕ → ℕ → Decimal
+with_digits digits units = with_parts (units * 10 ^ length digits + digits_value 10 digits) (10 ^ length digits)
+
 abbrev pub decimal_of : List ℕ → List ℕ → Option Decimal
-decimal_of whole digits = option_and_then (λ parts. option_and_then (λ count. option_map (λ units. record { count = units * parts + count; parts = parts }) (number_in_bits 16 whole)) (number_in_bits 32 digits)) (parts_of_unit (length digits))
+decimal_of whole digits = if nat_lt 0 (length digits) && all_ascii_digits digits then option_map (with_digits digits) (number_in_bits 16 whole) else None
 
 -- the same, or digits alone
 abbrev pub size_in : List ℕ → Option Decimal
-size_in word = if has_byte is_point word then decimal_of (before_first is_point word) (after_first is_point word) else option_map (λ units. record { count = units; parts = 1 }) (number_in_bits 16 word)
+size_in word = if has_byte is_point word then decimal_of (before_first is_point word) (after_first is_point word) else option_map (λ units. with_parts units 1) (number_in_bits 16 word)
 
 -- it fits 32 bits with a sign
 abbrev pub in_32_bits : ℤ → Option ℤ

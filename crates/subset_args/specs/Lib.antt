@@ -3,8 +3,10 @@ pub mod Options
 pub mod Request
 pub mod View
 pub mod Lists
+pub mod Characters
+pub mod Files
 pub mod ListView
 pub mod Coordinates
-pub mod CoordinateView
+pub mod Halves
 pub mod Mistakes
 pub mod Nearest

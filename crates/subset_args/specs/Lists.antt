@@ -60,15 +60,17 @@ parts text = slice_split (λ b. b == 44) (map as_comma text)
 abbrev pub is_star : List ℕ → Bool
 is_star text = bytes_eq (filter (λ b. not (is_blank b)) text) (codes "*")
 
--- every glyph of the face, or these
+-- every glyph of the face, these, or those of these characters or of a text
 pub data FileList : Type 0 where
   every : FileList
   these : List ℕ → FileList
+  characters : List ℕ → FileList
+  text_of : List ℕ → FileList
 
 -- the glyphs that an argument lists: numbers and ranges with commas, or `*`
 abbrev pub argument_list : List ℕ → Option FileList
 argument_list text = if bytes_eq text (codes "*") then Some every else option_map these (parts_glyphs (slice_split (λ b. b == 44) text))
 
 -- the glyphs that the text of a file lists: numbers and ranges, or `*`
-abbrev pub list_in : List ℕ → Option FileList
-list_in text = if is_star text then Some every else option_map these (parts_glyphs (parts text))
+abbrev pub glyphs_in_file : List ℕ → Option FileList
+glyphs_in_file text = if is_star text then Some every else option_map these (parts_glyphs (parts text))

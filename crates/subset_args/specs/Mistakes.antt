@@ -1,13 +1,15 @@
 -- What is wrong with an argument, by itself.
-use Rattle.std.specs.Prelude.{◌≡◌, ◌≢◌, ◌⊎◌, ℕ, true, List, None, codes}
-use Rattle.std.specs.Str.{bytes_eq, IsUtf8}
+use Rattle.std.specs.Prelude.{◌≡◌, ◌≢◌, ◌⊎◌, ℕ, true, List, None}
+use Rattle.std.specs.Str.{IsUtf8}
 use Rattle.subset_args.specs.Lists.{ends_in}
+use Rattle.subset_args.specs.Characters.{codes_in}
+use Rattle.subset_args.specs.Request.{topic_of}
 use Rattle.subsetter_words.specs.Numbers.{number_in_bits}
 use Rattle.subset_args.specs.Coordinates.{coordinate_in}
 use Rattle.subset_args.specs.Options.{kind_of, looks_like_option}
 use Rattle.subset_args.specs.declared.options.Kind.TheVariants.{Place}
 use Rattle.subset_args.specs.declared.mistakes.Wrong.{Wrong}
-use Rattle.subset_args.specs.declared.mistakes.Wrong.TheVariants.{NoInput, NoOutput, NoIndex, NoGlyphs, Further, BehindAxes, Late, AxesLate, Unknown, Twice, NoValue, GlyphsTwice, BesideOption, InputTwice, Index, Glyph, Limits, Coordinate, Part, BesideInput, NoOutputOption, NoSource}
+use Rattle.subset_args.specs.declared.mistakes.Wrong.TheVariants.{NoInput, NoOutput, NoIndex, NoGlyphs, Further, BehindShown, Late, ShownLate, Unknown, Twice, NoValue, GlyphsTwice, BesideOption, InputTwice, Index, Glyph, Limits, Coordinate, Part, Codes, BesideInput, NoOutputOption, NoSource}
 
 -- what is said of an argument, or of a value that it lists, is so as far as its own bytes show
 abbrev pub IsWrong : Wrong → List ℕ → Type 0
@@ -16,9 +18,9 @@ IsWrong NoOutput word = Unit {0}
 IsWrong NoIndex word = Unit {0}
 IsWrong NoGlyphs word = Unit {0}
 IsWrong Further word = Unit {0}
-IsWrong BehindAxes word = Unit {0}
+IsWrong BehindShown word = Unit {0}
 IsWrong Late word = kind_of word ≢ Place
-IsWrong AxesLate word = bytes_eq word (codes "--axes") ≡ true
+IsWrong ShownLate word = topic_of word ≢ None
 IsWrong Unknown word = (kind_of word ≡ Place) × (looks_like_option word ≡ true)
 IsWrong Twice word = kind_of word ≢ Place
 IsWrong NoValue word = kind_of word ≢ Place
@@ -30,6 +32,7 @@ IsWrong Glyph word = number_in_bits 16 word ≡ None
 IsWrong Limits word = Unit {0}
 IsWrong Coordinate word = coordinate_in word ≡ None
 IsWrong Part word = ¬ (IsUtf8 word) ⊎ (ends_in word ≡ None)
+IsWrong Codes word = ¬ (IsUtf8 word) ⊎ (codes_in word ≡ None)
 IsWrong BesideInput word = Unit {0}
 IsWrong NoOutputOption word = Unit {0}
 IsWrong NoSource word = Unit {0}

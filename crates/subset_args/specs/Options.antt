@@ -5,12 +5,14 @@ use Rattle.std.specs.Str.{bytes_eq}
 use Rattle.subsetter_words.specs.Numbers.{number_in_bits}
 use Rattle.subset_args.specs.Limits.{Bounds, limits_in}
 use Rattle.subset_args.specs.declared.options.Switch.{Switch}
-use Rattle.subset_args.specs.declared.options.Switch.TheVariants.{Widths, NoHinting, NoNames, NoGlyphNames, Json, Quiet}
+use Rattle.subset_args.specs.declared.options.Switch.TheVariants.{Widths, NoHinting, NoNames, NoGlyphNames, Json, Quiet, Verbose}
 use Rattle.subset_args.specs.declared.options.Setting.{Setting}
-use Rattle.subset_args.specs.declared.options.Setting.TheVariants.{Limits, GidsFile, Text, At, Gids, FaceIndex, Output}
+use Rattle.subset_args.specs.declared.options.Setting.TheVariants.{Limits, GidsFile, Text, At, Gids, FaceIndex, Output, TextFile, Unicodes, UnicodesFile}
 use Rattle.subset_args.specs.declared.options.Kind.{Kind}
 use Rattle.subset_args.specs.declared.options.Kind.TheVariants.{Switch as IsSwitch, Setting as IsSetting, Help, Version, End, Place}
 use Rattle.subset_args.specs.declared.options.Switches.{Switches}
+use Rattle.subset_args.specs.declared.lists.FileKind.{FileKind}
+use Rattle.subset_args.specs.declared.lists.FileKind.TheVariants.{Glyphs as OfGlyphs, Characters as OfCharacters, Text as OfText}
 
 -- the option without a value that an argument is
 abbrev pub switch_of : List ℕ → Option Switch
@@ -21,6 +23,7 @@ switch_of word =
     else if bytes_eq word (codes "--no-glyph-names") then Some NoGlyphNames
     else if bytes_eq word (codes "--json") then Some Json
     else if bytes_eq word (codes "--quiet") then Some Quiet
+    else if bytes_eq word (codes "--verbose") then Some Verbose
     else None
 
 -- the option that a value follows, which an argument is
@@ -34,6 +37,9 @@ setting_of word =
     else if bytes_eq word (codes "--face-index") then Some FaceIndex
     else if bytes_eq word (codes "--output-file") then Some Output
     else if bytes_eq word (codes "-o") then Some Output
+    else if bytes_eq word (codes "--text-file") then Some TextFile
+    else if bytes_eq word (codes "--unicodes") then Some Unicodes
+    else if bytes_eq word (codes "--unicodes-file") then Some UnicodesFile
     else None
 
 -- what an argument that is neither is
@@ -62,6 +68,7 @@ is_on NoNames all = all.no_names
 is_on NoGlyphNames all = all.no_glyph_names
 is_on Json all = all.json
 is_on Quiet all = all.quiet
+is_on Verbose all = all.verbose
 
 -- with one that is given
 abbrev pub switched_on : Switch → Switches → Switches
@@ -71,12 +78,14 @@ switched_on NoNames all = record all { no_names = true }
 switched_on NoGlyphNames all = record all { no_glyph_names = true }
 switched_on Json all = record all { json = true }
 switched_on Quiet all = record all { quiet = true }
+switched_on Verbose all = record all { verbose = true }
 
--- where the glyphs are found that an option requests: in the list of a file, by the characters of a text, or in a list
+-- where the glyphs are found that an option requests: in a file, by the characters of a text, or in a list of glyphs or of characters
 pub data GlyphSource : Type 0 where
-  in_file : List ℕ → GlyphSource
+  in_file : FileKind → List ℕ → GlyphSource
   by_text : List ℕ → GlyphSource
   in_list : List ℕ → GlyphSource
+  in_codes : List ℕ → GlyphSource
 
 -- what the options choose
 pub record Choice : Type 0 where
@@ -89,7 +98,7 @@ pub record Choice : Type 0 where
 
 -- nothing
 abbrev pub no_choice : Choice
-no_choice = record { switches = record { widths = false; no_hinting = false; no_names = false; no_glyph_names = false; json = false; quiet = false }; limits = None; source = None; at = None; output = None; index = None }
+no_choice = record { switches = record { widths = false; no_hinting = false; no_names = false; no_glyph_names = false; json = false; quiet = false; verbose = false }; limits = None; source = None; at = None; output = None; index = None }
 
 -- with an option without a value; none where it was given before
 abbrev pub with_switch : Switch → Choice → Option Choice
@@ -118,12 +127,15 @@ with_index value choice = if is_some choice.index then None else option_map (λ 
 -- with an option and its value
 abbrev pub with_setting : Setting → List ℕ → Choice → Option Choice
 with_setting Limits value choice = with_limits value choice
-with_setting GidsFile value choice = with_source (in_file value) choice
+with_setting GidsFile value choice = with_source (in_file OfGlyphs value) choice
 with_setting Text value choice = with_source (by_text value) choice
 with_setting At value choice = with_at value choice
 with_setting Gids value choice = with_source (in_list value) choice
 with_setting FaceIndex value choice = with_index value choice
 with_setting Output value choice = with_output value choice
+with_setting TextFile value choice = with_source (in_file OfText value) choice
+with_setting Unicodes value choice = with_source (in_codes value) choice
+with_setting UnicodesFile value choice = with_source (in_file OfCharacters value) choice
 
 -- what the arguments with options in front say: that help or the version is wanted, or what is chosen, and the arguments behind the options
 pub data Options : Type 0 where

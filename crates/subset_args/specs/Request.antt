@@ -1,15 +1,18 @@
 -- What the arguments after the program's name ask for.
-use Rattle.std.specs.Prelude.{ℕ, ℤ, Bool, false, ◌&&◌, ◌||◌, ◌==◌, if◌then◌else◌, List, [], ◌∷◌, map, Option, Some, None, codes, is_some, unwrap_or}
+use Rattle.std.specs.Prelude.{ℕ, ℤ, Bool, true, false, not, nat_lt, ◌&&◌, ◌||◌, ◌==◌, if◌then◌else◌, List, [], ◌∷◌, map, length, Option, Some, None, codes, is_some, unwrap_or}
 use Rattle.std.specs.Option.{option_map, option_and_then}
 use Rattle.std.specs.List.{slice_split}
 use Rattle.std.specs.Str.{bytes_eq}
 use Rattle.subsetter_words.specs.Numbers.{number_in_bits}
 use Rattle.subsetter_base.specs.declared.tag.Tag.{Tag}
-use Rattle.subset_args.specs.Coordinates.{coordinates_in}
+use Rattle.subset_args.specs.Coordinates.{has_byte, is_equals, coordinates_in}
 use Rattle.subset_args.specs.Limits.{Bounds}
-use Rattle.subset_args.specs.Lists.{FileList, every, these, argument_list}
-use Rattle.subset_args.specs.Options.{GlyphSource, in_file, by_text, in_list, Choice, Free, Options, helped, versioned, chosen, no_choice, parsed, free}
+use Rattle.subset_args.specs.Lists.{FileList, every, these, characters, text_of, argument_list}
+use Rattle.subset_args.specs.Characters.{argument_characters}
+use Rattle.subset_args.specs.Options.{GlyphSource, in_file, by_text, in_list, in_codes, Choice, Free, Options, helped, versioned, chosen, no_choice, parsed, free}
 use Rattle.subset_args.specs.declared.options.Switches.{Switches}
+use Rattle.subset_args.specs.declared.jobs.Topic.{Topic}
+use Rattle.subset_args.specs.declared.jobs.Topic.TheVariants.{Axes, Info}
 
 -- the values, if there is one at each place
 abbrev pub all_some : List (Option ℕ) → Option (List ℕ)
@@ -20,11 +23,24 @@ all_some (x ∷ xs) = option_and_then (λ y. option_map (λ ys. y ∷ ys) (all_s
 abbrev pub glyph_list : List ℕ → Option (List ℕ)
 glyph_list text = all_some (map (number_in_bits 16) (slice_split (λ b. b == 44) text))
 
--- which glyphs are requested: these, every one, or those that are found there
+-- which glyphs are requested: these, every one, those of these characters, or those that are found there
 pub data Asked : Type 0 where
   listed : List ℕ → Asked
   every_glyph : Asked
+  of_characters : List ℕ → Asked
   from : GlyphSource → Asked
+
+-- where on its axes a variable font is requested: at coordinates, or at the named instance of a name
+pub data Position : Type 0 where
+  at_coordinates : List (Tag × ℤ) → Position
+  at_instance : List ℕ → Position
+
+-- a text without an equals sign is a name
+abbrev pub is_name : List ℕ → Bool
+is_name text = nat_lt 0 (length text) && not (has_byte is_equals text)
+
+abbrev pub position_in : List ℕ → Option Position
+position_in text = if is_name text then Some (at_instance text) else option_map at_coordinates (coordinates_in text)
 
 -- what a run that makes a subset is to do
 pub record Request : Type 0 where
@@ -34,27 +50,30 @@ pub record Request : Type 0 where
   pub output : List ℕ
   pub index : ℕ
   pub glyphs : Asked
-  -- user coordinates, where they are said
-  pub coordinates : Option (List (Tag × ℤ))
+  -- where on the axes of a variable font, if that is specified
+  pub position : Option Position
 
 -- what a run is to do
 pub data Command : Type 0 where
   help : Command
   version : Command
   subset : Request → Command
-  -- to tell the axes of a face: its file and its index
-  axes : List ℕ → ℕ → Command
+  -- to show the axes of a face, or what it is, as JSON or not: its file and its index
+  show : Topic → Bool → List ℕ → ℕ → Command
 
 -- the glyphs of a list
 abbrev pub of_list : FileList → Asked
 of_list every = every_glyph
 of_list (these glyphs) = listed glyphs
+of_list (characters found) = of_characters found
+of_list (text_of text) = from (by_text text)
 
 -- which glyphs an option requests
 abbrev pub asked_by : GlyphSource → Option Asked
-asked_by (in_file name) = Some (from (in_file name))
+asked_by (in_file kind name) = Some (from (in_file kind name))
 asked_by (by_text text) = Some (from (by_text text))
 asked_by (in_list text) = option_map of_list (argument_list text)
+asked_by (in_codes text) = option_map of_list (argument_characters text)
 
 -- which glyphs the arguments behind INDEX ask for: one argument that lists them, or none where they are found elsewhere
 abbrev pub asked : Option GlyphSource → List (List ℕ) → Option Asked
@@ -71,18 +90,20 @@ is_stream word = bytes_eq word (codes "-")
 abbrev pub lists_in_stream : Asked → Bool
 lists_in_stream (listed glyphs) = false
 lists_in_stream every_glyph = false
-lists_in_stream (from (in_file name)) = is_stream name
+lists_in_stream (of_characters found) = false
+lists_in_stream (from (in_file kind name)) = is_stream name
 lists_in_stream (from (by_text text)) = false
 lists_in_stream (from (in_list text)) = false
+lists_in_stream (from (in_codes text)) = false
 
--- the user coordinates that are said, if any
-abbrev pub said_at : Option (List ℕ) → Option (Option (List (Tag × ℤ)))
+-- the position that is requested, if any
+abbrev pub said_at : Option (List ℕ) → Option (Option Position)
 said_at None = Some None
-said_at (Some text) = option_map (λ c. Some c) (coordinates_in text)
+said_at (Some text) = option_map (λ p. Some p) (position_in text)
 
 -- what is asked for, where standard input isn't to be read twice
 abbrev pub request_of : Choice → List ℕ → List ℕ → ℕ → Asked → Option Request
-request_of choice input output index glyphs = if is_stream input && lists_in_stream glyphs then None else option_map (λ at. record { switches = choice.switches; limits = choice.limits; input = input; output = output; index = index; glyphs = glyphs; coordinates = at }) (said_at choice.at)
+request_of choice input output index glyphs = if is_stream input && lists_in_stream glyphs then None else option_map (λ at. record { switches = choice.switches; limits = choice.limits; input = input; output = output; index = index; glyphs = glyphs; position = at }) (said_at choice.at)
 
 -- what is requested by IN, OUT, INDEX and the arguments behind them
 abbrev pub request_behind : Choice → List ℕ → List ℕ → ℕ → List (List ℕ) → Option Request
@@ -122,19 +143,33 @@ abbrev pub command_or : Option Command → Option Command → Option Command
 command_or (Some command) other = Some command
 command_or None other = other
 
--- what the arguments `FONT INDEX` behind `--axes` ask for
-abbrev pub axes_with : List (List ℕ) → Option Command
-axes_with (input ∷ index ∷ []) = option_map (axes input) (number_in_bits 32 index)
-axes_with _ = None
+-- what is shown by the arguments `FONT [INDEX]`, with or without JSON; INDEX is 0 where it isn't given
+abbrev pub shown_of : Topic → Bool → List (List ℕ) → Option Command
+shown_of topic json (input ∷ []) = Some (show topic json input 0)
+shown_of topic json (input ∷ index ∷ []) = option_map (show topic json input) (number_in_bits 32 index)
+shown_of topic json _ = None
 
--- the arguments behind a first one that is `--axes`
-abbrev pub behind_axes : List (List ℕ) → Option (List (List ℕ))
-behind_axes [] = None
-behind_axes (word ∷ words) = if bytes_eq word (codes "--axes") then Some words else None
+-- `--json` may be in front of them
+abbrev pub shown_by : Topic → List (List ℕ) → Option Command
+shown_by topic [] = None
+shown_by topic (word ∷ words) = if bytes_eq word (codes "--json") then shown_of topic true words else shown_of topic false (word ∷ words)
 
--- what the arguments ask for: `--axes FONT INDEX`, `[OPTIONS] IN OUT INDEX [GID[,GID..]]`, or IN with options before and after it, one of which says OUT
+-- what a first argument shows, if it is `--axes` or `--info`
+abbrev pub topic_of : List ℕ → Option Topic
+topic_of word = if bytes_eq word (codes "--axes") then Some Axes else (if bytes_eq word (codes "--info") then Some Info else None)
+
+abbrev pub first_topic : List (List ℕ) → Option Topic
+first_topic [] = None
+first_topic (word ∷ words) = topic_of word
+
+-- the arguments behind the first
+abbrev pub behind_first : List (List ℕ) → List (List ℕ)
+behind_first [] = []
+behind_first (word ∷ words) = words
+
+-- what the arguments request: `--axes [--json] FONT [INDEX]` or `--info [--json] FONT [INDEX]`, `[OPTIONS] IN OUT INDEX [GID[,GID..]]`, or IN with options before and after it, one of which gives OUT
 abbrev pub command : List (List ℕ) → Option Command
-command words = elim (behind_axes words) [
-  | Some behind ↦ axes_with behind
+command words = elim (first_topic words) [
+  | Some topic ↦ shown_by topic (behind_first words)
   | None ↦ command_or (command_by_options words) (command_free words)
 ]

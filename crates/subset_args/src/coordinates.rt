@@ -1,11 +1,12 @@
 //! User coordinates on the axes of a variable font, as an argument writes them.
 //!
-//! A value is a decimal number, taken to the nearest 65536th without floats.
+//! A value is a decimal number of any length, rounded to the nearest 65536th without floats.
 
-ghost use Rattle.std.specs.Prelude.{◌≡◌, ◌⊎◌, ◌≤◌, ◌<◌, ◌*◌, ◌++◌, ◌∷◌, [], map, OnOk, IfOk, IfErr, IfSome, Some, None, length, pos, neg_ℤ, unsigned_abs, is_some};
+ghost use Rattle.std.specs.Prelude.{◌≡◌, ◌⊎◌, ◌≤◌, ◌<◌, ◌*◌, ◌++◌, ◌&&◌, nat_lt, ◌∷◌, [], map, OnOk, IfOk, IfErr, IfSome, Some, None, length, pos, neg_ℤ, unsigned_abs, is_some};
 ghost use Rattle.std.specs.Option.{option_map};
-ghost use Rattle.subset_args.specs.Coordinates.{parts_of_unit, decimal_of, size_in, fixed, below_zero, above_zero, with_minus, value_in, tag_in, coordinate_of, coordinate_in, coordinates_of, coordinates_in};
-ghost use Rattle.subset_args.specs.CoordinateView.{decimal_view};
+ghost use Rattle.subset_args.specs.Coordinates.{decimal_of, size_in, fixed, below_zero, above_zero, with_minus, value_in, tag_in, coordinate_of, coordinate_in, coordinates_of, coordinates_in};
+ghost use Rattle.subset_args.specs.Halves.{halves, behind_digit, halves_behind, quarters};
+ghost use Rattle.std.specs.Str.{all_ascii_digits};
 ghost use Rattle.subset_args.specs.declared.jobs.ArgsError.TheVariants.{Usage, OutOfMemory};
 
 use crate::jobs::ArgsError;
@@ -14,99 +15,151 @@ use subsetter_base::Tag;
 use subsetter_variation::rounding::nearest;
 use subsetter_words::{parts_of, u16_of, u32_of};
 
-/// A number without a sign: so many parts of a unit.
+/// A number without a sign: so many halves of a 65536th, and whether there is more.
 #[derive(Clone, Copy)]
-pub struct Decimal {
+pub struct Halves {
     pub count: u64,
-    pub parts: u64,
+    pub more: bool,
 }
 
-/// How many parts of a unit so many digits behind the point count.
-fn parts_of_unit(digits: usize) -> Option<u64>
-    ensures value { result ≡ parts_of_unit digits }
-    ensures bound { IfSome result (λ parts. (0 < parts) × (parts ≤ 1000000000)) }
+/// The halves of a digit and of those behind it.
+fn behind_digit(digit: u8, behind: Halves) -> Halves
+    requires { behind.count ≤ 3014656 }
+    ensures value { result ≡ behind_digit digit behind }
+    ensures bound { result.count ≤ 3014656 }
 {
-    match digits {
-        1 => Some(10),
-        2 => Some(100),
-        3 => Some(1_000),
-        4 => Some(10_000),
-        5 => Some(100_000),
-        6 => Some(1_000_000),
-        7 => Some(10_000_000),
-        8 => Some(100_000_000),
-        9 => Some(1_000_000_000),
-        _ => None,
+    let count = u64::from(digit.saturating_sub(b'0')) * 131_072 + behind.count;
+    Halves {
+        count: count / 10,
+        more: behind.more || count % 10 != 0,
     }
 }
 
-/// What the digits in front of a point and behind it say.
-fn decimal_of(whole: &str, digits: &str) -> Option<Decimal>
-    ensures value { option_map decimal_view result ≡ decimal_of whole.now digits.now }
-    ensures bound { IfSome result (λ d. (d.count ≤ 65540000000000) × (0 < d.parts) × (d.parts ≤ 1000000000)) }
+/// The halves of the digits behind a point.
+#[tactic(auto, using(crate::proofs::Digits::halves_step, crate::proofs::Digits::halves_none))]
+fn halves_behind(digits: &[u8]) -> Halves
+    ensures value { result ≡ halves_behind digits.now }
+    ensures bound { result.count ≤ 3014656 }
 {
-    let parts = parts_of_unit(digits.len())?;
-    let count = u32_of(digits)?;
+    let mut halves = Halves {
+        count: 0,
+        more: false,
+    };
+    for i in 0..digits.len() {
+        halves = behind_digit(digits[digits.len() - 1 - i], halves);
+    }
+    halves
+}
+
+/// Whether all bytes are ASCII digits.
+fn are_digits(bytes: &[u8]) -> bool
+    ensures { result ≡ all_ascii_digits bytes.now }
+{
+    for byte in bytes {
+        if !byte.is_ascii_digit() {
+            return false;
+        }
+    }
+    true
+}
+
+/// Whether a text is one or more ASCII digits.
+fn is_digits(text: &str) -> bool
+    ensures { result ≡ (nat_lt 0 (length text.now) && all_ascii_digits text.now) }
+{
+    text.len() > 0 && are_digits(text.as_bytes())
+}
+
+/// A number of digits in front of a point and behind it.
+#[tactic(auto, using(crate::proofs::Digits::decimal_is))]
+fn decimal_of(whole: &str, digits: &str) -> Option<Halves>
+    ensures value { result ≡ option_map halves (decimal_of whole.now digits.now) }
+    ensures bound { IfSome result (λ h. h.count ≤ 8600000000) }
+{
+    if !is_digits(digits) {
+        return None;
+    }
     let units = u16_of(whole)?;
-    Some(Decimal {
-        count: u64::from(units) * parts + u64::from(count),
-        parts,
+    let behind = halves_behind(digits.as_bytes());
+    Some(Halves {
+        count: u64::from(units) * 131_072 + behind.count,
+        more: behind.more,
     })
 }
 
-/// What a text without a sign says.
-fn size_of(word: &str) -> Option<Decimal>
-    ensures value { option_map decimal_view result ≡ size_in word.now }
-    ensures bound { IfSome result (λ d. (d.count ≤ 65540000000000) × (0 < d.parts) × (d.parts ≤ 1000000000)) }
+/// The number of a text without a sign.
+#[tactic(auto, using(crate::proofs::Digits::whole_halves))]
+fn size_of(word: &str) -> Option<Halves>
+    ensures value { result ≡ option_map halves (size_in word.now) }
+    ensures bound { IfSome result (λ h. h.count ≤ 8600000000) }
 {
     match word.split_once('.') {
         Some((whole, digits)) => decimal_of(whole, digits),
         None => {
             let units = u16_of(word)?;
-            Some(Decimal {
-                count: u64::from(units),
-                parts: 1,
+            Some(Halves {
+                count: u64::from(units) * 131_072,
+                more: false,
             })
         }
     }
 }
 
-/// So many parts of a unit, in 65536ths, if they fit.
-fn fixed(count: i64, parts: u64) -> Option<i32>
-    requires count { unsigned_abs count ≤ 4300000000000000000 }
-    requires above { 0 < parts }
-    requires below { parts ≤ 1000000000 }
-    ensures { result ≡ fixed count parts }
+/// Quarters of a 65536th, in the whole 65536th that is nearest, if it fits.
+fn fixed(quarters: i64) -> Option<i32>
+    requires { unsigned_abs quarters ≤ 18000000000 }
+    ensures { result ≡ fixed quarters 4 }
 {
-    i32::try_from(nearest(count, parts)).ok()
+    i32::try_from(nearest(quarters, 4)).ok()
 }
 
-/// A number below 0.
+/// A number that is as near to each whole 65536th as so many halves, in quarters.
+fn quarters_of(halves: Halves) -> u64
+    requires { halves.count ≤ 8600000000 }
+    ensures value { result ≡ quarters halves }
+    ensures bound { result ≤ 18000000000 }
+{
+    let count = 2 * halves.count;
+    if halves.more { count + 1 } else { count }
+}
+
+/// So many below 0.
 fn negative(count: u64) -> i64
-    requires { count ≤ 4300000000000000000 }
+    requires { count ≤ 18000000000 }
     ensures value { result ≡ neg_ℤ (pos count) }
-    ensures bound { unsigned_abs result ≤ 4300000000000000000 }
+    ensures bound { unsigned_abs result ≤ 18000000000 }
 {
     -(count as i64)
 }
 
+/// So many above 0.
+fn positive(count: u64) -> i64
+    requires { count ≤ 18000000000 }
+    ensures value { result ≡ pos count }
+    ensures bound { unsigned_abs result ≤ 18000000000 }
+{
+    count as i64
+}
+
 /// A value behind a minus, in 65536ths.
+#[tactic(auto, using(crate::proofs::Digits::below_is, crate::proofs::Digits::none_below))]
 fn below_zero(word: &str) -> Option<i32>
     ensures { result ≡ below_zero word.now }
 {
     let size = size_of(word)?;
-    fixed(negative(size.count * 65536), size.parts)
+    fixed(negative(quarters_of(size)))
 }
 
 /// A value without a minus, in 65536ths.
+#[tactic(auto, using(crate::proofs::Digits::above_is, crate::proofs::Digits::none_above))]
 fn above_zero(word: &str) -> Option<i32>
     ensures { result ≡ above_zero word.now }
 {
     let size = size_of(word)?;
-    fixed((size.count * 65536) as i64, size.parts)
+    fixed(positive(quarters_of(size)))
 }
 
-/// A value with a minus between two texts, in 65536ths: nothing stands in front of it.
+/// A value with a minus between two texts, in 65536ths: nothing is in front of it.
 fn with_minus(front: &str, behind: &str) -> Option<i32>
     ensures { result ≡ with_minus front.now behind.now }
 {
@@ -191,8 +244,8 @@ fn coordinates_of(alloc: Global, parts: &[&str]) -> Result<Vec<(Tag, i32)>, Args
     Ok(coordinates)
 }
 
-/// The coordinates that a text says, as `wght=650,wdth=87.5`: the tag of an axis, four bytes, and a decimal number of at most
-/// nine digits behind its point, in 65536ths.
+/// The coordinates of a text, as `wght=650,wdth=87.5`: the tag of an axis, four bytes, and a decimal number, in 65536ths. It is
+/// rounded to the nearest, halves up.
 ///
 /// `Usage` where a part isn't one.
 pub fn read_coordinates(alloc: Global, text: &str) -> Result<Vec<(Tag, i32)>, ArgsError>

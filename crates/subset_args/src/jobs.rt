@@ -1,21 +1,24 @@
-//! What the arguments ask for.
+//! What the arguments request.
 
-ghost use Rattle.std.specs.Prelude.{◌≡◌, ◌⊎◌, ℕ, List, map, IfOk, IfErr, Some, None, string_bytes};
+ghost use Rattle.std.specs.Prelude.{◌≡◌, ◌⊎◌, ℕ, List, map, IfOk, IfErr, IfSome, Some, None, string_bytes};
 ghost use Rattle.std.specs.Option.{option_copied, option_map};
 ghost use Rattle.subset_args.specs.Lists.{argument_list};
-ghost use Rattle.subset_args.specs.Request.{glyph_list, of_list, asked, is_stream, lists_in_stream, said_at, request_of, request_behind, request_plain, says_place, request_with, request_free, command_by_options, command_free, command_or, behind_axes, axes_with, command};
-ghost use Rattle.subset_args.specs.View.{source_view, chosen_view, free_view, asked_view, job_view, command_view};
+ghost use Rattle.subset_args.specs.Characters.{argument_characters};
+ghost use Rattle.subset_args.specs.Request.{glyph_list, of_list, asked, is_stream, lists_in_stream, said_at, request_of, request_behind, request_plain, says_place, request_with, request_free, command_by_options, command_free, command_or, is_name, position_in, shown_of, shown_by, topic_of, first_topic, behind_first, command};
+ghost use Rattle.subset_args.specs.ListView.{list_view};
+ghost use Rattle.subset_args.specs.View.{source_view, chosen_view, free_view, asked_view, position_view, job_view, command_view};
 ghost use Rattle.subset_args.specs.declared.jobs.ArgsError.TheVariants.{Usage, OutOfMemory};
 
+use crate::characters::read_characters;
 use crate::coordinates::read_coordinates;
 use crate::limits::RunLimits;
-use crate::lists::{GlyphList, read_argument};
+use crate::lists::{FileKind, GlyphList, read_argument};
 use crate::options::{Chosen, Free, Parsed, Source, Switches, parse_free, parse_options};
 use std::alloc::{AllocError, Global};
 use subsetter_base::Tag;
 use subsetter_words::{parts_of, u16_of, u32_of};
 
-/// Why the arguments ask for nothing.
+/// Why the arguments request nothing.
 #[derive(Clone, Copy, PartialEq, Eq, Debug)]
 pub enum ArgsError {
     /// They aren't as the usage says.
@@ -38,10 +41,12 @@ impl From<AllocError> for ArgsError {
 /// Which glyphs are to be kept.
 #[derive(Debug, Drop)]
 pub enum Glyphs {
-    /// Those of these old numbers, in the order asked for.
+    /// Those of these old numbers, in the requested order.
     Listed(Vec<u16>),
-    /// Those that the file of this name lists.
-    InFile(String),
+    /// Those of these characters, in this order.
+    Characters(Vec<char>),
+    /// Those that the file of this name requests, by what it has.
+    InFile(FileKind, String),
     /// Those of the characters of this text.
     ByText(String),
     /// Every glyph of the face.
@@ -59,12 +64,30 @@ pub struct Job {
     pub index: u32,
     /// The glyphs to keep.
     pub glyphs: Glyphs,
-    /// How far the charstring of a glyph may run, where it is said.
+    /// How far the charstring of a glyph may run, if that is given.
     pub limits: Option<RunLimits>,
     /// The options without a value that were given.
     pub switches: Switches,
-    /// The user coordinates on the axes of a variable font, in 65536ths, where they are said.
-    pub coordinates: Option<Vec<(Tag, i32)>>,
+    /// Where on the axes of a variable font, if that is specified.
+    pub position: Option<Position>,
+}
+
+/// Where on its axes a variable font is requested.
+#[derive(Debug, Drop)]
+pub enum Position {
+    /// At these user coordinates, in 65536ths.
+    Coordinates(Vec<(Tag, i32)>),
+    /// At the named instance of this name.
+    Named(String),
+}
+
+/// What can be shown of a face.
+#[derive(Clone, Copy, PartialEq, Eq, Debug)]
+pub enum Topic {
+    /// Its axes and named instances.
+    Axes,
+    /// Its outlines, its tables and what is permitted.
+    Info,
 }
 
 /// What a run of the program is to do.
@@ -76,8 +99,8 @@ pub enum Command {
     Version,
     /// To make a subset.
     Subset(Job),
-    /// To tell the axes of a face: the name of its file, and its place in a collection, from 0.
-    Axes(String, u32),
+    /// To show something of a face, as JSON or not: the name of its file, and its index in a collection, from 0.
+    Show(Topic, bool, String, u32),
 }
 
 /// The glyphs of a list with a comma between each two.
@@ -94,18 +117,35 @@ fn glyphs_of(alloc: Global, list: &str) -> Result<Vec<u16>, ArgsError>
     Ok(glyphs)
 }
 
+/// The glyphs that a list requests.
+fn of_list(list: GlyphList) -> Glyphs
+    ensures { asked_view result ≡ of_list (list_view list) }
+{
+    match list {
+        GlyphList::Every => Glyphs::Every,
+        GlyphList::These(glyphs) => Glyphs::Listed(glyphs),
+        GlyphList::Characters(characters) => Glyphs::Characters(characters),
+        GlyphList::Text(text) => Glyphs::ByText(text),
+    }
+}
+
+/// The glyphs of the characters that an argument lists.
+fn characters_listed(alloc: Global, text: &str) -> Result<Glyphs, ArgsError>
+    ensures ok { IfOk result (λ g. option_map of_list (argument_characters text.now) ≡ Some (asked_view g)) }
+    ensures err { IfErr result (λ e. (e ≡ OutOfMemory) ⊎ ((e ≡ Usage) × (argument_characters text.now ≡ None))) }
+{
+    Ok(of_list(read_characters(alloc, text)?))
+}
+
 /// The glyphs that an argument lists.
 fn glyphs_listed(alloc: Global, text: &str) -> Result<Glyphs, ArgsError>
     ensures ok { IfOk result (λ g. option_map of_list (argument_list text.now) ≡ Some (asked_view g)) }
     ensures err { IfErr result (λ e. (e ≡ OutOfMemory) ⊎ ((e ≡ Usage) × (argument_list text.now ≡ None))) }
 {
-    match read_argument(alloc, text)? {
-        GlyphList::Every => Ok(Glyphs::Every),
-        GlyphList::These(glyphs) => Ok(Glyphs::Listed(glyphs)),
-    }
+    Ok(of_list(read_argument(alloc, text)?))
 }
 
-/// Which glyphs the arguments behind INDEX ask for.
+/// Which glyphs the arguments behind INDEX request.
 fn read_glyphs(
     alloc: Global,
     source: Option<Source<'_>>,
@@ -116,9 +156,12 @@ fn read_glyphs(
 {
     match (source, words) {
         (None, [list]) => Ok(Glyphs::Listed(glyphs_of(alloc, list)?)),
-        (Some(Source::File(name)), []) => Ok(Glyphs::InFile(String::from_str(alloc, name)?)),
+        (Some(Source::File(kind, name)), []) => {
+            Ok(Glyphs::InFile(kind, String::from_str(alloc, name)?))
+        }
         (Some(Source::Text(text)), []) => Ok(Glyphs::ByText(String::from_str(alloc, text)?)),
         (Some(Source::InList(text)), []) => glyphs_listed(alloc, text),
+        (Some(Source::Characters(text)), []) => characters_listed(alloc, text),
         _ => Err(ArgsError::Usage),
     }
 }
@@ -135,19 +178,37 @@ fn lists_in_stream(glyphs: &Glyphs) -> bool
     ensures { result ≡ lists_in_stream (asked_view glyphs.now) }
 {
     match glyphs {
-        Glyphs::InFile(name) => is_stream(name),
+        Glyphs::InFile(_, name) => is_stream(name),
         _ => false,
     }
 }
 
-/// The user coordinates that are said, if any.
-fn read_at(alloc: Global, at: Option<&str>) -> Result<Option<Vec<(Tag, i32)>>, ArgsError>
-    ensures ok { IfOk result (λ v. said_at (option_copied at.entry) ≡ Some (option_map (λ c. c.items) v)) }
+/// Whether a text is the name of a named instance, and not coordinates: it has no equals sign, and isn't empty.
+pub fn is_name(text: &str) -> bool
+    ensures { result ≡ is_name text.now }
+{
+    text.len() > 0 && text.split_once('=').is_none()
+}
+
+/// Where on its axes a variable font is requested by a text.
+fn position_of(alloc: Global, text: &str) -> Result<Position, ArgsError>
+    ensures ok { IfOk result (λ p. position_in text.now ≡ Some (position_view p)) }
+    ensures err { IfErr result (λ e. (e ≡ OutOfMemory) ⊎ ((e ≡ Usage) × (position_in text.now ≡ None))) }
+{
+    if is_name(text) {
+        return Ok(Position::Named(String::from_str(alloc, text)?));
+    }
+    Ok(Position::Coordinates(read_coordinates(alloc, text)?))
+}
+
+/// Where on its axes a variable font is requested, if that is specified.
+fn read_at(alloc: Global, at: Option<&str>) -> Result<Option<Position>, ArgsError>
+    ensures ok { IfOk result (λ v. said_at (option_copied at.entry) ≡ Some (option_map position_view v)) }
     ensures err { IfErr result (λ e. (e ≡ OutOfMemory) ⊎ ((e ≡ Usage) × (said_at (option_copied at.entry) ≡ None))) }
 {
     match at {
         None => Ok(None),
-        Some(text) => Ok(Some(read_coordinates(alloc, text)?)),
+        Some(text) => Ok(Some(position_of(alloc, text)?)),
     }
 }
 
@@ -166,7 +227,7 @@ fn job_with(
     if is_stream(input) && lists_in_stream(&glyphs) {
         return Err(ArgsError::Usage);
     }
-    let coordinates = read_at(alloc, chosen.at)?;
+    let position = read_at(alloc, chosen.at)?;
     Ok(Job {
         input: String::from_str(alloc, input)?,
         output: String::from_str(alloc, output)?,
@@ -174,7 +235,7 @@ fn job_with(
         glyphs,
         limits: chosen.limits,
         switches: chosen.switches,
-        coordinates,
+        position,
     })
 }
 
@@ -194,7 +255,7 @@ fn read_behind_index(
     job_with(alloc, chosen, input, output, index, glyphs)
 }
 
-/// What the arguments `IN OUT INDEX GID[,GID..]` ask for, or `IN OUT INDEX` where the glyphs are found elsewhere.
+/// What the arguments `IN OUT INDEX GID[,GID..]` request, or `IN OUT INDEX` where the glyphs are found elsewhere.
 ///
 /// `Usage` where their count is another, where INDEX or a GID isn't one or more ASCII digits whose value fits `u32` or
 /// `u16`, where the coordinates aren't as `read_coordinates` takes them, or where standard input is to be read twice.
@@ -247,7 +308,7 @@ fn read_free_job(alloc: Global, free: Free<'_>) -> Result<Job, ArgsError>
     )
 }
 
-/// What arguments ask for with options before and after IN.
+/// What arguments request with options before and after IN.
 fn read_free(alloc: Global, words: &[String]) -> Result<Command, ArgsError>
     ensures ok { IfOk result (λ c. command_free (map (λ word. string_bytes word) words.now) ≡ Some (command_view c)) }
     ensures err { IfErr result (λ e. (e ≡ OutOfMemory) ⊎ ((e ≡ Usage) × (command_free (map (λ word. string_bytes word) words.now) ≡ None))) }
@@ -258,7 +319,7 @@ fn read_free(alloc: Global, words: &[String]) -> Result<Command, ArgsError>
     }
 }
 
-/// What the arguments `[OPTIONS] IN OUT INDEX [GID[,GID..]]` ask for.
+/// What the arguments `[OPTIONS] IN OUT INDEX [GID[,GID..]]` request.
 fn read_by_options(alloc: Global, words: &[String]) -> Result<Command, ArgsError>
     ensures ok { IfOk result (λ c. command_by_options (map (λ word. string_bytes word) words.now) ≡ Some (command_view c)) }
     ensures err { IfErr result (λ e. (e ≡ OutOfMemory) ⊎ ((e ≡ Usage) × (command_by_options (map (λ word. string_bytes word) words.now) ≡ None))) }
@@ -271,7 +332,7 @@ fn read_by_options(alloc: Global, words: &[String]) -> Result<Command, ArgsError
     }
 }
 
-/// What the arguments ask for in the plain form, else with options before and after IN.
+/// What the arguments request in the plain form, else with options before and after IN.
 fn read_either(alloc: Global, words: &[String]) -> Result<Command, ArgsError>
     ensures ok { IfOk result (λ c. command_or (command_by_options (map (λ word. string_bytes word) words.now)) (command_free (map (λ word. string_bytes word) words.now)) ≡ Some (command_view c)) }
     ensures err { IfErr result (λ e. (e ≡ OutOfMemory) ⊎ ((e ≡ Usage) × (command_or (command_by_options (map (λ word. string_bytes word) words.now)) (command_free (map (λ word. string_bytes word) words.now)) ≡ None))) }
@@ -283,34 +344,64 @@ fn read_either(alloc: Global, words: &[String]) -> Result<Command, ArgsError>
     }
 }
 
-/// The arguments behind a first one that is `--axes`.
-pub fn behind_axes(words: &[String]) -> Option<&[String]>
-    ensures { option_map (λ behind. map (λ word. string_bytes word) behind.now) result ≡ behind_axes (map (λ word. string_bytes word) words.now) }
+/// What the arguments `FONT [INDEX]` show. INDEX is 0 where it isn't given.
+fn read_shown(topic: Topic, json: bool, words: &[String]) -> Result<Command, ArgsError>
+    ensures ok { IfOk result (λ c. shown_of topic json (map (λ word. string_bytes word) words.now) ≡ Some (command_view c)) }
+    ensures err { IfErr result (λ e. (e ≡ OutOfMemory) ⊎ ((e ≡ Usage) × (shown_of topic json (map (λ word. string_bytes word) words.now) ≡ None))) }
+{
+    match words {
+        [input] => Ok(Command::Show(topic, json, input.clone()?, 0)),
+        [input, index] => {
+            let index = u32_of(index).ok_or(ArgsError::Usage)?;
+            Ok(Command::Show(topic, json, input.clone()?, index))
+        }
+        _ => Err(ArgsError::Usage),
+    }
+}
+
+/// What the arguments `[--json] FONT [INDEX]` show.
+fn read_topic(topic: Topic, words: &[String]) -> Result<Command, ArgsError>
+    ensures ok { IfOk result (λ c. shown_by topic (map (λ word. string_bytes word) words.now) ≡ Some (command_view c)) }
+    ensures err { IfErr result (λ e. (e ≡ OutOfMemory) ⊎ ((e ≡ Usage) × (shown_by topic (map (λ word. string_bytes word) words.now) ≡ None))) }
+{
+    let [word, behind @ ..] = words else {
+        return Err(ArgsError::Usage);
+    };
+    if word.as_str() == "--json" {
+        read_shown(topic, true, behind)
+    } else {
+        read_shown(topic, false, words)
+    }
+}
+
+/// What an argument shows, if it is first.
+pub fn topic_of(word: &str) -> Option<Topic>
+    ensures { result ≡ topic_of word.now }
+{
+    match word {
+        "--axes" => Some(Topic::Axes),
+        "--info" => Some(Topic::Info),
+        _ => None,
+    }
+}
+
+/// What the first argument shows, and the arguments behind it.
+pub fn first_topic(words: &[String]) -> Option<(Topic, &[String])>
+    ensures topic { option_map (λ p. p.0) result ≡ first_topic (map (λ word. string_bytes word) words.now) }
+    ensures behind { IfSome result (λ p. map (λ word. string_bytes word) p.1.now ≡ behind_first (map (λ word. string_bytes word) words.now)) }
 {
     let [word, behind @ ..] = words else {
         return None;
     };
-    if word.as_str() == "--axes" {
-        Some(behind)
-    } else {
-        None
+    match topic_of(word) {
+        Some(topic) => Some((topic, behind)),
+        None => None,
     }
 }
 
-/// What the arguments `FONT INDEX` behind `--axes` ask for.
-fn read_axes_words(words: &[String]) -> Result<Command, ArgsError>
-    ensures ok { IfOk result (λ c. axes_with (map (λ word. string_bytes word) words.now) ≡ Some (command_view c)) }
-    ensures err { IfErr result (λ e. (e ≡ OutOfMemory) ⊎ ((e ≡ Usage) × (axes_with (map (λ word. string_bytes word) words.now) ≡ None))) }
-{
-    let [input, index] = words else {
-        return Err(ArgsError::Usage);
-    };
-    let index = u32_of(index).ok_or(ArgsError::Usage)?;
-    Ok(Command::Axes(input.clone()?, index))
-}
-
-/// What the arguments after the program's name ask for: `--axes FONT INDEX`, or `[OPTIONS] IN OUT INDEX GID[,GID..]`, where the
-/// last one is left out with `--gids`, `--gids-file` and `--text`; or IN with options before and after it, where one says OUT.
+/// What the arguments after the program's name request: `--axes [--json] FONT [INDEX]` or `--info` in its place, or
+/// `[OPTIONS] IN OUT INDEX GID[,GID..]`, where the last one is left out with an option that requests glyphs; or IN with options
+/// before and after it, where one gives OUT.
 ///
 /// `Usage` where an option is given twice or isn't followed by its value, where the count of the other arguments is another,
 /// where INDEX or a GID isn't one or more ASCII digits whose value fits `u32` or `u16`, where the limits aren't such
@@ -319,8 +410,8 @@ pub fn read_words(alloc: Global, words: &[String]) -> Result<Command, ArgsError>
     ensures ok { IfOk result (λ c. command (map (λ word. string_bytes word) words.now) ≡ Some (command_view c)) }
     ensures err { IfErr result (λ e. (e ≡ OutOfMemory) ⊎ ((e ≡ Usage) × (command (map (λ word. string_bytes word) words.now) ≡ None))) }
 {
-    match behind_axes(words) {
-        Some(behind) => read_axes_words(behind),
+    match first_topic(words) {
+        Some((topic, behind)) => read_topic(topic, behind),
         None => read_either(alloc, words),
     }
 }

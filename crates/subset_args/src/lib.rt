@@ -1,4 +1,4 @@
-//! What the arguments of `subset_font` ask for, and the lists of glyphs that they name.
+//! What the arguments of `subset_font` request, and the lists of glyphs that they name.
 //!
 //! [`read_words`] reads them all; [`read_list`] reads the list that a file holds.
 //!
@@ -10,7 +10,9 @@
 //! ```
 #![tactic(auto)]
 
+mod characters;
 mod coordinates;
+mod files;
 mod jobs;
 mod limits;
 mod lists;
@@ -20,9 +22,10 @@ mod options;
 mod texts;
 
 pub use coordinates::read_coordinates;
-pub use jobs::{ArgsError, Command, Glyphs, Job, is_stream, read_words};
+pub use files::{find_wrong, read_list};
+pub use jobs::{ArgsError, Command, Glyphs, Job, Position, Topic, is_stream, read_words};
 pub use limits::RunLimits;
-pub use lists::{GlyphList, find_wrong_part, read_list};
+pub use lists::{FileKind, GlyphList};
 pub use mistakes::{Mistake, Wrong, find_mistake};
 pub use options::{OPTIONS, Switches};
-pub use texts::{Advice, Shown};
+pub use texts::{Advice, CODES_WANTED, PARTS_WANTED, Shown};

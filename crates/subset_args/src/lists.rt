@@ -4,7 +4,7 @@ ghost use Rattle.std.specs.Prelude.{◌≡◌, ◌⊎◌, ◌≤◌, ◌++◌, �
 ghost use Rattle.std.specs.Option.{option_map};
 ghost use Rattle.std.specs.List.{slice_split};
 ghost use Rattle.std.specs.Str.{IsUtf8};
-ghost use Rattle.subset_args.specs.Lists.{counting, is_blank, as_comma, is_star, in_order, ends_of_range, ends_in, between, part_glyphs, parts_glyphs, parts, argument_list, list_in};
+ghost use Rattle.subset_args.specs.Lists.{counting, is_blank, as_comma, is_star, in_order, ends_of_range, ends_in, between, part_glyphs, parts_glyphs, parts, argument_list, glyphs_in_file};
 ghost use Rattle.subset_args.specs.ListView.{ends_view, list_view};
 ghost use Rattle.subset_args.specs.declared.jobs.ArgsError.TheVariants.{Usage, OutOfMemory};
 
@@ -12,13 +12,28 @@ use crate::jobs::ArgsError;
 use std::alloc::{AllocError, Global};
 use subsetter_words::{parts_of, u16_of};
 
-/// What a file lists.
+/// What a file or an argument requests.
 #[derive(Debug, Drop)]
 pub enum GlyphList {
     /// Every glyph of the face.
     Every,
     /// The glyphs of these old numbers, in this order.
     These(Vec<u16>),
+    /// The glyphs of these characters, in this order.
+    Characters(Vec<char>),
+    /// The glyphs of the characters of this text.
+    Text(String),
+}
+
+/// What a file has by which glyphs are requested.
+#[derive(Clone, Copy, PartialEq, Eq, Debug)]
+pub enum FileKind {
+    /// A list of glyphs.
+    Glyphs,
+    /// A list of characters, by their numbers in Unicode.
+    Characters,
+    /// A text.
+    Text,
 }
 
 /// The ends of a range of glyphs.
@@ -29,7 +44,7 @@ pub struct Ends {
 }
 
 /// Whether a byte is a blank, a tab or a line end.
-fn is_blank(b: u8) -> bool
+pub fn is_blank(b: u8) -> bool
     ensures { result ≡ is_blank b }
 {
     b == b' ' || (b == b'\t' || (b == b'\n' || b == b'\r'))
@@ -43,7 +58,7 @@ fn as_comma(b: u8) -> u8
 }
 
 /// The text with commas for its blanks and line ends.
-fn with_commas(alloc: Global, text: &[u8]) -> Result<Vec<u8>, AllocError>
+pub fn with_commas(alloc: Global, text: &[u8]) -> Result<Vec<u8>, AllocError>
     ensures { IfOk result (λ v. v.items ≡ map as_comma text.now) }
 {
     text.iter().map(|b| as_comma(*b)).collect(alloc)
@@ -67,7 +82,7 @@ fn is_star(alloc: Global, text: &[u8]) -> Result<bool, AllocError>
     Ok(kept.as_slice() == b"*".as_slice())
 }
 
-/// The ends, if they stand in order.
+/// The ends, if they are in order.
 fn in_order(first: u16, last: u16) -> Option<Ends>
     ensures { option_map ends_view result ≡ in_order first last }
 {
@@ -178,7 +193,7 @@ pub fn is_wrong_part(part: &[u8]) -> bool
     }
 }
 
-/// The first part of the text of a file that is no number and no range, for which `read_list` answers `Usage`.
+/// The first part of the text of a file that is no number and no range, for which `glyphs_in_file` answers `Usage`.
 pub fn find_wrong_part(text: &[u8]) -> Option<&[u8]>
     ensures { IfSome result (λ part. ¬ (IsUtf8 part.now) ⊎ (ends_in part.now ≡ None)) }
 {
@@ -194,9 +209,9 @@ pub fn find_wrong_part(text: &[u8]) -> Option<&[u8]>
 /// for every glyph of the face.
 ///
 /// `Usage` where it lists no glyphs so.
-pub fn read_list(alloc: Global, text: &[u8]) -> Result<GlyphList, ArgsError>
-    ensures ok { IfOk result (λ list. list_in text.now ≡ Some (list_view list)) }
-    ensures err { IfErr result (λ e. (e ≡ OutOfMemory) ⊎ ((e ≡ Usage) × (¬ (IsUtf8 (map as_comma text.now)) ⊎ (list_in text.now ≡ None)))) }
+pub fn glyphs_in_file(alloc: Global, text: &[u8]) -> Result<GlyphList, ArgsError>
+    ensures ok { IfOk result (λ list. glyphs_in_file text.now ≡ Some (list_view list)) }
+    ensures err { IfErr result (λ e. (e ≡ OutOfMemory) ⊎ ((e ≡ Usage) × (¬ (IsUtf8 (map as_comma text.now)) ⊎ (glyphs_in_file text.now ≡ None)))) }
 {
     if is_star(alloc, text)? {
         return Ok(GlyphList::Every);

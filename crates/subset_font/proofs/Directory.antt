@@ -1,5 +1,5 @@
 -- Records of a directory, one after another.
-use Rattle.std.proofs.Common.{◌≡◌, ℕ, true, false, cond, suc, ◌+◌, ◌-◌, ◌/◌, ◌<◌, ◌≤◌, List, [], ◌∷◌, length, take, drop, Option, Some, None, refl, sym, ap, ◌∙◌, arith}
+use Rattle.std.proofs.Common.{◌≡◌, ℕ, true, false, cond, suc, ◌+◌, ◌-◌, ◌/◌, ◌<◌, ◌≤◌, List, [], ◌∷◌, ◌++◌, map, length, take, drop, append_assoc, append-nil, Option, Some, None, refl, sym, ap, ◌∙◌, arith}
 use Rattle.std.specs.Option.{option_map}
 use Rattle.std.specs.Str.{bytes_eq}
 use Rattle.std.proofs.lemmas.List.{take-take, drop-take, drop-drop}
@@ -10,6 +10,8 @@ use Rattle.subsetter_sfnt.specs.declared.face.TableRecord.{TableRecord}
 use Rattle.subsetter_sfnt.specs.Read.{record_of, directory_records, find_record}
 use Rattle.subset_font.specs.declared.face.Place.{Place}
 use Rattle.subset_font.specs.FaceView.{place_view}
+use Rattle.subset_font.specs.Tables.{new_row, new_rows}
+use Rattle.subset_lines.specs.declared.sizes.TableSize.{TableSize}
 
 -- a field of a record that was cut out
 field : (x : List ℕ) (k m : ℕ) → 4 ≤ m → take 4 (drop k (take (k + m) x)) ≡ take 4 (drop k x)
@@ -61,3 +63,17 @@ found_here tag rest others r total e t h = sym (ap (place_among tag) e ∙ ap (�
 
 pub found_later : (tag : List ℕ) (rest others : List TableRecord) (r : TableRecord) (total : Option Place) → rest ≡ r ∷ others → bytes_eq r.tag.0 tag ≡ false → place_among tag rest ≡ total → place_among tag others ≡ total
 found_later tag rest others r total e t h = sym (ap (place_among tag) e ∙ ap (λ b. option_map place_view (cond b (Some r) (find_record tag others))) t) ∙ h
+
+-- ---- a row for each record
+
+pub rows_end : {X : Type 0} (f : TableRecord → X) (R : List ℕ) (p : ℕ) (rows total : List X) → range R p 16 ≡ None → rows ++ map f (records_from R p) ≡ total → rows ≡ total
+rows_end f R p rows total h t = sym (append-nil rows) ∙ (ap (λ (rs : List TableRecord). rows ++ map f rs) (sym (no_more R p (range-short R p 16 h))) ∙ t)
+
+pub rows_later : {X : Type 0} (f : TableRecord → X) (rest others : List TableRecord) (r : TableRecord) (rows new total : List X) → rest ≡ r ∷ others → new ≡ rows ++ f r ∷ [] → rows ++ map f rest ≡ total → new ++ map f others ≡ total
+rows_later f rest others r rows new total e n t = ap (λ v. v ++ map f others) n ∙ (append_assoc rows (f r ∷ []) (map f others) ∙ (ap (λ (rs : List TableRecord). rows ++ map f rs) (sym e) ∙ t))
+
+pub news_end : (olds : List TableRecord) (R : List ℕ) (p : ℕ) (rows total : List TableSize) → range R p 16 ≡ None → rows ++ new_rows olds (records_from R p) ≡ total → rows ≡ total
+news_end olds R p rows total h t = sym (append-nil rows) ∙ (ap (λ (rs : List TableRecord). rows ++ new_rows olds rs) (sym (no_more R p (range-short R p 16 h))) ∙ t)
+
+pub news_later : (olds rest others : List TableRecord) (r : TableRecord) (rows new total : List TableSize) → rest ≡ r ∷ others → new ≡ rows ++ new_row olds r → rows ++ new_rows olds rest ≡ total → new ++ new_rows olds others ≡ total
+news_later olds rest others r rows new total e n t = ap (λ v. v ++ new_rows olds others) n ∙ (append_assoc rows (new_row olds r) (new_rows olds others) ∙ (ap (λ (rs : List TableRecord). rows ++ new_rows olds rs) (sym e) ∙ t))

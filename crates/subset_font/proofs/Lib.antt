@@ -1,3 +1,5 @@
 mod Directory
 mod Making
 mod Failing
+mod Steps
+mod Outcomes

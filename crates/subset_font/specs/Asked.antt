@@ -8,7 +8,7 @@ use Rattle.subsetter.specs.Maxp.Read.{number_of_glyphs}
 use Rattle.cmap.specs.Subtable.{Mapping, mapping, glyph_of}
 use Rattle.subset_args.specs.Lists.{counting}
 use Rattle.subset_font.specs.declared.task.Asked.{Asked}
-use Rattle.subset_font.specs.declared.task.Asked.TheVariants.{These, Every, ByText}
+use Rattle.subset_font.specs.declared.task.Asked.TheVariants.{These, Every, ByText, ByCharacters}
 use Rattle.subset_font.specs.declared.failure.Failure.{Failure}
 use Rattle.subset_font.specs.declared.failure.Failure.TheVariants.{Error, NoMapping}
 
@@ -20,14 +20,16 @@ face_glyphs font = option_and_then number_of_glyphs (stored font (codes "maxp"))
 abbrev pub face_mapping : Font → Option Mapping
 face_mapping font = option_and_then mapping (stored font (codes "cmap"))
 
--- these glyphs are asked for, with the characters that they stand for, where a text is given
+-- these glyphs are asked for, with the characters that they stand for, where a text or characters are given
 abbrev pub IsAsked : Font → Asked → List ℕ → List ℕ → Type 0
 IsAsked font (These given) characters glyphs = (characters ≡ []) × (glyphs ≡ given.now)
 IsAsked font Every characters glyphs = (characters ≡ []) × (option_map (counting 0) (face_glyphs font) ≡ Some glyphs)
 IsAsked font (ByText text) characters glyphs = (encode_utf8_all characters ≡ text.now) × (option_map (λ m. map (glyph_of m) characters) (face_mapping font) ≡ Some glyphs)
+IsAsked font (ByCharacters given) characters glyphs = (characters ≡ given.now) × (option_map (λ m. map (glyph_of m) characters) (face_mapping font) ≡ Some glyphs)
 
 -- why no glyphs are found: the face doesn't say how many it has, or has no such table
 abbrev pub IsUnasked : Font → Asked → Failure → Type 0
 IsUnasked font (These given) failure = ⊥
 IsUnasked font Every failure = (failure ≡ Error MalformedFont) × (face_glyphs font ≡ None)
 IsUnasked font (ByText text) failure = (failure ≡ NoMapping) × (face_mapping font ≡ None)
+IsUnasked font (ByCharacters given) failure = (failure ≡ NoMapping) × (face_mapping font ≡ None)

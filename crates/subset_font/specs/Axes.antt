@@ -1,5 +1,5 @@
--- What is told of the axes of a face.
-use Rattle.std.specs.Prelude.{◌≡◌, ◌⊎◌, ℕ, Bool, false, ◌||◌, List, [], ◌∷◌, Option, Some, None, codes}
+-- What is shown of the axes of a face.
+use Rattle.std.specs.Prelude.{◌≡◌, ◌⊎◌, ℕ, Bool, true, false, if◌then◌else◌, List, [], ◌∷◌, Option, Some, None, codes}
 use Rattle.std.specs.Option.{option_map, option_and_then}
 use Rattle.std.specs.Str.{bytes_eq}
 use Rattle.std.specs.Io.KnownBytes.{Appends}
@@ -9,42 +9,51 @@ use Rattle.subsetter_sfnt.specs.Read.{Font, header_place, stored}
 use Rattle.subsetter_variation.specs.Axes.{axes}
 use Rattle.subsetter_variation.specs.declared.axes.Axis.{Axis}
 use Rattle.subset_lines.specs.Axes.{instances, text_of}
+use Rattle.subset_lines.specs.AxesJson.{axes_json}
+use Rattle.subset_font.specs.Tables.{bytes_or_none}
 use Rattle.subset_font.specs.declared.failure.Failure.{Failure}
 use Rattle.subset_font.specs.declared.failure.Failure.TheVariants.{Error}
 
--- the bytes of a table, none of one that isn't there
-abbrev pub bytes_or_none : Option (List ℕ) → List ℕ
-bytes_or_none None = []
-bytes_or_none (Some bytes) = bytes
+-- what is shown of `fvar`, where it can be read, with the names of `name`: lines, or one JSON object
+abbrev pub axes_shown : Bool → List Axis → List ℕ → List (List ℕ) → List ℕ
+axes_shown false axes names records = text_of axes names records
+axes_shown true axes names records = axes_json axes names records
 
--- the lines of `fvar`, where it can be read, with the names of `name`
-abbrev pub lines_of_axes : List ℕ → List ℕ → Option (List ℕ)
-lines_of_axes names fvar = option_and_then (λ a. option_map (text_of a names) (instances fvar)) (axes fvar)
+abbrev pub text_of_axes : Bool → List ℕ → List ℕ → Option (List ℕ)
+text_of_axes json names fvar = option_and_then (λ a. option_map (axes_shown json a names) (instances fvar)) (axes fvar)
 
--- the lines of a face; none of one that isn't variable
-abbrev pub axes_text : List ℕ → Option (List ℕ) → Option (List ℕ)
-axes_text names None = Some []
-axes_text names (Some fvar) = lines_of_axes names fvar
+-- the text of a face; no axes of one that isn't variable
+abbrev pub axes_text : Bool → List ℕ → Option (List ℕ) → Option (List ℕ)
+axes_text json names None = Some (axes_shown json [] names [])
+axes_text json names (Some fvar) = text_of_axes json names fvar
 
-abbrev pub face_text : Font → Option (List ℕ)
-face_text font = axes_text (bytes_or_none (stored font (codes "name"))) (stored font (codes "fvar"))
+abbrev pub face_text : Bool → Font → Option (List ℕ)
+face_text json font = axes_text json (bytes_or_none (stored font (codes "name"))) (stored font (codes "fvar"))
 
--- a face's lines were told
-pub record IsAxesTold (font : Font) (old new : Option (List ℕ)) : Type 0 where
+-- a face's axes were shown
+pub record IsAxesTold (json : Bool) (font : Font) (old new : Option (List ℕ)) : Type 0 where
   pub text : List ℕ
-  pub is_text : face_text font ≡ Some text
+  pub is_text : face_text json font ≡ Some text
   pub is_told : Appends old new text
 
--- why there are none: no font stands at its place, or `fvar` can't be read
-abbrev pub IsAxesFault : Font → Failure → Type 0
-IsAxesFault font failure = ((failure ≡ Error UnknownKind) × (header_place font ≡ None)) ⊎ ((failure ≡ Error MalformedFont) × (face_text font ≡ None))
+-- why there are none: the file has no font at its index, or `fvar` can't be read
+abbrev pub IsAxesFault : Bool → Font → Failure → Type 0
+IsAxesFault json font failure = ((failure ≡ Error UnknownKind) × (header_place font ≡ None)) ⊎ ((failure ≡ Error MalformedFont) × (face_text json font ≡ None))
 
 -- the axes of a face; none where it isn't variable
 abbrev pub axes_or_none : Option (List ℕ) → Option (List Axis)
 axes_or_none None = Some []
 axes_or_none (Some fvar) = axes fvar
 
--- one of the axes bears a tag
-abbrev pub has_axis : List Axis → Tag → Bool
-has_axis [] tag = false
-has_axis (a ∷ axes) tag = bytes_eq a.tag.0 tag.0 || has_axis axes tag
+abbrev pub axes_known_of : Option (List Axis) → List Axis
+axes_known_of None = []
+axes_known_of (Some axes) = axes
+
+-- the axes of a face; none where they can't be read
+abbrev pub axes_known : Font → List Axis
+axes_known font = axes_known_of (axes_or_none (stored font (codes "fvar")))
+
+-- the first axis that bears a tag
+abbrev pub find_axis : List Axis → Tag → Option Axis
+find_axis [] tag = None
+find_axis (a ∷ axes) tag = if bytes_eq a.tag.0 tag.0 then Some a else find_axis axes tag

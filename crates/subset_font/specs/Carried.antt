@@ -1,30 +1,31 @@
 -- What a task that is carried out has written.
 use Rattle.std.specs.Prelude.{◌≡◌, ◌⊎◌, ℕ, List, Option, IfSome}
 use Rattle.std.specs.Io.KnownBytes.{Appends}
-use Rattle.subset_font.specs.Made.{IsMade, IsUnmade}
+use Rattle.subset_font.specs.Outcome.{IsOutcome, IsNoOutcome}
 use Rattle.subset_font.specs.Told.{told_of}
-use Rattle.subset_font.specs.declared.task.Task.{Task}
-use Rattle.subset_font.specs.declared.subset.Made.{Made}
+use Rattle.subset_font.specs.declared.task.Plan.{Plan}
+use Rattle.subset_font.specs.declared.outcome.Outcome.{Outcome}
 use Rattle.subset_font.specs.declared.failure.Failure.{Failure}
-use Rattle.subset_font.specs.declared.failure.Failure.TheVariants.{Error, NoMapping, Usage, List as WrongList, Read, ReadList, Write, Output}
+use Rattle.subset_font.specs.declared.failure.Failure.TheVariants.{Error, NoMapping, NoInstance, Usage, List as WrongList, Read, ReadList, Write, Output}
 
--- a font was written: what the task makes of the bytes that were read, where these are known
-pub record WritesFont (task : Task) (source old new : Option (List ℕ)) : Type 0 where
-  pub made : Made
-  pub is_made : IfSome source (λ bytes. IsMade task bytes made)
-  pub is_written : Appends old new made.font.items
+-- a font was written: what the plan makes of the bytes that were read, where these are known
+pub record WritesFont (plan : Plan) (source old new : Option (List ℕ)) : Type 0 where
+  pub outcome : Outcome
+  pub is_made : IfSome source (λ bytes. IsOutcome plan bytes outcome)
+  pub is_written : Appends old new outcome.made.font.items
 
--- and its new numbers were told
-pub record WritesAll (task : Task) (source old new told_old told_new : Option (List ℕ)) : Type 0 where
-  pub made : Made
-  pub is_made : IfSome source (λ bytes. IsMade task bytes made)
-  pub is_written : Appends old new made.font.items
-  pub is_told : Appends told_old told_new (told_of task.form made)
+-- and its new numbers were printed
+pub record WritesAll (plan : Plan) (source old new told_old told_new : Option (List ℕ)) : Type 0 where
+  pub outcome : Outcome
+  pub is_made : IfSome source (λ bytes. IsOutcome plan bytes outcome)
+  pub is_written : Appends old new outcome.made.font.items
+  pub is_told : Appends told_old told_new (told_of plan.task.form outcome)
 
 -- a failure that says that nothing is made of what was read
 abbrev pub IsOfMaking : Failure → Type 0
 IsOfMaking (Error e) = Unit {0}
 IsOfMaking NoMapping = Unit {0}
+IsOfMaking NoInstance = Unit {0}
 IsOfMaking Usage = ⊥
 IsOfMaking WrongList = ⊥
 IsOfMaking Read = ⊥
@@ -33,13 +34,14 @@ IsOfMaking Write = ⊥
 IsOfMaking Output = ⊥
 
 -- why nothing is made: the reader failed, or what was read is refused
-abbrev pub IsFailureOf : Task → Option (List ℕ) → Failure → Type 0
-IsFailureOf task source failure = (failure ≡ Read) ⊎ (IsOfMaking failure × IfSome source (λ bytes. IsUnmade task bytes failure))
+abbrev pub IsFailureOf : Plan → Option (List ℕ) → Failure → Type 0
+IsFailureOf plan source failure = (failure ≡ Read) ⊎ (IsOfMaking failure × IfSome source (λ bytes. IsNoOutcome plan bytes failure))
 
 -- the failure comes before the first byte is written
 abbrev pub IsBeforeWriting : Failure → Type 0
 IsBeforeWriting (Error e) = Unit {0}
 IsBeforeWriting NoMapping = Unit {0}
+IsBeforeWriting NoInstance = Unit {0}
 IsBeforeWriting Usage = Unit {0}
 IsBeforeWriting WrongList = Unit {0}
 IsBeforeWriting Read = Unit {0}

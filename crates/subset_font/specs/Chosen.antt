@@ -1,18 +1,22 @@
 -- What the options in front of IN choose for a task.
-use Rattle.std.specs.Prelude.{◌≡◌, ℕ, List, [], not, if◌then◌else◌, Option, Some, None, string_bytes}
-use Rattle.std.specs.Option.{option_copied, option_map}
+use Rattle.std.specs.Prelude.{◌≡◌, ℕ, ℤ, List, [], not, if◌then◌else◌, Option, Some, None, string_bytes}
+use Rattle.std.specs.Option.{option_copied, option_and_then}
 use Rattle.subsetter.specs.Limits.{token_limit, depth_limit}
 use Rattle.subsetter_sfnt.specs.declared.extras.Extras.{Extras}
 use Rattle.subsetter_type2.specs.declared.limits.Limits.{Limits}
 use Rattle.subset_args.specs.declared.limits.RunLimits.{RunLimits}
 use Rattle.subset_args.specs.declared.options.Switches.{Switches}
 use Rattle.subset_args.specs.declared.jobs.Glyphs.{Glyphs}
-use Rattle.subset_args.specs.declared.jobs.Glyphs.TheVariants.{Listed, InFile, ByText as InText, Every as WholeFace}
+use Rattle.subset_args.specs.declared.jobs.Glyphs.TheVariants.{Listed, Characters as ListedCharacters, InFile, ByText as InText, Every as WholeFace}
 use Rattle.subset_args.specs.declared.jobs.Job.{Job}
+use Rattle.subset_args.specs.declared.jobs.Position.{Position}
+use Rattle.subset_args.specs.declared.jobs.Position.TheVariants.{Coordinates, Named}
+use Rattle.subsetter_base.specs.declared.tag.Tag.{Tag}
 use Rattle.subset_args.specs.declared.lists.GlyphList.{GlyphList}
-use Rattle.subset_args.specs.declared.lists.GlyphList.TheVariants.{Every as EveryGlyph, These as TheseGlyphs}
+use Rattle.subset_args.specs.declared.lists.GlyphList.TheVariants.{Every as EveryGlyph, These as TheseGlyphs, Characters as TheseCharacters, Text as OfText}
 use Rattle.subset_font.specs.declared.task.Asked.{Asked}
-use Rattle.subset_font.specs.declared.task.Asked.TheVariants.{These, Every, ByText}
+use Rattle.subset_font.specs.declared.task.Asked.TheVariants.{These, Every, ByText, ByCharacters}
+use Rattle.subset_font.specs.declared.task.Plan.{Plan}
 use Rattle.subset_font.specs.declared.task.Task.{Task}
 use Rattle.subset_font.specs.declared.task.Form.{Form}
 use Rattle.subset_font.specs.declared.task.Form.TheVariants.{Lines, Json, Silence}
@@ -30,35 +34,54 @@ extras_chosen s = record { hinting = not s.no_hinting; names = not s.no_names; g
 abbrev pub form_chosen : Switches → Form
 form_chosen s = if s.quiet then Silence else if s.json then Json else Lines
 
--- which glyphs are kept: these, every one of the face, or those of a text's characters
+-- which glyphs are kept: these, every one of the face, or those of a text's characters or of these characters
 pub data Wanted : Type 0 where
   these : List ℕ → Wanted
   every : Wanted
   by_text : List ℕ → Wanted
+  by_characters : List ℕ → Wanted
 
 abbrev pub wanted_of : Asked → Wanted
 wanted_of (These glyphs) = these glyphs.now
 wanted_of Every = every
 wanted_of (ByText text) = by_text text.now
+wanted_of (ByCharacters given) = by_characters given.now
 
 -- a list was read where a file has it
 abbrev pub IsListFor : Glyphs → Option GlyphList → Type 0
 IsListFor (Listed glyphs) list = Unit {0}
 IsListFor (InText text) list = Unit {0}
 IsListFor WholeFace list = Unit {0}
-IsListFor (InFile name) (Some list) = Unit {0}
-IsListFor (InFile name) None = ⊥
+IsListFor (ListedCharacters given) list = Unit {0}
+IsListFor (InFile kind name) (Some list) = Unit {0}
+IsListFor (InFile kind name) None = ⊥
+
+-- those that a file requests
+abbrev pub wanted_by : GlyphList → Wanted
+wanted_by EveryGlyph = every
+wanted_by (TheseGlyphs glyphs) = these glyphs.items
+wanted_by (TheseCharacters given) = by_characters given.items
+wanted_by (OfText text) = by_text (string_bytes text)
 
 -- those that the arguments list, or the file that was read for it
 abbrev pub wanted_for : Glyphs → Option GlyphList → Wanted
 wanted_for (Listed glyphs) list = these glyphs.items
 wanted_for (InText text) list = by_text (string_bytes text)
 wanted_for WholeFace list = every
-wanted_for (InFile name) (Some EveryGlyph) = every
-wanted_for (InFile name) (Some (TheseGlyphs glyphs)) = these glyphs.items
-wanted_for (InFile name) None = these []
+wanted_for (ListedCharacters given) list = by_characters given.items
+wanted_for (InFile kind name) (Some list) = wanted_by list
+wanted_for (InFile kind name) None = these []
 
--- the task that a job asks for
+-- the coordinates that are given, or the name of an instance
+abbrev pub at_chosen : Position → Option (List (Tag × ℤ))
+at_chosen (Coordinates at) = Some at.items
+at_chosen (Named name) = None
+
+abbrev pub instance_chosen : Position → Option (List ℕ)
+instance_chosen (Coordinates at) = None
+instance_chosen (Named name) = Some (string_bytes name)
+
+-- the task that a job requests
 pub record IsTaskOf (job : Job) (list : Option GlyphList) (task : Task) : Type 0 where
   pub glyphs : wanted_of task.asked ≡ wanted_for job.glyphs list
   pub index : task.index ≡ job.index
@@ -66,4 +89,10 @@ pub record IsTaskOf (job : Job) (list : Option GlyphList) (task : Task) : Type 0
   pub extras : task.options.extras ≡ extras_chosen job.switches
   pub widths : task.widths ≡ job.switches.widths
   pub form : task.form ≡ form_chosen job.switches
-  pub at : option_copied task.at ≡ option_map (λ v. v.items) job.coordinates
+  pub at : option_copied task.at ≡ option_and_then at_chosen job.position
+
+-- the plan that a job requests
+pub record IsPlanOf (job : Job) (list : Option GlyphList) (plan : Plan) : Type 0 where
+  pub task : IsTaskOf job list plan.task
+  pub instance : option_copied plan.instance ≡ option_and_then instance_chosen job.position
+  pub verbose : plan.verbose ≡ job.switches.verbose

@@ -9,10 +9,10 @@ use Rattle.subsetter_sfnt.specs.Read.{Font, stored}
 use Rattle.subset_font.specs.Asked.{face_glyphs}
 use Rattle.subset_font.specs.Made.{face_of}
 use Rattle.subset_font.specs.declared.task.Asked.{Asked}
-use Rattle.subset_font.specs.declared.task.Asked.TheVariants.{These, Every, ByText}
+use Rattle.subset_font.specs.declared.task.Asked.TheVariants.{These, Every, ByText, ByCharacters}
 use Rattle.subset_font.specs.declared.task.Task.{Task}
 use Rattle.subset_font.specs.declared.failure.Failure.{Failure}
-use Rattle.subset_font.specs.declared.failure.Failure.TheVariants.{Error, NoMapping, Usage, List as WrongList, Read, ReadList, Write, Output}
+use Rattle.subset_font.specs.declared.failure.Failure.TheVariants.{Error, NoMapping, NoInstance, Usage, List as WrongList, Read, ReadList, Write, Output}
 use Rattle.subset_font.specs.declared.hint.Hint.{Hint}
 use Rattle.subset_font.specs.declared.hint.Hint.TheVariants.{Woff, Woff2, NoFace, NoGlyph, NoTable, NoEntries, Descends, Outside, Cff2, NoUnicode, WrongAxes}
 
@@ -41,6 +41,7 @@ abbrev pub no_glyph : Font → Asked → Option Hint
 no_glyph font (These given) = option_and_then (λ count. option_map (λ g. NoGlyph g count) (first_past count given.now)) (face_glyphs font)
 no_glyph font Every = None
 no_glyph font (ByText text) = None
+no_glyph font (ByCharacters given) = None
 
 -- the first that is there
 abbrev pub or_else : Option Hint → Option Hint → Option Hint
@@ -64,6 +65,7 @@ abbrev pub no_table_by : Asked → Bool → Font → Option Hint
 no_table_by Every widths font = no_table font (record { 0 = codes "maxp" })
 no_table_by (These glyphs) widths font = no_table_for_widths widths font
 no_table_by (ByText text) widths font = no_table_for_widths widths font
+no_table_by (ByCharacters given) widths font = no_table_for_widths widths font
 
 abbrev pub no_table_for : Task → List ℕ → Option Hint
 no_table_for task bytes = no_table_by task.asked task.widths (face_of task bytes)
@@ -95,6 +97,7 @@ abbrev pub listed : Asked → List ℕ
 listed (These given) = given.now
 listed Every = []
 listed (ByText text) = []
+listed (ByCharacters given) = []
 
 -- what is wrong with the TrueType outlines of glyphs, by `glyf`, `loca` and `head`, whose number at byte 50 is the format of loca
 abbrev pub wrong_tables : List ℕ → Option (List ℕ) → Option (List ℕ) → Option (List ℕ) → Option Hint
@@ -150,6 +153,7 @@ axes_hint_of_error OutOfMemory bytes index = None
 abbrev pub axes_hint : Failure → List ℕ → ℕ → Option Hint
 axes_hint (Error e) bytes index = axes_hint_of_error e bytes index
 axes_hint NoMapping bytes index = None
+axes_hint NoInstance bytes index = None
 axes_hint Usage bytes index = None
 axes_hint WrongList bytes index = None
 axes_hint Read bytes index = None
@@ -161,6 +165,7 @@ axes_hint Output bytes index = None
 abbrev pub hint_of : Failure → Task → List ℕ → Option Hint
 hint_of (Error e) task bytes = hint_of_error e task bytes
 hint_of NoMapping task bytes = hint_of_mapping (face_of task bytes)
+hint_of NoInstance task bytes = None
 hint_of Usage task bytes = None
 hint_of WrongList task bytes = None
 hint_of Read task bytes = None

@@ -7,3 +7,8 @@ pub mod FaceView
 pub mod Failure
 pub mod Hint
 pub mod Axes
+pub mod Tables
+pub mod Notes
+pub mod Named
+pub mod Outcome
+pub mod Info

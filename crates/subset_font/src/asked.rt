@@ -7,7 +7,7 @@ ghost use Rattle.subsetter_sfnt.specs.Extras.{all_extras};
 ghost use Rattle.cmap.specs.Subtable.{glyph_of};
 ghost use Rattle.cmap.specs.View.{mapping_view};
 ghost use Rattle.subset_font.specs.Asked.{IsAsked, IsUnasked};
-ghost use Rattle.subset_font.specs.declared.task.Asked.TheVariants.{Every, ByText};
+ghost use Rattle.subset_font.specs.declared.task.Asked.TheVariants.{Every, ByText, ByCharacters};
 ghost use Rattle.subset_font.specs.declared.failure.Failure.TheVariants.{Error as Refused};
 ghost use Rattle.subsetter_base.specs.declared.error.Error.TheVariants.{OutOfMemory};
 
@@ -18,7 +18,7 @@ use cmap::Subtable;
 use std::alloc::{AllocError, Global};
 use subsetter::Error;
 
-/// The glyphs to keep, and the characters that they stand for, where a text is given.
+/// The glyphs to keep, and the characters that they stand for, where a text or characters are given.
 #[derive(Drop)]
 pub struct Picked {
     pub characters: Vec<char>,
@@ -48,7 +48,7 @@ fn glyphs_of(
 }
 
 /// So many glyphs, from 0 on.
-fn first_glyphs(alloc: Global, count: u16) -> Result<Vec<u16>, AllocError>
+pub fn first_glyphs(alloc: Global, count: u16) -> Result<Vec<u16>, AllocError>
     ensures { IfOk result (λ v. v.items ≡ counting 0 count) }
 {
     let mut glyphs = Vec::new(alloc);
@@ -101,10 +101,26 @@ fn pick_by_text(alloc: Global, font: &[u8], index: u32, text: &str) -> Result<Pi
     Ok(Picked { characters, glyphs })
 }
 
+/// The glyphs of characters.
+fn pick_by_characters(
+    alloc: Global,
+    font: &[u8],
+    index: u32,
+    given: &[char],
+) -> Result<Picked, Failure>
+    ensures ok { IfOk result (λ p. IsAsked (record { bytes = font.now; index = index; extras = all_extras }) (ByCharacters given.entry) p.characters.items p.glyphs.items) }
+    ensures err { IfErr result (λ e. (e ≡ Refused OutOfMemory) ⊎ IsUnasked (record { bytes = font.now; index = index; extras = all_extras }) (ByCharacters given.entry) e) }
+{
+    let mapping = find_mapping(font, index).ok_or(Failure::NoMapping)?;
+    let characters = Vec::from_slice(alloc, given).map_err(no_memory)?;
+    let glyphs = glyphs_of(alloc, &mapping, &characters).map_err(no_memory)?;
+    Ok(Picked { characters, glyphs })
+}
+
 /// The glyphs to keep of a font.
 ///
-/// `NoMapping` where a text is given and the face has no `cmap` for Unicode; `Error` where every glyph is asked for and
-/// the face doesn't say how many it has, or where memory ran out.
+/// `NoMapping` where a text or characters are given and the face has no `cmap` for Unicode; `Error` where every glyph is
+/// requested and the face has no count of them, or where memory ran out.
 pub fn pick(alloc: Global, font: &[u8], index: u32, asked: &Asked<'_>) -> Result<Picked, Failure>
     ensures ok { IfOk result (λ p. IsAsked (record { bytes = font.now; index = index; extras = all_extras }) asked.now p.characters.items p.glyphs.items) }
     ensures err { IfErr result (λ e. (e ≡ Refused OutOfMemory) ⊎ IsUnasked (record { bytes = font.now; index = index; extras = all_extras }) asked.now e) }
@@ -113,5 +129,6 @@ pub fn pick(alloc: Global, font: &[u8], index: u32, asked: &Asked<'_>) -> Result
         Asked::These(given) => pick_these(alloc, given),
         Asked::Every => pick_all(alloc, font, index),
         Asked::ByText(text) => pick_by_text(alloc, font, index, text),
+        Asked::ByCharacters(given) => pick_by_characters(alloc, font, index, given),
     }
 }

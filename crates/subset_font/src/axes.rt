@@ -1,10 +1,11 @@
 //! The axes of the font that is read.
 
-ghost use Rattle.std.specs.Prelude.{◌≡◌, ◌⊎◌, ◌≢◌, IfOk, IfErr, IfSome, OnOk, codes, Some, None};
+ghost use Rattle.std.specs.Prelude.{◌≡◌, ◌⊎◌, ◌≢◌, IfOk, IfErr, IfSome, OnOk, codes, map, [], Some, None};
 ghost use Rattle.subsetter_base.specs.declared.error.Error.TheVariants.{OutOfMemory, MalformedFont};
 ghost use Rattle.subsetter_sfnt.specs.Extras.{all_extras};
 ghost use Rattle.subsetter_sfnt.specs.Read.{stored};
-ghost use Rattle.subset_font.specs.Axes.{bytes_or_none, lines_of_axes, IsAxesTold, IsAxesFault, axes_or_none, has_axis};
+ghost use Rattle.subset_font.specs.Axes.{axes_shown, text_of_axes, IsAxesTold, IsAxesFault, axes_or_none, find_axis};
+ghost use Rattle.subset_font.specs.Tables.{bytes_or_none};
 ghost use Rattle.subset_font.specs.declared.failure.Failure.TheVariants.{Error as Refused, Read as CannotRead, Output, Usage};
 ghost use Rattle.std.specs.Io.KnownBytes.{Appends};
 
@@ -13,31 +14,68 @@ use crate::face::{header_place, table};
 use crate::failure::Failure;
 use std::alloc::Global;
 use std::io::{Read, Write};
-use subset_lines::{read_axes, write_axes};
+use subset_lines::{FontAxes, read_axes, write_axes, write_axes_json};
 use subsetter::{Error, Tag};
 use subsetter_variation::axes::{Axis, axes};
 
-/// Writes the lines of `fvar`, with the names of `name`.
+/// Writes axes, as lines or as JSON.
+fn write_shown<L: Write>(
+    alloc: Global,
+    all: &FontAxes<'_>,
+    json: bool,
+    lines: &mut L,
+) -> Result<(), Failure>
+    ensures ok { OnOk result (Appends (L.contents lines.old) (L.contents lines.new) (axes_shown json all.now.axes.items all.now.names.now (map (λ bytes. bytes.now) all.now.instances.items))) }
+    ensures err { IfErr result (λ e. e ≡ Output) }
+{
+    let written = if json {
+        write_axes_json(alloc, all, lines)
+    } else {
+        write_axes(all, lines)
+    };
+    written.map_err(|_| Failure::Output)
+}
+
+/// Writes the axes of `fvar`, with the names of `name`.
 fn tell_fvar<L: Write>(
     alloc: Global,
     fvar: &[u8],
     names: &[u8],
+    json: bool,
     lines: &mut L,
 ) -> Result<(), Failure>
-    ensures ok { OnOk result (IfSome (lines_of_axes names.now fvar.now) (λ text. Appends (L.contents lines.old) (L.contents lines.new) text)) }
-    ensures there { OnOk result (lines_of_axes names.now fvar.now ≢ None) }
-    ensures err { IfErr result (λ e. (e ≡ Output) ⊎ ((e ≡ Refused OutOfMemory) ⊎ ((e ≡ Refused MalformedFont) × (lines_of_axes names.now fvar.now ≡ None)))) }
+    ensures ok { OnOk result (IfSome (text_of_axes json names.now fvar.now) (λ text. Appends (L.contents lines.old) (L.contents lines.new) text)) }
+    ensures there { OnOk result (text_of_axes json names.now fvar.now ≢ None) }
+    ensures err { IfErr result (λ e. (e ≡ Output) ⊎ ((e ≡ Refused OutOfMemory) ⊎ ((e ≡ Refused MalformedFont) × (text_of_axes json names.now fvar.now ≡ None)))) }
     ensures kind { IfErr result (λ e. e ≢ Usage) }
 {
     let all = match read_axes(alloc, fvar, names) {
         Ok(all) => all,
         Err(error) => return Err(Failure::Error(error)),
     };
-    write_axes(&all, lines).map_err(|_| Failure::Output)
+    write_shown(alloc, &all, json, lines)
+}
+
+/// Writes that a face has no axes.
+fn tell_none<L: Write>(
+    alloc: Global,
+    names: &[u8],
+    json: bool,
+    lines: &mut L,
+) -> Result<(), Failure>
+    ensures ok { OnOk result (Appends (L.contents lines.old) (L.contents lines.new) (axes_shown json [] names.now [])) }
+    ensures err { IfErr result (λ e. e ≡ Output) }
+{
+    let none = FontAxes {
+        axes: Vec::new(alloc),
+        instances: Vec::new(alloc),
+        names,
+    };
+    write_shown(alloc, &none, json, lines)
 }
 
 /// The names of a face, no bytes where it has none.
-fn names_of(font: &[u8], index: u32) -> &[u8]
+pub fn names_of(font: &[u8], index: u32) -> &[u8]
     ensures { result.now ≡ bytes_or_none (stored (record { bytes = font.now; index = index; extras = all_extras }) (codes "name")) }
 {
     match table(font, index, Tag::NAME) {
@@ -46,44 +84,46 @@ fn names_of(font: &[u8], index: u32) -> &[u8]
     }
 }
 
-/// Writes the lines of a face: one for each axis and each named instance, none of a face that isn't variable.
+/// Writes the axes and named instances of a face, as lines or as one JSON object; none of a face that isn't variable.
 ///
-/// `UnknownKind` where no font stands at its place, `MalformedFont` where `fvar` is cut; `Output` where the writer fails.
+/// `UnknownKind` where the file has no font at the index, `MalformedFont` where `fvar` is cut; `Output` where the writer fails.
 pub fn tell_axes<L: Write>(
     alloc: Global,
     font: &[u8],
     index: u32,
+    json: bool,
     lines: &mut L,
 ) -> Result<(), Failure>
-    ensures ok { OnOk result (IsAxesTold (record { bytes = font.now; index = index; extras = all_extras }) (L.contents lines.old) (L.contents lines.new)) }
-    ensures err { IfErr result (λ e. (e ≡ Output) ⊎ ((e ≡ Refused OutOfMemory) ⊎ IsAxesFault (record { bytes = font.now; index = index; extras = all_extras }) e)) }
+    ensures ok { OnOk result (IsAxesTold json (record { bytes = font.now; index = index; extras = all_extras }) (L.contents lines.old) (L.contents lines.new)) }
+    ensures err { IfErr result (λ e. (e ≡ Output) ⊎ ((e ≡ Refused OutOfMemory) ⊎ IsAxesFault json (record { bytes = font.now; index = index; extras = all_extras }) e)) }
     ensures kind { IfErr result (λ e. e ≢ Usage) }
 {
     if header_place(font, index).is_none() {
         return Err(Failure::Error(Error::UnknownKind));
     }
     match table(font, index, Tag::new(b"fvar")) {
-        Some(fvar) => tell_fvar(alloc, fvar, names_of(font, index), lines),
-        None => Ok(()),
+        Some(fvar) => tell_fvar(alloc, fvar, names_of(font, index), json, lines),
+        None => tell_none(alloc, names_of(font, index), json, lines),
     }
 }
 
-/// Reads the font from the reader, and writes the lines of a face. The bytes that were read are kept. Room for so many of
+/// Reads the font from the reader, and writes the axes of a face. The bytes that were read are kept. Room for so many of
 /// them is taken at once.
 pub fn carry_axes<R: Read, L: Write>(
     alloc: Global,
     index: u32,
+    json: bool,
     reader: &mut R,
     room: usize,
     source: &mut Vec<u8>,
     lines: &mut L,
 ) -> Result<(), Failure>
-    ensures ok { OnOk result (IfSome (R.remaining reader.old) (λ bytes. IsAxesTold (record { bytes = bytes; index = index; extras = all_extras }) (L.contents lines.old) (L.contents lines.new))) }
-    ensures err { IfErr result (λ e. (e ≡ CannotRead) ⊎ ((e ≡ Output) ⊎ ((e ≡ Refused OutOfMemory) ⊎ IfSome (R.remaining reader.old) (λ bytes. IsAxesFault (record { bytes = bytes; index = index; extras = all_extras }) e)))) }
+    ensures ok { OnOk result (IfSome (R.remaining reader.old) (λ bytes. IsAxesTold json (record { bytes = bytes; index = index; extras = all_extras }) (L.contents lines.old) (L.contents lines.new))) }
+    ensures err { IfErr result (λ e. (e ≡ CannotRead) ⊎ ((e ≡ Output) ⊎ ((e ≡ Refused OutOfMemory) ⊎ IfSome (R.remaining reader.old) (λ bytes. IsAxesFault json (record { bytes = bytes; index = index; extras = all_extras }) e)))) }
     ensures kind { IfErr result (λ e. e ≢ Usage) }
 {
     let font = read_whole(alloc, reader, room)?;
-    let told = tell_axes(alloc, &font, index, lines);
+    let told = tell_axes(alloc, &font, index, json, lines);
     *source = font;
     told
 }
@@ -99,14 +139,14 @@ pub fn axes_there(alloc: Global, font: &[u8], index: u32) -> Result<Vec<Axis>, E
     }
 }
 
-/// Whether an axis bears a tag.
-pub fn has_axis(axes: &[Axis], tag: Tag) -> bool
-    ensures { result ≡ has_axis axes.now tag }
+/// The first axis that bears a tag.
+pub fn find_axis(axes: &[Axis], tag: Tag) -> Option<Axis>
+    ensures { result ≡ find_axis axes.now tag }
 {
     for axis in axes {
         if axis.tag == tag {
-            return true;
+            return Some(*axis);
         }
     }
-    false
+    None
 }

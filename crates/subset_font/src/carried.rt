@@ -1,15 +1,15 @@
-//! A task from the font that is read to the font and the numbers that are written.
+//! A plan from the font that is read to the font and the numbers that are written.
 
 ghost use Rattle.std.specs.Prelude.{◌≡◌, ◌⊎◌, IfOk, IfErr, IfSome, OnOk, IsErrOf};
 ghost use Rattle.std.specs.Io.KnownBytes.{IsAtEnd};
-ghost use Rattle.subset_font.specs.Made.{IsMade, IsUnmade};
+ghost use Rattle.subset_font.specs.Outcome.{IsOutcome, IsNoOutcome};
 ghost use Rattle.subset_font.specs.Carried.{IsBeforeWriting, IsFailureOf, WritesFont, WritesAll};
 ghost use Rattle.subset_font.specs.declared.failure.Failure.TheVariants.{Read as CannotRead, Write as CannotWrite, Output};
 
 use crate::failure::Failure;
+use crate::outcome::{Outcome, make_planned};
 use crate::output::emit;
-use crate::subset::{Made, make_of};
-use crate::task::Task;
+use crate::task::Plan;
 use std::alloc::Global;
 use std::io::{Read, Write};
 
@@ -29,49 +29,49 @@ pub fn read_whole<R: Read>(alloc: Global, reader: &mut R, room: usize) -> Result
     Ok(font)
 }
 
-/// What a task makes of the font from a reader, whose bytes are kept. Room for so many bytes of the font is taken at once.
+/// What a plan makes of the font from a reader, whose bytes are kept. Room for so many bytes of the font is taken at once.
 fn make_from<R: Read>(
     alloc: Global,
-    task: &Task<'_>,
+    plan: &Plan<'_>,
     reader: &mut R,
     room: usize,
     source: &mut Vec<u8>,
-) -> Result<Made, Failure>
-    ensures ok { IfOk result (λ made. IfSome (R.remaining reader.old) (λ bytes. IsMade task.now bytes made)) }
-    ensures err { IfErr result (IsFailureOf task.now (R.remaining reader.old)) }
+) -> Result<Outcome, Failure>
+    ensures ok { IfOk result (λ outcome. IfSome (R.remaining reader.old) (λ bytes. IsOutcome plan.now bytes outcome)) }
+    ensures err { IfErr result (IsFailureOf plan.now (R.remaining reader.old)) }
 {
     let font = read_whole(alloc, reader, room)?;
-    let made = make_of(alloc, &font, task);
+    let outcome = make_planned(alloc, &font, plan);
     *source = font;
-    made
+    outcome
 }
 
-/// Reads the font from the reader, writes its subset to one writer, and tells the new numbers to the other. The bytes that
+/// Reads the font from the reader, writes its subset to one writer, and the new numbers to the other. The bytes that
 /// were read are kept. Room for so many of them is taken at once.
 ///
-/// `Read` where the reader fails; `Error` or `NoMapping` where the glyphs or the font are refused, or the font has no
-/// widths that are asked for; `Write` and `Output` where a writer fails. A writer is first used when the subset is made.
+/// `Read` where the reader fails; `Error`, `NoMapping` or `NoInstance` where the glyphs or the font are refused, or the font
+/// has no widths that are requested; `Write` and `Output` where a writer fails. A writer is first used when the subset is made.
 pub fn carry_out<R: Read, W: Write, L: Write>(
     alloc: Global,
-    task: &Task<'_>,
+    plan: &Plan<'_>,
     reader: &mut R,
     room: usize,
     source: &mut Vec<u8>,
     output: &mut W,
     lines: &mut L,
 ) -> Result<(), Failure>
-    ensures ok { OnOk result (WritesAll task.now (R.remaining reader.old) (W.contents output.old) (W.contents output.new) (L.contents lines.old) (L.contents lines.new)) }
+    ensures ok { OnOk result (WritesAll plan.now (R.remaining reader.old) (W.contents output.old) (W.contents output.new) (L.contents lines.old) (L.contents lines.new)) }
     // Both writers are as they were where the font can't be read or is refused.
     ensures output_kept { IfErr result (λ e. IsBeforeWriting e → output.new ≡ output.old) }
     ensures lines_kept { IfErr result (λ e. IsBeforeWriting e → lines.new ≡ lines.old) }
     // No line is written before the whole font.
     ensures unwritten { IsErrOf result Failure.Write → lines.new ≡ lines.old }
-    ensures written { IsErrOf result Failure.Output → WritesFont task.now (R.remaining reader.old) (W.contents output.old) (W.contents output.new) }
+    ensures written { IsErrOf result Failure.Output → WritesFont plan.now (R.remaining reader.old) (W.contents output.old) (W.contents output.new) }
     // Why nothing is written.
-    ensures err { IfErr result (λ e. IsFailureOf task.now (R.remaining reader.old) e ⊎ ((e ≡ CannotWrite) ⊎ (e ≡ Output))) }
+    ensures err { IfErr result (λ e. IsFailureOf plan.now (R.remaining reader.old) e ⊎ ((e ≡ CannotWrite) ⊎ (e ≡ Output))) }
 {
-    match make_from(alloc, task, reader, room, source) {
-        Ok(made) => emit(&made, task.form, output, lines),
+    match make_from(alloc, plan, reader, room, source) {
+        Ok(outcome) => emit(&outcome, plan.task.form, output, lines),
         Err(failure) => Err(failure),
     }
 }

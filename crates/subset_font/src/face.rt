@@ -23,14 +23,14 @@ pub enum Kind {
     Single,
 }
 
-/// Where a table stands, in bytes.
+/// Where a table is, in bytes.
 #[derive(Clone, Copy)]
 pub struct Place {
     pub offset: u32,
     pub length: u32,
 }
 
-/// What the bytes from a place on begin with.
+/// What the bytes from an offset on begin with.
 fn kind_at(file: &[u8], at: usize) -> Option<Kind>
     ensures { option_map kind_view result ≡ kind_at file.now at }
 {
@@ -41,7 +41,7 @@ fn kind_at(file: &[u8], at: usize) -> Option<Kind>
     }
 }
 
-/// Where the header of a collection's font stands.
+/// Where the header of a collection's font is.
 fn place_in_collection(file: &[u8], index: u32) -> Option<usize>
     ensures place { result ≡ header_by_kind Collection (record { bytes = file.now; index = index; extras = all_extras }) }
     ensures small { IfSome result (λ at. at < 2 ^ 32) }
@@ -57,7 +57,7 @@ fn place_in_collection(file: &[u8], index: u32) -> Option<usize>
     }
 }
 
-/// Where the font's header stands.
+/// Where the font's header is.
 #[tactic(auto, unfolding(subsetter_sfnt::specs::Read::header_place))]
 pub fn header_place(file: &[u8], index: u32) -> Option<usize>
     ensures place { result ≡ header_place (record { bytes = file.now; index = index; extras = all_extras }) }
@@ -69,7 +69,7 @@ pub fn header_place(file: &[u8], index: u32) -> Option<usize>
     }
 }
 
-/// The bytes of the records of the directory at a place.
+/// The bytes of the records of the directory at an offset.
 #[tactic(auto, unfolding(subsetter_sfnt::specs::Read::records_at))]
 fn records_at(file: &[u8], at: usize) -> Option<&[u8]>
     requires { at < 2 ^ 32 }
@@ -80,11 +80,19 @@ fn records_at(file: &[u8], at: usize) -> Option<&[u8]>
 }
 
 /// The bytes of the records of the font's directory.
-fn records(file: &[u8], index: u32) -> Option<&[u8]>
+pub fn records(file: &[u8], index: u32) -> Option<&[u8]>
     ensures { option_copied result ≡ records (record { bytes = file.now; index = index; extras = all_extras }) }
 {
     let at = header_place(file, index)?;
     records_at(file, at)
+}
+
+/// The tag of a record.
+pub fn tag_in(bytes: &[u8]) -> Tag
+    requires { length bytes.now ≡ 16 }
+    ensures { result ≡ (record_of bytes.now).tag }
+{
+    Tag::new(&[bytes[0], bytes[1], bytes[2], bytes[3]])
 }
 
 /// Whether a record bears a tag.
@@ -92,11 +100,11 @@ fn bears(bytes: &[u8], tag: Tag) -> bool
     requires { length bytes.now ≡ 16 }
     ensures { result ≡ bytes_eq (record_of bytes.now).tag.0 tag.0 }
 {
-    Tag::new(&[bytes[0], bytes[1], bytes[2], bytes[3]]) == tag
+    tag_in(bytes) == tag
 }
 
-/// Where a record says that its table stands.
-fn place_in(bytes: &[u8]) -> Place
+/// Where the table of a record is.
+pub fn place_in(bytes: &[u8]) -> Place
     requires { length bytes.now ≡ 16 }
     ensures { result ≡ place_view (record_of bytes.now) }
 {
@@ -106,8 +114,8 @@ fn place_in(bytes: &[u8]) -> Place
     }
 }
 
-/// Where the first record that bears a tag says that its table stands.
-fn find_place(records: &[u8], tag: Tag) -> Option<Place>
+/// Where the table of the first record that bears a tag is.
+pub fn find_place(records: &[u8], tag: Tag) -> Option<Place>
     ensures { result ≡ option_map place_view (find_record tag.0 (directory_records (length records.now / 16) records.now)) }
 {
     let mut r = Reader::new(records);

@@ -16,6 +16,9 @@ pub enum Failure {
     /// The face has no table by which Unicode characters have glyphs.
     #[error("no Unicode cmap in font")]
     NoMapping,
+    /// The face has no named instance of the requested name.
+    #[error("no such instance in font")]
+    NoInstance,
     /// The arguments after the program's name aren't as the usage says.
     #[error("usage: subset_font IN OUT INDEX GID[,GID..]")]
     Usage,
@@ -43,14 +46,14 @@ impl Failure {
         ensures range { (1 ≤ result) × (result ≤ 3) }
     {
         match self {
-            Failure::Error(_) | Failure::NoMapping => 1,
+            Failure::Error(_) | Failure::NoMapping | Failure::NoInstance => 1,
             Failure::Usage | Failure::List => 2,
             Failure::Read | Failure::ReadList | Failure::Write | Failure::Output => 3,
         }
     }
 }
 
-/// A failure as the standard error tells it: its text, and after it the name of the file that failed.
+/// A failure as standard error has it: its text, and after it the name of the file that failed.
 #[derive(Drop)]
 pub struct Told<'a> {
     /// Why the run failed.
@@ -64,7 +67,7 @@ pub fn file_of<'a>(ended: &Result<(), Failure>, job: &'a Job) -> Option<&'a str>
     match (ended, &job.glyphs) {
         (Err(Failure::Read), _) => Some(job.input.as_str()),
         (Err(Failure::Write), _) => Some(job.output.as_str()),
-        (Err(Failure::ReadList), Glyphs::InFile(name)) => Some(name.as_str()),
+        (Err(Failure::ReadList), Glyphs::InFile(_, name)) => Some(name.as_str()),
         _ => None,
     }
 }

@@ -1,4 +1,4 @@
-//! What more can be said of a refusal: what the program sees at once.
+//! What more is known of a refusal: what the program sees at once.
 
 ghost use Rattle.std.specs.Prelude.{◌≡◌, ◌≤◌};
 ghost use Rattle.subsetter_sfnt.specs.Extras.{all_extras};
@@ -13,7 +13,7 @@ use std::fmt;
 use subsetter::{Error, Tag};
 use subsetter_base::read::Reader;
 
-/// What more is said of a refusal.
+/// What more is known of a refusal.
 #[derive(Clone, Copy, PartialEq, Eq, Debug, Drop)]
 pub enum Hint {
     /// The file is a WOFF.
@@ -45,14 +45,18 @@ impl fmt::Display for Hint {
         match *self {
             Hint::Woff => write!(f, "WOFF: unpack it first"),
             Hint::Woff2 => write!(f, "WOFF2: unpack it first"),
+            Hint::NoFace(index, 0) => write!(f, "INDEX {index}: the collection has no face"),
             Hint::NoFace(index, count) => {
+                let last = count.saturating_sub(1);
                 write!(
                     f,
-                    "INDEX {index}: the collection has {count} faces, from 0 on"
+                    "INDEX {index}: the faces of the collection are 0 to {last}"
                 )
             }
+            Hint::NoGlyph(glyph, 0) => write!(f, "GID {glyph}: the face has no glyph"),
             Hint::NoGlyph(glyph, count) => {
-                write!(f, "GID {glyph}: the face has {count} glyphs, from 0 on")
+                let last = count.saturating_sub(1);
+                write!(f, "GID {glyph}: the glyphs of the face are 0 to {last}")
             }
             Hint::NoTable(tag) => write!(f, "the face has no table {tag}"),
             Hint::NoEntries(glyph) => write!(f, "glyph {glyph}: loca has no entries for it"),
@@ -77,7 +81,7 @@ fn packed(font: &[u8]) -> Option<Hint>
 }
 
 /// How many faces a collection says that it has.
-fn face_count(font: &[u8]) -> Option<u32>
+pub fn face_count(font: &[u8]) -> Option<u32>
     ensures { result ≡ face_count font.now }
 {
     match Reader::new_at(font, 0).read::<u32>()? {
@@ -150,6 +154,7 @@ fn no_table_for(font: &[u8], task: &Task<'_>) -> Option<Hint>
         Asked::Every => no_table(font, task.index, Tag::MAXP),
         Asked::These(_) => no_table_for_widths(font, task.index, task.widths),
         Asked::ByText(_) => no_table_for_widths(font, task.index, task.widths),
+        Asked::ByCharacters(_) => no_table_for_widths(font, task.index, task.widths),
     }
 }
 
@@ -190,7 +195,7 @@ fn wrong_between(glyph: u16, glyf: &[u8], start: Option<u64>, end: Option<u64>) 
     }
 }
 
-/// What is wrong with the place of a glyph's outline.
+/// What is wrong with the range of a glyph's outline.
 fn wrong_outline(glyf: &[u8], loca: &[u8], format: u16, glyph: u16) -> Option<Hint>
     ensures { result ≡ wrong_outline glyf.now loca.now format glyph }
 {
@@ -199,7 +204,7 @@ fn wrong_outline(glyf: &[u8], loca: &[u8], format: u16, glyph: u16) -> Option<Hi
     wrong_between(glyph, glyf, start, end)
 }
 
-/// The first of the glyphs with an outline whose place is wrong.
+/// The first of the glyphs with an outline whose range is wrong.
 fn first_wrong(glyf: &[u8], loca: &[u8], format: u16, glyphs: &[u16]) -> Option<Hint>
     ensures { result ≡ first_wrong glyf.now loca.now format glyphs.now }
 {
@@ -219,6 +224,7 @@ fn listed<'a>(asked: &Asked<'a>) -> &'a [u16]
         Asked::These(glyphs) => glyphs,
         Asked::Every => &[],
         Asked::ByText(_) => &[],
+        Asked::ByCharacters(_) => &[],
     }
 }
 
@@ -261,14 +267,14 @@ fn no_part(font: &[u8], task: &Task<'_>) -> Option<Hint>
     no_face_or_glyph(font, task).or(no_table_for(font, task))
 }
 
-/// What more can be said of a face that is malformed.
+/// What more is known of a face that is malformed.
 fn hint_of_malformed(font: &[u8], task: &Task<'_>) -> Option<Hint>
     ensures { result ≡ hint_of_malformed task.now font.now }
 {
     no_part(font, task).or(no_outline(font, task))
 }
 
-/// What more can be said of a font that is refused by an error.
+/// What more is known of a font that is refused by an error.
 fn hint_of_error(error: Error, font: &[u8], task: &Task<'_>) -> Option<Hint>
     ensures { result ≡ hint_of_error error task.now font.now }
 {
@@ -280,14 +286,14 @@ fn hint_of_error(error: Error, font: &[u8], task: &Task<'_>) -> Option<Hint>
     }
 }
 
-/// What more can be said of a font without a mapping of Unicode characters.
+/// What more is known of a font without a mapping of Unicode characters.
 fn hint_of_mapping(font: &[u8], index: u32) -> Option<Hint>
     ensures { result ≡ hint_of_mapping (record { bytes = font.now; index = index; extras = all_extras }) }
 {
     no_table(font, index, Tag::new(b"cmap")).or(Some(Hint::NoUnicode))
 }
 
-/// What more can be said of a font whose axes can't be printed, by an error.
+/// What more is known of a font whose axes can't be printed, by an error.
 fn axes_hint_of_error(error: Error, font: &[u8], index: u32) -> Option<Hint>
     ensures { result ≡ axes_hint_of_error error font.now index }
 {
@@ -298,7 +304,7 @@ fn axes_hint_of_error(error: Error, font: &[u8], index: u32) -> Option<Hint>
     }
 }
 
-/// What more can be said of a font whose axes can't be printed.
+/// What more is known of a font whose axes can't be printed.
 pub fn find_axes_hint(failure: &Failure, font: &[u8], index: u32) -> Option<Hint>
     ensures { result ≡ axes_hint failure.now font.now index }
 {
@@ -308,7 +314,7 @@ pub fn find_axes_hint(failure: &Failure, font: &[u8], index: u32) -> Option<Hint
     }
 }
 
-/// What more can be said of a font that is refused.
+/// What more is known of a font that is refused.
 pub fn find_hint(failure: &Failure, font: &[u8], task: &Task<'_>) -> Option<Hint>
     ensures { result ≡ hint_of failure.now task.now font.now }
 {

@@ -4,7 +4,7 @@
 //! subset_font --widths DejaVuSans.ttf subset.ttf 0 36,37,38
 //! ```
 //!
-//! `run` reads the arguments and the files, and tells what failed; `carried` is a run between a reader and two writers,
+//! `run` reads the arguments and the files, and reports what failed; `carried` is a run between a reader and two writers,
 //! of which it is proved what is written.
 #![tactic(auto)]
 
@@ -15,22 +15,31 @@ mod face;
 mod failure;
 mod help;
 mod hint;
+mod info;
+mod named;
+mod notes;
+mod outcome;
 mod output;
 mod reason;
 mod run;
 mod streams;
 mod subset;
+mod tables;
 mod task;
 
 pub use asked::{Picked, pick};
-pub use axes::{axes_there, carry_axes, has_axis};
+pub use axes::{axes_there, carry_axes, find_axis};
 pub use carried::carry_out;
 pub use failure::{Failure, Told, status_of_run};
 pub use help::{HELP, VERSION_LINE};
 pub use hint::{Hint, find_axes_hint, find_hint};
+pub use info::{InfoParts, carry_info};
+pub use notes::notes_of;
+pub use outcome::{Outcome, make_planned};
 pub use output::emit;
 pub use subset::{Made, make_of};
-pub use task::{Asked, Form, Task};
+pub use tables::{table_sizes, tables_of};
+pub use task::{Asked, Form, Plan, Task};
 
 #[cfg(test)]
 mod tests;

@@ -6,29 +6,29 @@ ghost use Rattle.subset_font.specs.Told.{told_of};
 ghost use Rattle.subset_font.specs.declared.failure.Failure.TheVariants.{Write as CannotWrite, Output};
 
 use crate::failure::Failure;
-use crate::subset::Made;
+use crate::outcome::Outcome;
 use crate::task::Form;
 use std::io::Write;
 use subset_lines::{Numbering, write_json, write_lines};
 
-/// Writes the font to one writer, and then tells the new numbers to the other.
+/// Writes the font to one writer, and then the new numbers to the other.
 ///
 /// `Write` where the first writer fails, `Output` where the other does.
 pub fn emit<W: Write, L: Write>(
-    made: &Made,
+    outcome: &Outcome,
     form: Form,
     output: &mut W,
     lines: &mut L,
 ) -> Result<(), Failure>
-    ensures font { OnOk result (Appends (W.contents output.old) (W.contents output.new) made.now.font.items) }
-    ensures lines { OnOk result (Appends (L.contents lines.old) (L.contents lines.new) (told_of form made.now)) }
+    ensures font { OnOk result (Appends (W.contents output.old) (W.contents output.new) outcome.now.made.font.items) }
+    ensures lines { OnOk result (Appends (L.contents lines.old) (L.contents lines.new) (told_of form outcome.now)) }
     // No line is written before the whole font.
     ensures unwritten { IsErrOf result Failure.Write → lines.new ≡ lines.old }
-    ensures written { IsErrOf result Failure.Output → Appends (W.contents output.old) (W.contents output.new) made.now.font.items }
+    ensures written { IsErrOf result Failure.Output → Appends (W.contents output.old) (W.contents output.new) outcome.now.made.font.items }
     ensures err { IfErr result (λ e. (e ≡ CannotWrite) ⊎ (e ≡ Output)) }
 {
-    write_font(&made.font, output)?;
-    write_numbers(made, form, lines)
+    write_font(&outcome.made.font, output)?;
+    write_numbers(outcome, form, lines)
 }
 
 /// Writes the font, and passes on what the writer keeps back.
@@ -42,19 +42,20 @@ fn write_font<W: Write>(font: &[u8], output: &mut W) -> Result<(), Failure>
     Ok(())
 }
 
-/// Tells the new numbers.
-fn write_numbers<L: Write>(made: &Made, form: Form, lines: &mut L) -> Result<(), Failure>
-    ensures bytes { OnOk result (Appends (L.contents lines.old) (L.contents lines.new) (told_of form made.now)) }
+/// Writes the new numbers.
+fn write_numbers<L: Write>(outcome: &Outcome, form: Form, lines: &mut L) -> Result<(), Failure>
+    ensures bytes { OnOk result (Appends (L.contents lines.old) (L.contents lines.new) (told_of form outcome.now)) }
     ensures err { IfErr result (λ e. e ≡ Output) }
 {
+    let made = &outcome.made;
     let numbering = Numbering {
         characters: &made.picked.characters,
         glyphs: &made.picked.glyphs,
         mapper: &made.mapper,
     };
     let written = match form {
-        Form::Lines => write_lines(&numbering, &made.text, lines),
-        Form::Json => write_json(&numbering, &made.text, lines),
+        Form::Lines => write_lines(&numbering, &made.text, &outcome.more, lines),
+        Form::Json => write_json(&numbering, &made.text, &outcome.more, lines),
         Form::Silence => Ok(()),
     };
     written.map_err(|_| Failure::Output)

@@ -3,19 +3,22 @@
 ghost use Rattle.std.specs.Prelude.{◌≡◌, ◌≢◌, ◌⊎◌, ◌≤◌, drop, IfErr, IfOk};
 ghost use Rattle.std.specs.Process.{exit_status};
 ghost use Rattle.std.specs.Vec.Iter.{into_iter_items};
-ghost use Rattle.subset_font.specs.Chosen.{IsListFor, wanted_of, wanted_for, IsTaskOf};
+ghost use Rattle.subset_font.specs.Chosen.{IsListFor, wanted_of, wanted_by, wanted_for, IsTaskOf, IsPlanOf};
 ghost use Rattle.subset_font.specs.Failure.{status_of_end};
 ghost use Rattle.subset_font.specs.declared.failure.Failure.TheVariants.{Error as Refused, Read as CannotRead, Usage};
 ghost use Rattle.subsetter_base.specs.declared.error.Error.TheVariants.{OutOfMemory};
 
-use crate::axes::{axes_there, carry_axes, has_axis};
+use crate::axes::carry_axes;
 use crate::carried::{carry_out, read_whole};
 use crate::failure::{Failure, Told, file_of, status_of_run};
 use crate::help::{HELP, VERSION_LINE};
 use crate::hint::{Hint, find_axes_hint, find_hint};
+use crate::info::carry_info;
+use crate::named::instance_names;
+use crate::notes::{known_axes, notes_for};
 use crate::reason::{Noted, reason_of, unread};
 use crate::streams::{Source, Target, hold_streams, lines_beside, open_source};
-use crate::task::{Asked, Task, at_of, extras_of, form_of, limits_of};
+use crate::task::{Asked, Plan, Task, at_of, extras_of, form_of, instance_of, limits_of};
 use std::alloc::Global;
 use std::fs::OpenFile;
 use std::io::{BufWriter, ErrorKind, Read, Write};
@@ -23,10 +26,11 @@ use std::process::{ExitCode, Termination};
 use std::rt::{Env, Files};
 use std::{env, io};
 use subset_args::{
-    Advice, ArgsError, Command, GlyphList, Glyphs, Job, Shown, find_mistake, find_wrong_part,
-    read_list, read_words,
+    Advice, ArgsError, CODES_WANTED, Command, FileKind, GlyphList, Glyphs, Job, PARTS_WANTED,
+    Shown, Topic, find_mistake, find_wrong, read_list, read_words,
 };
-use subsetter::{Error, Options, Tag};
+use subset_lines::note_lines;
+use subsetter::{Error, Options};
 
 /// The arguments after the program's name, which is the first.
 fn after_name(alloc: Global, all: env::Args) -> Result<Vec<String>, Failure>
@@ -50,9 +54,10 @@ fn words<R: Env + AllocGlobal>(rt: &R) -> Result<Vec<String>, Failure>
     }
 }
 
-/// The list of glyphs that a file has. Its text is kept.
+/// What a file requests. Its text is kept.
 fn read_list_file<R: Files + Input + AllocGlobal>(
     rt: &R,
+    kind: FileKind,
     name: &str,
     text: &mut Vec<u8>,
     reason: &mut Option<io::Error>,
@@ -73,7 +78,7 @@ fn read_list_file<R: Files + Input + AllocGlobal>(
             return Err(Failure::ReadList);
         }
     }
-    match read_list(rt.alloc(), text) {
+    match read_list(rt.alloc(), kind, text) {
         Ok(list) => Ok(list),
         Err(ArgsError::Usage) => Err(Failure::List),
         Err(ArgsError::OutOfMemory) => Err(Failure::Error(Error::OutOfMemory)),
@@ -91,8 +96,20 @@ fn list_of<R: Files + Input + AllocGlobal>(
     ensures err { IfErr result (λ e. e ≢ Usage) }
 {
     match glyphs {
-        Glyphs::InFile(name) => Ok(Some(read_list_file(rt, name, text, reason)?)),
+        Glyphs::InFile(kind, name) => Ok(Some(read_list_file(rt, *kind, name, text, reason)?)),
         _ => Ok(None),
+    }
+}
+
+/// Which glyphs a file requests.
+fn asked_by(list: &GlyphList) -> Asked<'_>
+    ensures { wanted_of result ≡ wanted_by list.now }
+{
+    match list {
+        GlyphList::Every => Asked::Every,
+        GlyphList::These(given) => Asked::These(given),
+        GlyphList::Characters(given) => Asked::ByCharacters(given),
+        GlyphList::Text(text) => Asked::ByText(text),
     }
 }
 
@@ -105,13 +122,13 @@ fn asked_of<'a>(glyphs: &'a Glyphs, list: &'a Option<GlyphList>) -> Asked<'a>
         (Glyphs::Listed(given), _) => Asked::These(given),
         (Glyphs::ByText(text), _) => Asked::ByText(text),
         (Glyphs::Every, _) => Asked::Every,
-        (Glyphs::InFile(_), Some(GlyphList::Every)) => Asked::Every,
-        (Glyphs::InFile(_), Some(GlyphList::These(given))) => Asked::These(given),
-        (Glyphs::InFile(_), None) => Asked::These(&[]),
+        (Glyphs::Characters(given), _) => Asked::ByCharacters(given),
+        (Glyphs::InFile(_, _), Some(list)) => asked_by(list),
+        (Glyphs::InFile(_, _), None) => Asked::These(&[]),
     }
 }
 
-/// What a job asks to be made of the font.
+/// What a job requests to be made of the font.
 fn task_of<'a>(job: &'a Job, list: &'a Option<GlyphList>) -> Task<'a>
     requires { IsListFor job.now.glyphs list.now }
     ensures { IsTaskOf job.now list.now result }
@@ -125,7 +142,19 @@ fn task_of<'a>(job: &'a Job, list: &'a Option<GlyphList>) -> Task<'a>
         },
         widths: job.switches.widths,
         form: form_of(job.switches),
-        at: at_of(&job.coordinates),
+        at: at_of(&job.position),
+    }
+}
+
+/// The same at the coordinates of a named instance, if one is requested.
+fn plan_of<'a>(job: &'a Job, list: &'a Option<GlyphList>) -> Plan<'a>
+    requires { IsListFor job.now.glyphs list.now }
+    ensures { IsPlanOf job.now list.now result }
+{
+    Plan {
+        task: task_of(job, list),
+        instance: instance_of(&job.position),
+        verbose: job.switches.verbose,
     }
 }
 
@@ -166,10 +195,10 @@ fn room_of<F: OpenFile + Read + Drop, S: Read + Drop>(
     }
 }
 
-/// Does a task between a reader and two writers, the second of them behind a buffer.
+/// Does a plan between a reader and two writers, the second of them behind a buffer.
 fn carry_buffered<R: Read, W: Write, L: Write>(
     alloc: Global,
-    task: &Task<'_>,
+    plan: &Plan<'_>,
     input: &mut R,
     room: usize,
     source: &mut Vec<u8>,
@@ -181,15 +210,15 @@ fn carry_buffered<R: Read, W: Write, L: Write>(
     let Ok(mut lines) = BufWriter::new(alloc, lines) else {
         return Err(Failure::Error(Error::OutOfMemory));
     };
-    carry_out(alloc, task, input, room, source, output, &mut lines)
+    carry_out(alloc, plan, input, room, source, output, &mut lines)
 }
 
-/// Does a task on files and the standard streams. The output's file is made by its first write. Why the system refused one
+/// Does a plan on files and the standard streams. The output's file is made by its first write. Why the system refused one
 /// is kept.
 fn perform<R: Files + Print + Eprint + Input + AllocGlobal>(
     rt: &R,
     job: &Job,
-    task: &Task<'_>,
+    plan: &Plan<'_>,
     source: &mut Vec<u8>,
     reason: &mut Option<io::Error>,
 ) -> Result<(), Failure>
@@ -202,7 +231,7 @@ fn perform<R: Files + Print + Eprint + Input + AllocGlobal>(
     let mut lines = Noted::new(lines_beside(rt, job.output.as_str()));
     let ended = carry_buffered(
         rt.alloc(),
-        task,
+        plan,
         &mut input,
         room,
         source,
@@ -238,24 +267,67 @@ fn tell_hint<R: Eprint>(rt: &R, hint: Option<Hint>) {
     }
 }
 
-/// Reports which part of a list of glyphs is wrong.
-fn tell_wrong_part<R: Eprint>(rt: &R, ended: &Result<(), Failure>, text: &[u8]) {
-    if let (Err(Failure::List), Some(part)) = (ended, find_wrong_part(text)) {
-        let part = Shown(str::from_utf8(part).unwrap_or("?"));
-        let _ = eprintln!(rt; "--gids-file: \"{part}\" is not a glyph number");
-        let _ = eprintln!(rt; "expected: numbers to 65535 and ranges as 36-38, or * alone");
+/// Reports which part of a file's list is wrong, and what is expected.
+fn report_part<R: Eprint>(rt: &R, kind: FileKind, part: &[u8]) {
+    let part = Shown(str::from_utf8(part).unwrap_or("?"));
+    let _ = match kind {
+        FileKind::Glyphs => {
+            let _ = eprintln!(rt; "--gids-file: \"{part}\" is not a glyph number");
+            rt.eprintln(PARTS_WANTED)
+        }
+        FileKind::Characters => {
+            let _ = eprintln!(rt; "--unicodes-file: \"{part}\" is not a character number");
+            rt.eprintln(CODES_WANTED)
+        }
+        FileKind::Text => {
+            let _ = eprintln!(rt; "--text-file: the text is not UTF-8");
+            eprintln!(rt; "expected: a text in UTF-8")
+        }
+    };
+}
+
+/// Reports what is wrong in a file that lists glyphs, if that is why a run failed.
+fn report_list<R: Eprint>(rt: &R, ended: &Result<(), Failure>, glyphs: &Glyphs, text: &[u8]) {
+    if let (Err(Failure::List), Glyphs::InFile(kind, _)) = (ended, glyphs) {
+        if let Some(part) = find_wrong(*kind, text) {
+            report_part(rt, *kind, part);
+        }
     }
 }
 
-/// Says which tags of the coordinates are those of no axis of the font. It is passed over where memory runs out.
-fn tell_unknown<R: Eprint + AllocGlobal>(rt: &R, font: &[u8], index: u32, at: &[(Tag, i32)]) {
-    let Ok(axes) = axes_there(rt.alloc(), font, index) else {
+/// Reports coordinates that the font doesn't have, and the axes that it has. They are passed over where memory runs out.
+fn report_notes<R: Eprint + AllocGlobal>(rt: &R, font: &[u8], plan: &Plan<'_>) {
+    let Ok(axes) = known_axes(rt.alloc(), font, plan.task.index) else {
         return;
     };
-    for setting in at {
-        if !has_axis(&axes, setting.0) {
-            let _ = eprintln!(rt; "no axis {} in the font", setting.0);
-        }
+    let Ok(notes) = notes_for(rt.alloc(), &axes, plan.task.at) else {
+        return;
+    };
+    if let Ok(text) = note_lines(rt.alloc(), &axes, &notes) {
+        print_lines(rt, &text);
+    }
+}
+
+/// Prints lines on standard error.
+fn print_lines<R: Eprint>(rt: &R, text: &[u8]) {
+    if let Ok(text) = str::from_utf8(text) {
+        let _ = rt.eprint(text);
+    }
+}
+
+/// Reports the names of the named instances, where the one that is requested isn't there. They are passed over where memory
+/// runs out.
+fn report_names<R: Eprint + AllocGlobal>(rt: &R, font: &[u8], index: u32) {
+    if let Ok(text) = instance_names(rt.alloc(), font, index) {
+        print_lines(rt, &text);
+    }
+}
+
+/// Reports more of a run that failed, as far as it can be seen in the font.
+fn report_more<R: Eprint + AllocGlobal>(rt: &R, failure: &Failure, font: &[u8], plan: &Plan<'_>) {
+    tell_hint(rt, find_hint(failure, font, &plan.task));
+    if let Failure::NoInstance = failure {
+        report_names(rt, font, plan.task.index);
     }
 }
 
@@ -271,27 +343,27 @@ fn run_job<R: Files + Print + Eprint + Input + AllocGlobal>(rt: &R, job: &Job) -
             let ended = Err(failure);
             let status = report(rt, &ended, file_of(&ended, job));
             tell_reason(rt, reason);
-            tell_wrong_part(rt, &ended, &text);
+            report_list(rt, &ended, &job.glyphs, &text);
             return status;
         }
     };
-    let task = task_of(job, &list);
+    let plan = plan_of(job, &list);
     let mut font = Vec::new(rt.alloc());
-    let ended = perform(rt, job, &task, &mut font, &mut reason);
+    let ended = perform(rt, job, &plan, &mut font, &mut reason);
     let status = report(rt, &ended, file_of(&ended, job));
     tell_reason(rt, reason);
-    if let Err(failure) = &ended {
-        tell_hint(rt, find_hint(failure, &font, &task));
-    }
-    if let (Ok(()), Some(at)) = (&ended, task.at) {
-        tell_unknown(rt, &font, task.index, at);
+    match &ended {
+        Ok(()) => report_notes(rt, &font, &plan),
+        Err(failure) => report_more(rt, failure, &font, &plan),
     }
     status
 }
 
-/// Tells the axes of a face between a reader and a writer, which gets a buffer.
-fn axes_buffered<R: Read, L: Write>(
+/// Writes what is to be shown of a face between a reader and a writer, which gets a buffer.
+fn show_buffered<R: Read, L: Write>(
     alloc: Global,
+    topic: Topic,
+    json: bool,
     index: u32,
     input: &mut R,
     room: usize,
@@ -303,12 +375,17 @@ fn axes_buffered<R: Read, L: Write>(
     let Ok(mut lines) = BufWriter::new(alloc, lines) else {
         return Err(Failure::Error(Error::OutOfMemory));
     };
-    carry_axes(alloc, index, input, room, source, &mut lines)
+    match topic {
+        Topic::Axes => carry_axes(alloc, index, json, input, room, source, &mut lines),
+        Topic::Info => carry_info(alloc, index, json, input, room, source, &mut lines),
+    }
 }
 
-/// Tells the axes of a face on standard output. Why the system refused to read or to write is kept.
-fn perform_axes<R: Files + Print + Input + AllocGlobal>(
+/// Writes what is to be shown of a face on standard output. Why the system refused to read or to write is kept.
+fn perform_shown<R: Files + Print + Input + AllocGlobal>(
     rt: &R,
+    topic: Topic,
+    json: bool,
     input: &str,
     index: u32,
     source: &mut Vec<u8>,
@@ -320,7 +397,16 @@ fn perform_axes<R: Files + Print + Input + AllocGlobal>(
     let room = room_of(&opened, reason)?;
     let mut input = Noted::new(opened);
     let mut lines = Noted::new(io::writer(rt));
-    let ended = axes_buffered(rt.alloc(), index, &mut input, room, source, &mut lines);
+    let ended = show_buffered(
+        rt.alloc(),
+        topic,
+        json,
+        index,
+        &mut input,
+        room,
+        source,
+        &mut lines,
+    );
     *reason = reason_of(&ended, input.reason(), None, lines.reason());
     ended
 }
@@ -333,13 +419,19 @@ fn unread_file<'a>(ended: &Result<(), Failure>, input: &'a str) -> Option<&'a st
     }
 }
 
-/// Tells the axes of a face, and answers the status.
-fn run_axes<R: Files + Print + Eprint + Input + AllocGlobal>(rt: &R, input: &str, index: u32) -> u8
+/// Shows something of a face, and answers the status.
+fn run_shown<R: Files + Print + Eprint + Input + AllocGlobal>(
+    rt: &R,
+    topic: Topic,
+    json: bool,
+    input: &str,
+    index: u32,
+) -> u8
     ensures { result ≤ 3 }
 {
     let mut font = Vec::new(rt.alloc());
     let mut reason = None;
-    let ended = perform_axes(rt, input, index, &mut font, &mut reason);
+    let ended = perform_shown(rt, topic, json, input, index, &mut font, &mut reason);
     let status = report(rt, &ended, unread_file(&ended, input));
     tell_reason(rt, reason);
     if let Err(failure) = &ended {
@@ -397,7 +489,7 @@ fn run_words<R: Files + Print + Eprint + Input + AllocGlobal>(rt: &R, words: &[S
         Ok(Command::Help) => print_text(rt, HELP),
         Ok(Command::Version) => print_text(rt, VERSION_LINE),
         Ok(Command::Subset(job)) => run_job(rt, &job),
-        Ok(Command::Axes(input, index)) => run_axes(rt, &input, index),
+        Ok(Command::Show(topic, json, input, index)) => run_shown(rt, topic, json, &input, index),
         Err(ArgsError::Usage) => refuse(rt, words),
         Err(ArgsError::OutOfMemory) => {
             report(rt, &Err(Failure::Error(Error::OutOfMemory)), None)

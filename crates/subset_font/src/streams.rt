@@ -77,7 +77,7 @@ impl<R: Files + Print> Write for Target<'_, R> {
     }
 }
 
-/// What the new numbers are told to.
+/// What the new numbers are printed to.
 #[derive(Drop)]
 pub enum Lines<'a, R: Print + Eprint> {
     /// Standard output.

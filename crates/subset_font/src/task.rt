@@ -1,24 +1,26 @@
 //! What is made of the font that is read.
 
 ghost use Rattle.std.specs.Prelude.{◌≡◌, None};
-ghost use Rattle.std.specs.Option.{option_copied, option_map};
-ghost use Rattle.subset_font.specs.Chosen.{LimitsAreChosen, extras_chosen, form_chosen};
+ghost use Rattle.std.specs.Option.{option_copied, option_and_then};
+ghost use Rattle.subset_font.specs.Chosen.{LimitsAreChosen, extras_chosen, form_chosen, at_chosen, instance_chosen};
 
-use subset_args::{RunLimits, Switches};
+use subset_args::{Position, RunLimits, Switches};
 use subsetter::{Extras, Limits, Options, Tag};
 
 /// Which glyphs are kept.
 #[derive(Clone, Copy)]
 pub enum Asked<'a> {
-    /// Those of these old numbers, in the order asked for.
+    /// Those of these old numbers, in the requested order.
     These(&'a [u16]),
     /// Every glyph of the face.
     Every,
     /// Those of the characters of this text.
     ByText(&'a str),
+    /// Those of these characters.
+    ByCharacters(&'a [char]),
 }
 
-/// How the new numbers are told.
+/// How the new numbers are printed.
 #[derive(Clone, Copy)]
 pub enum Form {
     /// By a line for each glyph.
@@ -38,12 +40,23 @@ pub struct Task<'a> {
     pub index: u32,
     /// How far a charstring may run, and what is kept besides outlines and metrics.
     pub options: Options,
-    /// Whether the widths of the glyphs are told.
+    /// Whether the widths of the glyphs are printed.
     pub widths: bool,
-    /// How the new numbers are told.
+    /// How the new numbers are printed.
     pub form: Form,
-    /// The user coordinates on the axes of a variable font, in 65536ths, where they are said.
+    /// The user coordinates on the axes of a variable font, in 65536ths, if they are given.
     pub at: Option<&'a [(Tag, i32)]>,
+}
+
+/// What is requested of a run: a task, at the coordinates of a named instance if one is requested.
+#[derive(Clone, Copy)]
+pub struct Plan<'a> {
+    /// The task.
+    pub task: Task<'a>,
+    /// The name of the named instance whose coordinates are the task's, if one is requested.
+    pub instance: Option<&'a str>,
+    /// Whether the tables are listed with their sizes.
+    pub verbose: bool,
 }
 
 /// With a bound on the bytes of the font, if there is one.
@@ -58,7 +71,7 @@ fn bounded(limits: Limits, bytes: Option<u32>) -> Limits
     }
 }
 
-/// The limits that are said, else the default ones.
+/// The limits that are given, else the default ones.
 pub fn limits_of(limits: Option<RunLimits>) -> Limits
     ensures { LimitsAreChosen limits result }
 {
@@ -82,17 +95,29 @@ pub fn extras_of(switches: Switches) -> Extras
     }
 }
 
-/// The user coordinates, where they are said.
-pub fn at_of(coordinates: &Option<Vec<(Tag, i32)>>) -> Option<&[(Tag, i32)]>
-    ensures { option_copied result ≡ option_map (λ v. v.items) coordinates.now }
+/// The user coordinates, if they are given.
+pub fn at_of(position: &Option<Position>) -> Option<&[(Tag, i32)]>
+    ensures { option_copied result ≡ option_and_then at_chosen position.now }
 {
-    match coordinates {
-        Some(coordinates) => Some(coordinates.as_slice()),
+    match position {
+        Some(Position::Coordinates(coordinates)) => Some(coordinates.as_slice()),
+        Some(Position::Named(_)) => None,
         None => None,
     }
 }
 
-/// How the new numbers are told: with `--quiet` not at all, with `--json` as JSON.
+/// The name of a named instance, if one is given.
+pub fn instance_of(position: &Option<Position>) -> Option<&str>
+    ensures { option_copied result ≡ option_and_then instance_chosen position.now }
+{
+    match position {
+        Some(Position::Named(name)) => Some(name.as_str()),
+        Some(Position::Coordinates(_)) => None,
+        None => None,
+    }
+}
+
+/// How the new numbers are printed: with `--quiet` not at all, with `--json` as JSON.
 pub fn form_of(switches: Switches) -> Form
     ensures { result ≡ form_chosen switches }
 {

@@ -90,17 +90,21 @@ fn told<T: Drop>(alloc: Global, ended: Result<T, Failure>) -> Result<(u8, String
 }
 
 /// The keeping of these glyphs of the first face.
-fn task_of(glyphs: &[u16]) -> Task<'_> {
-    Task {
-        asked: Asked::These(glyphs),
-        index: 0,
-        options: Options {
-            limits: Limits::default(),
-            extras: Extras::ALL,
+fn plan_of(glyphs: &[u16]) -> Plan<'_> {
+    Plan {
+        task: Task {
+            asked: Asked::These(glyphs),
+            index: 0,
+            options: Options {
+                limits: Limits::default(),
+                extras: Extras::ALL,
+            },
+            widths: false,
+            form: Form::Lines,
+            at: None,
         },
-        widths: false,
-        form: Form::Lines,
-        at: None,
+        instance: None,
+        verbose: false,
     }
 }
 
@@ -120,7 +124,7 @@ fn each_read_that_fails_is_told(rt: HostRuntime) -> Result<(), Fail> {
         let mut lines = Vec::new(rt.alloc());
         let ended = carry_out(
             rt.alloc(),
-            &task_of(&[2]),
+            &plan_of(&[2]),
             &mut reader,
             0,
             &mut source,
@@ -135,8 +139,8 @@ fn each_read_that_fails_is_told(rt: HostRuntime) -> Result<(), Fail> {
 }
 
 /// A font of eight bytes in which glyphs 7 and 0 are kept, with a character and widths.
-fn made(alloc: Global) -> Result<Made, Fail> {
-    Ok(Made {
+fn outcome(alloc: Global, more: &[u8]) -> Result<Outcome, Fail> {
+    let made = Made {
         font: Vec::from_slice(alloc, &[1, 2, 3, 4, 5, 6, 7, 8])?,
         mapper: GlyphRemapper::new_from_glyphs(alloc, &[7])?,
         picked: Picked {
@@ -144,48 +148,55 @@ fn made(alloc: Global) -> Result<Made, Fail> {
             glyphs: Vec::from_slice(alloc, &[7, 0])?,
         },
         text: Vec::from_slice(alloc, b"[5,6]")?,
+    };
+    Ok(Outcome {
+        made,
+        more: Vec::from_slice(alloc, more)?,
     })
 }
 
 #[test]
 fn each_write_that_fails_is_told(rt: HostRuntime) -> Result<(), Fail> {
-    let made = made(rt.alloc())?;
+    let outcome = outcome(rt.alloc(), MORE)?;
     // Three writes take the font, and no line is written before it is whole. The flush alone fails at the last.
     for (left, flushes) in [(0, true), (1, true), (2, true), (3, false)] {
         let mut output = failing(rt.alloc(), left, flushes);
         let mut lines = Vec::new(rt.alloc());
-        let ended = emit(&made, Form::Lines, &mut output, &mut lines);
+        let ended = emit(&outcome, Form::Lines, &mut output, &mut lines);
         let (status, text) = told(rt.alloc(), ended)?;
         assert_eq!(rt; (status, text.as_str()), (3, "cannot write"), "at {left}");
         assert_eq!(rt;
             output.taken.as_slice(),
-            &made.font[..made.font.len().min(3 * left)]
+            &outcome.made.font[..outcome.made.font.len().min(3 * left)]
         );
         assert!(rt; lines.is_empty());
     }
     Ok(())
 }
 
-/// What is told of it by lines, and as JSON.
-const AS_LINES: &[u8] = b"U+0041 7 -> 1\n0 -> 0\n[5,6]\n";
+/// What is printed behind the numbers.
+const MORE: &[u8] = b",\"notes\":[]";
+
+/// What is printed by lines, and as JSON.
+const AS_LINES: &[u8] = b"U+0041 7 -> 1\n0 -> 0\n[5,6]\n,\"notes\":[]";
 
 const AS_JSON: &[u8] =
-    b"{\"glyphs\":[{\"character\":65,\"old\":7,\"new\":1},{\"old\":0,\"new\":0}],\"widths\":[5,6]}\n";
+    b"{\"glyphs\":[{\"character\":65,\"old\":7,\"new\":1},{\"old\":0,\"new\":0}],\"widths\":[5,6],\"notes\":[]}\n";
 
 #[test]
 fn each_line_that_fails_is_told(rt: HostRuntime) -> Result<(), Fail> {
-    let made = made(rt.alloc())?;
+    let outcome = outcome(rt.alloc(), MORE)?;
     for (form, wanted) in [
         (Form::Lines, AS_LINES),
         (Form::Json, AS_JSON),
         (Form::Silence, b"".as_slice()),
     ] {
-        for left in 0..99usize {
+        for left in 0..103usize {
             // At the last but one the flush alone fails, when all is taken.
-            let flushes = left != 97;
+            let flushes = left != 101;
             let mut output = Vec::new(rt.alloc());
             let mut lines = failing(rt.alloc(), left, flushes);
-            let ended = emit(&made, form, &mut output, &mut lines);
+            let ended = emit(&outcome, form, &mut output, &mut lines);
             let (status, text) = told(rt.alloc(), ended)?;
             let whole = lines.taken.as_slice() == wanted;
             let silent = wanted.is_empty();
@@ -197,10 +208,10 @@ fn each_line_that_fails_is_told(rt: HostRuntime) -> Result<(), Fail> {
                     (3, "cannot write standard output"),
                     "at {left}"
                 );
-                assert!(rt; left < 98);
+                assert!(rt; left < 102);
             }
             assert!(rt; wanted.starts_with(lines.taken.as_slice()));
-            assert_eq!(rt; output.as_slice(), made.font.as_slice());
+            assert_eq!(rt; output.as_slice(), outcome.made.font.as_slice());
         }
     }
     Ok(())
@@ -226,6 +237,7 @@ fn each_failure_has_its_text(rt: HostRuntime) -> Result<(), Fail> {
         ),
         (Failure::from(Error::OutOfMemory), "out of memory"),
         (Failure::NoMapping, "no Unicode cmap in font"),
+        (Failure::NoInstance, "no such instance in font"),
         (
             Failure::Usage,
             "usage: subset_font IN OUT INDEX GID[,GID..]",

@@ -31,9 +31,9 @@ widths_member (b ∷ text) = codes ",\"widths\":" ++ (b ∷ text)
 abbrev pub glyphs_member : Numbers → List ℕ
 glyphs_member n = codes "{\"glyphs\":[" ++ objects [] n.order n.characters n.glyphs ++ codes "]"
 
--- the object, on a line
-abbrev pub json_of : Numbers → List ℕ → List ℕ
-json_of n text = glyphs_member n ++ widths_member text ++ codes "}\n"
+-- the object, with further members, on a line
+abbrev pub json_of : Numbers → List ℕ → List ℕ → List ℕ
+json_of n text members = glyphs_member n ++ widths_member text ++ members ++ codes "}\n"
 
 -- numbers, with a text in front of the first and a comma between each two
 abbrev pub numbers_from : List ℕ → List ℕ → List ℕ

@@ -5,3 +5,9 @@ pub mod View
 pub mod Fixed
 pub mod Names
 pub mod Axes
+pub mod Quoted
+pub mod Notes
+pub mod Sizes
+pub mod Info
+pub mod AxesJson
+pub mod Members

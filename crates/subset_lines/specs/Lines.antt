@@ -18,11 +18,11 @@ abbrev pub lines_for : List ℕ → List ℕ → List ℕ → List ℕ
 lines_for order characters [] = []
 lines_for order characters (old ∷ glyphs) = line_of (first characters) old (place order old) ++ lines_for order (drop 1 characters) glyphs
 
--- a text as the last line, which an empty one isn't
+-- a text as a line, which an empty one isn't
 abbrev pub last_line : List ℕ → List ℕ
 last_line [] = []
 last_line (b ∷ text) = (b ∷ text) ++ 10 ∷ []
 
--- a line for each glyph, and the text as the last one
-abbrev pub lines_of : Numbers → List ℕ → List ℕ
-lines_of n text = lines_for n.order n.characters n.glyphs ++ last_line text
+-- a line for each glyph, the text as a line, and further lines
+abbrev pub lines_of : Numbers → List ℕ → List ℕ → List ℕ
+lines_of n text more = lines_for n.order n.characters n.glyphs ++ last_line text ++ more

@@ -101,7 +101,7 @@ pub struct FontAxes<'a> {
     pub names: &'a [u8],
 }
 
-/// The axes and the named instances that `fvar` lists, whose names stand in another table. A cut `fvar` is `MalformedFont`.
+/// The axes and the named instances that `fvar` lists, whose names are in another table. A cut `fvar` is `MalformedFont`.
 pub fn read_axes<'a>(alloc: Global, fvar: &'a [u8], names: &'a [u8]) -> Result<FontAxes<'a>, Error>
     ensures axes { IfOk result (λ a. axes fvar.now ≡ Some a.axes.items) }
     ensures instances { IfOk result (λ a. instances fvar.now ≡ Some (map (λ bytes. bytes.now) a.instances.items)) }
@@ -126,12 +126,19 @@ fn shown(byte: u8) -> u8
     if byte >= 32 && byte < 127 { byte } else { b'?' }
 }
 
+/// The bytes of a tag, each as it is shown.
+pub fn tag_bytes(tag: Tag) -> [u8; 4]
+    ensures { result ≡ map shown tag.0 }
+{
+    let [a, b, c, d] = *tag.get();
+    [shown(a), shown(b), shown(c), shown(d)]
+}
+
 /// Writes a tag.
 pub fn write_tag<W: Write>(tag: Tag, out: &mut W) -> Result<(), Unwritten>
     ensures { OnOk result (Appends (W.contents out.old) (W.contents out.new) (map shown tag.0)) }
 {
-    let [a, b, c, d] = *tag.get();
-    write_text(&[shown(a), shown(b), shown(c), shown(d)], out)
+    write_text(&tag_bytes(tag), out)
 }
 
 /// Writes a coordinate behind a blank.
@@ -176,7 +183,7 @@ fn write_axis_lines<W: Write>(axes: &[Axis], out: &mut W) -> Result<(), Unwritte
 }
 
 /// Writes the coordinate that four bytes say.
-fn write_coordinate<W: Write>(bytes: &[u8], out: &mut W) -> Result<(), Unwritten>
+pub fn write_coordinate<W: Write>(bytes: &[u8], out: &mut W) -> Result<(), Unwritten>
     ensures { OnOk result (Appends (W.contents out.old) (W.contents out.new) (coordinate_text (number bytes.now 0 4))) }
 {
     match Reader::new(bytes).read::<u32>() {
@@ -202,7 +209,7 @@ fn write_setting<W: Write>(
 }
 
 /// The bytes behind the first four.
-fn after_four(bytes: &[u8]) -> &[u8]
+pub fn after_four(bytes: &[u8]) -> &[u8]
     ensures { result.now ≡ drop 4 bytes.now }
 {
     match bytes {
@@ -227,7 +234,7 @@ fn write_settings<W: Write>(axes: &[Axis], bytes: &[u8], out: &mut W) -> Result<
 }
 
 /// The name of a named instance, if there is one.
-fn name_of<'a>(names: &'a [u8], bytes: &[u8]) -> Option<&'a [u8]>
+pub fn name_of<'a>(names: &'a [u8], bytes: &[u8]) -> Option<&'a [u8]>
     ensures { option_copied result ≡ name_of names.now (number bytes.now 0 2) }
 {
     string_for(names, Reader::new(bytes).read::<u16>()?)

@@ -1,11 +1,11 @@
-//! What is told.
+//! What is printed.
 
 ghost use Rattle.std.specs.Prelude.{◌≡◌, drop};
 ghost use Rattle.subset_lines.specs.Text.{first};
 
 use subsetter_base::GlyphRemapper;
 
-/// The glyphs whose new numbers are told.
+/// The glyphs whose new numbers are printed.
 #[derive(Clone, Copy)]
 pub struct Numbering<'a> {
     /// The characters that the glyphs stand for, as far as there are any.

@@ -1,6 +1,6 @@
 //! A coordinate as a decimal number.
 
-ghost use Rattle.std.specs.Prelude.{◌≡◌, ◌≤◌, ◌<◌, ◌^◌, OnOk};
+ghost use Rattle.std.specs.Prelude.{◌≡◌, ◌≤◌, ◌<◌, ◌^◌, ◌++◌, OnOk};
 ghost use Rattle.std.specs.Io.KnownBytes.{Appends};
 ghost use Rattle.subset_lines.specs.Fixed.{padded, fraction, hundred_thousandths, size_text, sign_text, fixed_text};
 
@@ -64,4 +64,13 @@ pub fn write_fixed<W: Write>(value: i32, out: &mut W) -> Result<(), Unwritten>
 {
     write_sign(value, out)?;
     write_size(value.unsigned_abs(), out)
+}
+
+/// Writes a coordinate behind a text.
+#[tactic(auto, using(crate::proofs::Written::both))]
+pub fn write_labelled<W: Write>(label: &[u8], value: i32, out: &mut W) -> Result<(), Unwritten>
+    ensures { OnOk result (Appends (W.contents out.old) (W.contents out.new) (label.now ++ fixed_text value)) }
+{
+    write_text(label, out)?;
+    write_fixed(value, out)
 }

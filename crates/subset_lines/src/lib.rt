@@ -1,4 +1,4 @@
-//! The text that tells the new numbers of glyphs, as lines or as JSON, and the axes of a variable font.
+//! The text of the new numbers of glyphs, as lines or as JSON, of the axes of a variable font, and of what a face is.
 //!
 //! [`write_lines`] writes a line `old -> new` for each glyph, with its character where there is one, and then a text;
 //! [`write_json`] one object. [`write_axes`] writes a line for each axis of a variable font and each named instance.
@@ -10,14 +10,25 @@
 #![tactic(auto)]
 
 mod axes;
+mod axes_json;
 mod entry;
 mod fixed;
+mod info;
 mod json;
+mod members;
 mod names;
+mod notes;
 mod plain;
+mod quoted;
+mod sizes;
 mod text;
 
-pub use axes::{FontAxes, read_axes, write_axes};
+pub use axes::{FontAxes, after_four, name_of, read_axes, write_axes};
+pub use axes_json::{text_of_name, write_axes_json};
 pub use entry::{Numbering, Unwritten};
+pub use info::{Info, Outlines, write_info, write_info_json};
 pub use json::{json_numbers, write_json};
+pub use members::json_members;
+pub use notes::{Note, note_lines};
 pub use plain::write_lines;
+pub use sizes::{TableSize, size_lines};

@@ -133,7 +133,7 @@ fn write_character<W: Write>(high: u8, low: u8, out: &mut W) -> Result<(), Unwri
 
 /// Writes code units of two bytes as text.
 #[tactic(auto, using(crate::proofs::Written::at_first, crate::proofs::Written::after_part, crate::proofs::Written::at_last))]
-fn write_units<W: Write>(bytes: &[u8], out: &mut W) -> Result<(), Unwritten>
+pub fn write_units<W: Write>(bytes: &[u8], out: &mut W) -> Result<(), Unwritten>
     ensures { OnOk result (Appends (W.contents out.old) (W.contents out.new) (text_of_units bytes.now)) }
 {
     let mut rest = bytes;

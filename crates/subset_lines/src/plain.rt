@@ -6,6 +6,7 @@ ghost use Rattle.subset_lines.specs.Lines.{name_of, line_of, lines_for, last_lin
 ghost use Rattle.subset_lines.specs.View.{numbers_view};
 
 use crate::entry::{Numbering, Unwritten, take_first};
+use crate::text::write_text;
 use std::io::Write;
 
 /// Writes a character as `U+` and its number.
@@ -89,17 +90,19 @@ pub fn flush<L: Write>(lines: &mut L) -> Result<(), Unwritten>
     Ok(())
 }
 
-/// Writes a line `old -> new` for each glyph, with its character in front, and the text as the last line, unless it is
-/// empty. Then it passes on what the writer keeps back.
+/// Writes a line `old -> new` for each glyph, with its character in front, the text as a line, unless it is empty, and further
+/// lines. Then it passes on what the writer keeps back.
 #[tactic(auto, using(crate::proofs::Written::both, crate::proofs::Written::flushed))]
 pub fn write_lines<L: Write>(
     numbering: &Numbering<'_>,
     text: &[u8],
+    more: &[u8],
     lines: &mut L,
 ) -> Result<(), Unwritten>
-    ensures { OnOk result (Appends (L.contents lines.old) (L.contents lines.new) (lines_of (numbers_view numbering.now) text.now)) }
+    ensures { OnOk result (Appends (L.contents lines.old) (L.contents lines.new) (lines_of (numbers_view numbering.now) text.now more.now)) }
 {
     write_entries(numbering, lines)?;
     write_last_line(text, lines)?;
+    write_text(more, lines)?;
     flush(lines)
 }

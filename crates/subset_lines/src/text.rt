@@ -1,6 +1,6 @@
 //! Texts as they are.
 
-ghost use Rattle.std.specs.Prelude.{◌≡◌, OnOk};
+ghost use Rattle.std.specs.Prelude.{◌≡◌, ◌++◌, OnOk, decimal};
 ghost use Rattle.std.specs.Io.KnownBytes.{Appends};
 
 use crate::entry::Unwritten;
@@ -14,4 +14,23 @@ pub fn write_text<W: Write>(text: &[u8], out: &mut W) -> Result<(), Unwritten>
         return Err(Unwritten);
     }
     Ok(())
+}
+
+/// Writes a number.
+pub fn write_decimal<W: Write>(number: u64, out: &mut W) -> Result<(), Unwritten>
+    ensures { OnOk result (Appends (W.contents out.old) (W.contents out.new) (decimal number)) }
+{
+    if write!(out, "{number}").is_err() {
+        return Err(Unwritten);
+    }
+    Ok(())
+}
+
+/// Writes a number behind a text.
+#[tactic(auto, using(crate::proofs::Written::both))]
+pub fn write_count<W: Write>(label: &[u8], number: u64, out: &mut W) -> Result<(), Unwritten>
+    ensures { OnOk result (Appends (W.contents out.old) (W.contents out.new) (label.now ++ decimal number)) }
+{
+    write_text(label, out)?;
+    write_decimal(number, out)
 }

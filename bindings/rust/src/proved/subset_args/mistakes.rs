@@ -3,9 +3,10 @@
 
 use crate::rattle::prelude::String;
 
+use crate::proved::subset_args::characters::is_wrong_codes;
 use crate::proved::subset_args::coordinates::is_coordinate;
-use crate::proved::subset_args::jobs::{behind_axes, is_stream};
-use crate::proved::subset_args::lists::is_wrong_part;
+use crate::proved::subset_args::jobs::{first_topic, is_name, is_stream, topic_of};
+use crate::proved::subset_args::lists::{is_wrong_part, FileKind};
 use crate::proved::subset_args::options::{
     kind_of, looks_like_option, Chosen, Kind, Setting, Source,
 };
@@ -24,12 +25,12 @@ pub enum Wrong {
     NoGlyphs,
     /// It is one argument too many.
     Further,
-    /// It is one argument too many after `--axes IN INDEX`.
-    BehindAxes,
+    /// It is one argument too many after `--axes IN INDEX` or `--info IN INDEX`.
+    BehindShown,
     /// It is an option, and is behind IN.
     Late,
-    /// It is `--axes`, and isn't the first argument.
-    AxesLate,
+    /// It is `--axes` or `--info`, and isn't the first argument.
+    ShownLate,
     /// It looks like an option, and is none.
     Unknown,
     /// It is an option that was given before.
@@ -52,6 +53,8 @@ pub enum Wrong {
     Coordinate,
     /// It is no number and no range of glyphs.
     Part,
+    /// It is no number and no range of characters.
+    Codes,
     /// It is a second argument beside IN, where an option says OUT or INDEX.
     BesideInput,
     /// No option says OUT.
@@ -115,6 +118,52 @@ fn wrong_part(list: &str) -> Option<Mistake<'_>> {
     None
 }
 
+/// The first part of a list that is no number and no range of characters.
+fn wrong_codes(list: &str) -> Option<Mistake<'_>> {
+    for part in list.split(',') {
+        if is_wrong_codes(part.as_bytes()) {
+            return mistake_at(Wrong::Codes, part);
+        }
+    }
+    None
+}
+
+/// What is wrong with a position on the axes.
+fn wrong_position(text: &str) -> Option<Mistake<'_>> {
+    if is_name(text) {
+        return None;
+    }
+    wrong_coordinate(text)
+}
+
+/// That standard input is requested twice, the second time by the option for such a file.
+fn input_twice<'a>(kind: FileKind) -> Option<Mistake<'a>> {
+    match kind {
+        FileKind::Glyphs => mistake_at(Wrong::InputTwice, "--gids-file"),
+        FileKind::Characters => mistake_at(Wrong::InputTwice, "--unicodes-file"),
+        FileKind::Text => mistake_at(Wrong::InputTwice, "--text-file"),
+    }
+}
+
+/// What is wrong with a file, beside IN.
+fn wrong_file<'a>(kind: FileKind, name: &str, input: &str) -> Option<Mistake<'a>> {
+    if is_stream(input) && is_stream(name) {
+        input_twice(kind)
+    } else {
+        None
+    }
+}
+
+/// What is wrong with the glyphs that an option requests.
+fn wrong_source<'a>(source: Source<'a>, input: &str) -> Option<Mistake<'a>> {
+    match source {
+        Source::File(kind, name) => wrong_file(kind, name, input),
+        Source::InList(list) => wrong_part(list),
+        Source::Characters(list) => wrong_codes(list),
+        Source::Text(_) => None,
+    }
+}
+
 /// The first option behind IN.
 fn late_option(words: &[String]) -> Option<Mistake<'_>> {
     for word in words {
@@ -126,13 +175,21 @@ fn late_option(words: &[String]) -> Option<Mistake<'_>> {
     None
 }
 
-/// What is wrong with the arguments `IN INDEX` behind `--axes`.
-fn wrong_behind_axes(words: &[String]) -> Option<Mistake<'_>> {
+/// What is wrong with the arguments `IN [INDEX]` behind `--axes` or `--info`.
+fn wrong_shown(words: &[String]) -> Option<Mistake<'_>> {
     match words {
         [] => mistake_at(Wrong::NoInput, ""),
-        [_] => mistake_at(Wrong::NoIndex, ""),
+        [_] => None,
         [_, index] => wrong_index(index),
-        [_, _, word, ..] => mistake_at(Wrong::BehindAxes, word),
+        [_, _, word, ..] => mistake_at(Wrong::BehindShown, word),
+    }
+}
+
+/// What is wrong with the arguments `[--json] IN [INDEX]` behind these.
+fn wrong_topic(words: &[String]) -> Option<Mistake<'_>> {
+    match words {
+        [word, behind @ ..] if word.as_str() == "--json" => wrong_shown(behind),
+        _ => wrong_shown(words),
     }
 }
 
@@ -145,17 +202,13 @@ fn wrong_behind_index<'a>(
     let mistake = match (chosen.source, words) {
         (None, []) => mistake_at(Wrong::NoGlyphs, ""),
         (None, [list]) => wrong_glyph(list),
-        (Some(Source::File(name)), []) if is_stream(input) && is_stream(name) => {
-            mistake_at(Wrong::InputTwice, "--gids-file")
-        }
-        (Some(Source::InList(list)), []) => wrong_part(list),
-        (Some(_), []) => None,
+        (Some(source), []) => wrong_source(source, input),
         (Some(_), [word]) => mistake_at(Wrong::BesideOption, word),
         (None, [_, word, ..]) => mistake_at(Wrong::Further, word),
         (Some(_), [_, word, ..]) => mistake_at(Wrong::Further, word),
     };
     match (mistake, chosen.at) {
-        (None, Some(at)) => wrong_coordinate(at),
+        (None, Some(at)) => wrong_position(at),
         _ => mistake,
     }
 }
@@ -192,8 +245,8 @@ fn wrong_from_place<'a>(
     word: &'a str,
     words: &'a [String],
 ) -> Option<Mistake<'a>> {
-    if word == "--axes" {
-        return mistake_at(Wrong::AxesLate, word);
+    if topic_of(word).is_some() {
+        return mistake_at(Wrong::ShownLate, word);
     }
     if looks_like_option(word) && is_no_option(word) {
         return mistake_at(Wrong::Unknown, word);
@@ -211,7 +264,12 @@ fn wrong_setting<'a>(
     match setting {
         Setting::Limits if chosen.limits.is_none() => mistake_at(Wrong::Limits, value),
         Setting::FaceIndex if chosen.index.is_none() => wrong_index(value),
-        Setting::GidsFile | Setting::Text | Setting::Gids => mistake_at(Wrong::GlyphsTwice, word),
+        Setting::GidsFile
+        | Setting::Text
+        | Setting::Gids
+        | Setting::TextFile
+        | Setting::Unicodes
+        | Setting::UnicodesFile => mistake_at(Wrong::GlyphsTwice, word),
         _ => mistake_at(Wrong::Twice, word),
     }
 }
@@ -292,8 +350,8 @@ fn wrong_behind_end<'a>(
 
 /// What is wrong with an argument that is no known option, and isn't behind `--`: a wrong option, or a second IN.
 fn wrong_place<'a>(input: Option<&str>, word: &'a str) -> Option<Mistake<'a>> {
-    if word == "--axes" {
-        return mistake_at(Wrong::AxesLate, word);
+    if topic_of(word).is_some() {
+        return mistake_at(Wrong::ShownLate, word);
     }
     if looks_like_option(word) && is_no_option(word) {
         return mistake_at(Wrong::Unknown, word);
@@ -344,8 +402,8 @@ fn wrong_free<'a>(
 
 /// What is wrong with arguments for which `read_words` answers `Usage`: the first mistake.
 pub fn find_mistake(words: &[String]) -> Option<Mistake<'_>> {
-    match behind_axes(words) {
-        Some(behind) => wrong_behind_axes(behind),
+    match first_topic(words) {
+        Some((_, behind)) => wrong_topic(behind),
         None if says_output(words) => wrong_free(Chosen::NOTHING, None, words),
         None => wrong_from_option(Chosen::NOTHING, words),
     }

@@ -4,6 +4,7 @@
 use crate::rattle::prelude::String;
 
 use crate::proved::subset_args::limits::RunLimits;
+use crate::proved::subset_args::lists::FileKind;
 use crate::proved::subsetter_words::{u32_of, u8_of};
 
 /// An option without a value.
@@ -21,6 +22,8 @@ pub enum Switch {
     Json,
     /// `--quiet`
     Quiet,
+    /// `--verbose`
+    Verbose,
 }
 
 /// An option that a value follows.
@@ -40,17 +43,25 @@ pub enum Setting {
     FaceIndex,
     /// `-o OUT` or `--output-file OUT`
     Output,
+    /// `--text-file FILE`
+    TextFile,
+    /// `--unicodes LIST`
+    Unicodes,
+    /// `--unicodes-file FILE`
+    UnicodesFile,
 }
 
 /// Where the glyphs are found that no argument lists.
 #[derive(Clone, Copy, Debug)]
 pub enum Source<'a> {
-    /// In the list that the file of this name holds.
-    File(&'a str),
+    /// In the file of this name, by what it has.
+    File(FileKind, &'a str),
     /// By the characters of this text.
     Text(&'a str),
     /// In this list.
     InList(&'a str),
+    /// By the characters of this list.
+    Characters(&'a str),
 }
 
 /// What an argument in front of IN is.
@@ -77,6 +88,7 @@ pub struct Switches {
     pub no_glyph_names: bool,
     pub json: bool,
     pub quiet: bool,
+    pub verbose: bool,
 }
 
 impl Switches {
@@ -88,6 +100,7 @@ impl Switches {
         no_glyph_names: false,
         json: false,
         quiet: false,
+        verbose: false,
     };
 
     /// Whether an option was given.
@@ -99,6 +112,7 @@ impl Switches {
             Switch::NoGlyphNames => self.no_glyph_names,
             Switch::Json => self.json,
             Switch::Quiet => self.quiet,
+            Switch::Verbose => self.verbose,
         }
     }
 
@@ -112,6 +126,7 @@ impl Switches {
             Switch::NoGlyphNames => all.no_glyph_names = true,
             Switch::Json => all.json = true,
             Switch::Quiet => all.quiet = true,
+            Switch::Verbose => all.verbose = true,
         }
         all
     }
@@ -122,15 +137,15 @@ impl Switches {
 pub struct Chosen<'a> {
     /// The options without a value.
     pub switches: Switches,
-    /// How far the charstring of a glyph may run, where it is said.
+    /// How far the charstring of a glyph may run, if that is given.
     pub limits: Option<RunLimits>,
-    /// Where the glyphs are found, where that is said.
+    /// Where the glyphs are found, if that is given.
     pub source: Option<Source<'a>>,
-    /// The user coordinates, where they are said.
+    /// Where on the axes of a variable font, if that is given.
     pub at: Option<&'a str>,
-    /// OUT, where an option says it.
+    /// OUT, if an option gives it.
     pub output: Option<&'a str>,
-    /// INDEX, where an option says it.
+    /// INDEX, if an option gives it.
     pub index: Option<u32>,
 }
 
@@ -164,12 +179,15 @@ impl<'a> Chosen<'a> {
     pub fn with_setting(self, setting: Setting, value: &'a str) -> Option<Chosen<'a>> {
         match setting {
             Setting::Limits => self.with_limits(value),
-            Setting::GidsFile => self.with_source(Source::File(value)),
+            Setting::GidsFile => self.with_source(Source::File(FileKind::Glyphs, value)),
             Setting::Text => self.with_source(Source::Text(value)),
             Setting::At => self.with_at(value),
             Setting::Gids => self.with_source(Source::InList(value)),
             Setting::FaceIndex => self.with_index(value),
             Setting::Output => self.with_output(value),
+            Setting::TextFile => self.with_source(Source::File(FileKind::Text, value)),
+            Setting::Unicodes => self.with_source(Source::Characters(value)),
+            Setting::UnicodesFile => self.with_source(Source::File(FileKind::Characters, value)),
         }
     }
 
@@ -188,7 +206,7 @@ impl<'a> Chosen<'a> {
         })
     }
 
-    /// With a place where the glyphs are found.
+    /// With what says where the glyphs are found.
     fn with_source(self, source: Source<'a>) -> Option<Chosen<'a>> {
         if self.source.is_some() {
             return None;
@@ -264,10 +282,13 @@ fn limits_of(word: &str) -> Option<RunLimits> {
 }
 
 /// The options with a name, in the order of the help.
-pub const OPTIONS: [&str; 16] = [
+pub const OPTIONS: [&str; 21] = [
     "--gids",
     "--gids-file",
     "--text",
+    "--text-file",
+    "--unicodes",
+    "--unicodes-file",
     "--output-file",
     "--face-index",
     "--at",
@@ -276,9 +297,11 @@ pub const OPTIONS: [&str; 16] = [
     "--no-glyph-names",
     "--limits",
     "--widths",
+    "--verbose",
     "--json",
     "--quiet",
     "--axes",
+    "--info",
     "--help",
     "--version",
 ];
@@ -292,6 +315,7 @@ fn switch_of(word: &str) -> Option<Switch> {
         "--no-glyph-names" => Some(Switch::NoGlyphNames),
         "--json" => Some(Switch::Json),
         "--quiet" => Some(Switch::Quiet),
+        "--verbose" => Some(Switch::Verbose),
         _ => None,
     }
 }
@@ -307,6 +331,9 @@ fn setting_of(word: &str) -> Option<Setting> {
         "--face-index" => Some(Setting::FaceIndex),
         "--output-file" => Some(Setting::Output),
         "-o" => Some(Setting::Output),
+        "--text-file" => Some(Setting::TextFile),
+        "--unicodes" => Some(Setting::Unicodes),
+        "--unicodes-file" => Some(Setting::UnicodesFile),
         _ => None,
     }
 }
@@ -365,7 +392,7 @@ pub fn parse_options<'a>(chosen: Chosen<'a>, words: &'a [String]) -> Option<Pars
     }
 }
 
-/// The options wherever they stand beside IN, and IN.
+/// The options before and after IN, and IN.
 #[derive(Clone, Copy, Debug)]
 pub struct Free<'a> {
     pub chosen: Chosen<'a>,

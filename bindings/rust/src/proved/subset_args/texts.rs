@@ -5,6 +5,12 @@ use crate::proved::subset_args::mistakes::{Mistake, Wrong};
 use crate::proved::subset_args::nearest::nearest_option;
 use crate::rattle::fmt;
 
+/// What a list of glyphs may have.
+pub const PARTS_WANTED: &str = "expected: numbers to 65535 and ranges as 36-38, or * alone";
+
+/// What a list of characters may have.
+pub const CODES_WANTED: &str = "expected: numbers as U+0041 and ranges as U+0041-005A";
+
 /// How many characters of an argument a line has.
 const MOST: usize = 40;
 
@@ -40,11 +46,11 @@ impl fmt::Display for Mistake<'_> {
             Wrong::NoOutput => write!(f, "OUT is missing"),
             Wrong::NoIndex => write!(f, "INDEX is missing"),
             Wrong::NoGlyphs => write!(f, "GID is missing"),
-            Wrong::Further | Wrong::BehindAxes => {
+            Wrong::Further | Wrong::BehindShown => {
                 write!(f, "\"{word}\" is one argument too many")
             }
             Wrong::Late => write!(f, "{word} is after IN"),
-            Wrong::AxesLate => write!(f, "{word} isn't the first argument"),
+            Wrong::ShownLate => write!(f, "{word} isn't the first argument"),
             Wrong::Unknown => write!(f, "{word} is no option"),
             Wrong::Twice => write!(f, "{word} is given twice"),
             Wrong::NoValue => write!(f, "{word}: its value is missing"),
@@ -57,6 +63,7 @@ impl fmt::Display for Mistake<'_> {
             Wrong::Glyph => write!(f, "GID \"{word}\" is not a glyph number"),
             Wrong::Limits => write!(f, "--limits: \"{word}\" is not TOKENS,DEPTH[,BYTES]"),
             Wrong::Coordinate => write!(f, "--at: \"{word}\" is not TAG=VALUE"),
+            Wrong::Codes => write!(f, "--unicodes: \"{word}\" is not a character number"),
             Wrong::Part => write!(f, "--gids: \"{word}\" is not a glyph number"),
             Wrong::BesideInput => write!(f, "\"{word}\" is one argument too many"),
             Wrong::NoOutputOption => write!(f, "-o OUT is missing"),
@@ -91,21 +98,24 @@ fn expected(wrong: Wrong) -> &'static str {
         }
         Wrong::NoGlyphs => "expected: glyph numbers as 36,37,38, or an option as --text",
         Wrong::Further => "expected: IN OUT INDEX GID, with no blanks between glyph numbers",
-        Wrong::BehindAxes | Wrong::AxesLate => "expected: --axes IN INDEX",
+        Wrong::BehindShown | Wrong::ShownLate => {
+            "expected: --axes or --info, and then [--json] IN [INDEX]"
+        }
         Wrong::Late => "expected: options before IN",
         Wrong::Unknown => "see subset_font --help",
         Wrong::Twice => "expected: each option at most once",
         Wrong::NoValue => "see subset_font --help",
         Wrong::GlyphsTwice | Wrong::BesideOption => {
-            "expected: one of GID, --gids, --text and --gids-file"
+            "expected: GID or one of --gids, --text and --unicodes or their -file"
         }
         Wrong::InputTwice => "expected: - for IN or for FILE, not for both",
         Wrong::Glyph => "expected: numbers from 0 to 65535, with commas, as 36,37,38",
         Wrong::Limits => "expected: numbers, as 1000000,64, with DEPTH from 1 to 255",
-        Wrong::Coordinate => "expected: a tag and a decimal number, as wght=650",
-        Wrong::Part => "expected: numbers to 65535 and ranges as 36-38, or * alone",
+        Wrong::Coordinate => "expected: a tag and a decimal number, as wght=650, or a name",
+        Wrong::Part => PARTS_WANTED,
+        Wrong::Codes => CODES_WANTED,
         Wrong::BesideInput => "expected: IN and options, where -o or --face-index is one",
         Wrong::NoOutputOption => "expected: a file for the new font, or - for standard output",
-        Wrong::NoSource => "expected: --gids, --text or --gids-file",
+        Wrong::NoSource => "expected: --gids, --text, --unicodes, or a file of one",
     }
 }

@@ -10,7 +10,7 @@ use crate::proved::subset_font::task::Asked;
 use crate::proved::subsetter::Error;
 use crate::rattle::alloc::{AllocError, Global};
 
-/// The glyphs to keep, and the characters that they stand for, where a text is given.
+/// The glyphs to keep, and the characters that they stand for, where a text or characters are given.
 pub struct Picked {
     pub characters: Vec<char>,
     pub glyphs: Vec<u16>,
@@ -35,7 +35,7 @@ fn glyphs_of(
 }
 
 /// So many glyphs, from 0 on.
-fn first_glyphs(alloc: Global, count: u16) -> Result<Vec<u16>, AllocError> {
+pub fn first_glyphs(alloc: Global, count: u16) -> Result<Vec<u16>, AllocError> {
     let mut glyphs = Vec::new(alloc);
     for glyph in 0..count {
         glyphs.push(glyph)?;
@@ -75,14 +75,28 @@ fn pick_by_text(alloc: Global, font: &[u8], index: u32, text: &str) -> Result<Pi
     Ok(Picked { characters, glyphs })
 }
 
+/// The glyphs of characters.
+fn pick_by_characters(
+    alloc: Global,
+    font: &[u8],
+    index: u32,
+    given: &[char],
+) -> Result<Picked, Failure> {
+    let mapping = find_mapping(font, index).ok_or(Failure::NoMapping)?;
+    let characters = Vec::from_slice(alloc, given).map_err(no_memory)?;
+    let glyphs = glyphs_of(alloc, &mapping, &characters).map_err(no_memory)?;
+    Ok(Picked { characters, glyphs })
+}
+
 /// The glyphs to keep of a font.
 ///
-/// `NoMapping` where a text is given and the face has no `cmap` for Unicode; `Error` where every glyph is asked for and
-/// the face doesn't say how many it has, or where memory ran out.
+/// `NoMapping` where a text or characters are given and the face has no `cmap` for Unicode; `Error` where every glyph is
+/// requested and the face has no count of them, or where memory ran out.
 pub fn pick(alloc: Global, font: &[u8], index: u32, asked: &Asked<'_>) -> Result<Picked, Failure> {
     match asked {
         Asked::These(given) => pick_these(alloc, given),
         Asked::Every => pick_all(alloc, font, index),
         Asked::ByText(text) => pick_by_text(alloc, font, index, text),
+        Asked::ByCharacters(given) => pick_by_characters(alloc, font, index, given),
     }
 }

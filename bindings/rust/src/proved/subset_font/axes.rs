@@ -6,64 +6,97 @@ use crate::rattle::prelude::Vec;
 use crate::proved::subset_font::carried::read_whole;
 use crate::proved::subset_font::face::{header_place, table};
 use crate::proved::subset_font::failure::Failure;
-use crate::proved::subset_lines::{read_axes, write_axes};
+use crate::proved::subset_lines::{read_axes, write_axes, write_axes_json, FontAxes};
 use crate::proved::subsetter::{Error, Tag};
 use crate::proved::subsetter_variation::axes::{axes, Axis};
 use crate::rattle::alloc::Global;
 use crate::rattle::io::{Read, Write};
 
-/// Writes the lines of `fvar`, with the names of `name`.
+/// Writes axes, as lines or as JSON.
+fn write_shown<L: Write>(
+    alloc: Global,
+    all: &FontAxes<'_>,
+    json: bool,
+    lines: &mut L,
+) -> Result<(), Failure> {
+    let written = if json {
+        write_axes_json(alloc, all, lines)
+    } else {
+        write_axes(all, lines)
+    };
+    written.map_err(|_| Failure::Output)
+}
+
+/// Writes the axes of `fvar`, with the names of `name`.
 fn tell_fvar<L: Write>(
     alloc: Global,
     fvar: &[u8],
     names: &[u8],
+    json: bool,
     lines: &mut L,
 ) -> Result<(), Failure> {
     let all = match read_axes(alloc, fvar, names) {
         Ok(all) => all,
         Err(error) => return Err(Failure::Error(error)),
     };
-    write_axes(&all, lines).map_err(|_| Failure::Output)
+    write_shown(alloc, &all, json, lines)
+}
+
+/// Writes that a face has no axes.
+fn tell_none<L: Write>(
+    alloc: Global,
+    names: &[u8],
+    json: bool,
+    lines: &mut L,
+) -> Result<(), Failure> {
+    let none = FontAxes {
+        axes: Vec::new(alloc),
+        instances: Vec::new(alloc),
+        names,
+    };
+    write_shown(alloc, &none, json, lines)
 }
 
 /// The names of a face, no bytes where it has none.
-fn names_of(font: &[u8], index: u32) -> &[u8] {
+pub fn names_of(font: &[u8], index: u32) -> &[u8] {
     match table(font, index, Tag::NAME) {
         Some(names) => names,
         None => &[],
     }
 }
 
-/// Writes the lines of a face: one for each axis and each named instance, none of a face that isn't variable.
+/// Writes the axes and named instances of a face, as lines or as one JSON object; none of a face that isn't variable.
 ///
-/// `UnknownKind` where no font stands at its place, `MalformedFont` where `fvar` is cut; `Output` where the writer fails.
+/// `UnknownKind` where the file has no font at the index, `MalformedFont` where `fvar` is cut; `Output` where the writer fails.
 pub fn tell_axes<L: Write>(
     alloc: Global,
     font: &[u8],
     index: u32,
+    json: bool,
     lines: &mut L,
 ) -> Result<(), Failure> {
     if header_place(font, index).is_none() {
         return Err(Failure::Error(Error::UnknownKind));
     }
     match table(font, index, Tag::new(b"fvar")) {
-        Some(fvar) => tell_fvar(alloc, fvar, names_of(font, index), lines),
-        None => Ok(()),
+        Some(fvar) => tell_fvar(alloc, fvar, names_of(font, index), json, lines),
+        None => tell_none(alloc, names_of(font, index), json, lines),
     }
 }
 
-/// Reads the font from the reader, and writes the lines of a face. The bytes that were read are kept. Room for so many of
+/// Reads the font from the reader, and writes the axes of a face. The bytes that were read are kept. Room for so many of
 /// them is taken at once.
 pub fn carry_axes<R: Read, L: Write>(
     alloc: Global,
     index: u32,
+    json: bool,
     reader: &mut R,
     room: usize,
     source: &mut Vec<u8>,
     lines: &mut L,
 ) -> Result<(), Failure> {
     let font = read_whole(alloc, reader, room)?;
-    let told = tell_axes(alloc, &font, index, lines);
+    let told = tell_axes(alloc, &font, index, json, lines);
     *source = font;
     told
 }
@@ -76,12 +109,12 @@ pub fn axes_there(alloc: Global, font: &[u8], index: u32) -> Result<Vec<Axis>, E
     }
 }
 
-/// Whether an axis bears a tag.
-pub fn has_axis(axes: &[Axis], tag: Tag) -> bool {
+/// The first axis that bears a tag.
+pub fn find_axis(axes: &[Axis], tag: Tag) -> Option<Axis> {
     for axis in axes {
         if axis.tag == tag {
-            return true;
+            return Some(*axis);
         }
     }
-    false
+    None
 }

@@ -14,14 +14,14 @@ pub enum Kind {
     Single,
 }
 
-/// Where a table stands, in bytes.
+/// Where a table is, in bytes.
 #[derive(Clone, Copy)]
 pub struct Place {
     pub offset: u32,
     pub length: u32,
 }
 
-/// What the bytes from a place on begin with.
+/// What the bytes from an offset on begin with.
 fn kind_at(file: &[u8], at: usize) -> Option<Kind> {
     match Reader::new_at(file, at).read::<u32>()? {
         0x00010000 | 0x74727565 | 0x4F54544F => Some(Kind::Single),
@@ -30,7 +30,7 @@ fn kind_at(file: &[u8], at: usize) -> Option<Kind> {
     }
 }
 
-/// Where the header of a collection's font stands.
+/// Where the header of a collection's font is.
 fn place_in_collection(file: &[u8], index: u32) -> Option<usize> {
     let at = Reader::new_at(
         file,
@@ -43,7 +43,7 @@ fn place_in_collection(file: &[u8], index: u32) -> Option<usize> {
     }
 }
 
-/// Where the font's header stands.
+/// Where the font's header is.
 pub fn header_place(file: &[u8], index: u32) -> Option<usize> {
     match kind_at(file, 0)? {
         Kind::Single => Some(0),
@@ -51,33 +51,38 @@ pub fn header_place(file: &[u8], index: u32) -> Option<usize> {
     }
 }
 
-/// The bytes of the records of the directory at a place.
+/// The bytes of the records of the directory at an offset.
 fn records_at(file: &[u8], at: usize) -> Option<&[u8]> {
     let count = Reader::new_at(file, at + 4).read::<u16>()?;
     Reader::new_at(file, at + 12).read_bytes(16 * usize::from(count))
 }
 
 /// The bytes of the records of the font's directory.
-fn records(file: &[u8], index: u32) -> Option<&[u8]> {
+pub fn records(file: &[u8], index: u32) -> Option<&[u8]> {
     let at = header_place(file, index)?;
     records_at(file, at)
 }
 
-/// Whether a record bears a tag.
-fn bears(bytes: &[u8], tag: Tag) -> bool {
-    Tag::new(&[bytes[0], bytes[1], bytes[2], bytes[3]]) == tag
+/// The tag of a record.
+pub fn tag_in(bytes: &[u8]) -> Tag {
+    Tag::new(&[bytes[0], bytes[1], bytes[2], bytes[3]])
 }
 
-/// Where a record says that its table stands.
-fn place_in(bytes: &[u8]) -> Place {
+/// Whether a record bears a tag.
+fn bears(bytes: &[u8], tag: Tag) -> bool {
+    tag_in(bytes) == tag
+}
+
+/// Where the table of a record is.
+pub fn place_in(bytes: &[u8]) -> Place {
     Place {
         offset: u32_at(bytes, 8),
         length: u32_at(bytes, 12),
     }
 }
 
-/// Where the first record that bears a tag says that its table stands.
-fn find_place(records: &[u8], tag: Tag) -> Option<Place> {
+/// Where the table of the first record that bears a tag is.
+pub fn find_place(records: &[u8], tag: Tag) -> Option<Place> {
     let mut r = Reader::new(records);
     while let Some(bytes) = r.read_bytes(16) {
         if bears(bytes, tag) {

@@ -12,6 +12,8 @@ pub enum Failure {
     Error(Error),
     /// The face has no table by which Unicode characters have glyphs.
     NoMapping,
+    /// The face has no named instance of the requested name.
+    NoInstance,
     /// The arguments after the program's name aren't as the usage says.
     Usage,
     /// The file of glyphs isn't a list of them.
@@ -31,6 +33,7 @@ impl crate::rattle::fmt::Display for Failure {
         match self {
             Failure::Error(error) => crate::rattle::fmt::Display::fmt(error, f),
             Failure::NoMapping => f.write_str("no Unicode cmap in font"),
+            Failure::NoInstance => f.write_str("no such instance in font"),
             Failure::Usage => f.write_str("usage: subset_font IN OUT INDEX GID[,GID..]"),
             Failure::List => f.write_str("usage: subset_font IN OUT INDEX GID[,GID..]"),
             Failure::Read => f.write_str("cannot read"),
@@ -53,14 +56,14 @@ impl Failure {
     /// The status that the program ends with.
     pub fn status(&self) -> u8 {
         match self {
-            Failure::Error(_) | Failure::NoMapping => 1,
+            Failure::Error(_) | Failure::NoMapping | Failure::NoInstance => 1,
             Failure::Usage | Failure::List => 2,
             Failure::Read | Failure::ReadList | Failure::Write | Failure::Output => 3,
         }
     }
 }
 
-/// A failure as the standard error tells it: its text, and after it the name of the file that failed.
+/// A failure as standard error has it: its text, and after it the name of the file that failed.
 pub struct Told<'a> {
     /// Why the run failed.
     pub failure: &'a Failure,
@@ -73,7 +76,7 @@ pub fn file_of<'a>(ended: &Result<(), Failure>, job: &'a Job) -> Option<&'a str>
     match (ended, &job.glyphs) {
         (Err(Failure::Read), _) => Some(job.input.as_str()),
         (Err(Failure::Write), _) => Some(job.output.as_str()),
-        (Err(Failure::ReadList), Glyphs::InFile(name)) => Some(name.as_str()),
+        (Err(Failure::ReadList), Glyphs::InFile(_, name)) => Some(name.as_str()),
         _ => None,
     }
 }

@@ -9,7 +9,8 @@ pub const VERSION_LINE: &str = "subset_font 0.2.6+1, a port of the Rust crate su
 pub const HELP: &str = "usage: subset_font [OPTIONS] IN OUT INDEX GID[,GID..]
        subset_font [OPTIONS] IN OUT INDEX
        subset_font [OPTIONS] IN -o OUT [OPTIONS]
-       subset_font --axes IN INDEX
+       subset_font --axes [--json] IN [INDEX]
+       subset_font --info [--json] IN [INDEX]
 
 Writes a font with glyph 0 and the requested glyphs of IN,
 under new numbers from 1, and prints a line `old -> new`
@@ -32,6 +33,13 @@ Which glyphs, where no GID is given:
                     and line ends; - is standard input
   --text TEXT       the glyphs of TEXT's characters by the
                     font's cmap, unshaped
+  --text-file FILE  the same of a file's text, without its
+                    line ends
+  --unicodes LIST   the glyphs of characters, by numbers and
+                    ranges, as U+0041-005A,20AC
+  --unicodes-file FILE
+                    the same from a file, also with blanks
+                    and line ends
 
 Which files:
   -o OUT, --output-file OUT
@@ -42,7 +50,8 @@ Which files:
 What the new font has:
   --at TAG=VALUE[,TAG=VALUE..]
                     a variable font at coordinates, as
-                    wght=650,wdth=87.5
+                    wght=650,wdth=87.5, or at a named
+                    instance, as Bold
   --no-hinting      no instructions of TrueType outlines
   --no-names        no table name
   --no-glyph-names  no names of glyphs in post
@@ -53,11 +62,15 @@ What the new font has:
 
 What is printed:
   --widths          also the widths, for W in a PDF
+  --verbose         also each table's bytes before and after
   --json            one JSON object in place of the lines
   --quiet           no lines
   --axes            (first argument) the axes of IN: tag,
                     least, default and greatest coordinate;
                     and its named instances
+  --info            (first argument) outlines, glyphs and
+                    tables of IN, what its maker permits,
+                    and whether a subset is made of it
   -h, --help        this text
   --version         the version
 

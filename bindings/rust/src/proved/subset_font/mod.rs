@@ -14,11 +14,16 @@ mod face;
 mod failure;
 mod help;
 mod hint;
+mod info;
+mod named;
+mod notes;
+mod outcome;
 mod output;
 mod reason;
 mod run;
 mod streams;
 mod subset;
+mod tables;
 mod task;
 
 use run::Ended;

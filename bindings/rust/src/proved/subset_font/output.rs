@@ -2,22 +2,22 @@
 //! What a run writes.
 
 use crate::proved::subset_font::failure::Failure;
-use crate::proved::subset_font::subset::Made;
+use crate::proved::subset_font::outcome::Outcome;
 use crate::proved::subset_font::task::Form;
 use crate::proved::subset_lines::{write_json, write_lines, Numbering};
 use crate::rattle::io::Write;
 
-/// Writes the font to one writer, and then tells the new numbers to the other.
+/// Writes the font to one writer, and then the new numbers to the other.
 ///
 /// `Write` where the first writer fails, `Output` where the other does.
 pub fn emit<W: Write, L: Write>(
-    made: &Made,
+    outcome: &Outcome,
     form: Form,
     output: &mut W,
     lines: &mut L,
 ) -> Result<(), Failure> {
-    write_font(&made.font, output)?;
-    write_numbers(made, form, lines)
+    write_font(&outcome.made.font, output)?;
+    write_numbers(outcome, form, lines)
 }
 
 /// Writes the font, and passes on what the writer keeps back.
@@ -28,16 +28,17 @@ fn write_font<W: Write>(font: &[u8], output: &mut W) -> Result<(), Failure> {
     Ok(())
 }
 
-/// Tells the new numbers.
-fn write_numbers<L: Write>(made: &Made, form: Form, lines: &mut L) -> Result<(), Failure> {
+/// Writes the new numbers.
+fn write_numbers<L: Write>(outcome: &Outcome, form: Form, lines: &mut L) -> Result<(), Failure> {
+    let made = &outcome.made;
     let numbering = Numbering {
         characters: &made.picked.characters,
         glyphs: &made.picked.glyphs,
         mapper: &made.mapper,
     };
     let written = match form {
-        Form::Lines => write_lines(&numbering, &made.text, lines),
-        Form::Json => write_json(&numbering, &made.text, lines),
+        Form::Lines => write_lines(&numbering, &made.text, &outcome.more, lines),
+        Form::Json => write_json(&numbering, &made.text, &outcome.more, lines),
         Form::Silence => Ok(()),
     };
     written.map_err(|_| Failure::Output)

@@ -4,20 +4,26 @@
 use crate::rattle::prelude::{AllocGlobal, Eprint, Input, IteratorExt, Print, String, Vec};
 
 use crate::proved::subset_args::{
-    find_mistake, find_wrong_part, read_list, read_words, Advice, ArgsError, Command, GlyphList,
-    Glyphs, Job, Shown,
+    find_mistake, find_wrong, read_list, read_words, Advice, ArgsError, Command, FileKind,
+    GlyphList, Glyphs, Job, Shown, Topic, CODES_WANTED, PARTS_WANTED,
 };
-use crate::proved::subset_font::axes::{axes_there, carry_axes, has_axis};
+use crate::proved::subset_font::axes::carry_axes;
 use crate::proved::subset_font::carried::{carry_out, read_whole};
 use crate::proved::subset_font::failure::{file_of, status_of_run, Failure, Told};
 use crate::proved::subset_font::help::{HELP, VERSION_LINE};
 use crate::proved::subset_font::hint::{find_axes_hint, find_hint, Hint};
+use crate::proved::subset_font::info::carry_info;
+use crate::proved::subset_font::named::instance_names;
+use crate::proved::subset_font::notes::{known_axes, notes_for};
 use crate::proved::subset_font::reason::{reason_of, unread, Noted};
 use crate::proved::subset_font::streams::{
     hold_streams, lines_beside, open_source, Source, Target,
 };
-use crate::proved::subset_font::task::{at_of, extras_of, form_of, limits_of, Asked, Task};
-use crate::proved::subsetter::{Error, Options, Tag};
+use crate::proved::subset_font::task::{
+    at_of, extras_of, form_of, instance_of, limits_of, Asked, Plan, Task,
+};
+use crate::proved::subset_lines::note_lines;
+use crate::proved::subsetter::{Error, Options};
 use crate::rattle::alloc::Global;
 use crate::rattle::fs::OpenFile;
 use crate::rattle::io::{BufWriter, ErrorKind, Read, Write};
@@ -42,9 +48,10 @@ fn words<R: Env + AllocGlobal>(rt: &R) -> Result<Vec<String>, Failure> {
     }
 }
 
-/// The list of glyphs that a file has. Its text is kept.
+/// What a file requests. Its text is kept.
 fn read_list_file<R: Files + Input + AllocGlobal>(
     rt: &R,
+    kind: FileKind,
     name: &str,
     text: &mut Vec<u8>,
     reason: &mut Option<io::Error>,
@@ -63,7 +70,7 @@ fn read_list_file<R: Files + Input + AllocGlobal>(
             return Err(Failure::ReadList);
         }
     }
-    match read_list(rt.alloc(), text) {
+    match read_list(rt.alloc(), kind, text) {
         Ok(list) => Ok(list),
         Err(ArgsError::Usage) => Err(Failure::List),
         Err(ArgsError::OutOfMemory) => Err(Failure::Error(Error::OutOfMemory)),
@@ -78,8 +85,18 @@ fn list_of<R: Files + Input + AllocGlobal>(
     reason: &mut Option<io::Error>,
 ) -> Result<Option<GlyphList>, Failure> {
     match glyphs {
-        Glyphs::InFile(name) => Ok(Some(read_list_file(rt, name, text, reason)?)),
+        Glyphs::InFile(kind, name) => Ok(Some(read_list_file(rt, *kind, name, text, reason)?)),
         _ => Ok(None),
+    }
+}
+
+/// Which glyphs a file requests.
+fn asked_by(list: &GlyphList) -> Asked<'_> {
+    match list {
+        GlyphList::Every => Asked::Every,
+        GlyphList::These(given) => Asked::These(given),
+        GlyphList::Characters(given) => Asked::ByCharacters(given),
+        GlyphList::Text(text) => Asked::ByText(text),
     }
 }
 
@@ -89,13 +106,13 @@ fn asked_of<'a>(glyphs: &'a Glyphs, list: &'a Option<GlyphList>) -> Asked<'a> {
         (Glyphs::Listed(given), _) => Asked::These(given),
         (Glyphs::ByText(text), _) => Asked::ByText(text),
         (Glyphs::Every, _) => Asked::Every,
-        (Glyphs::InFile(_), Some(GlyphList::Every)) => Asked::Every,
-        (Glyphs::InFile(_), Some(GlyphList::These(given))) => Asked::These(given),
-        (Glyphs::InFile(_), None) => Asked::These(&[]),
+        (Glyphs::Characters(given), _) => Asked::ByCharacters(given),
+        (Glyphs::InFile(_, _), Some(list)) => asked_by(list),
+        (Glyphs::InFile(_, _), None) => Asked::These(&[]),
     }
 }
 
-/// What a job asks to be made of the font.
+/// What a job requests to be made of the font.
 fn task_of<'a>(job: &'a Job, list: &'a Option<GlyphList>) -> Task<'a> {
     Task {
         asked: asked_of(&job.glyphs, list),
@@ -106,7 +123,16 @@ fn task_of<'a>(job: &'a Job, list: &'a Option<GlyphList>) -> Task<'a> {
         },
         widths: job.switches.widths,
         form: form_of(job.switches),
-        at: at_of(&job.coordinates),
+        at: at_of(&job.position),
+    }
+}
+
+/// The same at the coordinates of a named instance, if one is requested.
+fn plan_of<'a>(job: &'a Job, list: &'a Option<GlyphList>) -> Plan<'a> {
+    Plan {
+        task: task_of(job, list),
+        instance: instance_of(&job.position),
+        verbose: job.switches.verbose,
     }
 }
 
@@ -146,10 +172,10 @@ fn room_of<F: OpenFile + Read, S: Read>(
     }
 }
 
-/// Does a task between a reader and two writers, the second of them behind a buffer.
+/// Does a plan between a reader and two writers, the second of them behind a buffer.
 fn carry_buffered<R: Read, W: Write, L: Write>(
     alloc: Global,
-    task: &Task<'_>,
+    plan: &Plan<'_>,
     input: &mut R,
     room: usize,
     source: &mut Vec<u8>,
@@ -162,15 +188,15 @@ fn carry_buffered<R: Read, W: Write, L: Write>(
             return Err(Failure::Error(Error::OutOfMemory));
         }
     };
-    carry_out(alloc, task, input, room, source, output, &mut lines)
+    carry_out(alloc, plan, input, room, source, output, &mut lines)
 }
 
-/// Does a task on files and the standard streams. The output's file is made by its first write. Why the system refused one
+/// Does a plan on files and the standard streams. The output's file is made by its first write. Why the system refused one
 /// is kept.
 fn perform<R: Files + Print + Eprint + Input + AllocGlobal>(
     rt: &R,
     job: &Job,
-    task: &Task<'_>,
+    plan: &Plan<'_>,
     source: &mut Vec<u8>,
     reason: &mut Option<io::Error>,
 ) -> Result<(), Failure> {
@@ -181,7 +207,7 @@ fn perform<R: Files + Print + Eprint + Input + AllocGlobal>(
     let mut lines = Noted::new(lines_beside(rt, job.output.as_str()));
     let ended = carry_buffered(
         rt.alloc(),
-        task,
+        plan,
         &mut input,
         room,
         source,
@@ -215,27 +241,73 @@ fn tell_hint<R: Eprint>(rt: &R, hint: Option<Hint>) {
     }
 }
 
-/// Reports which part of a list of glyphs is wrong.
-fn tell_wrong_part<R: Eprint>(rt: &R, ended: &Result<(), Failure>, text: &[u8]) {
-    if let (Err(Failure::List), Some(part)) = (ended, find_wrong_part(text)) {
-        let part = Shown(core::str::from_utf8(part).unwrap_or("?"));
-        let _ = eprintln!(rt; "--gids-file: \"{part}\" is not a glyph number");
-        let _ = eprintln!(rt; "expected: numbers to 65535 and ranges as 36-38, or * alone");
+/// Reports which part of a file's list is wrong, and what is expected.
+fn report_part<R: Eprint>(rt: &R, kind: FileKind, part: &[u8]) {
+    let part = Shown(core::str::from_utf8(part).unwrap_or("?"));
+    let _ = match kind {
+        FileKind::Glyphs => {
+            let _ = eprintln!(rt; "--gids-file: \"{part}\" is not a glyph number");
+            rt.eprintln(PARTS_WANTED)
+        }
+        FileKind::Characters => {
+            let _ = eprintln!(rt; "--unicodes-file: \"{part}\" is not a character number");
+            rt.eprintln(CODES_WANTED)
+        }
+        FileKind::Text => {
+            let _ = eprintln!(rt; "--text-file: the text is not UTF-8");
+            eprintln!(rt; "expected: a text in UTF-8")
+        }
+    };
+}
+
+/// Reports what is wrong in a file that lists glyphs, if that is why a run failed.
+fn report_list<R: Eprint>(rt: &R, ended: &Result<(), Failure>, glyphs: &Glyphs, text: &[u8]) {
+    if let (Err(Failure::List), Glyphs::InFile(kind, _)) = (ended, glyphs) {
+        if let Some(part) = find_wrong(*kind, text) {
+            report_part(rt, *kind, part);
+        }
     }
 }
 
-/// Says which tags of the coordinates are those of no axis of the font. It is passed over where memory runs out.
-fn tell_unknown<R: Eprint + AllocGlobal>(rt: &R, font: &[u8], index: u32, at: &[(Tag, i32)]) {
-    let axes = match axes_there(rt.alloc(), font, index) {
+/// Reports coordinates that the font doesn't have, and the axes that it has. They are passed over where memory runs out.
+fn report_notes<R: Eprint + AllocGlobal>(rt: &R, font: &[u8], plan: &Plan<'_>) {
+    let axes = match known_axes(rt.alloc(), font, plan.task.index) {
         Ok(axes) => axes,
         _ => {
             return;
         }
     };
-    for setting in at {
-        if !has_axis(&axes, setting.0) {
-            let _ = eprintln!(rt; "no axis {} in the font", setting.0);
+    let notes = match notes_for(rt.alloc(), &axes, plan.task.at) {
+        Ok(notes) => notes,
+        _ => {
+            return;
         }
+    };
+    if let Ok(text) = note_lines(rt.alloc(), &axes, &notes) {
+        print_lines(rt, &text);
+    }
+}
+
+/// Prints lines on standard error.
+fn print_lines<R: Eprint>(rt: &R, text: &[u8]) {
+    if let Ok(text) = core::str::from_utf8(text) {
+        let _ = rt.eprint(text);
+    }
+}
+
+/// Reports the names of the named instances, where the one that is requested isn't there. They are passed over where memory
+/// runs out.
+fn report_names<R: Eprint + AllocGlobal>(rt: &R, font: &[u8], index: u32) {
+    if let Ok(text) = instance_names(rt.alloc(), font, index) {
+        print_lines(rt, &text);
+    }
+}
+
+/// Reports more of a run that failed, as far as it can be seen in the font.
+fn report_more<R: Eprint + AllocGlobal>(rt: &R, failure: &Failure, font: &[u8], plan: &Plan<'_>) {
+    tell_hint(rt, find_hint(failure, font, &plan.task));
+    if let Failure::NoInstance = failure {
+        report_names(rt, font, plan.task.index);
     }
 }
 
@@ -249,27 +321,27 @@ fn run_job<R: Files + Print + Eprint + Input + AllocGlobal>(rt: &R, job: &Job) -
             let ended = Err(failure);
             let status = report(rt, &ended, file_of(&ended, job));
             tell_reason(rt, reason);
-            tell_wrong_part(rt, &ended, &text);
+            report_list(rt, &ended, &job.glyphs, &text);
             return status;
         }
     };
-    let task = task_of(job, &list);
+    let plan = plan_of(job, &list);
     let mut font = Vec::new(rt.alloc());
-    let ended = perform(rt, job, &task, &mut font, &mut reason);
+    let ended = perform(rt, job, &plan, &mut font, &mut reason);
     let status = report(rt, &ended, file_of(&ended, job));
     tell_reason(rt, reason);
-    if let Err(failure) = &ended {
-        tell_hint(rt, find_hint(failure, &font, &task));
-    }
-    if let (Ok(()), Some(at)) = (&ended, task.at) {
-        tell_unknown(rt, &font, task.index, at);
+    match &ended {
+        Ok(()) => report_notes(rt, &font, &plan),
+        Err(failure) => report_more(rt, failure, &font, &plan),
     }
     status
 }
 
-/// Tells the axes of a face between a reader and a writer, which gets a buffer.
-fn axes_buffered<R: Read, L: Write>(
+/// Writes what is to be shown of a face between a reader and a writer, which gets a buffer.
+fn show_buffered<R: Read, L: Write>(
     alloc: Global,
+    topic: Topic,
+    json: bool,
     index: u32,
     input: &mut R,
     room: usize,
@@ -282,12 +354,17 @@ fn axes_buffered<R: Read, L: Write>(
             return Err(Failure::Error(Error::OutOfMemory));
         }
     };
-    carry_axes(alloc, index, input, room, source, &mut lines)
+    match topic {
+        Topic::Axes => carry_axes(alloc, index, json, input, room, source, &mut lines),
+        Topic::Info => carry_info(alloc, index, json, input, room, source, &mut lines),
+    }
 }
 
-/// Tells the axes of a face on standard output. Why the system refused to read or to write is kept.
-fn perform_axes<R: Files + Print + Input + AllocGlobal>(
+/// Writes what is to be shown of a face on standard output. Why the system refused to read or to write is kept.
+fn perform_shown<R: Files + Print + Input + AllocGlobal>(
     rt: &R,
+    topic: Topic,
+    json: bool,
     input: &str,
     index: u32,
     source: &mut Vec<u8>,
@@ -297,7 +374,16 @@ fn perform_axes<R: Files + Print + Input + AllocGlobal>(
     let room = room_of(&opened, reason)?;
     let mut input = Noted::new(opened);
     let mut lines = Noted::new(io::writer(rt));
-    let ended = axes_buffered(rt.alloc(), index, &mut input, room, source, &mut lines);
+    let ended = show_buffered(
+        rt.alloc(),
+        topic,
+        json,
+        index,
+        &mut input,
+        room,
+        source,
+        &mut lines,
+    );
     *reason = reason_of(&ended, input.reason(), None, lines.reason());
     ended
 }
@@ -310,15 +396,17 @@ fn unread_file<'a>(ended: &Result<(), Failure>, input: &'a str) -> Option<&'a st
     }
 }
 
-/// Tells the axes of a face, and answers the status.
-fn run_axes<R: Files + Print + Eprint + Input + AllocGlobal>(
+/// Shows something of a face, and answers the status.
+fn run_shown<R: Files + Print + Eprint + Input + AllocGlobal>(
     rt: &R,
+    topic: Topic,
+    json: bool,
     input: &str,
     index: u32,
 ) -> u8 {
     let mut font = Vec::new(rt.alloc());
     let mut reason = None;
-    let ended = perform_axes(rt, input, index, &mut font, &mut reason);
+    let ended = perform_shown(rt, topic, json, input, index, &mut font, &mut reason);
     let status = report(rt, &ended, unread_file(&ended, input));
     tell_reason(rt, reason);
     if let Err(failure) = &ended {
@@ -368,7 +456,7 @@ fn run_words<R: Files + Print + Eprint + Input + AllocGlobal>(rt: &R, words: &[S
         Ok(Command::Help) => print_text(rt, HELP),
         Ok(Command::Version) => print_text(rt, VERSION_LINE),
         Ok(Command::Subset(job)) => run_job(rt, &job),
-        Ok(Command::Axes(input, index)) => run_axes(rt, &input, index),
+        Ok(Command::Show(topic, json, input, index)) => run_shown(rt, topic, json, &input, index),
         Err(ArgsError::Usage) => refuse(rt, words),
         Err(ArgsError::OutOfMemory) => report(rt, &Err(Failure::Error(Error::OutOfMemory)), None),
     }

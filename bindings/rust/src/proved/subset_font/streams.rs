@@ -78,7 +78,7 @@ impl<R: Files + Print> Write for Target<'_, R> {
     }
 }
 
-/// What the new numbers are told to.
+/// What the new numbers are printed to.
 pub enum Lines<'a, R: Print + Eprint> {
     /// Standard output.
     Output(&'a R),

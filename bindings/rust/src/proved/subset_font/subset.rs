@@ -18,9 +18,9 @@ pub struct Made {
     pub font: Vec<u8>,
     /// What knows the new numbers.
     pub mapper: GlyphRemapper,
-    /// The glyphs that were asked for.
+    /// The requested glyphs.
     pub picked: Picked,
-    /// The text of the widths, which is empty where they aren't asked for.
+    /// The text of the widths, which is empty where they aren't requested.
     pub text: Vec<u8>,
 }
 
@@ -89,7 +89,7 @@ fn make_face(
     }
 }
 
-/// The file of the static font that is taken for glyphs, where user coordinates are said and the font isn't at its default.
+/// The file of the static font that is taken for glyphs, where user coordinates are given and the font isn't at its default.
 fn static_of(
     alloc: Global,
     font: &[u8],

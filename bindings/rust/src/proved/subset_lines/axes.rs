@@ -82,7 +82,7 @@ pub struct FontAxes<'a> {
     pub names: &'a [u8],
 }
 
-/// The axes and the named instances that `fvar` lists, whose names stand in another table. A cut `fvar` is `MalformedFont`.
+/// The axes and the named instances that `fvar` lists, whose names are in another table. A cut `fvar` is `MalformedFont`.
 pub fn read_axes<'a>(
     alloc: Global,
     fvar: &'a [u8],
@@ -108,10 +108,15 @@ fn shown(byte: u8) -> u8 {
     }
 }
 
+/// The bytes of a tag, each as it is shown.
+pub fn tag_bytes(tag: Tag) -> [u8; 4] {
+    let [a, b, c, d] = *tag.get();
+    [shown(a), shown(b), shown(c), shown(d)]
+}
+
 /// Writes a tag.
 pub fn write_tag<W: Write>(tag: Tag, out: &mut W) -> Result<(), Unwritten> {
-    let [a, b, c, d] = *tag.get();
-    write_text(&[shown(a), shown(b), shown(c), shown(d)], out)
+    write_text(&tag_bytes(tag), out)
 }
 
 /// Writes a coordinate behind a blank.
@@ -144,7 +149,7 @@ fn write_axis_lines<W: Write>(axes: &[Axis], out: &mut W) -> Result<(), Unwritte
 }
 
 /// Writes the coordinate that four bytes say.
-fn write_coordinate<W: Write>(bytes: &[u8], out: &mut W) -> Result<(), Unwritten> {
+pub fn write_coordinate<W: Write>(bytes: &[u8], out: &mut W) -> Result<(), Unwritten> {
     match Reader::new(bytes).read::<u32>() {
         Some(bits) => write_fixed(bits.to_signed(), out),
         None => Ok(()),
@@ -165,7 +170,7 @@ fn write_setting<W: Write>(
 }
 
 /// The bytes behind the first four.
-fn after_four(bytes: &[u8]) -> &[u8] {
+pub fn after_four(bytes: &[u8]) -> &[u8] {
     match bytes {
         [_, _, _, _, rest @ ..] => rest,
         _ => &[],
@@ -185,7 +190,7 @@ fn write_settings<W: Write>(axes: &[Axis], bytes: &[u8], out: &mut W) -> Result<
 }
 
 /// The name of a named instance, if there is one.
-fn name_of<'a>(names: &'a [u8], bytes: &[u8]) -> Option<&'a [u8]> {
+pub fn name_of<'a>(names: &'a [u8], bytes: &[u8]) -> Option<&'a [u8]> {
     string_for(names, Reader::new(bytes).read::<u16>()?)
 }
 

@@ -50,3 +50,9 @@ pub fn write_fixed<W: Write>(value: i32, out: &mut W) -> Result<(), Unwritten> {
     write_sign(value, out)?;
     write_size(value.unsigned_abs(), out)
 }
+
+/// Writes a coordinate behind a text.
+pub fn write_labelled<W: Write>(label: &[u8], value: i32, out: &mut W) -> Result<(), Unwritten> {
+    write_text(label, out)?;
+    write_fixed(value, out)
+}

@@ -105,21 +105,24 @@ fn write_glyphs<W: Write>(numbering: &Numbering<'_>, out: &mut W) -> Result<(), 
 fn write_members<W: Write>(
     numbering: &Numbering<'_>,
     text: &[u8],
+    members: &[u8],
     out: &mut W,
 ) -> Result<(), Unwritten> {
     write_glyphs(numbering, out)?;
     write_widths(text, out)?;
+    write_text(members, out)?;
     write_text(b"}\n", out)
 }
 
-/// Writes the new numbers of the glyphs as one JSON object, with the text of an array of widths, unless it is empty. Then
-/// it passes on what the writer keeps back.
+/// Writes the new numbers of the glyphs as one JSON object, with the text of an array of widths, unless it is empty, and the
+/// text of further members. Then it passes on what the writer keeps back.
 pub fn write_json<W: Write>(
     numbering: &Numbering<'_>,
     text: &[u8],
+    members: &[u8],
     out: &mut W,
 ) -> Result<(), Unwritten> {
-    write_members(numbering, text, out)?;
+    write_members(numbering, text, members, out)?;
     flush(out)
 }
 

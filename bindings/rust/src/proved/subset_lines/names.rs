@@ -99,7 +99,7 @@ fn write_character<W: Write>(high: u8, low: u8, out: &mut W) -> Result<(), Unwri
 }
 
 /// Writes code units of two bytes as text.
-fn write_units<W: Write>(bytes: &[u8], out: &mut W) -> Result<(), Unwritten> {
+pub fn write_units<W: Write>(bytes: &[u8], out: &mut W) -> Result<(), Unwritten> {
     let mut rest = bytes;
     while let [high, low, more @ ..] = rest {
         write_character(*high, *low, out)?;

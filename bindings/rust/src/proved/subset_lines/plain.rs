@@ -2,6 +2,7 @@
 //! The new numbers as lines.
 
 use crate::proved::subset_lines::entry::{take_first, Numbering, Unwritten};
+use crate::proved::subset_lines::text::write_text;
 use crate::rattle::io::Write;
 
 /// Writes a character as `U+` and its number.
@@ -74,14 +75,16 @@ pub fn flush<L: Write>(lines: &mut L) -> Result<(), Unwritten> {
     Ok(())
 }
 
-/// Writes a line `old -> new` for each glyph, with its character in front, and the text as the last line, unless it is
-/// empty. Then it passes on what the writer keeps back.
+/// Writes a line `old -> new` for each glyph, with its character in front, the text as a line, unless it is empty, and further
+/// lines. Then it passes on what the writer keeps back.
 pub fn write_lines<L: Write>(
     numbering: &Numbering<'_>,
     text: &[u8],
+    more: &[u8],
     lines: &mut L,
 ) -> Result<(), Unwritten> {
     write_entries(numbering, lines)?;
     write_last_line(text, lines)?;
+    write_text(more, lines)?;
     flush(lines)
 }

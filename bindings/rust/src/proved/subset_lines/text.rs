@@ -11,3 +11,17 @@ pub fn write_text<W: Write>(text: &[u8], out: &mut W) -> Result<(), Unwritten> {
     }
     Ok(())
 }
+
+/// Writes a number.
+pub fn write_decimal<W: Write>(number: u64, out: &mut W) -> Result<(), Unwritten> {
+    if write!(out, "{number}").is_err() {
+        return Err(Unwritten);
+    }
+    Ok(())
+}
+
+/// Writes a number behind a text.
+pub fn write_count<W: Write>(label: &[u8], number: u64, out: &mut W) -> Result<(), Unwritten> {
+    write_text(label, out)?;
+    write_decimal(number, out)
+}

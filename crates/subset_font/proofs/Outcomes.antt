@@ -1,0 +1,35 @@
+-- What a plan makes of the bytes of a font.
+use Rattle.std.proofs.Common.{◌≡◌, ◌⊎◌, inl, inr, ℕ, List, Some, None, Result, Ok, Err, sym, ap, subst, ◌∙◌}
+use Rattle.std.specs.Prelude.{IfOk, IfErr}
+use Rattle.std.specs.Option.{option_copied}
+use Rattle.subsetter_base.specs.declared.error.Error.TheVariants.{OutOfMemory, UnknownKind, MalformedFont}
+use Rattle.subset_font.specs.Made.{face_of, IsMade, IsUnmade}
+use Rattle.subset_font.specs.Named.{face_settings}
+use Rattle.subset_font.specs.Outcome.{more_text, IsPlaced, IsOutcome, IsNoOutcome}
+use Rattle.subset_font.specs.declared.task.Task.{Task}
+use Rattle.subset_font.specs.declared.task.Plan.{Plan}
+use Rattle.subset_font.specs.declared.subset.Made.{Made}
+use Rattle.subset_font.specs.declared.outcome.Outcome.{Outcome}
+use Rattle.subset_font.specs.declared.failure.Failure.{Failure}
+use Rattle.subset_font.specs.declared.failure.Failure.TheVariants.{Error, NoInstance}
+
+module _ (plan : Plan) (bytes : List ℕ) where
+  pub outcome_of : (task : Task) → IsPlaced plan bytes task → (made : Made) → IsMade task bytes made → (r : Result Outcome Failure) → IfOk r (λ o. o.made ≡ made) → IfOk r (λ o. o.more.items ≡ more_text plan bytes made.font.items) → IfOk r (IsOutcome plan bytes)
+  outcome_of task placed made is (Ok o) kept more = record {
+    task = task;
+    is_placed = placed;
+    is_made = subst (IsMade task bytes) (sym kept) is;
+    more_is = more ∙ ap (λ (m : Made). more_text plan bytes m.font.items) (sym kept);
+  }
+  outcome_of task placed made is (Err e) kept more = tt
+
+  pub memory_of : (r : Result Outcome Failure) → IfErr r (λ e. e ≡ Error OutOfMemory) → IfErr r (IsNoOutcome plan bytes)
+  memory_of (Ok o) h = tt
+  memory_of (Err e) h = inl h
+
+  pub unmade_of : (task : Task) → IsPlaced plan bytes task → (failure : Failure) → IsUnmade task bytes failure → IsNoOutcome plan bytes failure
+  unmade_of task placed failure h = inr (inr (record { task = task; is_placed = placed; is_unmade = h }))
+
+  pub unplaced_of : (name : List ℕ) (failure : Failure) → option_copied plan.instance ≡ Some name → (failure ≡ Error OutOfMemory) ⊎ (((failure ≡ Error UnknownKind) ⊎ ((failure ≡ Error MalformedFont) ⊎ (failure ≡ NoInstance))) × (face_settings (face_of plan.task bytes) name ≡ None)) → IsNoOutcome plan bytes failure
+  unplaced_of name failure said (inl memory) = inl memory
+  unplaced_of name failure said (inr h) = inr (inl (record { name = name; is_name = said; is_missing = h.1; failure_is = h.0 }))

@@ -1,0 +1,72 @@
+-- What a plan makes of a font that is read, and why it doesn't.
+use Rattle.std.specs.Prelude.{◌≡◌, ◌⊎◌, ℕ, ℤ, Bool, if◌then◌else◌, List, [], length, Option, Some, None}
+use Rattle.std.specs.Borrow.{Bor}
+use Rattle.std.specs.Option.{option_copied}
+use Rattle.subsetter_base.specs.declared.error.Error.TheVariants.{OutOfMemory, UnknownKind, MalformedFont}
+use Rattle.subsetter_base.specs.declared.tag.Tag.{Tag}
+use Rattle.subsetter_sfnt.specs.Read.{Font, as_font, records}
+use Rattle.subset_lines.specs.Members.{members}
+use Rattle.subset_lines.specs.Sizes.{sizes_text}
+use Rattle.subset_lines.specs.declared.sizes.TableSize.{TableSize}
+use Rattle.subset_font.specs.Axes.{axes_known}
+use Rattle.subset_font.specs.Made.{face_of, IsMade, IsUnmade}
+use Rattle.subset_font.specs.Named.{face_settings}
+use Rattle.subset_font.specs.Notes.{notes_for}
+use Rattle.subset_font.specs.Tables.{bytes_or_none, records_in, table_sizes}
+use Rattle.subset_font.specs.declared.task.Task.{Task}
+use Rattle.subset_font.specs.declared.task.Plan.{Plan}
+use Rattle.subset_font.specs.declared.task.Form.{Form}
+use Rattle.subset_font.specs.declared.task.Form.TheVariants.{Lines, Json, Silence}
+use Rattle.subset_font.specs.declared.outcome.Outcome.{Outcome}
+use Rattle.subset_font.specs.declared.failure.Failure.{Failure}
+use Rattle.subset_font.specs.declared.failure.Failure.TheVariants.{Error, NoInstance}
+
+-- ---- what is printed behind the numbers
+
+-- the tables of the font that is read and of the new one
+abbrev pub sizes_of : Font → List ℕ → List TableSize
+sizes_of font new = table_sizes (records_in (bytes_or_none (records font))) (records_in (bytes_or_none (records (as_font new))))
+
+abbrev pub sizes_if : Bool → Font → List ℕ → Option (List TableSize)
+sizes_if verbose font new = if verbose then Some (sizes_of font new) else None
+
+-- the members of a JSON object: sizes, tables with `--verbose`, and notes on the coordinates
+abbrev pub members_of : Bool → Option (List (Tag × ℤ)) → Font → List ℕ → List ℕ
+members_of verbose at font new = members (length font.bytes) (length new) (sizes_if verbose font new) (axes_known font) (notes_for (axes_known font) at)
+
+abbrev pub more_by : Form → Bool → Option (List (Tag × ℤ)) → Font → List ℕ → List ℕ
+more_by Lines verbose at font new = if verbose then sizes_text (sizes_of font new) (length font.bytes) (length new) else []
+more_by Json verbose at font new = members_of verbose at font new
+more_by Silence verbose at font new = []
+
+abbrev pub more_text : Plan → List ℕ → List ℕ → List ℕ
+more_text plan bytes new = more_by plan.task.form plan.verbose (option_copied plan.task.at) (face_of plan.task bytes) new
+
+-- ---- what is made
+
+-- the task of a plan: as it is given, or at the coordinates of the named instance
+pub data IsPlaced (plan : Plan) (bytes : List ℕ) : Task → Type 0 where
+  as_given : option_copied plan.instance ≡ None → IsPlaced plan bytes plan.task
+  at_instance : (name : List ℕ) (at : Bor (List (Tag × ℤ))) → option_copied plan.instance ≡ Some name → face_settings (face_of plan.task bytes) name ≡ Some at.now → IsPlaced plan bytes (record plan.task { at = Some at })
+
+pub record IsOutcome (plan : Plan) (bytes : List ℕ) (outcome : Outcome) : Type 0 where
+  pub task : Task
+  pub is_placed : IsPlaced plan bytes task
+  pub is_made : IsMade task bytes outcome.made
+  pub more_is : outcome.more.items ≡ more_text plan bytes outcome.made.font.items
+
+-- the font has no such instance, or its `fvar` can't be read
+pub record IsUnplaced (plan : Plan) (bytes : List ℕ) (failure : Failure) : Type 0 where
+  pub name : List ℕ
+  pub is_name : option_copied plan.instance ≡ Some name
+  pub is_missing : face_settings (face_of plan.task bytes) name ≡ None
+  pub failure_is : (failure ≡ Error UnknownKind) ⊎ ((failure ≡ Error MalformedFont) ⊎ (failure ≡ NoInstance))
+
+-- or the task is refused
+pub record IsUnmadePlan (plan : Plan) (bytes : List ℕ) (failure : Failure) : Type 0 where
+  pub task : Task
+  pub is_placed : IsPlaced plan bytes task
+  pub is_unmade : IsUnmade task bytes failure
+
+abbrev pub IsNoOutcome : Plan → List ℕ → Failure → Type 0
+IsNoOutcome plan bytes failure = (failure ≡ Error OutOfMemory) ⊎ (IsUnplaced plan bytes failure ⊎ IsUnmadePlan plan bytes failure)

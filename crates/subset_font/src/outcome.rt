@@ -1,0 +1,201 @@
+//! What a plan makes of the font that is read: a subset, and what is printed behind its numbers.
+
+ghost use Rattle.std.specs.Prelude.{◌≡◌, ◌⊎◌, IfOk, IfErr, Some, None, length};
+ghost use Rattle.std.specs.Option.{option_copied, option_map};
+ghost use Rattle.subset_lines.specs.Sizes.{sizes_text};
+ghost use Rattle.subsetter_sfnt.specs.Extras.{all_extras};
+ghost use Rattle.subset_font.specs.Made.{face_of, IsMade, IsUnmade};
+ghost use Rattle.subset_font.specs.Named.{face_settings};
+ghost use Rattle.subset_font.specs.Outcome.{sizes_of, sizes_if, members_of, more_text, IsOutcome, IsNoOutcome};
+ghost use Rattle.subset_font.specs.declared.failure.Failure.TheVariants.{Error as Refused};
+ghost use Rattle.subsetter_base.specs.declared.error.Error.TheVariants.{OutOfMemory};
+
+use crate::failure::Failure;
+use crate::named::face_settings;
+use crate::notes::{known_axes, notes_for};
+use crate::subset::{Made, make_of};
+use crate::tables::{directory_of, table_sizes};
+use crate::task::{Form, Plan, Task};
+use std::alloc::{AllocError, Global};
+use subset_lines::{TableSize, json_members, size_lines};
+use subsetter::{Error, Tag};
+
+/// What a plan makes of a font.
+#[derive(Drop)]
+pub struct Outcome {
+    /// The subset and its numbers.
+    pub made: Made,
+    /// What is printed behind the numbers: further lines, or further members of the JSON object.
+    pub more: Vec<u8>,
+}
+
+/// The tables of the font that is read and of the new one, with their sizes.
+fn sizes_of(
+    alloc: Global,
+    font: &[u8],
+    index: u32,
+    new: &[u8],
+) -> Result<Vec<TableSize>, AllocError>
+    ensures { IfOk result (λ v. v.items ≡ sizes_of (record { bytes = font.now; index = index; extras = all_extras }) new.now) }
+{
+    table_sizes(alloc, directory_of(font, index), directory_of(new, 0))
+}
+
+/// The lines of these tables.
+fn lines_of_sizes(alloc: Global, font: &[u8], index: u32, new: &[u8]) -> Result<Vec<u8>, AllocError>
+    ensures { IfOk result (λ v. v.items ≡ sizes_text (sizes_of (record { bytes = font.now; index = index; extras = all_extras }) new.now) (length font.now) (length new.now)) }
+{
+    let tables = sizes_of(alloc, font, index, new)?;
+    size_lines(alloc, &tables, font.len() as u64, new.len() as u64).map_err(|_| AllocError)
+}
+
+/// The tables, if they are to be printed.
+fn sizes_if(
+    alloc: Global,
+    verbose: bool,
+    font: &[u8],
+    index: u32,
+    new: &[u8],
+) -> Result<Option<Vec<TableSize>>, AllocError>
+    ensures { IfOk result (λ tables. option_map (λ v. v.items) tables ≡ sizes_if verbose (record { bytes = font.now; index = index; extras = all_extras }) new.now) }
+{
+    if verbose {
+        Ok(Some(sizes_of(alloc, font, index, new)?))
+    } else {
+        Ok(None)
+    }
+}
+
+/// The tables as a slice.
+fn as_given(tables: &Option<Vec<TableSize>>) -> Option<&[TableSize]>
+    ensures { option_copied result ≡ option_map (λ v. v.items) tables.now }
+{
+    match tables {
+        Some(tables) => Some(tables.as_slice()),
+        None => None,
+    }
+}
+
+/// The further members of the JSON object.
+fn members_of(
+    alloc: Global,
+    font: &[u8],
+    index: u32,
+    verbose: bool,
+    at: Option<&[(Tag, i32)]>,
+    new: &[u8],
+) -> Result<Vec<u8>, AllocError>
+    ensures { IfOk result (λ v. v.items ≡ members_of verbose (option_copied at.entry) (record { bytes = font.now; index = index; extras = all_extras }) new.now) }
+{
+    let tables = sizes_if(alloc, verbose, font, index, new)?;
+    let axes = known_axes(alloc, font, index)?;
+    let notes = notes_for(alloc, &axes, at)?;
+    json_members(
+        alloc,
+        font.len() as u64,
+        new.len() as u64,
+        as_given(&tables),
+        &axes,
+        &notes,
+    )
+    .map_err(|_| AllocError)
+}
+
+/// What is printed behind the numbers.
+fn more_of(alloc: Global, font: &[u8], plan: &Plan<'_>, new: &[u8]) -> Result<Vec<u8>, AllocError>
+    ensures { IfOk result (λ v. v.items ≡ more_text plan.now font.now new.now) }
+{
+    let index = plan.task.index;
+    match plan.task.form {
+        Form::Lines if plan.verbose => lines_of_sizes(alloc, font, index, new),
+        Form::Json => members_of(alloc, font, index, plan.verbose, plan.task.at, new),
+        Form::Lines => Ok(Vec::new(alloc)),
+        Form::Silence => Ok(Vec::new(alloc)),
+    }
+}
+
+/// The same for what was made, which is kept.
+fn with_more(alloc: Global, font: &[u8], plan: &Plan<'_>, made: Made) -> Result<Outcome, Failure>
+    ensures made { IfOk result (λ o. o.made ≡ made) }
+    ensures more { IfOk result (λ o. o.more.items ≡ more_text plan.now font.now made.font.items) }
+    ensures err { IfErr result (λ e. e ≡ Refused OutOfMemory) }
+{
+    match more_of(alloc, font, plan, &made.font) {
+        Ok(more) => Ok(Outcome { made, more }),
+        Err(_) => Err(Failure::Error(Error::OutOfMemory)),
+    }
+}
+
+/// The task of a plan at coordinates.
+fn placed<'a>(task: &Task<'a>, at: &'a [(Tag, i32)]) -> Task<'a>
+    ensures { result ≡ record task.now { at = Some at.entry } }
+{
+    Task {
+        asked: task.asked,
+        index: task.index,
+        options: task.options,
+        widths: task.widths,
+        form: task.form,
+        at: Some(at),
+    }
+}
+
+/// What a plan makes of a font at the coordinates of the named instance.
+fn make_placed(
+    alloc: Global,
+    font: &[u8],
+    plan: &Plan<'_>,
+    name: &str,
+    at: &[(Tag, i32)],
+) -> Result<Outcome, Failure>
+    requires name { option_copied plan.now.instance ≡ Some name.now }
+    requires at { face_settings (face_of plan.now.task font.now) name.now ≡ Some at.now }
+    ensures ok { IfOk result (IsOutcome plan.now font.now) }
+    ensures err { IfErr result (IsNoOutcome plan.now font.now) }
+{
+    let task = placed(&plan.task, at);
+    match make_of(alloc, font, &task) {
+        Ok(made) => with_more(alloc, font, plan, made),
+        Err(failure) => Err(failure),
+    }
+}
+
+/// What a plan makes of a font at the named instance of a name.
+fn make_at_instance(
+    alloc: Global,
+    font: &[u8],
+    plan: &Plan<'_>,
+    name: &str,
+) -> Result<Outcome, Failure>
+    requires { option_copied plan.now.instance ≡ Some name.now }
+    ensures ok { IfOk result (IsOutcome plan.now font.now) }
+    ensures err { IfErr result (IsNoOutcome plan.now font.now) }
+{
+    match face_settings(alloc, font, plan.task.index, name) {
+        Ok(at) => make_placed(alloc, font, plan, name, &at),
+        Err(failure) => Err(failure),
+    }
+}
+
+/// What a plan makes of a font that is taken as it is, or at given coordinates.
+fn make_as_given(alloc: Global, font: &[u8], plan: &Plan<'_>) -> Result<Outcome, Failure>
+    requires { option_copied plan.now.instance ≡ None }
+    ensures ok { IfOk result (IsOutcome plan.now font.now) }
+    ensures err { IfErr result (IsNoOutcome plan.now font.now) }
+{
+    match make_of(alloc, font, &plan.task) {
+        Ok(made) => with_more(alloc, font, plan, made),
+        Err(failure) => Err(failure),
+    }
+}
+
+/// What a plan makes of the bytes of a font.
+pub fn make_planned(alloc: Global, font: &[u8], plan: &Plan<'_>) -> Result<Outcome, Failure>
+    ensures ok { IfOk result (IsOutcome plan.now font.now) }
+    ensures err { IfErr result (IsNoOutcome plan.now font.now) }
+{
+    match plan.instance {
+        Some(name) => make_at_instance(alloc, font, plan, name),
+        None => make_as_given(alloc, font, plan),
+    }
+}

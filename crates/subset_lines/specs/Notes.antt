@@ -1,0 +1,54 @@
+-- What is noted of coordinates that a font doesn't have.
+use Rattle.std.specs.Prelude.{ℕ, ℤ, List, [], ◌∷◌, ◌++◌, map, codes}
+use Rattle.subsetter_base.specs.declared.tag.Tag.{Tag}
+use Rattle.subsetter_variation.specs.declared.axes.Axis.{Axis}
+use Rattle.subset_lines.specs.Axes.{shown}
+use Rattle.subset_lines.specs.Fixed.{fixed_text}
+use Rattle.subset_lines.specs.Quoted.{quoted}
+use Rattle.subset_lines.specs.declared.notes.Note.{Note}
+use Rattle.subset_lines.specs.declared.notes.Note.TheVariants.{NoAxis, Clamped}
+
+-- `no axis wdth in the font`, `wght=1000 is clamped to 900`
+abbrev pub no_axis_text : Tag → List ℕ
+no_axis_text tag = codes "no axis " ++ map shown tag.0 ++ codes " in the font"
+
+abbrev pub setting_text : Tag → ℤ → List ℕ
+setting_text tag value = map shown tag.0 ++ (codes "=" ++ fixed_text value)
+
+abbrev pub clamped_text : Tag → ℤ → ℤ → List ℕ
+clamped_text tag given taken = setting_text tag given ++ (codes " is clamped to " ++ fixed_text taken)
+
+abbrev pub note_text : Note → List ℕ
+note_text (NoAxis tag) = no_axis_text tag
+note_text (Clamped tag given taken) = clamped_text tag given taken
+
+-- `wght 100 to 900`
+abbrev pub range_text : Axis → List ℕ
+range_text a = map shown a.tag.0 ++ (codes " " ++ fixed_text a.minimum) ++ (codes " to " ++ fixed_text a.maximum)
+
+-- with a text in front of the first, and a comma between each two
+abbrev pub ranges_text : List ℕ → List Axis → List ℕ
+ranges_text before [] = []
+ranges_text before (a ∷ axes) = (before ++ range_text a) ++ ranges_text (codes ", ") axes
+
+abbrev pub axes_note : List Axis → List ℕ
+axes_note [] = codes "axes: none"
+axes_note (a ∷ axes) = codes "axes: " ++ ranges_text [] (a ∷ axes)
+
+abbrev pub note_lines : List Note → List ℕ
+note_lines [] = []
+note_lines (note ∷ notes) = (note_text note ++ codes "\n") ++ note_lines notes
+
+-- a line for each note, and one for the axes; nothing where there are no notes
+abbrev pub notes_text : List Axis → List Note → List ℕ
+notes_text axes [] = []
+notes_text axes (note ∷ notes) = note_lines (note ∷ notes) ++ axes_note axes ++ codes "\n"
+
+-- the same as an array of strings
+abbrev pub note_strings : List Note → List ℕ
+note_strings [] = []
+note_strings (note ∷ notes) = (quoted (note_text note) ++ codes ",") ++ note_strings notes
+
+abbrev pub notes_array : List Axis → List Note → List ℕ
+notes_array axes [] = codes "[]"
+notes_array axes (note ∷ notes) = codes "[" ++ note_strings (note ∷ notes) ++ quoted (axes_note axes) ++ codes "]"

@@ -1,0 +1,215 @@
+//! What is noted of coordinates that a font doesn't have.
+
+ghost use Rattle.std.specs.Prelude.{◌≡◌, ◌++◌, [], OnOk, IfOk, codes, map};
+ghost use Rattle.std.specs.Io.KnownBytes.{Appends};
+ghost use Rattle.subset_lines.specs.Axes.{shown};
+ghost use Rattle.subset_lines.specs.Fixed.{fixed_text};
+ghost use Rattle.subset_lines.specs.Notes.{no_axis_text, setting_text, clamped_text, note_text, range_text, ranges_text, axes_note, note_lines, notes_text, note_strings, notes_array};
+ghost use Rattle.subset_lines.specs.Quoted.{quoted};
+
+use crate::axes::write_tag;
+use crate::entry::Unwritten;
+use crate::fixed::write_labelled;
+use crate::quoted::write_quoted;
+use crate::text::write_text;
+use std::alloc::Global;
+use std::io::Write;
+use subsetter_base::Tag;
+use subsetter_variation::axes::Axis;
+
+/// What is noted of a coordinate.
+#[derive(Clone, Copy, PartialEq, Eq, Debug)]
+pub enum Note {
+    /// The font has no axis of this tag.
+    NoAxis(Tag),
+    /// On the axis of this tag, a coordinate is taken as another, both in 65536ths.
+    Clamped(Tag, i32, i32),
+}
+
+/// Writes that the font has no axis of a tag.
+#[tactic(auto, using(crate::proofs::Written::both))]
+fn write_no_axis<W: Write>(tag: Tag, out: &mut W) -> Result<(), Unwritten>
+    ensures { OnOk result (Appends (W.contents out.old) (W.contents out.new) (no_axis_text tag)) }
+{
+    write_text(b"no axis ", out)?;
+    write_tag(tag, out)?;
+    write_text(b" in the font", out)
+}
+
+/// Writes a coordinate on an axis.
+#[tactic(auto, using(crate::proofs::Written::both))]
+fn write_setting<W: Write>(tag: Tag, value: i32, out: &mut W) -> Result<(), Unwritten>
+    ensures { OnOk result (Appends (W.contents out.old) (W.contents out.new) (setting_text tag value)) }
+{
+    write_tag(tag, out)?;
+    write_labelled(b"=", value, out)
+}
+
+/// Writes that a coordinate is taken as another.
+#[tactic(auto, using(crate::proofs::Written::both))]
+fn write_clamped<W: Write>(tag: Tag, given: i32, taken: i32, out: &mut W) -> Result<(), Unwritten>
+    ensures { OnOk result (Appends (W.contents out.old) (W.contents out.new) (clamped_text tag given taken)) }
+{
+    write_setting(tag, given, out)?;
+    write_labelled(b" is clamped to ", taken, out)
+}
+
+/// Writes a note without the end of its line: `no axis wdth in the font`, or `wght=1000 is clamped to 900`.
+fn write_note<W: Write>(note: Note, out: &mut W) -> Result<(), Unwritten>
+    ensures { OnOk result (Appends (W.contents out.old) (W.contents out.new) (note_text note)) }
+{
+    match note {
+        Note::NoAxis(tag) => write_no_axis(tag, out),
+        Note::Clamped(tag, given, taken) => write_clamped(tag, given, taken, out),
+    }
+}
+
+/// Writes an axis with its ends: `wght 100 to 900`.
+#[tactic(auto, using(crate::proofs::Written::both))]
+fn write_range_text<W: Write>(axis: &Axis, out: &mut W) -> Result<(), Unwritten>
+    ensures { OnOk result (Appends (W.contents out.old) (W.contents out.new) (range_text axis.now)) }
+{
+    write_tag(axis.tag, out)?;
+    write_labelled(b" ", axis.minimum, out)?;
+    write_labelled(b" to ", axis.maximum, out)
+}
+
+/// Writes the same behind a text.
+#[tactic(auto, using(crate::proofs::Written::both))]
+fn write_range<W: Write>(before: &[u8], axis: &Axis, out: &mut W) -> Result<(), Unwritten>
+    ensures { OnOk result (Appends (W.contents out.old) (W.contents out.new) (before.now ++ range_text axis.now)) }
+{
+    write_text(before, out)?;
+    write_range_text(axis, out)
+}
+
+/// Writes the axes with their ends.
+#[tactic(auto, using(crate::proofs::Written::at_first, crate::proofs::Written::after_part, crate::proofs::Written::at_last))]
+fn write_ranges<W: Write>(axes: &[Axis], out: &mut W) -> Result<(), Unwritten>
+    ensures { OnOk result (Appends (W.contents out.old) (W.contents out.new) (ranges_text [] axes.now)) }
+{
+    let mut before = b"".as_slice();
+    for axis in axes {
+        write_range(before, axis, out)?;
+        before = b", ".as_slice();
+    }
+    Ok(())
+}
+
+/// Writes the note of the axes that a font has: `axes: wght 100 to 900, wdth 75 to 100`, or `axes: none`.
+#[tactic(auto, using(crate::proofs::Written::both))]
+fn write_axes_note<W: Write>(axes: &[Axis], out: &mut W) -> Result<(), Unwritten>
+    ensures { OnOk result (Appends (W.contents out.old) (W.contents out.new) (axes_note axes.now)) }
+{
+    match axes {
+        [] => write_text(b"axes: none", out),
+        _ => {
+            write_text(b"axes: ", out)?;
+            write_ranges(axes, out)
+        }
+    }
+}
+
+/// Writes a note as a line.
+#[tactic(auto, using(crate::proofs::Written::both))]
+fn write_note_line<W: Write>(note: Note, out: &mut W) -> Result<(), Unwritten>
+    ensures { OnOk result (Appends (W.contents out.old) (W.contents out.new) (note_text note ++ codes "\n")) }
+{
+    write_note(note, out)?;
+    write_text(b"\n", out)
+}
+
+/// Writes a line for each note.
+#[tactic(auto, using(crate::proofs::Written::at_first, crate::proofs::Written::after_part, crate::proofs::Written::at_last))]
+fn write_note_lines<W: Write>(notes: &[Note], out: &mut W) -> Result<(), Unwritten>
+    ensures { OnOk result (Appends (W.contents out.old) (W.contents out.new) (note_lines notes.now)) }
+{
+    for note in notes {
+        write_note_line(*note, out)?;
+    }
+    Ok(())
+}
+
+/// Writes a line for each note, and a last one of the axes that the font has; nothing where there are no notes.
+#[tactic(auto, using(crate::proofs::Written::both))]
+fn write_all_notes<W: Write>(axes: &[Axis], notes: &[Note], out: &mut W) -> Result<(), Unwritten>
+    ensures { OnOk result (Appends (W.contents out.old) (W.contents out.new) (notes_text axes.now notes.now)) }
+{
+    if notes.is_empty() {
+        return Ok(());
+    }
+    write_note_lines(notes, out)?;
+    write_axes_note(axes, out)?;
+    write_text(b"\n", out)
+}
+
+/// The lines of notes: one for each, and a last one of the axes that the font has, as `axes: wght 100 to 900`. It is empty
+/// where there are no notes.
+///
+/// `Unwritten` where a request for memory was refused.
+pub fn note_lines(alloc: Global, axes: &[Axis], notes: &[Note]) -> Result<Vec<u8>, Unwritten>
+    ensures { IfOk result (λ text. text.items ≡ notes_text axes.now notes.now) }
+{
+    let mut text = Vec::new(alloc);
+    write_all_notes(axes, notes, &mut text)?;
+    Ok(text)
+}
+
+/// The text of a note.
+fn note_bytes(alloc: Global, note: Note) -> Result<Vec<u8>, Unwritten>
+    ensures { IfOk result (λ text. text.items ≡ note_text note) }
+{
+    let mut text = Vec::new(alloc);
+    write_note(note, &mut text)?;
+    Ok(text)
+}
+
+/// The text of the note of the axes.
+fn axes_bytes(alloc: Global, axes: &[Axis]) -> Result<Vec<u8>, Unwritten>
+    ensures { IfOk result (λ text. text.items ≡ axes_note axes.now) }
+{
+    let mut text = Vec::new(alloc);
+    write_axes_note(axes, &mut text)?;
+    Ok(text)
+}
+
+/// Writes a note as a JSON string with a comma behind it.
+#[tactic(auto, using(crate::proofs::Written::both))]
+fn write_note_string<W: Write>(alloc: Global, note: Note, out: &mut W) -> Result<(), Unwritten>
+    ensures { OnOk result (Appends (W.contents out.old) (W.contents out.new) (quoted (note_text note) ++ codes ",")) }
+{
+    let text = note_bytes(alloc, note)?;
+    write_quoted(&text, out)?;
+    write_text(b",", out)
+}
+
+/// Writes each note so.
+#[tactic(auto, using(crate::proofs::Written::at_first, crate::proofs::Written::after_part, crate::proofs::Written::at_last))]
+fn write_note_strings<W: Write>(alloc: Global, notes: &[Note], out: &mut W) -> Result<(), Unwritten>
+    ensures { OnOk result (Appends (W.contents out.old) (W.contents out.new) (note_strings notes.now)) }
+{
+    for note in notes {
+        write_note_string(alloc, *note, out)?;
+    }
+    Ok(())
+}
+
+/// Writes the same notes as a JSON array of strings.
+#[tactic(auto, using(crate::proofs::Written::both))]
+pub fn write_notes_array<W: Write>(
+    alloc: Global,
+    axes: &[Axis],
+    notes: &[Note],
+    out: &mut W,
+) -> Result<(), Unwritten>
+    ensures { OnOk result (Appends (W.contents out.old) (W.contents out.new) (notes_array axes.now notes.now)) }
+{
+    if notes.is_empty() {
+        return write_text(b"[]", out);
+    }
+    write_text(b"[", out)?;
+    write_note_strings(alloc, notes, out)?;
+    let text = axes_bytes(alloc, axes)?;
+    write_quoted(&text, out)?;
+    write_text(b"]", out)
+}
