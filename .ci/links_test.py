@@ -40,7 +40,7 @@ PLANTS = [
     ("an option of the program in a block", "docs/CLI.md", None, "\n```\nsubset_font --nothing IN OUT 0 1\n```\n", r"subset_font has no option --nothing"),
     ("an option of the program in code", "docs/PDF.md", None, "\n`subset_font --no-outlines`\n", r"subset_font has no option --no-outlines"),
     ("an option alone in CLI.md", "docs/CLI.md", None, "\n`--no-widths`\n", r"nothing has the option --no-widths"),
-    ("an option that goes", "crates/subset_font/src/help.rt", "  --json  ", "  --lines ", r"nothing has the option --json"),
+    ("an option that goes", "crates/subset_font/src/help.rt", "  --quiet  ", "  --silent ", r"nothing has the option --quiet"),
     ("marks of a merge", "docs/WALK.md", None, "\n<<<<<<< HEAD\n", r"docs/WALK\.md: a merge left its marks"),
     ("a crate without a row", "crates.txt", None, "\ngone: subsetter\n", r"no row for the crate gone"),
 ]
