@@ -41,7 +41,7 @@ def program(tools, out, given):
     of_std = [it[7] for it in symbols if it[7].startswith("_ZN3std")]
     if "(NEEDED)" in told or wanted or of_std or not symbols:
         raise Failed(f"the program without std wants {wanted or of_std or 'a shared library'}")
-    ended = subprocess.run([made], stdout=subprocess.PIPE, stderr=subprocess.STDOUT, timeout=60)
+    ended = subprocess.run([made], stdout=subprocess.PIPE, stderr=subprocess.STDOUT, timeout=600)
     if ended.returncode != RIGHT:
         raise Failed(f"the program without std ends with {ended.returncode}, wanted {RIGHT}: {ended.stdout[-300:]!r}")
     return made.stat().st_size
