@@ -859,7 +859,12 @@ class Table:
         return self.same.setdefault(name, font)
 
     def start(self, words, room, **given):
-        return subprocess.run([*self.command, *words], cwd=room, capture_output=True, timeout=600 if self.system else 60, **given)
+        def once():
+            return subprocess.run([*self.command, *words], cwd=room, capture_output=True, timeout=600 if self.system else 60, **given)
+        got = once()
+        # (the program says why it ends with status 1; wine, where it can't start a program, says nothing)
+        is_unsaid = (got.returncode, got.stdout, got.stderr) == (1, b"", b"")
+        return once() if self.system == "windows" and is_unsaid and "stdin" not in given else got
 
     def is_said(self, got, wanted):
         """Whether standard error is as wanted. Windows has words and numbers of its own for the system's reason."""
