@@ -91,7 +91,7 @@ def demand_font(path, has_names=True):
 
 def rust(room):
     """As a program that uses the crate and takes this one in its place."""
-    patch = block("Rust", "toml").replace('"bindings/', f'"{ROOT}/bindings/')
+    patch = block("Rust", "toml").replace("CLONE/", f"{ROOT}/")
     write(f'[package]\nname = "user"\nversion = "1.0.0"\nedition = "2021"\n\n[dependencies]\nsubsetter = "0.2.6"\n\n{patch}', room, "Cargo.toml")
     write(block("Rust", "rust"), room, "src", "main.rs")
     run(room, "cargo", "run", "--quiet", "--offline")

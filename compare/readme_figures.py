@@ -34,16 +34,18 @@ def size_and_time(case, row, timed):
 
 def sizes_and_times():
     """The table of three fonts, and what holds of all that were timed."""
-    sizes, times = results_of.result("bytes"), results_of.result("times")
+    sizes, times, portable = (results_of.result(it) for it in ("bytes", "times", "portable, times"))
     if sizes.tables != [results_of.rows("bytes.csv")]:
         raise repository.Trouble("bytes.csv isn't what its page says")
     timed = {**by_case("truetype.csv"), **by_case("cff.csv")}
-    lines = ["| 80 glyphs of | Source, bytes | Subset, bytes | Bare, bytes | This, µs | HarfBuzz, µs | Rust crate, µs |", "|---|--:|--:|--:|--:|--:|--:|"]
+    lines = ["| 80 glyphs of | Source, bytes | Subset, bytes | Bare, bytes | subsetter, µs | HarfBuzz, µs | Rust crate, µs |", "|---|--:|--:|--:|--:|--:|--:|"]
     lines += [size_and_time(case, row, timed) for case, row in by_case("bytes.csv").items()]
     crate, harfbuzz = (comparisons.at_most(max(int(it["port ns"]) / int(it[other]) for it in timed.values())) for other in ("crate ns", "harfbuzz ns"))
+    by_cargo = re.search(r"part of the library's: ([0-9.]+);", portable.answer)[1]
+    pages = [f"[{word}](results:{comparisons.page_of(it.name)}) {results_of.mark(it)}" for word, it in
+             (("bytes", sizes), ("times", times), ("Cargo", portable))]
     return "\n".join([*lines, "", f"*Bare*: without hinting and names. The times are the proved build's: in all {len(timed)} cases at most {crate} of the "
-                      f"Rust crate's and {harfbuzz} of HarfBuzz's. Commits: [bytes](results:{comparisons.page_of('bytes')}) {results_of.mark(sizes)}; "
-                      f"[times](results:{comparisons.page_of('times')}) {results_of.mark(times)}."])
+                      f"Rust crate's and {harfbuzz} of HarfBuzz's. Cargo's build takes {by_cargo} of them, in the geometric mean. Commits: {'; '.join(pages)}."])
 
 
 def damage():
@@ -56,7 +58,7 @@ def damage():
     said = f"Of {copies} copies the answers differ on {differ}, of which {unexplained} are not explained"
     if said not in found.answer:
         raise repository.Trouble(f"damage.jsonl says: {said}; its page: {found.answer}")
-    return (f"Of {copies:,} damaged fonts {differ:,} give another result than with the Rust crate. Differences that no [documented rule](docs/DIFFERENCES.md) "
+    return (f"On {copies:,} damaged fonts the result differs {differ:,} times from the Rust crate's. Differences that no [documented rule](docs/DIFFERENCES.md) "
             f"explains: **{unexplained}** ([commit](results:{comparisons.page_of(found.name)}) {results_of.mark(found)}).")
 
 
@@ -71,7 +73,7 @@ def gate():
 
 
 BLOCKS = {
-    "readme: sizes and times": (sizes_and_times, ["bytes", "times"]),
+    "readme: sizes and times": (sizes_and_times, ["bytes", "times", "portable, times"]),
     "readme: damage": (damage, ["damage, kinds"]),
     "readme: gate": (gate, ["gate"]),
 }
