@@ -44,6 +44,7 @@ ALLOWED = {
     ("subset_font", "lines_of_sizes"): (1, "`size_lines` writes into a vector, which has no other error"),
     ("subset_font", "members_of"): (1, "`json_members` writes into a vector, which has no other error"),
     ("subset_font", "with_more"): (1, "`more_of` has no other error"),
+    ("subset_font", "names_of_fvar"): (2, "passes on that of `read_axes`"),
 }
 
 WORDS = re.compile(r"\bOutOfMemory\b|\b(?:AllocError|AllocFailed)\b(?!\s*[>,}]|<\w)")

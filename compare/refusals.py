@@ -22,6 +22,7 @@ subset_font and files is looked at.
 import argparse
 import itertools
 import os
+import struct
 import subprocess
 import sys
 import tempfile
@@ -187,6 +188,29 @@ CMAP = made.u16s(0, 1, 0, 3, 0, 12) + made.u16s(4, 32, 0, 4, 0, 0, 0, 65, 65535,
 WITH_CMAP = made.truetype([b"", bytes(12), bytes(11)], [("cmap", CMAP)])
 
 
+def fixed(*values):
+    """Numbers of 65536ths."""
+    return b"".join((value << 16).to_bytes(4, "big", signed=True) for value in values)
+
+
+def with_instances(names):
+    """The font of one axis, `wght` of 100, 400 and 900, with named instances of these names, at 500, 501 and so on."""
+    with open(VARIABLE, "rb") as file:
+        data = file.read()
+    count = int.from_bytes(data[4:6], "big")
+    records = [struct.unpack(">4sIII", data[12 + 16 * k:28 + 16 * k]) for k in range(count)]
+    tables = {tag.decode(): data[at:at + length] for tag, _, at, length in records}
+    tables["fvar"] = made.u16s(1, 0, 16, 2, 1, 20, len(names), 8) + b"wght" + fixed(100, 400, 900) + made.u16s(0, 256)
+    tables["fvar"] += b"".join(made.u16s(257 + k, 0) + fixed(500 + k) for k in range(len(names)))
+    texts = [name.encode("utf-16-be") for name in names]
+    heads = b"".join(made.u16s(3, 1, 0x0409, 257 + k, len(text), sum(map(len, texts[:k]))) for k, text in enumerate(texts))
+    tables["name"] = made.u16s(0, len(names), 6 + len(heads)) + heads + b"".join(texts)
+    return made.font(sorted(tables.items()))
+
+
+INSTANCES = with_instances(["Semi Bold", "Black"])
+
+
 def run_font(room, glyphs, front=(), **wishes):
     """Runs the program on `in`, with an OUT that is there already. The glyphs are words, or a file lists them."""
     put(room, "out", OLD)
@@ -233,6 +257,35 @@ def check_program(name, data, glyphs, room, front=()):
         demand(not got.is_less and (is_buffer or (got.status, got.err) in texts.get(got.stage, [])), what, got)
         demand(got.out == b"" and take(room, "out") == OLD, f"{what}: something was written", got)
         counts[got.stage] += 1
+
+
+# A name that isn't there, and the line that lists those that are.
+NO_INSTANCE = b"no such instance in font\n"
+NAMES = b"named instances: Semi Bold, Black\n"
+
+
+def check_names(room):
+    """Where no named instance has the name, the further line lists the names. Where memory for it is refused, it is left
+    out: it never says that there are none. The other refusals end as in `check_program`."""
+    put(room, "in", INSTANCES)
+    front = ["--at", "bold"]
+    base = run_font(room, "1", front)
+    demand((base.status, base.out, base.err, take(room, "out")) == (1, b"", NO_INSTANCE + NAMES, OLD), "no such instance", base)
+    counts = dict.fromkeys(["with the names", "without them", "before", "reading"], 0)
+    for number in itertools.count(1):
+        got = run_font(room, "1", front, REFUSE=number)
+        if got.refused == 0:
+            break
+        what = f"no such instance, request {number} ({got.stage})"
+        gives_back(base, got, what)
+        demand(got.out == b"" and take(room, "out") == OLD, f"{what}: something was written", got)
+        kinds = {(1, NO_INSTANCE + NAMES): "with the names", (1, NO_INSTANCE): "without them", (1, b"out of memory\n"): "before",
+                 (3, b"cannot read in\nout of memory\n"): "reading"}
+        demand((got.status, got.err) in kinds, what, got)
+        counts[kinds[got.status, got.err]] += 1
+    # (the line takes the axes, the records and the text of a name at least)
+    demand(counts["without them"] >= 3 and counts["before"] >= 3 and counts["reading"] > 0, "no such instance", counts)
+    return counts
 
 
 # What the system says of a failed call: EIO.
@@ -332,10 +385,14 @@ def check_all_of_program(cases, room):
     runs = [(*case, ()) for case in cases]
     runs += [(name, data, glyphs, front) for front in (["--json", "--gids-file"], ["--quiet", "--no-names", "--gids-file"])]
     runs += [("a font with cmap", WITH_CMAP, "", ["--text", "A"])]
+    runs += [("a variable font", INSTANCES, "1,2", ["--at", at]) for at in ("wght=650", "semi bold")]
     for name, data, glyphs, front in runs:
         counts = check_program(name, data, glyphs, room, front)
         print(f"{' '.join(['subset_font', *front])}, {name}: {sum(counts.values())} requests refused, {counts}")
         refused += sum(counts.values())
+    counts = check_names(room)
+    print(f"subset_font --at, no such instance: {sum(counts.values())} requests refused, {counts}")
+    refused += sum(counts.values())
     for name, data, glyphs in cases:
         many = ",".join([glyphs] * 400)
         print(f"subset_font, {name}: failed calls {check_files(name, data, many, room)}")

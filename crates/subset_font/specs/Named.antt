@@ -1,5 +1,5 @@
 -- The coordinates of a named instance (OpenType, "fvar", "InstanceRecord").
-use Rattle.std.specs.Prelude.{ℕ, ℤ, pos, Bool, false, if◌then◌else◌, List, [], ◌∷◌, map, drop, Option, Some, None, codes}
+use Rattle.std.specs.Prelude.{ℕ, ℤ, pos, Bool, true, false, if◌then◌else◌, List, [], ◌∷◌, ◌++◌, map, drop, Option, Some, None, is_some, codes}
 use Rattle.std.specs.Char.{to_ascii_lowercase}
 use Rattle.std.specs.Int.{w32, cast_signed}
 use Rattle.std.specs.Option.{option_map, option_and_then}
@@ -49,3 +49,36 @@ instance_settings names name fvar = option_and_then (λ a. option_and_then (λ r
 
 abbrev pub face_settings : Font → List ℕ → Option (List (Tag × ℤ))
 face_settings font name = option_and_then (instance_settings (bytes_or_none (stored font (codes "name"))) name) (stored font (codes "fvar"))
+
+-- ---- the line that lists the names
+
+-- a name behind a text, if there is one
+abbrev pub name_behind : List ℕ → Option (List ℕ) → List ℕ
+name_behind before None = []
+name_behind before (Some units) = before ++ text_of_units units
+
+-- what is in front of the next name
+abbrev pub before_next : List ℕ → Bool → List ℕ
+before_next before true = codes ", "
+before_next before false = before
+
+-- the names of instances, those that have one, by their records
+abbrev pub names_behind : List ℕ → List ℕ → List (List ℕ) → List ℕ
+names_behind before names [] = []
+names_behind before names (bytes ∷ more) = name_behind before (name_of names (number bytes 0 2)) ++ names_behind (before_next before (is_some (name_of names (number bytes 0 2)))) names more
+
+abbrev pub line_of_names : List ℕ → List ℕ
+line_of_names [] = codes "the font has no named instances with names\n"
+line_of_names (b ∷ text) = (b ∷ text) ++ codes "\n"
+
+-- the records of a `fvar` that can be read
+abbrev pub records_of : List ℕ → Option (List (List ℕ))
+records_of fvar = option_and_then (λ a. instances fvar) (axes fvar)
+
+-- `named instances: Regular, Semi Bold`
+abbrev pub names_line : List ℕ → Option (List (List ℕ)) → List ℕ
+names_line names None = line_of_names []
+names_line names (Some records) = line_of_names (names_behind (codes "named instances: ") names records)
+
+abbrev pub face_names : Font → List ℕ
+face_names font = names_line (bytes_or_none (stored font (codes "name"))) (option_and_then records_of (stored font (codes "fvar")))

@@ -1,12 +1,13 @@
 //! The coordinates of a named instance.
 
-ghost use Rattle.std.specs.Prelude.{◌≡◌, ◌⊎◌, ◌++◌, map, drop, IfOk, IfErr, OnOk, Some, None, codes};
+ghost use Rattle.std.specs.Prelude.{◌≡◌, ◌⊎◌, ◌++◌, map, drop, IfOk, IfErr, OnOk, Some, None, codes, is_some};
 ghost use Rattle.std.specs.Option.{option_copied, option_map};
 ghost use Rattle.subsetter_base.specs.Bytes.{number};
 ghost use Rattle.subsetter_base.specs.declared.error.Error.TheVariants.{OutOfMemory, UnknownKind, MalformedFont};
 ghost use Rattle.subsetter_sfnt.specs.Extras.{all_extras};
 ghost use Rattle.subsetter_sfnt.specs.Read.{header_place, stored};
-ghost use Rattle.subset_font.specs.Named.{is_same_name, has_name, find_named, coordinate_in, settings_of, instance_settings, face_settings};
+ghost use Rattle.subset_font.specs.Named.{is_same_name, has_name, find_named, coordinate_in, settings_of, instance_settings, face_settings, name_behind, before_next, names_behind, line_of_names, records_of, names_line, face_names};
+ghost use Rattle.subset_lines.specs.Names.{name_of};
 ghost use Rattle.subset_font.specs.Tables.{bytes_or_none};
 ghost use Rattle.subset_font.specs.declared.failure.Failure.TheVariants.{Error as Refused, NoInstance};
 
@@ -123,14 +124,17 @@ pub fn face_settings(
     }
 }
 
-/// Adds the name of the instance of a record, if it has one, behind a text.
+/// Adds the name of the instance of a record, if it has one, behind a text, and answers whether it has one.
 fn push_name(
     text: &mut Vec<u8>,
     alloc: Global,
     before: &[u8],
     names: &[u8],
     bytes: &[u8],
-) -> Result<bool, AllocError> {
+) -> Result<bool, AllocError>
+    ensures text { OnOk result (text.new.items ≡ text.old.items ++ name_behind before.now (name_of names.now (number bytes.now 0 2))) }
+    ensures found { IfOk result (λ b. b ≡ is_some (name_of names.now (number bytes.now 0 2))) }
+{
     let Some(found) = name_of(names, bytes) else {
         return Ok(false);
     };
@@ -142,26 +146,67 @@ fn push_name(
     Ok(true)
 }
 
-/// The line that lists the names of the named instances: `named instances: Regular, Semi Bold`, or that there are none.
-pub fn instance_names(alloc: Global, font: &[u8], index: u32) -> Result<Vec<u8>, AllocError> {
-    let fvar = table(font, index, Tag::new(b"fvar")).unwrap_or(&[]);
+/// What is in front of the next name, behind one if there is one.
+fn before_next(before: &[u8], found: bool) -> &[u8]
+    ensures { result.now ≡ before_next before.now found }
+{
+    if found { b", " } else { before }
+}
+
+/// The names of the instances of records, the first behind a text.
+#[tactic(auto, using(crate::proofs::Steps::name_later))]
+fn names_behind(
+    alloc: Global,
+    front: &[u8],
+    names: &[u8],
+    records: &[&[u8]],
+) -> Result<Vec<u8>, AllocError>
+    ensures { IfOk result (λ text. text.items ≡ names_behind front.now names.now (map (λ bytes. bytes.now) records.now)) }
+{
     let mut text = Vec::new(alloc);
-    let Ok(all) = read_axes(alloc, fvar, names_of(font, index)) else {
-        text.extend_from_slice(NO_NAMES)?;
-        return Ok(text);
-    };
-    let mut before = b"named instances: ".as_slice();
-    for bytes in &all.instances {
-        if push_name(&mut text, alloc, before, all.names, bytes)? {
-            before = b", ".as_slice();
-        }
+    let mut before = front;
+    for bytes in records {
+        let found = push_name(&mut text, alloc, before, names, bytes)?;
+        before = before_next(before, found);
     }
+    Ok(text)
+}
+
+/// These names as a line, or that there are none.
+fn line_of_names(mut text: Vec<u8>) -> Result<Vec<u8>, AllocError>
+    ensures { IfOk result (λ line. line.items ≡ line_of_names text.items) }
+{
     if text.is_empty() {
         text.extend_from_slice(NO_NAMES)?;
     } else {
         text.push(b'\n')?;
     }
     Ok(text)
+}
+
+/// The line of the names of the instances in `fvar`.
+fn names_of_fvar(alloc: Global, fvar: &[u8], names: &[u8]) -> Result<Vec<u8>, AllocError>
+    ensures { IfOk result (λ line. line.items ≡ names_line names.now (records_of fvar.now)) }
+{
+    match read_axes(alloc, fvar, names) {
+        Ok(all) => {
+            let text = names_behind(alloc, b"named instances: ", names, &all.instances)?;
+            line_of_names(text)
+        }
+        Err(Error::OutOfMemory) => Err(AllocError),
+        Err(_) => line_of_names(Vec::new(alloc)),
+    }
+}
+
+/// The line that lists the names of the named instances of a face, `named instances: Regular, Semi Bold`, or that there are
+/// none: it isn't variable, its `fvar` is cut, or none of them has a name.
+pub fn instance_names(alloc: Global, font: &[u8], index: u32) -> Result<Vec<u8>, AllocError>
+    ensures { IfOk result (λ line. line.items ≡ face_names (record { bytes = font.now; index = index; extras = all_extras })) }
+{
+    match table(font, index, Tag::new(b"fvar")) {
+        Some(fvar) => names_of_fvar(alloc, fvar, names_of(font, index)),
+        None => line_of_names(Vec::new(alloc)),
+    }
 }
 
 /// The line where there are no names.

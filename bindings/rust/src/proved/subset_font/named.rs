@@ -106,7 +106,7 @@ pub fn face_settings(
     }
 }
 
-/// Adds the name of the instance of a record, if it has one, behind a text.
+/// Adds the name of the instance of a record, if it has one, behind a text, and answers whether it has one.
 fn push_name(
     text: &mut Vec<u8>,
     alloc: Global,
@@ -131,29 +131,60 @@ fn push_name(
     Ok(true)
 }
 
-/// The line that lists the names of the named instances: `named instances: Regular, Semi Bold`, or that there are none.
-pub fn instance_names(alloc: Global, font: &[u8], index: u32) -> Result<Vec<u8>, AllocError> {
-    let fvar = table(font, index, Tag::new(b"fvar")).unwrap_or(&[]);
-    let mut text = Vec::new(alloc);
-    let all = match read_axes(alloc, fvar, names_of(font, index)) {
-        Ok(all) => all,
-        _ => {
-            text.extend_from_slice(NO_NAMES)?;
-            return Ok(text);
-        }
-    };
-    let mut before = b"named instances: ".as_slice();
-    for bytes in &all.instances {
-        if push_name(&mut text, alloc, before, all.names, bytes)? {
-            before = b", ".as_slice();
-        }
+/// What is in front of the next name, behind one if there is one.
+fn before_next(before: &[u8], found: bool) -> &[u8] {
+    if found {
+        b", "
+    } else {
+        before
     }
+}
+
+/// The names of the instances of records, the first behind a text.
+fn names_behind(
+    alloc: Global,
+    front: &[u8],
+    names: &[u8],
+    records: &[&[u8]],
+) -> Result<Vec<u8>, AllocError> {
+    let mut text = Vec::new(alloc);
+    let mut before = front;
+    for bytes in records {
+        let found = push_name(&mut text, alloc, before, names, bytes)?;
+        before = before_next(before, found);
+    }
+    Ok(text)
+}
+
+/// These names as a line, or that there are none.
+fn line_of_names(mut text: Vec<u8>) -> Result<Vec<u8>, AllocError> {
     if text.is_empty() {
         text.extend_from_slice(NO_NAMES)?;
     } else {
         text.push(b'\n')?;
     }
     Ok(text)
+}
+
+/// The line of the names of the instances in `fvar`.
+fn names_of_fvar(alloc: Global, fvar: &[u8], names: &[u8]) -> Result<Vec<u8>, AllocError> {
+    match read_axes(alloc, fvar, names) {
+        Ok(all) => {
+            let text = names_behind(alloc, b"named instances: ", names, &all.instances)?;
+            line_of_names(text)
+        }
+        Err(Error::OutOfMemory) => Err(AllocError),
+        Err(_) => line_of_names(Vec::new(alloc)),
+    }
+}
+
+/// The line that lists the names of the named instances of a face, `named instances: Regular, Semi Bold`, or that there are
+/// none: it isn't variable, its `fvar` is cut, or none of them has a name.
+pub fn instance_names(alloc: Global, font: &[u8], index: u32) -> Result<Vec<u8>, AllocError> {
+    match table(font, index, Tag::new(b"fvar")) {
+        Some(fvar) => names_of_fvar(alloc, fvar, names_of(font, index)),
+        None => line_of_names(Vec::new(alloc)),
+    }
 }
 
 /// The line where there are no names.
