@@ -5,6 +5,7 @@ ghost use Rattle.std.specs.Process.{exit_status};
 ghost use Rattle.std.specs.Vec.Iter.{into_iter_items};
 ghost use Rattle.subset_font.specs.Chosen.{IsListFor, wanted_of, wanted_by, wanted_for, IsTaskOf, IsPlanOf};
 ghost use Rattle.subset_font.specs.Failure.{status_of_end};
+ghost use Rattle.subset_font.specs.Told.{has_notes};
 ghost use Rattle.subset_font.specs.declared.failure.Failure.TheVariants.{Error as Refused, Read as CannotRead, Usage};
 ghost use Rattle.subsetter_base.specs.declared.error.Error.TheVariants.{OutOfMemory};
 
@@ -14,11 +15,13 @@ use crate::failure::{Failure, Told, file_of, status_of_run};
 use crate::help::{HELP, VERSION_LINE};
 use crate::hint::{Hint, find_axes_hint, find_hint};
 use crate::info::carry_info;
+use crate::limit_hint::find_limit_hint;
+use crate::missing::missing_in;
 use crate::named::instance_names;
 use crate::notes::{known_axes, notes_for};
 use crate::reason::{Noted, reason_of, unread};
-use crate::streams::{Source, Target, hold_streams, lines_beside, open_source};
-use crate::task::{Asked, Plan, Task, at_of, extras_of, form_of, instance_of, limits_of};
+use crate::streams::{Source, Target, goes_to_output, hold_streams, lines_beside, open_source};
+use crate::task::{Asked, Form, Plan, Task, at_of, extras_of, form_of, instance_of, limits_of};
 use std::alloc::Global;
 use std::fs::OpenFile;
 use std::io::{BufWriter, ErrorKind, Read, Write};
@@ -213,12 +216,13 @@ fn carry_buffered<R: Read, W: Write, L: Write>(
     carry_out(alloc, plan, input, room, source, output, &mut lines)
 }
 
-/// Does a plan on files and the standard streams. The output's file is made by its first write. Why the system refused one
-/// is kept.
+/// Does a plan on files and the standard streams. The output's file is made by its first write; the lines go to standard error
+/// where the font goes to standard output. Why the system refused one is kept.
 fn perform<R: Files + Print + Eprint + Input + AllocGlobal>(
     rt: &R,
     job: &Job,
     plan: &Plan<'_>,
+    is_font_there: bool,
     source: &mut Vec<u8>,
     reason: &mut Option<io::Error>,
 ) -> Result<(), Failure>
@@ -228,7 +232,7 @@ fn perform<R: Files + Print + Eprint + Input + AllocGlobal>(
     let room = room_of(&opened, reason)?;
     let mut input = Noted::new(opened);
     let mut output = Noted::new(Target::new(rt, job.output.as_str()));
-    let mut lines = Noted::new(lines_beside(rt, job.output.as_str()));
+    let mut lines = Noted::new(lines_beside(rt, is_font_there));
     let ended = carry_buffered(
         rt.alloc(),
         plan,
@@ -295,7 +299,19 @@ fn report_list<R: Eprint>(rt: &R, ended: &Result<(), Failure>, glyphs: &Glyphs, 
     }
 }
 
-/// Reports coordinates that the font doesn't have, and the axes that it has. They are passed over where memory runs out.
+/// Whether standard error has the notes already, in a JSON object.
+fn has_notes(form: Form, is_font_there: bool) -> bool
+    ensures { result ≡ has_notes form is_font_there }
+{
+    match form {
+        Form::Json => is_font_there,
+        Form::Lines => false,
+        Form::Silence => false,
+    }
+}
+
+/// Reports coordinates that the font doesn't have, with the axes that it has, and characters without a glyph. They are passed
+/// over where memory runs out.
 fn report_notes<R: Eprint + AllocGlobal>(rt: &R, font: &[u8], plan: &Plan<'_>) {
     let Ok(axes) = known_axes(rt.alloc(), font, plan.task.index) else {
         return;
@@ -303,7 +319,10 @@ fn report_notes<R: Eprint + AllocGlobal>(rt: &R, font: &[u8], plan: &Plan<'_>) {
     let Ok(notes) = notes_for(rt.alloc(), &axes, plan.task.at) else {
         return;
     };
-    if let Ok(text) = note_lines(rt.alloc(), &axes, &notes) {
+    let Ok(characters) = missing_in(rt.alloc(), font, plan.task.index, &plan.task.asked) else {
+        return;
+    };
+    if let Ok(text) = note_lines(rt.alloc(), &axes, &notes, &characters) {
         print_lines(rt, &text);
     }
 }
@@ -325,7 +344,10 @@ fn report_names<R: Eprint + AllocGlobal>(rt: &R, font: &[u8], index: u32) {
 
 /// Reports more of a run that failed, as far as it can be seen in the font.
 fn report_more<R: Eprint + AllocGlobal>(rt: &R, failure: &Failure, font: &[u8], plan: &Plan<'_>) {
-    tell_hint(rt, find_hint(failure, font, &plan.task));
+    match find_hint(failure, font, &plan.task) {
+        Some(hint) => tell_hint(rt, Some(hint)),
+        None => tell_hint(rt, find_limit_hint(rt.alloc(), failure, font, plan)),
+    }
     if let Failure::NoInstance = failure {
         report_names(rt, font, plan.task.index);
     }
@@ -349,10 +371,12 @@ fn run_job<R: Files + Print + Eprint + Input + AllocGlobal>(rt: &R, job: &Job) -
     };
     let plan = plan_of(job, &list);
     let mut font = Vec::new(rt.alloc());
-    let ended = perform(rt, job, &plan, &mut font, &mut reason);
+    let is_font_there = goes_to_output(rt, job.output.as_str());
+    let ended = perform(rt, job, &plan, is_font_there, &mut font, &mut reason);
     let status = report(rt, &ended, file_of(&ended, job));
     tell_reason(rt, reason);
     match &ended {
+        Ok(()) if has_notes(plan.task.form, is_font_there) => {}
         Ok(()) => report_notes(rt, &font, &plan),
         Err(failure) => report_more(rt, failure, &font, &plan),
     }
