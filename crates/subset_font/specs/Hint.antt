@@ -6,20 +6,23 @@ use Rattle.subsetter_base.specs.declared.error.Error.{Error as Refusal}
 use Rattle.subsetter_base.specs.declared.error.Error.TheVariants.{UnknownKind, MalformedFont, Unimplemented, SubsetError, OverflowError, CFFError, OutOfMemory}
 use Rattle.subsetter_base.specs.declared.tag.Tag.{Tag}
 use Rattle.subsetter_sfnt.specs.Extras.{all_extras}
-use Rattle.subsetter_sfnt.specs.Read.{Font, stored}
+use Rattle.subsetter_sfnt.specs.Read.{Font, find_record, records, stored}
 use Rattle.subset_lines.specs.declared.info.Outlines.{Outlines}
 use Rattle.subset_lines.specs.declared.info.Outlines.TheVariants.{TrueType, Cff, Cff2 as HasCff2, Missing}
 use Rattle.subset_font.specs.Asked.{face_glyphs}
 use Rattle.subset_font.specs.Broken.{or_else, no_font, cut_table, missing_table}
 use Rattle.subset_font.specs.Info.{outlines_of}
+use Rattle.subset_font.specs.FaceView.{place_view}
 use Rattle.subset_font.specs.Made.{face_of}
+use Rattle.subset_font.specs.Tables.{bytes_or_none, records_in}
+use Rattle.subset_font.specs.declared.face.Place.{Place}
 use Rattle.subset_font.specs.declared.task.Asked.{Asked}
 use Rattle.subset_font.specs.declared.task.Asked.TheVariants.{These, Every, ByText, ByCharacters}
 use Rattle.subset_font.specs.declared.task.Task.{Task}
 use Rattle.subset_font.specs.declared.failure.Failure.{Failure}
 use Rattle.subset_font.specs.declared.failure.Failure.TheVariants.{Error, NoMapping, NoInstance, Usage, List as WrongList, Read, ReadList, Write, Output}
 use Rattle.subset_font.specs.declared.hint.Hint.{Hint}
-use Rattle.subset_font.specs.declared.hint.Hint.TheVariants.{NoGlyph, NoEntries, Descends, Outside, Cff2, NoUnicode, WrongAxes, NoOutlines, NoMetrics, FewMetrics}
+use Rattle.subset_font.specs.declared.hint.Hint.TheVariants.{NoGlyph, NoEntries, Descends, Outside, Cff2, NoUnicode, WrongAxes, NoAxes, NoOutlines, NoMetrics, FewMetrics}
 
 -- the first of the glyphs that a face of so many doesn't have
 abbrev pub first_past : ℕ → List ℕ → Option ℕ
@@ -168,6 +171,15 @@ axes_hint_of_error SubsetError bytes index = None
 axes_hint_of_error OverflowError bytes index = None
 axes_hint_of_error CFFError bytes index = None
 axes_hint_of_error OutOfMemory bytes index = None
+
+-- a face without axes: it has no `fvar`, or the file is cut before its end
+abbrev pub no_axes_by : Font → Option (List ℕ) → Option Place → Option Hint
+no_axes_by font (Some fvar) place = None
+no_axes_by font None None = Some NoAxes
+no_axes_by font None (Some place) = Some (missing_table font (record { 0 = codes "fvar" }))
+
+abbrev pub no_axes : Font → Option Hint
+no_axes font = no_axes_by font (stored font (codes "fvar")) (option_map place_view (find_record (codes "fvar") (records_in (bytes_or_none (records font)))))
 
 abbrev pub axes_hint : Failure → List ℕ → ℕ → Option Hint
 axes_hint (Error e) bytes index = axes_hint_of_error e bytes index

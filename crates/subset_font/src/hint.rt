@@ -4,12 +4,13 @@ ghost use Rattle.std.specs.Prelude.{◌≡◌, ◌≤◌};
 ghost use Rattle.subsetter_sfnt.specs.Extras.{all_extras};
 ghost use Rattle.subset_font.specs.Asked.{face_glyphs};
 ghost use Rattle.subset_font.specs.Made.{face_of};
-ghost use Rattle.subset_font.specs.Hint.{first_past, no_glyph, no_table, no_table_for_widths, no_table_for, entry, wrong_range, wrong_between, wrong_outline, first_wrong, listed, no_outline, is_cff2, wrong_metrics_of, wrong_metrics, no_outlines, no_font_or_glyph, no_part, wrong_outlines, hint_of_malformed, hint_of_unknown, hint_of_error, hint_of_mapping, axes_hint_of_error, axes_hint, hint_of};
+ghost use Rattle.subset_font.specs.Hint.{first_past, no_glyph, no_table, no_table_for_widths, no_table_for, entry, wrong_range, wrong_between, wrong_outline, first_wrong, listed, no_outline, is_cff2, wrong_metrics_of, wrong_metrics, no_outlines, no_font_or_glyph, no_part, wrong_outlines, hint_of_malformed, hint_of_unknown, hint_of_error, hint_of_mapping, no_axes, axes_hint_of_error, axes_hint, hint_of};
 
 use crate::broken::{cut_table, missing_table, no_font};
-use crate::face::{count_glyphs, table};
+use crate::face::{count_glyphs, find_place, table};
 use crate::failure::Failure;
 use crate::info::outlines_of;
+use crate::tables::directory_of;
 use crate::task::{Asked, Task};
 use std::fmt;
 use subset_lines::Outlines;
@@ -53,6 +54,8 @@ pub enum Hint {
     NoUnicode,
     /// `fvar` can't be read.
     WrongAxes,
+    /// The face has no `fvar`.
+    NoAxes,
     /// `hhea` says that `hmtx` has no metrics.
     NoMetrics,
     /// `hhea` says that `hmtx` has so many metrics, and it is shorter.
@@ -106,6 +109,7 @@ impl fmt::Display for Hint {
             Hint::Cff2 => write!(f, "CFF2: its outlines aren't read"),
             Hint::NoUnicode => write!(f, "cmap: no table for Unicode in format 4 or 12"),
             Hint::WrongAxes => write!(f, "fvar: the table can't be read"),
+            Hint::NoAxes => write!(f, "no axes in the font"),
             Hint::NoMetrics => write!(f, "hhea: numberOfHMetrics is 0"),
             Hint::FewMetrics(count) => {
                 write!(f, "hhea: numberOfHMetrics is {count}, and hmtx is shorter")
@@ -379,6 +383,19 @@ fn axes_hint_of_error(error: Error, font: &[u8], index: u32) -> Option<Hint>
         Error::UnknownKind => no_font(font, index),
         Error::MalformedFont => Some(Hint::WrongAxes),
         _ => None,
+    }
+}
+
+/// What is noted of a face without axes: it has no `fvar`, or the file is cut before its end.
+pub fn no_axes(font: &[u8], index: u32) -> Option<Hint>
+    ensures { result ≡ no_axes (record { bytes = font.now; index = index; extras = all_extras }) }
+{
+    let tag = Tag::new(b"fvar");
+    let place = find_place(directory_of(font, index), tag);
+    match (table(font, index, tag), place) {
+        (Some(_), _) => None,
+        (None, None) => Some(Hint::NoAxes),
+        (None, Some(_)) => Some(missing_table(font, index, tag)),
     }
 }
 

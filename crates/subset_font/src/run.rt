@@ -13,7 +13,7 @@ use crate::axes::carry_axes;
 use crate::carried::{carry_out, read_whole};
 use crate::failure::{Failure, Told, file_of, status_of_run};
 use crate::help::{HELP, VERSION_LINE};
-use crate::hint::{Hint, find_axes_hint, find_hint};
+use crate::hint::{Hint, find_axes_hint, find_hint, no_axes};
 use crate::info::carry_info;
 use crate::limit_hint::find_limit_hint;
 use crate::missing::missing_in;
@@ -29,8 +29,9 @@ use std::process::{ExitCode, Termination};
 use std::rt::{Env, Files};
 use std::{env, io};
 use subset_args::{
-    Advice, ArgsError, CODES_WANTED, Command, FileKind, GlyphList, Glyphs, Job, PARTS_WANTED,
-    Shown, Topic, find_mistake, find_wrong, read_list, read_words,
+    Advice, ArgsError, CODES_WANTED, Command, FileKind, GlyphList, Glyphs, Job, ORDER_WANTED,
+    PARTS_WANTED, Shown, Topic, codes_descend, descends, find_mistake, find_wrong, read_list,
+    read_words,
 };
 use subset_lines::note_lines;
 use subsetter::{Error, Options};
@@ -271,10 +272,29 @@ fn tell_hint<R: Eprint>(rt: &R, hint: Option<Hint>) {
     }
 }
 
+/// Whether a part of a file's list is a range whose ends aren't in order.
+fn is_descending(kind: FileKind, part: &str) -> bool {
+    match kind {
+        FileKind::Glyphs => descends(part),
+        FileKind::Characters => codes_descend(part),
+        FileKind::Text => false,
+    }
+}
+
 /// Reports which part of a file's list is wrong, and what is expected.
 fn report_part<R: Eprint>(rt: &R, kind: FileKind, part: &[u8]) {
-    let part = Shown(str::from_utf8(part).unwrap_or("?"));
+    let part = str::from_utf8(part).unwrap_or("?");
+    let is_descending = is_descending(kind, part);
+    let part = Shown(part);
     let _ = match kind {
+        FileKind::Glyphs if is_descending => {
+            let _ = eprintln!(rt; "--gids-file: the range \"{part}\" descends");
+            rt.eprintln(ORDER_WANTED)
+        }
+        FileKind::Characters if is_descending => {
+            let _ = eprintln!(rt; "--unicodes-file: the range \"{part}\" descends");
+            rt.eprintln(ORDER_WANTED)
+        }
         FileKind::Glyphs => {
             let _ = eprintln!(rt; "--gids-file: \"{part}\" is not a glyph number");
             rt.eprintln(PARTS_WANTED)
@@ -458,8 +478,10 @@ fn run_shown<R: Files + Print + Eprint + Input + AllocGlobal>(
     let ended = perform_shown(rt, topic, json, input, index, &mut font, &mut reason);
     let status = report(rt, &ended, unread_file(&ended, input));
     tell_reason(rt, reason);
-    if let Err(failure) = &ended {
-        tell_hint(rt, find_axes_hint(failure, &font, index));
+    match (&ended, topic) {
+        (Err(failure), _) => tell_hint(rt, find_axes_hint(failure, &font, index)),
+        (Ok(()), Topic::Axes) if !json => tell_hint(rt, no_axes(&font, index)),
+        (Ok(()), _) => {}
     }
     status
 }

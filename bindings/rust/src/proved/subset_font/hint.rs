@@ -2,9 +2,10 @@
 //! What more is known of a refusal: what the program sees at once.
 
 use crate::proved::subset_font::broken::{cut_table, missing_table, no_font};
-use crate::proved::subset_font::face::{count_glyphs, table};
+use crate::proved::subset_font::face::{count_glyphs, find_place, table};
 use crate::proved::subset_font::failure::Failure;
 use crate::proved::subset_font::info::outlines_of;
+use crate::proved::subset_font::tables::directory_of;
 use crate::proved::subset_font::task::{Asked, Task};
 use crate::proved::subset_lines::Outlines;
 use crate::proved::subsetter::{Error, Tag};
@@ -48,6 +49,8 @@ pub enum Hint {
     NoUnicode,
     /// `fvar` can't be read.
     WrongAxes,
+    /// The face has no `fvar`.
+    NoAxes,
     /// `hhea` says that `hmtx` has no metrics.
     NoMetrics,
     /// `hhea` says that `hmtx` has so many metrics, and it is shorter.
@@ -101,6 +104,7 @@ impl fmt::Display for Hint {
             Hint::Cff2 => write!(f, "CFF2: its outlines aren't read"),
             Hint::NoUnicode => write!(f, "cmap: no table for Unicode in format 4 or 12"),
             Hint::WrongAxes => write!(f, "fvar: the table can't be read"),
+            Hint::NoAxes => write!(f, "no axes in the font"),
             Hint::NoMetrics => write!(f, "hhea: numberOfHMetrics is 0"),
             Hint::FewMetrics(count) => {
                 write!(f, "hhea: numberOfHMetrics is {count}, and hmtx is shorter")
@@ -334,6 +338,17 @@ fn axes_hint_of_error(error: Error, font: &[u8], index: u32) -> Option<Hint> {
         Error::UnknownKind => no_font(font, index),
         Error::MalformedFont => Some(Hint::WrongAxes),
         _ => None,
+    }
+}
+
+/// What is noted of a face without axes: it has no `fvar`, or the file is cut before its end.
+pub fn no_axes(font: &[u8], index: u32) -> Option<Hint> {
+    let tag = Tag::new(b"fvar");
+    let place = find_place(directory_of(font, index), tag);
+    match (table(font, index, tag), place) {
+        (Some(_), _) => None,
+        (None, None) => Some(Hint::NoAxes),
+        (None, Some(_)) => Some(missing_table(font, index, tag)),
     }
 }
 

@@ -4,14 +4,15 @@
 use crate::rattle::prelude::{AllocGlobal, Eprint, Input, IteratorExt, Print, String, Vec};
 
 use crate::proved::subset_args::{
-    find_mistake, find_wrong, read_list, read_words, Advice, ArgsError, Command, FileKind,
-    GlyphList, Glyphs, Job, Shown, Topic, CODES_WANTED, PARTS_WANTED,
+    codes_descend, descends, find_mistake, find_wrong, read_list, read_words, Advice, ArgsError,
+    Command, FileKind, GlyphList, Glyphs, Job, Shown, Topic, CODES_WANTED, ORDER_WANTED,
+    PARTS_WANTED,
 };
 use crate::proved::subset_font::axes::carry_axes;
 use crate::proved::subset_font::carried::{carry_out, read_whole};
 use crate::proved::subset_font::failure::{file_of, status_of_run, Failure, Told};
 use crate::proved::subset_font::help::{HELP, VERSION_LINE};
-use crate::proved::subset_font::hint::{find_axes_hint, find_hint, Hint};
+use crate::proved::subset_font::hint::{find_axes_hint, find_hint, no_axes, Hint};
 use crate::proved::subset_font::info::carry_info;
 use crate::proved::subset_font::limit_hint::find_limit_hint;
 use crate::proved::subset_font::missing::missing_in;
@@ -244,10 +245,29 @@ fn tell_hint<R: Eprint>(rt: &R, hint: Option<Hint>) {
     }
 }
 
+/// Whether a part of a file's list is a range whose ends aren't in order.
+fn is_descending(kind: FileKind, part: &str) -> bool {
+    match kind {
+        FileKind::Glyphs => descends(part),
+        FileKind::Characters => codes_descend(part),
+        FileKind::Text => false,
+    }
+}
+
 /// Reports which part of a file's list is wrong, and what is expected.
 fn report_part<R: Eprint>(rt: &R, kind: FileKind, part: &[u8]) {
-    let part = Shown(core::str::from_utf8(part).unwrap_or("?"));
+    let part = core::str::from_utf8(part).unwrap_or("?");
+    let is_descending = is_descending(kind, part);
+    let part = Shown(part);
     let _ = match kind {
+        FileKind::Glyphs if is_descending => {
+            let _ = eprintln!(rt; "--gids-file: the range \"{part}\" descends");
+            rt.eprintln(ORDER_WANTED)
+        }
+        FileKind::Characters if is_descending => {
+            let _ = eprintln!(rt; "--unicodes-file: the range \"{part}\" descends");
+            rt.eprintln(ORDER_WANTED)
+        }
         FileKind::Glyphs => {
             let _ = eprintln!(rt; "--gids-file: \"{part}\" is not a glyph number");
             rt.eprintln(PARTS_WANTED)
@@ -433,8 +453,10 @@ fn run_shown<R: Files + Print + Eprint + Input + AllocGlobal>(
     let ended = perform_shown(rt, topic, json, input, index, &mut font, &mut reason);
     let status = report(rt, &ended, unread_file(&ended, input));
     tell_reason(rt, reason);
-    if let Err(failure) = &ended {
-        tell_hint(rt, find_axes_hint(failure, &font, index));
+    match (&ended, topic) {
+        (Err(failure), _) => tell_hint(rt, find_axes_hint(failure, &font, index)),
+        (Ok(()), Topic::Axes) if !json => tell_hint(rt, no_axes(&font, index)),
+        (Ok(()), _) => {}
     }
     status
 }
