@@ -37,7 +37,6 @@ ALLOWED = {
     ("subset_font", "show_buffered"): (1, "`BufWriter::new` takes memory and has no other error"),
     ("subset_font", "try_all"): (2, "passes on that of `make_of`"),
     ("subset_font", "show_info"): (2, "`tables_of` and `try_all` have no other error"),
-    ("subset_font", "missing_in"): (2, "passes on that of `pick`"),
     ("subset_font", "has_name"): (1, "`text_of_name` writes into a vector, which has no other error"),
     ("subset_font", "push_name"): (1, "`text_of_name` writes into a vector, which has no other error"),
     ("subset_font", "instance_settings"): (2, "`settings_of` and `find_named` have no other error"),

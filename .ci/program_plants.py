@@ -115,7 +115,7 @@ PLANTS = [
     ("an option that begins so", "proved/subset_args/nearest.rs", "        if begins_with(option.as_bytes(), word.as_bytes())\n            ||", "        if"),
     ("one minus for two", "proved/subset_args/nearest.rs", "|| begins_with(without_minus(option), word.as_bytes())", "|| false"),
     ("--info behind IN", "proved/subset_args/mistakes.rs", "Kind::Place if topic_of(word).is_some() => {", "Kind::Place if false => {"),
-    ("a wrong option taken for IN", "proved/subset_args/mistakes.rs", "Some(mistake) => or_else(wrong_option(input), Some(mistake)),", "Some(mistake) => Some(mistake),"),
+    ("a wrong option taken for IN", "proved/subset_args/mistakes.rs", "(Some(_), Some(mistake)) => Some(mistake),\n        (Some(mistake), None)", "(Some(mistake), _)"),
     ("--face-index called INDEX", "proved/subset_args/mistakes.rs", "None => mistake_at(Wrong::FaceIndex, word),", "None => mistake_at(Wrong::Index, word),"),
     ("the statuses swapped in the help", "proved/subset_font/help.rs", "2 an argument is wrong, 3 a file", "3 an argument is wrong, 2 a file"),
 ]

@@ -237,25 +237,14 @@ fn wrong_option(word: &str) -> Option<Mistake<'_>>
     }
 }
 
-/// The first mistake, if it is one.
-fn or_else<'a>(first: Option<Mistake<'a>>, other: Option<Mistake<'a>>) -> Option<Mistake<'a>>
-    requires first { IfSome first (λ m. IsWrong m.wrong m.word.now) }
-    requires other { IfSome other (λ m. IsWrong m.wrong m.word.now) }
-    ensures { IfSome result (λ m. IsWrong m.wrong m.word.now) }
-{
-    match first {
-        Some(mistake) => Some(mistake),
-        None => other,
-    }
-}
-
 /// What is wrong with the arguments `IN INDEX` behind `--axes` or `--info`.
 fn wrong_pair<'a>(input: &'a str, index: &'a str) -> Option<Mistake<'a>>
     ensures { IfSome result (λ m. IsWrong m.wrong m.word.now) }
 {
-    match wrong_index(index) {
-        Some(mistake) => or_else(wrong_option(input), Some(mistake)),
-        None => None,
+    match (wrong_index(index), wrong_option(input)) {
+        (None, _) => None,
+        (Some(_), Some(mistake)) => Some(mistake),
+        (Some(mistake), None) => Some(mistake),
     }
 }
 
@@ -267,9 +256,10 @@ fn wrong_shown(words: &[String]) -> Option<Mistake<'_>>
         [] => mistake_at(Wrong::NoInput, ""),
         [_] => None,
         [input, index] => wrong_pair(input, index),
-        [input, _, word, ..] => {
-            or_else(wrong_option(input), mistake_at(Wrong::BehindShown, word))
-        }
+        [input, _, word, ..] => match wrong_option(input) {
+            Some(mistake) => Some(mistake),
+            None => mistake_at(Wrong::BehindShown, word),
+        },
     }
 }
 

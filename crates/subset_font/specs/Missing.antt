@@ -1,11 +1,10 @@
 -- The characters that a face has no glyph for.
-use Rattle.std.specs.Prelude.{◌≡◌, ◌⊎◌, ℕ, ◌==◌, ◌&&◌, nat_lt, not, Bool, if◌then◌else◌, List, [], ◌∷◌, ◌++◌, drop, length, Option, Some, None}
+use Rattle.std.specs.Prelude.{◌≡◌, ℕ, ◌==◌, ◌&&◌, nat_lt, not, Bool, if◌then◌else◌, List, [], ◌∷◌, ◌++◌, drop, length, Option, Some, None}
 use Rattle.std.specs.List.{list_any}
 use Rattle.subsetter_sfnt.specs.Read.{Font}
 use Rattle.subset_lines.specs.Text.{first}
-use Rattle.subset_font.specs.Asked.{IsAsked, IsUnasked}
+use Rattle.subset_font.specs.Asked.{IsAsked}
 use Rattle.subset_font.specs.declared.task.Asked.{Asked}
-use Rattle.subset_font.specs.declared.failure.Failure.{Failure}
 
 abbrev pub is_listed : List ℕ → ℕ → Bool
 is_listed found c = list_any (λ x. x == c) found
@@ -23,7 +22,9 @@ missing_behind found characters (g ∷ glyphs) = missing_behind (with_missing fo
 abbrev pub missing : List ℕ → List ℕ → List ℕ
 missing characters glyphs = missing_behind [] characters glyphs
 
--- those that a task asks a face for; none where no glyphs are found
-pub data IsMissing (font : Font) (asked : Asked) (found : List ℕ) : Type 0 where
-  of_asked : (characters glyphs : List ℕ) → IsAsked font asked characters glyphs → found ≡ missing characters glyphs → IsMissing font asked found
-  of_none : (failure : Failure) → IsUnasked font asked failure → found ≡ [] → IsMissing font asked found
+-- those that a task asks a face for
+pub record IsMissing (font : Font) (asked : Asked) (found : List ℕ) : Type 0 where
+  pub characters : List ℕ
+  pub glyphs : List ℕ
+  pub is_asked : IsAsked font asked characters glyphs
+  pub are : found ≡ missing characters glyphs

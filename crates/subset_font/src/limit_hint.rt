@@ -39,7 +39,9 @@ fn too_long(alloc: Global, font: &[u8], plan: &Plan<'_>) -> Option<u32>
     let limits = plan.task.options.limits;
     let most = limits.bytes()?;
     let unbounded = Limits::new(limits.tokens(), limits.depth())?;
-    let outcome = make_planned(alloc, font, &within(plan, unbounded)).ok()?;
+    let Ok(outcome) = make_planned(alloc, font, &within(plan, unbounded)) else {
+        return None;
+    };
     if outcome.made.font.len() > most as usize {
         return Some(most);
     }

@@ -1,15 +1,13 @@
 //! The characters that a face has no glyph for.
 
-ghost use Rattle.std.specs.Prelude.{◌≡◌, OnOk, IfOk};
+ghost use Rattle.std.specs.Prelude.{◌≡◌, OnOk, IfOk, IfSome};
 ghost use Rattle.subsetter_sfnt.specs.Extras.{all_extras};
 ghost use Rattle.subset_font.specs.Missing.{is_listed, with_missing, missing, IsMissing};
 
 use crate::asked::pick;
-use crate::failure::Failure;
 use crate::task::Asked;
 use std::alloc::{AllocError, Global};
 use subset_lines::take_first;
-use subsetter::Error;
 
 /// Whether a character is listed.
 fn is_listed(found: &[char], character: char) -> bool
@@ -54,18 +52,15 @@ pub fn missing(alloc: Global, characters: &[char], glyphs: &[u16]) -> Result<Vec
     Ok(found)
 }
 
-/// The same of the characters that a task requests of a face; none where no glyphs are found.
-pub fn missing_in(
-    alloc: Global,
-    font: &[u8],
-    index: u32,
-    asked: &Asked<'_>,
-) -> Result<Vec<char>, AllocError>
-    ensures { IfOk result (λ v. IsMissing (record { bytes = font.now; index = index; extras = all_extras }) asked.now v.items) }
+/// The same of the characters that a task requests of a face. None where no glyphs are found, or memory runs out.
+pub fn missing_in(alloc: Global, font: &[u8], index: u32, asked: &Asked<'_>) -> Option<Vec<char>>
+    ensures { IfSome result (λ v. IsMissing (record { bytes = font.now; index = index; extras = all_extras }) asked.now v.items) }
 {
-    match pick(alloc, font, index, asked) {
-        Ok(picked) => missing(alloc, &picked.characters, &picked.glyphs),
-        Err(Failure::Error(Error::OutOfMemory)) => Err(AllocError),
-        Err(_) => Ok(Vec::new(alloc)),
+    let Ok(picked) = pick(alloc, font, index, asked) else {
+        return None;
+    };
+    match missing(alloc, &picked.characters, &picked.glyphs) {
+        Ok(found) => Some(found),
+        Err(_) => None,
     }
 }

@@ -339,7 +339,7 @@ fn report_notes<R: Eprint + AllocGlobal>(rt: &R, font: &[u8], plan: &Plan<'_>) {
     let Ok(notes) = notes_for(rt.alloc(), &axes, plan.task.at) else {
         return;
     };
-    let Ok(characters) = missing_in(rt.alloc(), font, plan.task.index, &plan.task.asked) else {
+    let Some(characters) = missing_in(rt.alloc(), font, plan.task.index, &plan.task.asked) else {
         return;
     };
     if let Ok(text) = note_lines(rt.alloc(), &axes, &notes, &characters) {

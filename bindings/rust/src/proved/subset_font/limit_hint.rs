@@ -33,7 +33,12 @@ fn too_long(alloc: Global, font: &[u8], plan: &Plan<'_>) -> Option<u32> {
     let limits = plan.task.options.limits;
     let most = limits.bytes()?;
     let unbounded = Limits::new(limits.tokens(), limits.depth())?;
-    let outcome = make_planned(alloc, font, &within(plan, unbounded)).ok()?;
+    let outcome = match make_planned(alloc, font, &within(plan, unbounded)) {
+        Ok(outcome) => outcome,
+        _ => {
+            return None;
+        }
+    };
     if outcome.made.font.len() > most as usize {
         return Some(most);
     }

@@ -4,10 +4,8 @@
 use crate::rattle::prelude::Vec;
 
 use crate::proved::subset_font::asked::pick;
-use crate::proved::subset_font::failure::Failure;
 use crate::proved::subset_font::task::Asked;
 use crate::proved::subset_lines::take_first;
-use crate::proved::subsetter::Error;
 use crate::rattle::alloc::{AllocError, Global};
 
 /// Whether a character is listed.
@@ -54,16 +52,16 @@ pub fn missing(
     Ok(found)
 }
 
-/// The same of the characters that a task requests of a face; none where no glyphs are found.
-pub fn missing_in(
-    alloc: Global,
-    font: &[u8],
-    index: u32,
-    asked: &Asked<'_>,
-) -> Result<Vec<char>, AllocError> {
-    match pick(alloc, font, index, asked) {
-        Ok(picked) => missing(alloc, &picked.characters, &picked.glyphs),
-        Err(Failure::Error(Error::OutOfMemory)) => Err(AllocError),
-        Err(_) => Ok(Vec::new(alloc)),
+/// The same of the characters that a task requests of a face. None where no glyphs are found, or memory runs out.
+pub fn missing_in(alloc: Global, font: &[u8], index: u32, asked: &Asked<'_>) -> Option<Vec<char>> {
+    let picked = match pick(alloc, font, index, asked) {
+        Ok(picked) => picked,
+        _ => {
+            return None;
+        }
+    };
+    match missing(alloc, &picked.characters, &picked.glyphs) {
+        Ok(found) => Some(found),
+        Err(_) => None,
     }
 }

@@ -317,7 +317,7 @@ fn report_notes<R: Eprint + AllocGlobal>(rt: &R, font: &[u8], plan: &Plan<'_>) {
         }
     };
     let characters = match missing_in(rt.alloc(), font, plan.task.index, &plan.task.asked) {
-        Ok(characters) => characters,
+        Some(characters) => characters,
         _ => {
             return;
         }
