@@ -896,7 +896,7 @@ ROWS = [
         ("--versions", "--version"), ("--verison", "--version"), ("-x", None), ("--no-glyphnames", "--no-glyph-names")))),
     # an option and its value in one word
     *usage(("small --text=ABC -o out", apart("--text=ABC", "--text")), ("--text=ABC small out 0", apart("--text=ABC", "--text")), ("small -o out --text A -oout", apart("-oout", "-o")),
-           ("--output-file=out small --text A", apart("--output-file=out", "--output-file")), ("-o=out --text A small", apart("-o=out", "-o")), ("-oout small --text A", apart("-oout", "-o"))),
+           ("--output-file=out small --text A", apart("--output-file=out", "--output-file")), ("small --text A -oout", apart("-oout", "-o")), ("small --text A --output-file=out", apart("--output-file=out", "--output-file")), ("small --text A --face-index=0 -o out", apart("--face-index=0", "--face-index")), ("-o=out --text A small", apart("-o=out", "-o")), ("-oout small --text A", apart("-oout", "-o"))),
     # `--axes` and `--info` in a wrong position, and options beside them
     *usage(("--info --jsn six", no_option("--jsn", "--json")), ("--axes --jsn variable 0", no_option("--jsn", "--json")), ("--info --widths six", further("--widths", SHOWN)),
            ("--info --axes six", further("--axes", SHOWN)), ("--info -x six", no_option("-x")),
@@ -1552,6 +1552,7 @@ OTHERWISE = {
         "simple simple 0 2": "no file takes the name of one that is open, as IN is: status 3, and IN is as it was",
         "/dev/stdin out 0 2": "a name of Unix: status 3",
         "simple /dev/stdout 0 2": "the same: the font goes to no stream of the program's",
+        "--json --text Ax small /dev/stdout 0": "the same",
         str([b"simple", b"\xff", b"0", b"2"]): "words are of 16 bits there, and wine makes one of any byte",
     },
 }

@@ -9,6 +9,7 @@ use crate::characters::{codes_descend, is_wrong_codes};
 use crate::coordinates::is_coordinate;
 use crate::jobs::{first_topic, is_name, is_stream, topic_of};
 use crate::lists::{FileKind, descends, is_wrong_part};
+use crate::nearest::front;
 use crate::options::{Chosen, Kind, Setting, Source, kind_of, looks_like_option};
 use subsetter_words::{u16_of, u32_of};
 
@@ -389,10 +390,13 @@ fn wrong_from_option<'a>(chosen: Chosen<'a>, words: &'a [String]) -> Option<Mist
     }
 }
 
-/// Whether one of the arguments is an option that says OUT or INDEX.
+/// Whether one of the arguments is an option that says OUT or INDEX, or one with its value, as `-oFILE`.
 fn says_output(words: &[String]) -> bool {
     for word in words {
-        if let Kind::Setting(Setting::Output | Setting::FaceIndex) = kind_of(word) {
+        if let Kind::Setting(Setting::Output | Setting::FaceIndex) = kind_of(front(word)) {
+            return true;
+        }
+        if let [b'-', b'o', _, ..] = word.as_bytes() {
             return true;
         }
     }

@@ -30,8 +30,7 @@ not_font_by None = Some NotFont
 not_font_by (Some kind) = None
 
 abbrev pub not_font : List ℕ → Option Hint
-not_font [] = Some Empty
-not_font (b ∷ bytes) = not_font_by (kind_at (b ∷ bytes) 0)
+not_font bytes = if length bytes == 0 then Some Empty else not_font_by (kind_at bytes 0)
 
 -- how many faces a collection says that it has: `ttcf` begins one, and numFonts is at byte 8
 abbrev pub face_count : List ℕ → Option ℕ

@@ -48,7 +48,7 @@ fn no_face(font: &[u8], index: u32) -> Option<Hint>
 fn not_font(font: &[u8]) -> Option<Hint>
     ensures { result ≡ not_font font.now }
 {
-    if font.is_empty() {
+    if font.len() == 0 {
         return Some(Hint::Empty);
     }
     match kind_at(font, 0) {
@@ -72,10 +72,7 @@ fn no_directory(font: &[u8], index: u32) -> Option<Hint>
 pub fn no_font(font: &[u8], index: u32) -> Option<Hint>
     ensures { result ≡ no_font (record { bytes = font.now; index = index; extras = all_extras }) }
 {
-    packed(font)
-        .or(not_font(font))
-        .or(no_face(font, index))
-        .or(no_directory(font, index))
+    packed(font).or(not_font(font).or(no_face(font, index).or(no_directory(font, index))))
 }
 
 /// Where a table ends.

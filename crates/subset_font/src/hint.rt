@@ -332,9 +332,7 @@ fn no_part(font: &[u8], task: &Task<'_>) -> Option<Hint>
 fn wrong_outlines(font: &[u8], task: &Task<'_>) -> Option<Hint>
     ensures { result ≡ wrong_outlines task.now font.now }
 {
-    no_outline(font, task)
-        .or(cut_table(font, task.index))
-        .or(wrong_metrics(font, task.index))
+    no_outline(font, task).or(cut_table(font, task.index).or(wrong_metrics(font, task.index)))
 }
 
 /// What more is known of a face that is malformed.
@@ -348,9 +346,7 @@ fn hint_of_malformed(font: &[u8], task: &Task<'_>) -> Option<Hint>
 fn hint_of_unknown(font: &[u8], index: u32) -> Option<Hint>
     ensures { result ≡ hint_of_unknown (record { bytes = font.now; index = index; extras = all_extras }) }
 {
-    no_font(font, index)
-        .or(cut_table(font, index))
-        .or(no_outlines(font, index))
+    no_font(font, index).or(cut_table(font, index).or(no_outlines(font, index)))
 }
 
 /// What more is known of a font that is refused by an error.
@@ -370,9 +366,8 @@ fn hint_of_error(error: Error, font: &[u8], task: &Task<'_>) -> Option<Hint>
 fn hint_of_mapping(font: &[u8], index: u32) -> Option<Hint>
     ensures { result ≡ hint_of_mapping (record { bytes = font.now; index = index; extras = all_extras }) }
 {
-    no_font(font, index)
-        .or(no_table(font, index, Tag::new(b"cmap")))
-        .or(Some(Hint::NoUnicode))
+    let no_mapping = no_table(font, index, Tag::new(b"cmap")).or(Some(Hint::NoUnicode));
+    no_font(font, index).or(no_mapping)
 }
 
 /// What more is known of a font whose axes can't be printed, by an error.

@@ -62,5 +62,8 @@ abbrev pub comma_behind : List Note → List ℕ
 comma_behind [] = []
 comma_behind (note ∷ notes) = codes ","
 
+unfoldable pub all_strings : List Axis → List Note → List ℕ → List ℕ
+all_strings axes notes characters = coordinate_strings axes notes ++ missing_string (comma_behind notes) characters
+
 abbrev pub notes_array : List Axis → List Note → List ℕ → List ℕ
-notes_array axes notes characters = codes "[" ++ coordinate_strings axes notes ++ missing_string (comma_behind notes) characters ++ codes "]"
+notes_array axes notes characters = codes "[" ++ all_strings axes notes characters ++ codes "]"

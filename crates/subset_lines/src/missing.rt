@@ -2,7 +2,7 @@
 
 ghost use Rattle.std.specs.Prelude.{◌≡◌, ◌++◌, [], OnOk, IfOk, codes, take};
 ghost use Rattle.std.specs.Io.KnownBytes.{Appends};
-ghost use Rattle.subset_lines.specs.Missing.{character_text, names_text, others_text, missing_text, missing_line, missing_string};
+ghost use Rattle.subset_lines.specs.Missing.{character_text, names_text, others_text, named_text, missing_text, missing_line, missing_string};
 
 use crate::entry::Unwritten;
 use crate::quoted::write_quoted;
@@ -57,14 +57,22 @@ fn write_others<W: Write>(characters: &[char], out: &mut W) -> Result<(), Unwrit
     Ok(())
 }
 
+/// Writes three characters, and that there are others.
+#[tactic(auto, using(crate::proofs::Written::both), unfolding(crate::specs::Missing::named_text))]
+fn write_named<W: Write>(characters: &[char], out: &mut W) -> Result<(), Unwritten>
+    ensures { OnOk result (Appends (W.contents out.old) (W.contents out.new) (named_text characters.now)) }
+{
+    write_names(first_three(characters), out)?;
+    write_others(characters, out)
+}
+
 /// Writes a note of characters, of which three are named: `no glyph for U+2603, U+2604: glyph 0 is shown`.
-#[tactic(auto, using(crate::proofs::Written::both))]
+#[tactic(auto, using(crate::proofs::Written::both), unfolding(crate::specs::Missing::missing_text))]
 fn write_missing<W: Write>(characters: &[char], out: &mut W) -> Result<(), Unwritten>
     ensures { OnOk result (Appends (W.contents out.old) (W.contents out.new) (missing_text characters.now)) }
 {
     write_text(b"no glyph for ", out)?;
-    write_names(first_three(characters), out)?;
-    write_others(characters, out)?;
+    write_named(characters, out)?;
     write_text(b": glyph 0 is shown", out)
 }
 

@@ -4,7 +4,7 @@ ghost use Rattle.std.specs.Prelude.{◌≡◌, ◌++◌, [], OnOk, IfOk, codes, 
 ghost use Rattle.std.specs.Io.KnownBytes.{Appends};
 ghost use Rattle.subset_lines.specs.Axes.{shown};
 ghost use Rattle.subset_lines.specs.Fixed.{fixed_text};
-ghost use Rattle.subset_lines.specs.Notes.{no_axis_text, setting_text, clamped_text, note_text, range_text, ranges_text, axes_note, note_lines, notes_text, all_text, note_strings, coordinate_strings, comma_behind, notes_array};
+ghost use Rattle.subset_lines.specs.Notes.{no_axis_text, setting_text, clamped_text, note_text, range_text, ranges_text, axes_note, note_lines, notes_text, all_text, note_strings, coordinate_strings, comma_behind, all_strings, notes_array};
 ghost use Rattle.subset_lines.specs.Quoted.{quoted};
 
 use crate::axes::write_tag;
@@ -242,6 +242,21 @@ fn comma_behind(notes: &[Note]) -> &'static [u8]
     }
 }
 
+/// Writes all notes as JSON strings with commas between them.
+#[tactic(auto, using(crate::proofs::Written::both), unfolding(crate::specs::Notes::all_strings))]
+fn write_all_strings<W: Write>(
+    alloc: Global,
+    axes: &[Axis],
+    notes: &[Note],
+    characters: &[char],
+    out: &mut W,
+) -> Result<(), Unwritten>
+    ensures { OnOk result (Appends (W.contents out.old) (W.contents out.new) (all_strings axes.now notes.now characters.now)) }
+{
+    write_coordinate_strings(alloc, axes, notes, out)?;
+    write_missing_string(alloc, comma_behind(notes), characters, out)
+}
+
 /// Writes the same notes as a JSON array of strings.
 #[tactic(auto, using(crate::proofs::Written::both))]
 pub fn write_notes_array<W: Write>(
@@ -254,7 +269,6 @@ pub fn write_notes_array<W: Write>(
     ensures { OnOk result (Appends (W.contents out.old) (W.contents out.new) (notes_array axes.now notes.now characters.now)) }
 {
     write_text(b"[", out)?;
-    write_coordinate_strings(alloc, axes, notes, out)?;
-    write_missing_string(alloc, comma_behind(notes), characters, out)?;
+    write_all_strings(alloc, axes, notes, characters, out)?;
     write_text(b"]", out)
 }
