@@ -7,6 +7,7 @@ use crate::proved::subset_args::characters::{codes_descend, is_wrong_codes};
 use crate::proved::subset_args::coordinates::is_coordinate;
 use crate::proved::subset_args::jobs::{first_topic, is_name, is_stream, topic_of};
 use crate::proved::subset_args::lists::{descends, is_wrong_part, FileKind};
+use crate::proved::subset_args::nearest::front;
 use crate::proved::subset_args::options::{
     kind_of, looks_like_option, Chosen, Kind, Setting, Source,
 };
@@ -352,10 +353,13 @@ fn wrong_from_option<'a>(chosen: Chosen<'a>, words: &'a [String]) -> Option<Mist
     }
 }
 
-/// Whether one of the arguments is an option that says OUT or INDEX.
+/// Whether one of the arguments is an option that says OUT or INDEX, or one with its value, as `-oFILE`.
 fn says_output(words: &[String]) -> bool {
     for word in words {
-        if let Kind::Setting(Setting::Output | Setting::FaceIndex) = kind_of(word) {
+        if let Kind::Setting(Setting::Output | Setting::FaceIndex) = kind_of(front(word)) {
+            return true;
+        }
+        if let [b'-', b'o', _, ..] = word.as_bytes() {
             return true;
         }
     }

@@ -37,7 +37,7 @@ fn no_face(font: &[u8], index: u32) -> Option<Hint> {
 
 /// Whether a file begins as no font does.
 fn not_font(font: &[u8]) -> Option<Hint> {
-    if font.is_empty() {
+    if font.len() == 0 {
         return Some(Hint::Empty);
     }
     match kind_at(font, 0) {
@@ -57,10 +57,7 @@ fn no_directory(font: &[u8], index: u32) -> Option<Hint> {
 
 /// What is wrong with a file before a table is looked for.
 pub fn no_font(font: &[u8], index: u32) -> Option<Hint> {
-    packed(font)
-        .or(not_font(font))
-        .or(no_face(font, index))
-        .or(no_directory(font, index))
+    packed(font).or(not_font(font).or(no_face(font, index).or(no_directory(font, index))))
 }
 
 /// Where a table ends.

@@ -297,9 +297,7 @@ fn no_part(font: &[u8], task: &Task<'_>) -> Option<Hint> {
 
 /// What is wrong with outlines, with a table that ends behind the file, or with metrics.
 fn wrong_outlines(font: &[u8], task: &Task<'_>) -> Option<Hint> {
-    no_outline(font, task)
-        .or(cut_table(font, task.index))
-        .or(wrong_metrics(font, task.index))
+    no_outline(font, task).or(cut_table(font, task.index).or(wrong_metrics(font, task.index)))
 }
 
 /// What more is known of a face that is malformed.
@@ -309,9 +307,7 @@ fn hint_of_malformed(font: &[u8], task: &Task<'_>) -> Option<Hint> {
 
 /// What more is known of a file that is of no known kind.
 fn hint_of_unknown(font: &[u8], index: u32) -> Option<Hint> {
-    no_font(font, index)
-        .or(cut_table(font, index))
-        .or(no_outlines(font, index))
+    no_font(font, index).or(cut_table(font, index).or(no_outlines(font, index)))
 }
 
 /// What more is known of a font that is refused by an error.
@@ -327,9 +323,8 @@ fn hint_of_error(error: Error, font: &[u8], task: &Task<'_>) -> Option<Hint> {
 
 /// What more is known of a font without a mapping of Unicode characters.
 fn hint_of_mapping(font: &[u8], index: u32) -> Option<Hint> {
-    no_font(font, index)
-        .or(no_table(font, index, Tag::new(b"cmap")))
-        .or(Some(Hint::NoUnicode))
+    let no_mapping = no_table(font, index, Tag::new(b"cmap")).or(Some(Hint::NoUnicode));
+    no_font(font, index).or(no_mapping)
 }
 
 /// What more is known of a font whose axes can't be printed, by an error.

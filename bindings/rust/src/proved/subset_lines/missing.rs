@@ -46,11 +46,16 @@ fn write_others<W: Write>(characters: &[char], out: &mut W) -> Result<(), Unwrit
     Ok(())
 }
 
+/// Writes three characters, and that there are others.
+fn write_named<W: Write>(characters: &[char], out: &mut W) -> Result<(), Unwritten> {
+    write_names(first_three(characters), out)?;
+    write_others(characters, out)
+}
+
 /// Writes a note of characters, of which three are named: `no glyph for U+2603, U+2604: glyph 0 is shown`.
 fn write_missing<W: Write>(characters: &[char], out: &mut W) -> Result<(), Unwritten> {
     write_text(b"no glyph for ", out)?;
-    write_names(first_three(characters), out)?;
-    write_others(characters, out)?;
+    write_named(characters, out)?;
     write_text(b": glyph 0 is shown", out)
 }
 

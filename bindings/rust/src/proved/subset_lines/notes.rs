@@ -190,6 +190,18 @@ fn comma_behind(notes: &[Note]) -> &'static [u8] {
     }
 }
 
+/// Writes all notes as JSON strings with commas between them.
+fn write_all_strings<W: Write>(
+    alloc: Global,
+    axes: &[Axis],
+    notes: &[Note],
+    characters: &[char],
+    out: &mut W,
+) -> Result<(), Unwritten> {
+    write_coordinate_strings(alloc, axes, notes, out)?;
+    write_missing_string(alloc, comma_behind(notes), characters, out)
+}
+
 /// Writes the same notes as a JSON array of strings.
 pub fn write_notes_array<W: Write>(
     alloc: Global,
@@ -199,7 +211,6 @@ pub fn write_notes_array<W: Write>(
     out: &mut W,
 ) -> Result<(), Unwritten> {
     write_text(b"[", out)?;
-    write_coordinate_strings(alloc, axes, notes, out)?;
-    write_missing_string(alloc, comma_behind(notes), characters, out)?;
+    write_all_strings(alloc, axes, notes, characters, out)?;
     write_text(b"]", out)
 }
