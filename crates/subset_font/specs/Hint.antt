@@ -140,14 +140,22 @@ no_font_or_glyph task bytes = or_else (no_font (face_of task bytes)) (no_glyph (
 abbrev pub no_part : Task → List ℕ → Option Hint
 no_part task bytes = or_else (no_font_or_glyph task bytes) (no_table_for task bytes)
 
+-- a table that ends behind the file, or else metrics
+unfoldable pub wrong_table : Font → Option Hint
+wrong_table font = or_else (cut_table font) (wrong_metrics font)
+
 abbrev pub wrong_outlines : Task → List ℕ → Option Hint
-wrong_outlines task bytes = or_else (no_outline task bytes) (or_else (cut_table (face_of task bytes)) (wrong_metrics (face_of task bytes)))
+wrong_outlines task bytes = or_else (no_outline task bytes) (wrong_table (face_of task bytes))
 
 abbrev pub hint_of_malformed : Task → List ℕ → Option Hint
 hint_of_malformed task bytes = or_else (no_part task bytes) (wrong_outlines task bytes)
 
+-- or else no outlines
+unfoldable pub cut_or_bare : Font → Option Hint
+cut_or_bare font = or_else (cut_table font) (no_outlines font)
+
 abbrev pub hint_of_unknown : Font → Option Hint
-hint_of_unknown font = or_else (no_font font) (or_else (cut_table font) (no_outlines font))
+hint_of_unknown font = or_else (no_font font) (cut_or_bare font)
 
 abbrev pub hint_of_error : Refusal → Task → List ℕ → Option Hint
 hint_of_error UnknownKind task bytes = hint_of_unknown (face_of task bytes)
@@ -159,8 +167,11 @@ hint_of_error CFFError task bytes = None
 hint_of_error OutOfMemory task bytes = None
 
 -- why a face has no mapping of Unicode characters: there is no face, no cmap, or none of its tables that are read
+unfoldable pub no_mapping : Font → Option Hint
+no_mapping font = or_else (no_table font (record { 0 = codes "cmap" })) (Some NoUnicode)
+
 abbrev pub hint_of_mapping : Font → Option Hint
-hint_of_mapping font = or_else (no_font font) (or_else (no_table font (record { 0 = codes "cmap" })) (Some NoUnicode))
+hint_of_mapping font = or_else (no_font font) (no_mapping font)
 
 -- what is said behind a failure to print axes
 abbrev pub axes_hint_of_error : Refusal → List ℕ → ℕ → Option Hint

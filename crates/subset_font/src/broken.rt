@@ -1,6 +1,6 @@
 //! What is wrong with a file as a whole: its first bytes, its directory, and tables that end behind it.
 
-ghost use Rattle.std.specs.Prelude.{◌≡◌, length};
+ghost use Rattle.std.specs.Prelude.{◌≡◌, ◌+◌, length};
 ghost use Rattle.subsetter_sfnt.specs.Extras.{all_extras};
 ghost use Rattle.subsetter_sfnt.specs.Read.{record_of};
 ghost use Rattle.subset_font.specs.Broken.{packed, not_font, face_count, no_face, no_directory, no_font, is_cut, cut_hint, first_cut, cut_table, missing_table};

@@ -4,7 +4,7 @@ ghost use Rattle.std.specs.Prelude.{◌≡◌, ◌≤◌};
 ghost use Rattle.subsetter_sfnt.specs.Extras.{all_extras};
 ghost use Rattle.subset_font.specs.Asked.{face_glyphs};
 ghost use Rattle.subset_font.specs.Made.{face_of};
-ghost use Rattle.subset_font.specs.Hint.{first_past, no_glyph, no_table, no_table_for_widths, no_table_for, entry, wrong_range, wrong_between, wrong_outline, first_wrong, listed, no_outline, is_cff2, wrong_metrics_of, wrong_metrics, no_outlines, no_font_or_glyph, no_part, wrong_outlines, hint_of_malformed, hint_of_unknown, hint_of_error, hint_of_mapping, no_axes, axes_hint_of_error, axes_hint, hint_of};
+ghost use Rattle.subset_font.specs.Hint.{first_past, no_glyph, no_table, no_table_for_widths, no_table_for, entry, wrong_range, wrong_between, wrong_outline, first_wrong, listed, no_outline, is_cff2, wrong_metrics_of, wrong_metrics, no_outlines, no_font_or_glyph, no_part, wrong_table, wrong_outlines, hint_of_malformed, cut_or_bare, hint_of_unknown, hint_of_error, no_mapping, hint_of_mapping, no_axes, axes_hint_of_error, axes_hint, hint_of};
 
 use crate::broken::{cut_table, missing_table, no_font};
 use crate::face::{count_glyphs, find_place, table};
@@ -328,11 +328,19 @@ fn no_part(font: &[u8], task: &Task<'_>) -> Option<Hint>
     no_font_or_glyph(font, task).or(no_table_for(font, task))
 }
 
+/// What is wrong with a table that ends behind the file, or else with metrics.
+#[tactic(auto, unfolding(crate::specs::Hint::wrong_table))]
+fn wrong_table(font: &[u8], index: u32) -> Option<Hint>
+    ensures { result ≡ wrong_table (record { bytes = font.now; index = index; extras = all_extras }) }
+{
+    cut_table(font, index).or(wrong_metrics(font, index))
+}
+
 /// What is wrong with outlines, with a table that ends behind the file, or with metrics.
 fn wrong_outlines(font: &[u8], task: &Task<'_>) -> Option<Hint>
     ensures { result ≡ wrong_outlines task.now font.now }
 {
-    no_outline(font, task).or(cut_table(font, task.index).or(wrong_metrics(font, task.index)))
+    no_outline(font, task).or(wrong_table(font, task.index))
 }
 
 /// What more is known of a face that is malformed.
@@ -342,11 +350,19 @@ fn hint_of_malformed(font: &[u8], task: &Task<'_>) -> Option<Hint>
     no_part(font, task).or(wrong_outlines(font, task))
 }
 
+/// What is wrong with a table that ends behind the file, or else that there are no outlines.
+#[tactic(auto, unfolding(crate::specs::Hint::cut_or_bare))]
+fn cut_or_bare(font: &[u8], index: u32) -> Option<Hint>
+    ensures { result ≡ cut_or_bare (record { bytes = font.now; index = index; extras = all_extras }) }
+{
+    cut_table(font, index).or(no_outlines(font, index))
+}
+
 /// What more is known of a file that is of no known kind.
 fn hint_of_unknown(font: &[u8], index: u32) -> Option<Hint>
     ensures { result ≡ hint_of_unknown (record { bytes = font.now; index = index; extras = all_extras }) }
 {
-    no_font(font, index).or(cut_table(font, index).or(no_outlines(font, index)))
+    no_font(font, index).or(cut_or_bare(font, index))
 }
 
 /// What more is known of a font that is refused by an error.
@@ -362,12 +378,19 @@ fn hint_of_error(error: Error, font: &[u8], task: &Task<'_>) -> Option<Hint>
     }
 }
 
+/// What is known of a face without a mapping of Unicode characters.
+#[tactic(auto, unfolding(crate::specs::Hint::no_mapping))]
+fn no_mapping(font: &[u8], index: u32) -> Option<Hint>
+    ensures { result ≡ no_mapping (record { bytes = font.now; index = index; extras = all_extras }) }
+{
+    no_table(font, index, Tag::new(b"cmap")).or(Some(Hint::NoUnicode))
+}
+
 /// What more is known of a font without a mapping of Unicode characters.
 fn hint_of_mapping(font: &[u8], index: u32) -> Option<Hint>
     ensures { result ≡ hint_of_mapping (record { bytes = font.now; index = index; extras = all_extras }) }
 {
-    let no_mapping = no_table(font, index, Tag::new(b"cmap")).or(Some(Hint::NoUnicode));
-    no_font(font, index).or(no_mapping)
+    no_font(font, index).or(no_mapping(font, index))
 }
 
 /// What more is known of a font whose axes can't be printed, by an error.

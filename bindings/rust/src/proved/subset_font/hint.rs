@@ -295,9 +295,14 @@ fn no_part(font: &[u8], task: &Task<'_>) -> Option<Hint> {
     no_font_or_glyph(font, task).or(no_table_for(font, task))
 }
 
+/// What is wrong with a table that ends behind the file, or else with metrics.
+fn wrong_table(font: &[u8], index: u32) -> Option<Hint> {
+    cut_table(font, index).or(wrong_metrics(font, index))
+}
+
 /// What is wrong with outlines, with a table that ends behind the file, or with metrics.
 fn wrong_outlines(font: &[u8], task: &Task<'_>) -> Option<Hint> {
-    no_outline(font, task).or(cut_table(font, task.index).or(wrong_metrics(font, task.index)))
+    no_outline(font, task).or(wrong_table(font, task.index))
 }
 
 /// What more is known of a face that is malformed.
@@ -305,9 +310,14 @@ fn hint_of_malformed(font: &[u8], task: &Task<'_>) -> Option<Hint> {
     no_part(font, task).or(wrong_outlines(font, task))
 }
 
+/// What is wrong with a table that ends behind the file, or else that there are no outlines.
+fn cut_or_bare(font: &[u8], index: u32) -> Option<Hint> {
+    cut_table(font, index).or(no_outlines(font, index))
+}
+
 /// What more is known of a file that is of no known kind.
 fn hint_of_unknown(font: &[u8], index: u32) -> Option<Hint> {
-    no_font(font, index).or(cut_table(font, index).or(no_outlines(font, index)))
+    no_font(font, index).or(cut_or_bare(font, index))
 }
 
 /// What more is known of a font that is refused by an error.
@@ -321,10 +331,14 @@ fn hint_of_error(error: Error, font: &[u8], task: &Task<'_>) -> Option<Hint> {
     }
 }
 
+/// What is known of a face without a mapping of Unicode characters.
+fn no_mapping(font: &[u8], index: u32) -> Option<Hint> {
+    no_table(font, index, Tag::new(b"cmap")).or(Some(Hint::NoUnicode))
+}
+
 /// What more is known of a font without a mapping of Unicode characters.
 fn hint_of_mapping(font: &[u8], index: u32) -> Option<Hint> {
-    let no_mapping = no_table(font, index, Tag::new(b"cmap")).or(Some(Hint::NoUnicode));
-    no_font(font, index).or(no_mapping)
+    no_font(font, index).or(no_mapping(font, index))
 }
 
 /// What more is known of a font whose axes can't be printed, by an error.
