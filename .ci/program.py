@@ -222,6 +222,42 @@ FONTS["instances"] = made.font(sorted([
     *names((3, 1, 0x0409, 257, "Semi Bold", 0), (3, 1, 0x0409, 259, "Black", 0))]))
 
 
+def end_of(name, tag):
+    """The byte at which a table of a font ends, as its directory says."""
+    font = FONTS[name]
+    records = [font[12 + 16 * k:28 + 16 * k] for k in range(int.from_bytes(font[4:6], "big"))]
+    return next(int.from_bytes(it[8:12], "big") + int.from_bytes(it[12:16], "big") for it in records if it[:4] == tag.encode())
+
+
+def with_hhea(data):
+    """`six` with another `hhea`."""
+    return made.font(sorted([*(it for it in tables_of(FONTS["six"]).items() if it[0] != "hhea"), ("hhea", data)]))
+
+
+FONTS |= {
+    # no fonts: a text, an image, and three bytes of a font
+    "text": b"root:x:0:0:root:/root:/bin/sh\n",
+    "png": b"\x89PNG\r\n\x1a\n" + bytes(40),
+    "three_bytes": FONTS["six"][:3],
+    # files that are cut: in the directory, in `cmap`, before the last byte of `maxp`, and before `fvar`
+    "cut_directory": FONTS["six"][:40],
+    "cut_cmap": FONTS["small"][:end_of("small", "cmap") - 1],
+    "cut_loca": FONTS["six"][:end_of("six", "loca") - 1],
+    "cut_maxp": FONTS["six"][:end_of("six", "maxp") - 1],
+    "cut_glyf": FONTS["six"][:end_of("six", "glyf") - 1],
+    "cut_fvar": VARIABLE[:12 + 16 * 8],
+    # a collection whose first face begins at no font
+    "no_header": b"ttcf" + made.u32s(0x00010000, 1, 16) + b"\0\0\0\0",
+    "no_outlines": made.font([("head", HEAD), ("maxp", MAXP)]),
+    "no_hhea": six(without=("hhea",)),
+    "no_metrics": with_hhea(bytes(36)),
+    "many_metrics": with_hhea(b"\xff" * 36),
+    # (the last of seven metrics would end where the table does, if it had one more)
+    "seven_metrics": with_hhea(bytes(34) + made.u16s(7)),
+    "variable_named": made.font(sorted([*tables_of(VARIABLE).items(), ("cmap", cmap((3, 1, segments((65, 65, 65536 - 64, 0), (0xFFFF, 0xFFFF, 1, 0)))))])),
+}
+
+
 def sum_of(data):
     """The sum of a table's words."""
     data += bytes(-len(data) % 4)
@@ -289,12 +325,20 @@ def index(word):
     return wrong(f'INDEX "{word}" is not a number', WANTED["INDEX"])
 
 
+def face_index(word):
+    return wrong(f'--face-index: "{word}" is not a number', WANTED["INDEX"])
+
+
+def descends(part, option):
+    return wrong(f'{option}: the range "{part}" descends', "expected: the lesser number first, as 10-20")
+
+
 def gid(part):
     return wrong(f'GID "{part}" is not a glyph number', "expected: numbers from 0 to 65535, with commas, as 36,37,38")
 
 
 def in_codes(part, option="--unicodes"):
-    return wrong(f'{option}: "{part}" is not a character number', "expected: numbers as U+0041 and ranges as U+0041-005A")
+    return wrong(f'{option}: "{part}" is not a character number', "expected: hexadecimal numbers and ranges, as U+0041-005A; U+ may be left out")
 
 
 def in_list(part):
@@ -306,7 +350,7 @@ def limits(word):
 
 
 def coordinate(part):
-    return wrong(f'--at: "{part}" is not TAG=VALUE', "expected: a tag and a decimal number, as wght=650, or a name")
+    return wrong(f'--at: "{part}" is not TAG=VALUE', "expected: coordinates as wght=650,wdth=87.5, or a name alone")
 
 
 def further(word, wanted="IN OUT INDEX GID, with no blanks between glyph numbers"):
@@ -329,8 +373,12 @@ def no_option(word, nearest=None):
     return wrong(f"{word} is no option", f"did you mean {nearest}?" if nearest else SEE_HELP)
 
 
+def apart(word, option):
+    return wrong(f"{word} is no option", f"{option} and its value are two arguments")
+
+
 def glyphs_twice(option):
-    return wrong(f"{option}: the glyphs are requested twice", "expected: GID or one of --gids, --text and --unicodes or their -file")
+    return wrong(f"{option} is a second option that requests glyphs", "expected: only one of --gids, --text, --unicodes or a -file of these")
 
 
 def beside_option(word):
@@ -342,7 +390,7 @@ def in_argument(part):
 
 
 def beside_input(word):
-    return wrong(f'"{word}" is one argument too many', "expected: IN and options, where -o or --face-index is one")
+    return wrong(f'"{word}" is one argument too many', "expected: with -o or --face-index, IN and options alone; glyphs by --gids")
 
 
 NO_SOURCE = wrong("no option requests glyphs", "expected: --gids, --text, --unicodes, or a file of one")
@@ -384,7 +432,7 @@ def no_instance(names):
     return f"no such instance in font\n{names}\n".encode()
 
 
-NO_INSTANCES = no_instance("the font has no named instances with names")
+NO_INSTANCES = no_instance("the font has no named instances")
 
 
 # ---- and of a font that is refused
@@ -397,6 +445,20 @@ def wrong_glyph(number, what):
     return f"malformed font\nglyph {number}: {what}\n".encode()
 
 
+def hinted(first, hint):
+    return f"{first}\n{hint}\n".encode()
+
+
+def no_glyph_for(names):
+    return f"no glyph for {names}: glyph 0 is shown\n".encode()
+
+
+def is_cut(table, end, size, first="malformed font"):
+    return hinted(first, f"the file is cut: table {table} ends at byte {end}, the file at {size}")
+
+
+NOT_FONT = "not a font: its first bytes are none of TrueType, OpenType, a collection"
+NO_AXES = b"no axes in the font\n"
 NO_ENTRIES_9 = wrong_glyph(9, "loca has no entries for it")
 
 
@@ -469,9 +531,9 @@ ROWS = [
     Row("mixed out 2 9", 1, err=b"malformed font\nINDEX 2: the faces of the collection are 0 to 1\n", after=USED),
     Row("--widths simple out 0 9", 1, err=no_table("hmtx"), after=USED),
     Row("faces out 2 1", 1, err=b"malformed font\nINDEX 2: the faces of the collection are 0 to 1\n", after=USED),
-    Row("woff out 0 1", 1, err=b"unknown font kind\nWOFF: unpack it first\n", after=USED),
-    Row("woff2 out 0 1", 1, err=b"unknown font kind\nWOFF2: unpack it first\n", after=USED),
-    Row("empty out 0 1", 1, err=b"unknown font kind\n", after=USED),
+    Row("woff out 0 1", 1, err=b"unknown font kind\na WOFF file: unpack it first\n", after=USED),
+    Row("woff2 out 0 1", 1, err=b"unknown font kind\na WOFF2 file: unpack it first\n", after=USED),
+    Row("empty out 0 1", 1, err=hinted("unknown font kind", "the file is empty"), after=USED),
     *(Row(f"{name} out 0 {list_of}", 1, err=wrong_glyph(number, what), after=USED) for name, list_of, number, what in (
         ("descends", "1,3,5", 3, "its loca entries descend"), ("descends_short", "3", 3, "its loca entries descend"),
         ("outside", "5,4", 5, "its outline isn't inside glyf"), ("outside_short", "4,5", 5, "its outline isn't inside glyf"), ("few_entries", "1,3,5,4", 5, "loca has no entries for it"),
@@ -479,8 +541,34 @@ ROWS = [
     Row("no_loca out 0 1", 1, err=no_table("loca"), after=USED),
     Row("no_head out 0 1", 1, err=no_table("head"), after=USED),
     Row("cff2 out 0 1", 1, err=b"unsupported feature in font\nCFF2: its outlines aren't read\n", after=USED),
+    # files that are no fonts, and files that are cut: the first line is as ever, the second says why
+    *(Row(f"{words} {name} out 0", 1, err=hinted(first, hint), after=USED) for name, hint in (
+        ("text", NOT_FONT), ("png", NOT_FONT), ("three_bytes", NOT_FONT), ("empty", "the file is empty"), ("woff", "a WOFF file: unpack it first"), ("woff2", "a WOFF2 file: unpack it first"),
+        ("cut_directory", "the file is cut in its table directory"), ("no_header", "INDEX 0: no font begins where the collection says"))
+      for words, first in (("--text A", "no Unicode cmap in font"), ("--unicodes 41", "no Unicode cmap in font"), ("--gids *", "malformed font"))),
+    *(Row(f"{name} out 0 1", 1, err=hinted("unknown font kind", NOT_FONT), after=USED) for name in ("text", "png", "three_bytes")),
+    *(Row(f"--{it} text", 1, err=hinted("unknown font kind", NOT_FONT)) for it in ("axes", "info")),
+    Row("no_header out 0 1", 1, err=hinted("malformed font", "INDEX 0: no font begins where the collection says"), after=USED),
+    Row("cut_directory out 0 1", 1, err=hinted("malformed font", "the file is cut in its table directory"), after=USED),
+    Row("no_outlines out 0 1", 1, err=hinted("unknown font kind", "the face has no table glyf, CFF or CFF2"), after=USED),
+    Row("--text A cut_cmap out 0", 1, err=is_cut("cmap", end_of("small", "cmap"), end_of("small", "cmap") - 1, "no Unicode cmap in font"), after=USED),
+    Row("--gids * cut_maxp out 0", 1, err=is_cut("maxp", end_of("six", "maxp"), end_of("six", "maxp") - 1), after=USED),
+    Row("cut_loca out 0 1", 1, err=is_cut("loca", end_of("six", "loca"), end_of("six", "loca") - 1), after=USED),
+    Row("cut_glyf out 0 1", 1, err=is_cut("glyf", end_of("six", "glyf"), end_of("six", "glyf") - 1, "unknown font kind"), after=USED),
+    Row("--widths cut_glyf out 0 1", 1, err=is_cut("glyf", end_of("six", "glyf"), end_of("six", "glyf") - 1, "unknown font kind"), after=USED),
+    Row("--info cut_maxp", out=info("TrueType", 1, "@old@", "not given", f"subset refuses: malformed font\nreason: the file is cut: table maxp ends at byte {end_of('six', 'maxp')}, the file at @old@", "six"), source="cut_maxp"),
+    Row("--axes cut_fvar", err=is_cut("fvar", end_of("variable", "fvar"), 12 + 16 * 8, "").lstrip(b"\n")),
+    # metrics that can't be read
+    Row("no_metrics out 0 1", 1, err=hinted("overflow occurred", "hhea: numberOfHMetrics is 0"), after=USED),
+    Row("many_metrics out 0 1", 1, err=hinted("malformed font", "hhea: numberOfHMetrics is 65535, and hmtx is shorter"), after=USED),
+    Row("seven_metrics out 0 1", 1, err=hinted("malformed font", "hhea: numberOfHMetrics is 7, and hmtx is shorter"), after=USED),
+    Row("no_hhea out 0 1", 1, err=no_table("hhea"), after=USED),
     # the limits
-    Row("--limits 0,1 cff out 0 0", 1, err=b"processing CFF table failed\n", after=USED),
+    Row("--limits 1000,5,163 --at wght=650 variable out 0 1", 1, err=hinted("overflow occurred", "the new font has more than the 163 bytes of --limits"), after=USED),
+    Row("--limits 0,1,5 cff out 0 0", 1, err=hinted("processing CFF table failed", "a glyph needs more than the 0,1 of --limits"), after=USED),
+    Row("--limits 1000,5,100 no_metrics out 0 1", 1, err=hinted("overflow occurred", "hhea: numberOfHMetrics is 0"), after=USED),
+    Row("--limits 0,1 --at black instances out 0 1", 1, err=hinted("overflow occurred", "a glyph needs more than the 0,1 of --limits"), after=USED),
+    Row("--limits 0,1 cff out 0 0", 1, err=hinted("processing CFF table failed", "a glyph needs more than the 0,1 of --limits"), after=USED),
     Row("--limits 1,1 cff out 0 0", out=lines((0, 0)), same="cff 0"),
     Row("--limits 5,0 cff out 0 0", 2, err=limits("5,0"), after=USED),
     Row("--limits cff out 0 0", 2, err=limits("cff"), after=USED),
@@ -488,8 +576,8 @@ ROWS = [
     Row("--limits 4294967295,255 cff out 0 0", out=lines((0, 0)), same="cff 0"),
     Row("simple --limits 0 2", out=lines((2, 1)), after={"--limits": "simple 2"}),
     Row("--limits 5,5,164 cff out 0 0", out=lines((0, 0)), same="cff 0"),
-    Row("--limits 5,5,163 cff out 0 0", 1, err=b"overflow occurred\n", after=USED),
-    Row("--limits 5,5,5 cff out 0 0", 1, err=b"overflow occurred\n", after=USED),
+    Row("--limits 5,5,163 cff out 0 0", 1, err=hinted("overflow occurred", "the new font has more than the 163 bytes of --limits"), after=USED),
+    Row("--limits 5,5,5 cff out 0 0", 1, err=hinted("overflow occurred", "the new font has more than the 5 bytes of --limits"), after=USED),
     *usage(*((f"--limits {it} cff out 0 0", limits(it)) for it in (
         "5", "5,256", "4294967296,5", "5,", "+5,5", "5,5,", "5,,5", "5,5,4294967296", "5,5,5,5")),
            ("--limits", no_value("--limits")), ("--limits 5,5 --limits 5,5 cff out 0 0", twice("--limits")),
@@ -515,7 +603,7 @@ ROWS = [
     Row("--at wght=650 simple out 0 2", out=lines((2, 1)), same="simple 2", err=no_axis("wght", axes="axes: none\n")),
     Row("--at wght=650 cff out 0 0", out=lines((0, 0)), same="cff 0", err=no_axis("wght", axes="axes: none\n")),
     Row("--at wght=650 variable out 0 4", 1, err=b"malformed font\nGID 4: the glyphs of the face are 0 to 3\n", after=USED),
-    Row("--limits 20,64 --at wght=650 variable out 0 2", 1, err=b"overflow occurred\n", after=USED),
+    Row("--limits 20,64 --at wght=650 variable out 0 2", 1, err=hinted("overflow occurred", "a glyph needs more than the 20,64 of --limits"), after=USED),
     *(Row(f"--at {it} variable out 0 1", 2, err=coordinate(it), after=USED)
       for it in ("wght=", "wght=+1", "wght=1.", "wght=.5", "wght=1.0000000000x", "wght=1-", "wght=--1", "wgh=1", "weight=1",
                  "wght=32768", "wght=1=1", "wght=1e2", "wght=32767.99999237060546875", "wght=-32768.000007629394531250001", "wght=1.-5", "wght=1.5.5", "wght=65536.1")),
@@ -538,7 +626,7 @@ ROWS = [
     Row("--at bold instances out 0 1", 1, err=no_instance("named instances: Semi Bold, Black"), after=USED),
     Row("--at wght variable out 0 1", 1, err=NO_INSTANCES, after=USED),
     Row("--at Bold simple out 0 2", 1, err=NO_INSTANCES, after=USED),
-    Row("--at Bold woff out 0 2", 1, err=b"unknown font kind\nWOFF: unpack it first\n", after=USED),
+    Row("--at Bold woff out 0 2", 1, err=b"unknown font kind\na WOFF file: unpack it first\n", after=USED),
     Row("--at Bold axes_cut_0 out 0 0", 1, err=b"malformed font\n", after=USED),
     *usage((["--at", "", "variable", "out", "0", "1"], coordinate(""))),
     *usage(("--at wght=650, variable out 0 1", coordinate("")), ("--at wght=650,wdth variable out 0 1", coordinate("wdth")),
@@ -557,12 +645,12 @@ ROWS = [
         "instance wght=262 a\ufffdb\ufffd\ufffd\ufffd~\xa0\ninstance wght=263\ninstance wght=264\n".encode()),
     Row("--axes axes_few_names 0", out=b"axis wght 100 400 900\ninstance wght=1 A\ninstance wght=2 A\n"),
     Row("--axes axes_cut_names 0", out=b"axis wght 100 400 900\ninstance wght=1\n"),
-    Row("--axes simple 0"),
-    Row("--axes cff 0"),
+    Row("--axes simple 0", err=NO_AXES),
+    Row("--axes cff 0", err=NO_AXES),
     *(Row(f"--axes axes_cut_{k} 0", 1, err=b"malformed font\nfvar: the table can't be read\n") for k in range(3)),
-    Row("--axes woff 0", 1, err=b"unknown font kind\nWOFF: unpack it first\n"),
+    Row("--axes woff 0", 1, err=b"unknown font kind\na WOFF file: unpack it first\n"),
     Row("--axes faces 2", 1, err=b"unknown font kind\nINDEX 2: the faces of the collection are 0 to 1\n"),
-    Row("--axes faces 1"),
+    Row("--axes faces 1", err=NO_AXES),
     Row("--axes none 0", 3, err=cannot_read("none", errno.ENOENT)),
     Row("--axes", 2, err=missing("IN")),
     Row("--axes variable", out=b"axis wght 100 400 900\n"),
@@ -583,7 +671,7 @@ ROWS = [
     Row("--info descends", out=info("TrueType", 1, "@old@", 6, "subset refuses: malformed font\nreason: glyph 3: its loca entries descend", "descends"), source="descends"),
     *(Row(f"--info fs_{bits}", out=info("TrueType", 1, "@old@", 6, "subset accepts every glyph", f"fs_{bits}", words), source=f"fs_{bits}") for bits, words in PERMISSIONS),
     Row("--info none", 3, err=cannot_read("none", errno.ENOENT)),
-    Row("--info woff", 1, err=b"unknown font kind\nWOFF: unpack it first\n"),
+    Row("--info woff", 1, err=b"unknown font kind\na WOFF file: unpack it first\n"),
     Row("--info faces 2", 1, err=b"unknown font kind\nINDEX 2: the faces of the collection are 0 to 1\n"),
     Row("--info", 2, err=missing("IN")),
     Row("--info six 0 1", 2, err=further("1", SHOWN)),
@@ -605,6 +693,27 @@ ROWS = [
     Row("--json --at wdth=1,wght=1000 variable out 0 1", out=b'{"glyphs":[{"old":1,"new":1}],"sizes":{"old":@old@,"new":@new@},'
         b'"notes":["no axis wdth in the font","wght=1000 is clamped to 900","axes: wght 100 to 900"]}\n', same="at 900", err=b"no axis wdth in the font\nwght=1000 is clamped to 900\n" + WGHT.encode(),
         source="variable"),
+    # (where the object goes to standard error, the notes are in it alone)
+    Row("--json --at wdth=1,wght=1000 variable - 0 1", out="at 900", err=b'{"glyphs":[{"old":1,"new":1}],"sizes":{"old":@old@,"new":@new@},'
+        b'"notes":["no axis wdth in the font","wght=1000 is clamped to 900","axes: wght 100 to 900"]}\n', source="variable", after=USED),
+    Row("--json --text Ax small - 0", out="six 1", err=b'{"glyphs":[{"character":65,"old":1,"new":1},{"character":120,"old":0,"new":0}],"sizes":{"old":@old@,"new":@new@},'
+        b'"notes":["no glyph for U+0078: glyph 0 is shown"]}\n', source="small", after=USED),
+    Row("--json --text Ax small /dev/stdout 0", out="six 1", err=b'{"glyphs":[{"character":65,"old":1,"new":1},{"character":120,"old":0,"new":0}],"sizes":{"old":@old@,"new":@new@},'
+        b'"notes":["no glyph for U+0078: glyph 0 is shown"]}\n', source="small", after=USED),
+    Row("--quiet --json --at wdth=1,wght=1000 variable - 0 1", out="at 900", err=b"no axis wdth in the font\nwght=1000 is clamped to 900\n" + WGHT.encode(), after=USED),
+    Row("--at wght=1000 variable - 0 1", out="at 900", err=lines((1, 1)) + clamped("wght=1000", "900"), after=USED),
+    # characters without a glyph
+    Row("--json --text Ax small out 0", out=b'{"glyphs":[{"character":65,"old":1,"new":1},{"character":120,"old":0,"new":0}],"sizes":{"old":@old@,"new":@new@},'
+        b'"notes":["no glyph for U+0078: glyph 0 is shown"]}\n', err=no_glyph_for("U+0078"), same="six 1", source="small"),
+    Row("--json --at wdth=1 --text Ax variable_named out 0", out=b'{"glyphs":[{"character":65,"old":1,"new":1},{"character":120,"old":0,"new":0}],"sizes":{"old":@old@,"new":@new@},'
+        b'"notes":["no axis wdth in the font","axes: wght 100 to 900","no glyph for U+0078: glyph 0 is shown"]}\n', err=no_axis("wdth") + no_glyph_for("U+0078"), same="the axis by a text", source="variable_named"),
+    Row("--quiet --at wdth=1 --text Ax variable_named out 0", err=no_axis("wdth") + no_glyph_for("U+0078"), same="the axis by a text"),
+    Row("--quiet --text Ax small out 0", err=no_glyph_for("U+0078"), same="six 1"),
+    *(Row(["--quiet", "--text", f"A{text}", "small", "out", "0"], err=no_glyph_for(names), same="six 1") for text, names in (
+        ("xxx", "U+0078"), ("xyx", "U+0078, U+0079"), ("zAyxzyx", "U+007A, U+0079, U+0078"), ("xyzw", "U+0078, U+0079, U+007A and others"), ("xyxzwvu", "U+0078, U+0079, U+007A and others"),
+        ("\n", "U+000A"), ("\u2603", "U+2603"), ("\U0001F600", "U+1F600"))),
+    Row("--quiet --unicodes 41,D800,2603 small out 0", err=no_glyph_for("U+2603"), same="six 1"),
+    Row("--quiet --gids 1,0 small out 0", same="six 1"),
     Row("--verbose six out 0 2,1", out=lines((2, 1), (1, 2)) + SIX_TABLES, same="six 2,1"),
     Row("--verbose --widths six out 0 2,1", out=lines((2, 1), (1, 2)) + b"[0 [0 200 100]]\n" + SIX_TABLES, same="six 2,1"),
     Row("--verbose --json six out 0 2,1", out=b'{"glyphs":[{"old":2,"new":1},{"old":1,"new":2}],"sizes":{"old":@old@,"new":@new@},"tables":[%s],"notes":[]}\n' % b",".join(
@@ -638,10 +747,12 @@ ROWS = [
     Row("--gids-file list six out 0", 1, err=b"malformed font\nGID 65535: the glyphs of the face are 0 to 5\n",
         files={"list": b"1-2 65535"}, after=USED),
     *(Row("--gids-file list six out 0", 2, err=in_list(text.decode()), files={"list": text}, after=USED) for text in (
-        b"3-1", b"65536", b"3-", b"-3", b"-", b"1-2-3", b"0-65536", b"+1", b"1;2", b"x", b"**", b"1\xc2\xa02")),
+        b"65536", b"3-", b"-3", b"-", b"1-2-3", b"0-65536", b"+1", b"1;2", b"x", b"**", b"1\xc2\xa02")),
     *(Row("--gids-file list six out 0", 2, err=in_list(part), files={"list": text}, after=USED) for text, part in (
-        (b"1\xff", "?"), (b"1 \xff", "?"), (b"1 - 3", "-"), (b"1 *", "*"), (b"1,qq\n3-1", "qq"), (b"1\r\n\t2-x", "2-x"),
+        (b"1\xff", "?"), (b"1 \xff", "?"), (b"1 - 3", "-"), (b"1 *", "*"), (b"1,qq\n3-1", "qq"), (b"65536-1", "65536-1"), (b"3-x", "3-x"), (b"1\r\n\t2-x", "2-x"),
         (b"\x00", "\ufffd"), (b"7" * 41, "7" * 40 + ".."), (b"8" * 40, "8" * 40))),
+    *(Row("--gids-file list six out 0", 2, err=descends(part, "--gids-file"), files={"list": text}, after=USED) for text, part in (
+        (b"3-1", "3-1"), (b"1\n20-10,qq", "20-10"))),
     Row("--gids-file none six out 0", 3, err=cannot_read("none", errno.ENOENT), after=USED),
     Row("--gids-file . six out 0", 3, err=cannot_read(".", errno.EISDIR), after=USED),
     Row("--gids-file - - out 0", 2, err=INPUT_TWICE, after=USED),
@@ -653,23 +764,24 @@ ROWS = [
     # characters, and texts in files
     Row("--unicodes U+0041,U+0042 small out 0", out=b"U+0041 1 -> 1\nU+0042 2 -> 2\n", same="six 1,2"),
     *(Row(["--unicodes", it, "small", "out", "0"], out=b"U+0041 1 -> 1\nU+0042 2 -> 2\n", same="six 1,2") for it in ("41,42", "U+0041-0042", "u+41-U+42", "0000000041-42", "U+41,,42", "41-41,42-42")),
-    Row("small --unicodes 43,41,78,41 -o out", out=b"U+0043 3 -> 1\nU+0041 1 -> 2\nU+0078 0 -> 0\nU+0041 1 -> 2\n", same="six 3,1"),
+    Row("small --unicodes 43,41,78,41 -o out", out=b"U+0043 3 -> 1\nU+0041 1 -> 2\nU+0078 0 -> 0\nU+0041 1 -> 2\n", err=no_glyph_for("U+0078"), same="six 3,1"),
     Row("--unicodes 41,1f600 both out 0", out=b"U+0041 4 -> 1\nU+1F600 5 -> 2\n", same="six 4,5"),
-    Row("--unicodes D7FF-E000 small out 0", out=b"U+D7FF 0 -> 0\nU+E000 0 -> 0\n", same="six none"),
-    Row("--unicodes 10FFFF,DC00 small out 0", out=b"U+10FFFF 0 -> 0\n", same="six none"),
+    Row("--unicodes D7FF-E000 small out 0", out=b"U+D7FF 0 -> 0\nU+E000 0 -> 0\n", err=no_glyph_for("U+D7FF, U+E000"), same="six none"),
+    Row("--unicodes 10FFFF,DC00 small out 0", out=b"U+10FFFF 0 -> 0\n", err=no_glyph_for("U+10FFFF"), same="six none"),
     Row(["--unicodes", "", "small", "out", "0"], same="six none"),
     Row("--unicodes-file list small out 0", out=b"U+0041 1 -> 1\nU+0042 2 -> 2\n", files={"list": b" U+0041\r\n\t42,\n"}, same="six 1,2"),
     Row("--unicodes-file - small out 0", out=b"U+0041 1 -> 1\nU+0042 2 -> 2\n", stdin=b"41-42", same="six 1,2"),
     Row("--text-file list small out 0", out=b"U+0041 1 -> 1\nU+0042 2 -> 2\n", files={"list": b"\nA\r\nB\n"}, same="six 1,2"),
     Row("--text-file - small out 0", out=b"U+0043 3 -> 1\nU+0041 1 -> 2\n", stdin=b"CA", same="six 3,1"),
-    Row("small --text-file list -o out", out=b"U+0020 0 -> 0\nU+0009 0 -> 0\n", files={"list": b" \t"}, same="six none"),
+    Row("small --text-file list -o out", out=b"U+0020 0 -> 0\nU+0009 0 -> 0\n", err=no_glyph_for("U+0020, U+0009"), files={"list": b" \t"}, same="six none"),
     Row("--text-file list both out 0", out=b"U+0041 4 -> 1\nU+1F600 5 -> 2\n", files={"list": "A\n\U0001F600".encode()}, same="six 4,5"),
     Row("--unicodes 41 mac out 0", 1, err=b"no Unicode cmap in font\ncmap: no table for Unicode in format 4 or 12\n", after=USED),
     Row("--unicodes 41 six out 0", 1, err=no_table("cmap", "no Unicode cmap in font"), after=USED),
     Row("--text-file list six out 0", 1, err=no_table("cmap", "no Unicode cmap in font"), files={"list": b"A"}, after=USED),
     *usage(*((["--unicodes", it, "small", "out", "0"], in_codes(part)) for it, part in (
-        ("x", "x"), ("U+", "U+"), ("U+110000", "U+110000"), ("41,42-41", "42-41"), ("41-", "41-"), ("-41", "-41"), ("+41", "+41"), ("U++41", "U++41"), ("V+41", "V+41"), ("41-42-43", "41-42-43"),
+        ("x", "x"), ("U+", "U+"), ("U+110000", "U+110000"), ("42-41x", "42-41x"), ("110000-41", "110000-41"), ("41-", "41-"), ("-41", "-41"), ("+41", "+41"), ("U++41", "U++41"), ("V+41", "V+41"), ("41-42-43", "41-42-43"),
         ("U+41+41", "U+41+41"), ("*", "*"), ("0x41", "0x41"), ("41 42", "41 42"), ("fffffffff", "fffffffff"))),
+           *((["--unicodes", it, "small", "out", "0"], descends(part, "--unicodes")) for it, part in (("41,42-41", "42-41"), ("U+42-U+41,x", "U+42-U+41"))),
            ("--unicodes", no_value("--unicodes")), ("--text-file", no_value("--text-file")), ("--unicodes-file", no_value("--unicodes-file")),
            ("--unicodes 41 --text A small out 0", glyphs_twice("--text")), ("--text A --text-file list small out 0", glyphs_twice("--text-file")),
            ("--text A --unicodes 41 small out 0", glyphs_twice("--unicodes")), ("--text A --unicodes-file list small out 0", glyphs_twice("--unicodes-file")),
@@ -677,7 +789,8 @@ ROWS = [
            *((f"--{it}-file - - out 0", wrong(f"--{it}-file: standard input is requested twice", "expected: - for IN or for FILE, not for both")) for it in ("text", "unicodes")),
            ("- -o out --text-file -", wrong("--text-file: standard input is requested twice", "expected: - for IN or for FILE, not for both"))),
     *(Row("--unicodes-file list small out 0", 2, err=in_codes(part, "--unicodes-file"), files={"list": text}, after=USED) for text, part in (
-        (b"41 x", "x"), (b"41\n42-41", "42-41"), (b"41\xff", "?"), (b"U+ 41", "U+"))),
+        (b"41 x", "x"), (b"41\xff", "?"), (b"U+ 41", "U+"))),
+    Row("--unicodes-file list small out 0", 2, err=descends("42-41", "--unicodes-file"), files={"list": b"41\n42-41"}, after=USED),
     *(Row("--text-file list small out 0", 2, err=wrong("--text-file: the text is not UTF-8", "expected: a text in UTF-8"), files={"list": text}, after=USED) for text in (b"\xff", b"A\xc3\n\xa9")),
     *(Row(f"--{it}-file none small out 0", 3, err=cannot_read("none", errno.ENOENT), after=USED) for it in ("text", "unicodes")),
     Row("--text-file . small out 0", 3, err=cannot_read(".", errno.EISDIR), after=USED),
@@ -691,8 +804,9 @@ ROWS = [
     Row("--gids 65535-65535 six out 0", 1, err=b"malformed font\nGID 65535: the glyphs of the face are 0 to 5\n", after=USED),
     Row("--gids * simple out 0", 1, err=no_table("maxp"), after=USED),
     *usage(*((f"--gids {it} six out 0", in_argument(part)) for it, part in (
-        ("3-1", "3-1"), ("65536", "65536"), ("1,qq", "qq"), ("1-2-3", "1-2-3"), ("0-65536", "0-65536"), ("*,1", "*"), ("**", "**"), ("+1", "+1"), ("-", "-"),
+        ("65536", "65536"), ("1,qq", "qq"), ("65536-1", "65536-1"), ("3-x", "3-x"), ("x-3", "x-3"), ("1,qq,3-1", "qq"), ("1-2-3", "1-2-3"), ("0-65536", "0-65536"), ("*,1", "*"), ("**", "**"), ("+1", "+1"), ("-", "-"),
         ("5-", "5-"))),
+           *((f"--gids {it} six out 0", descends(part, "--gids")) for it, part in (("3-1", "3-1"), ("1,20-10,qq", "20-10"), ("65535-0", "65535-0"))),
            (["--gids", "1 2", "six", "out", "0"], in_argument("1 2")), ("--gids", no_value("--gids")), ("--gids 1 --gids 2 six out 0", glyphs_twice("--gids")),
            ("--gids 1 --text A six out 0", glyphs_twice("--text")), ("--gids 1 six out 0 2", beside_option("2"))),
     # options before and after IN, of which one says OUT
@@ -716,7 +830,7 @@ ROWS = [
     Row("six --gids 2 -o none/out", 3, err=cannot_write("none/out", errno.ENOENT)),
     *usage(("six -o out", NO_SOURCE), ("six --gids 1 --face-index 0", NO_OUTPUT_OPTION), ("-o out --gids 1", missing("IN")), ("six --gids 1 -o", no_value("-o")),
            ("six --gids 1 -o out -o out", twice("-o")), ("six -o out --output-file out --gids 1", twice("--output-file")),
-           ("six -o out --gids 1 --face-index x", index("x")), ("six -o out --gids 1 --face-index 4294967296", index("4294967296")),
+           ("six -o out --gids 1 --face-index x", face_index("x")), ("six -o out --gids 1 --face-index 4294967296", face_index("4294967296")),
            ("six -o out --gids 1 --face-index 0 --face-index 0", twice("--face-index")), ("six -o out --gids 1-x", in_argument("1-x")),
            ("six mac -o out --gids 1", beside_input("mac")), ("-o x six out 0 1", beside_input("out")), ("--face-index 0 six out 0 1", beside_input("out")),
            ("-o x --gids 1 six out 0", beside_input("out")), ("six -o out --gids 1 -- mac", beside_input("mac")), ("-o out --gids 1 -- six mac", beside_input("mac")),
@@ -727,9 +841,9 @@ ROWS = [
     # the glyphs of a text
     Row("--text AB small out 0", out=b"U+0041 1 -> 1\nU+0042 2 -> 2\n", same="six 1,2"),
     Row("six out 0 1,2", out=lines((1, 1), (2, 2)), same="six 1,2"),
-    Row("--text CAxA small out 0", out=b"U+0043 3 -> 1\nU+0041 1 -> 2\nU+0078 0 -> 0\nU+0041 1 -> 2\n", same="six 3,1"),
+    Row("--text CAxA small out 0", out=b"U+0043 3 -> 1\nU+0041 1 -> 2\nU+0078 0 -> 0\nU+0041 1 -> 2\n", err=no_glyph_for("U+0078"), same="six 3,1"),
     Row("six out 0 3,1", out=lines((3, 1), (1, 2)), same="six 3,1"),
-    Row(["--text", "\U0001F600", "small", "out", "0"], out=b"U+1F600 0 -> 0\n", same="six none"),
+    Row(["--text", "\U0001F600", "small", "out", "0"], out=b"U+1F600 0 -> 0\n", err=no_glyph_for("U+1F600"), same="six none"),
     Row(["--text", "A\U0001F600", "both", "out", "0"], out=b"U+0041 4 -> 1\nU+1F600 5 -> 2\n", same="six 4,5"),
     Row("six out 0 4,5", out=lines((4, 1), (5, 2)), same="six 4,5"),
     Row(["--text", "", "small", "out", "0"], same="six none"),
@@ -737,7 +851,7 @@ ROWS = [
     Row("--text A six out 0", 1, err=no_table("cmap", "no Unicode cmap in font"), after=USED),
     Row("--text A --gids-file list small out 0", 2, err=glyphs_twice("--gids-file"), files={"list": b"1"}, after=USED),
     Row("--text A small out 0 1", 2, err=beside_option("1"), after=USED),
-    Row("--text - - out 0", out=b"U+002D 0 -> 0\n", stdin=FONTS["small"], same="six none"),
+    Row("--text - - out 0", out=b"U+002D 0 -> 0\n", err=no_glyph_for("U+002D"), stdin=FONTS["small"], same="six none"),
     *usage(("--text A --text A small out 0", glyphs_twice("--text")), ("--text", no_value("--text"))),
     # what is kept
     Row("--no-names --no-hinting --no-glyph-names named out 0 1", out=lines((1, 1)), same="none of the three"),
@@ -761,7 +875,7 @@ ROWS = [
     Row("--json simple - 0 2", out="simple 2", err=b'{"glyphs":[{"old":2,"new":1}],"sizes":{"old":@old@,"new":@new@},"notes":[]}\n', after=USED, source="simple"),
     Row("simple /dev/stdout 0 2", out="simple 2", err=lines((2, 1)), after=USED),
     Row("simple /dev/null 0 2", out=lines((2, 1)), after=USED),
-    Row("- out 0 2", 1, err=b"unknown font kind\n", after=USED),
+    Row("- out 0 2", 1, err=hinted("unknown font kind", "the file is empty"), after=USED),
     Row("simple ./- 0 2", out=lines((2, 1)), after={"-": "simple 2"}),
     # the end of the options
     Row("-- simple out 0 2", out=lines((2, 1)), same="simple 2"),
@@ -774,10 +888,19 @@ ROWS = [
     # the nearest option, by at most two changes of a byte
     *usage(*((f"{word} simple out 0 2", no_option(word, nearest)) for word, nearest in (
         ("--no-hintings", "--no-hinting"), ("--no_hinting", "--no-hinting"), ("--nohinting", "--no-hinting"), ("-no-hintin", "--no-hinting"),
-        ("--no-hitning", "--no-hinting"), ("--no-hint", None), ("--no-hinti", "--no-hinting"), ("--no-naming", None), ("--no-name", "--no-names"),
-        ("--names", "--axes"), ("--gid-file", "--gids-file"), ("--gid", "--gids"), ("--face-indx", "--face-index"), ("--output-fil", "--output-file"), ("--outputfile", "--output-file"), ("--txet", "--text"), ("--axe", "--axes"), ("--ax", "--at"),
+        ("--no-hitning", "--no-hinting"), ("--no-hint", "--no-hinting"), ("--no-hinti", "--no-hinting"), ("--no-naming", None), ("--no-name", "--no-names"),
+        ("--names", "--axes"), ("--gid-file", "--gids-file"), ("--gid", "--gids"), ("--face-indx", "--face-index"), ("--output-fil", "--output-file"), ("--outputfile", "--output-file"), ("--txet", "--text"), ("--axe", "--axes"), ("--ax", "--axes"), ("--a", "--at"),
+        # (one that begins so comes first; one minus may stand for two)
+        ("-t", "--text"), ("-g", "--gids"), ("-text", "--text"), ("--output", "--output-file"), ("-output", "--output-file"), ("--no", "--no-hinting"), ("--v", "--verbose"), ("--txt=ABC", "--text"), ("--widths=1", "--widths"),
         ("--Widths", "--widths"), ("--WIDTHS", None), ("--jso", "--json"), ("--limit=", "--limits"), ("--quite", "--quiet"), ("--hel", "--help"),
         ("--versions", "--version"), ("--verison", "--version"), ("-x", None), ("--no-glyphnames", "--no-glyph-names")))),
+    # an option and its value in one word
+    *usage(("small --text=ABC -o out", apart("--text=ABC", "--text")), ("--text=ABC small out 0", apart("--text=ABC", "--text")), ("small -o out --text A -oout", apart("-oout", "-o")),
+           ("--output-file=out small --text A", apart("--output-file=out", "--output-file")), ("small --text A -oout", apart("-oout", "-o")), ("small --text A --output-file=out", apart("--output-file=out", "--output-file")), ("small --text A --face-index=0 -o out", apart("--face-index=0", "--face-index")), ("-o=out --text A small", apart("-o=out", "-o")), ("-oout small --text A", apart("-oout", "-o"))),
+    # `--axes` and `--info` in a wrong position, and options beside them
+    *usage(("--info --jsn six", no_option("--jsn", "--json")), ("--axes --jsn variable 0", no_option("--jsn", "--json")), ("--info --widths six", further("--widths", SHOWN)),
+           ("--info --axes six", further("--axes", SHOWN)), ("--info -x six", no_option("-x")),
+           ("six --info", wrong("--info isn't the first argument", "expected: " + SHOWN)), ("variable --axes", AXES_LATE), ("six out --info", wrong("--info isn't the first argument", "expected: " + SHOWN))),
     *usage((["--a\x1bb\x7f\x9f\xa0", "simple", "out", "0", "2"], no_option("--a\ufffdb\ufffd\ufffd\xa0")),
            (["--" + "\u6c38" * 39, "simple", "out", "0", "2"], no_option("--" + "\u6c38" * 38 + ".."))),
     Row("-- -- simple out 0 2", 2, err=index("out"), after=USED),
@@ -792,7 +915,7 @@ ROWS = [
 # same of the build by Cargo where it isn't so there, as Rust's `std` opens /dev/null in the stream's place before `main`.
 NO_OUTPUT = cannot_write("standard output", errno.EBADF)
 CLOSED = [
-    (0, "- out 0 2", (3, b"", cannot_read("-", errno.EISDIR)), (1, b"", b"unknown font kind\n")),
+    (0, "- out 0 2", (3, b"", cannot_read("-", errno.EISDIR)), (1, b"", hinted("unknown font kind", "the file is empty"))),
     (0, "--gids-file - six out 0", (3, b"", cannot_read("-", errno.EISDIR)), (0, b"", b"")),
     (0, "simple out 0 2", (0, lines((2, 1)), b""), None),
     (1, "simple out 0 2", (3, None, NO_OUTPUT), (0, None, b"")),
@@ -931,7 +1054,9 @@ def check_contents(table):
 STATUSES = b"""
 Status: 0 OUT has the new font, 1 the font or a glyph is
 refused or memory ran out, 2 an argument is wrong, 3 a file
-can't be read or written.
+can't be read or written. With --axes and --info: 0 it is
+printed, for --info also where a subset would be refused,
+1 IN is no font, or with --axes its table fvar is cut.
 """
 
 
@@ -1427,6 +1552,7 @@ OTHERWISE = {
         "simple simple 0 2": "no file takes the name of one that is open, as IN is: status 3, and IN is as it was",
         "/dev/stdin out 0 2": "a name of Unix: status 3",
         "simple /dev/stdout 0 2": "the same: the font goes to no stream of the program's",
+        "--json --text Ax small /dev/stdout 0": "the same",
         str([b"simple", b"\xff", b"0", b"2"]): "words are of 16 bits there, and wine makes one of any byte",
     },
 }

@@ -1,5 +1,5 @@
 -- The glyphs that a file lists.
-use Rattle.std.specs.Prelude.{ℕ, zero, suc, ◌+◌, ◌-◌, ◌==◌, ◌||◌, not, nat_le, nat_lt, Bool, if◌then◌else◌, List, [], ◌∷◌, ◌++◌, map, filter, length, Option, Some, None, codes}
+use Rattle.std.specs.Prelude.{ℕ, zero, suc, ◌+◌, ◌-◌, ◌==◌, ◌||◌, not, nat_le, nat_lt, Bool, false, if◌then◌else◌, List, [], ◌∷◌, ◌++◌, map, filter, length, Option, Some, None, codes}
 use Rattle.std.specs.Option.{option_map, option_and_then}
 use Rattle.std.specs.List.{slice_split, before_first, after_first, position_or_len}
 use Rattle.std.specs.Str.{bytes_eq}
@@ -37,6 +37,16 @@ ends_of_range part = option_and_then (λ first. option_and_then (in_order first)
 -- the ends that a part writes, where one number is both
 abbrev pub ends_in : List ℕ → Option Ends
 ends_in part = if nat_lt (position_or_len is_dash part) (length part) then ends_of_range part else option_map (λ glyph. record { first = glyph; last = glyph }) (number_in_bits 16 part)
+
+-- two numbers, of which the one is less
+abbrev pub is_less : Option ℕ → Option ℕ → Bool
+is_less (Some one) (Some other) = nat_lt one other
+is_less (Some one) None = false
+is_less None other = false
+
+-- a range whose ends are numbers, and not in order
+abbrev pub descends : List ℕ → Bool
+descends part = if nat_lt (position_or_len is_dash part) (length part) then is_less (number_in_bits 16 (after_first is_dash part)) (number_in_bits 16 (before_first is_dash part)) else false
 
 -- all numbers between two ends, and these
 abbrev pub between : Ends → List ℕ

@@ -1,15 +1,15 @@
 -- What is wrong with an argument, by itself.
 use Rattle.std.specs.Prelude.{◌≡◌, ◌≢◌, ◌⊎◌, ℕ, true, List, None}
 use Rattle.std.specs.Str.{IsUtf8}
-use Rattle.subset_args.specs.Lists.{ends_in}
-use Rattle.subset_args.specs.Characters.{codes_in}
+use Rattle.subset_args.specs.Lists.{ends_in, descends}
+use Rattle.subset_args.specs.Characters.{codes_in, codes_descend}
 use Rattle.subset_args.specs.Request.{topic_of}
 use Rattle.subsetter_words.specs.Numbers.{number_in_bits}
 use Rattle.subset_args.specs.Coordinates.{coordinate_in}
 use Rattle.subset_args.specs.Options.{kind_of, looks_like_option}
 use Rattle.subset_args.specs.declared.options.Kind.TheVariants.{Place}
 use Rattle.subset_args.specs.declared.mistakes.Wrong.{Wrong}
-use Rattle.subset_args.specs.declared.mistakes.Wrong.TheVariants.{NoInput, NoOutput, NoIndex, NoGlyphs, Further, BehindShown, Late, ShownLate, Unknown, Twice, NoValue, GlyphsTwice, BesideOption, InputTwice, Index, Glyph, Limits, Coordinate, Part, Codes, BesideInput, NoOutputOption, NoSource}
+use Rattle.subset_args.specs.declared.mistakes.Wrong.TheVariants.{NoInput, NoOutput, NoIndex, NoGlyphs, Further, BehindShown, Late, ShownLate, Unknown, Twice, NoValue, GlyphsTwice, BesideOption, InputTwice, Index, FaceIndex, Glyph, Limits, Coordinate, Part, Descends, Codes, CodesDescend, BesideInput, NoOutputOption, NoSource}
 
 -- what is said of an argument, or of a value that it lists, is so as far as its own bytes show
 abbrev pub IsWrong : Wrong → List ℕ → Type 0
@@ -28,11 +28,14 @@ IsWrong GlyphsTwice word = Unit {0}
 IsWrong BesideOption word = Unit {0}
 IsWrong InputTwice word = Unit {0}
 IsWrong Index word = number_in_bits 32 word ≡ None
+IsWrong FaceIndex word = number_in_bits 32 word ≡ None
 IsWrong Glyph word = number_in_bits 16 word ≡ None
 IsWrong Limits word = Unit {0}
 IsWrong Coordinate word = coordinate_in word ≡ None
 IsWrong Part word = ¬ (IsUtf8 word) ⊎ (ends_in word ≡ None)
+IsWrong Descends word = descends word ≡ true
 IsWrong Codes word = ¬ (IsUtf8 word) ⊎ (codes_in word ≡ None)
+IsWrong CodesDescend word = codes_descend word ≡ true
 IsWrong BesideInput word = Unit {0}
 IsWrong NoOutputOption word = Unit {0}
 IsWrong NoSource word = Unit {0}

@@ -21,11 +21,12 @@ mod nearest;
 mod options;
 mod texts;
 
+pub use characters::codes_descend;
 pub use coordinates::read_coordinates;
 pub use files::{find_wrong, read_list};
 pub use jobs::{ArgsError, Command, Glyphs, Job, Position, Topic, is_stream, read_words};
 pub use limits::RunLimits;
-pub use lists::{FileKind, GlyphList};
+pub use lists::{FileKind, GlyphList, descends};
 pub use mistakes::{Mistake, Wrong, find_mistake};
 pub use options::{OPTIONS, Switches};
-pub use texts::{Advice, CODES_WANTED, PARTS_WANTED, Shown};
+pub use texts::{Advice, CODES_WANTED, ORDER_WANTED, PARTS_WANTED, Shown};

@@ -4,7 +4,7 @@ ghost use Rattle.std.specs.Prelude.{◌≡◌, ◌⊎◌, ◌≤◌, ◌++◌, �
 ghost use Rattle.std.specs.Option.{option_map};
 ghost use Rattle.std.specs.List.{slice_split};
 ghost use Rattle.std.specs.Str.{IsUtf8};
-ghost use Rattle.subset_args.specs.Lists.{counting, is_blank, as_comma, is_star, in_order, ends_of_range, ends_in, between, part_glyphs, parts_glyphs, parts, argument_list, glyphs_in_file};
+ghost use Rattle.subset_args.specs.Lists.{counting, is_blank, as_comma, is_star, in_order, ends_of_range, ends_in, is_less, descends, between, part_glyphs, parts_glyphs, parts, argument_list, glyphs_in_file};
 ghost use Rattle.subset_args.specs.ListView.{ends_view, list_view};
 ghost use Rattle.subset_args.specs.declared.jobs.ArgsError.TheVariants.{Usage, OutOfMemory};
 
@@ -108,6 +108,27 @@ fn ends_in(part: &str) -> Option<Ends>
                 last: glyph,
             })
         }
+    }
+}
+
+/// Whether of two numbers the one is less.
+fn is_less(one: Option<u16>, other: Option<u16>) -> bool
+    ensures { result ≡ is_less one other }
+{
+    match (one, other) {
+        (Some(one), Some(other)) => one < other,
+        (Some(_), None) => false,
+        (None, _) => false,
+    }
+}
+
+/// Whether a part of a list is a range whose ends are numbers, and not in order.
+pub fn descends(part: &str) -> bool
+    ensures { result ≡ descends part.now }
+{
+    match part.split_once('-') {
+        Some((first, last)) => is_less(u16_of(last), u16_of(first)),
+        None => false,
     }
 }
 

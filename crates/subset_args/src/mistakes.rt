@@ -5,10 +5,11 @@ ghost use Rattle.subset_args.specs.Mistakes.{IsWrong};
 ghost use Rattle.subset_args.specs.Options.{kind_of};
 ghost use Rattle.subset_args.specs.declared.options.Kind.TheVariants.{Place};
 
-use crate::characters::is_wrong_codes;
+use crate::characters::{codes_descend, is_wrong_codes};
 use crate::coordinates::is_coordinate;
 use crate::jobs::{first_topic, is_name, is_stream, topic_of};
-use crate::lists::{FileKind, is_wrong_part};
+use crate::lists::{FileKind, descends, is_wrong_part};
+use crate::nearest::front;
 use crate::options::{Chosen, Kind, Setting, Source, kind_of, looks_like_option};
 use subsetter_words::{u16_of, u32_of};
 
@@ -45,6 +46,8 @@ pub enum Wrong {
     InputTwice,
     /// INDEX isn't a number below 2^32.
     Index,
+    /// The value of `--face-index` isn't a number below 2^32.
+    FaceIndex,
     /// GID isn't a number below 2^16.
     Glyph,
     /// It isn't TOKENS,DEPTH[,BYTES].
@@ -53,8 +56,12 @@ pub enum Wrong {
     Coordinate,
     /// It is no number and no range of glyphs.
     Part,
+    /// It is a range of glyphs whose ends aren't in order.
+    Descends,
     /// It is no number and no range of characters.
     Codes,
+    /// It is a range of characters whose ends aren't in order.
+    CodesDescend,
     /// It is a second argument beside IN, where an option says OUT or INDEX.
     BesideInput,
     /// No option says OUT.
@@ -90,6 +97,16 @@ fn wrong_index(word: &str) -> Option<Mistake<'_>>
     }
 }
 
+/// The value of `--face-index` that isn't a number.
+fn wrong_face_index(word: &str) -> Option<Mistake<'_>>
+    ensures { IfSome result (λ m. IsWrong m.wrong m.word.now) }
+{
+    match u32_of(word) {
+        Some(_) => None,
+        None => mistake_at(Wrong::FaceIndex, word),
+    }
+}
+
 /// The first value of a list that isn't a glyph's number.
 fn wrong_glyph(list: &str) -> Option<Mistake<'_>>
     ensures { IfSome result (λ m. IsWrong m.wrong m.word.now) }
@@ -122,6 +139,9 @@ fn wrong_part(list: &str) -> Option<Mistake<'_>>
         return None;
     }
     for part in list.split(',') {
+        if descends(part) {
+            return mistake_at(Wrong::Descends, part);
+        }
         if is_wrong_part(part.as_bytes()) {
             return mistake_at(Wrong::Part, part);
         }
@@ -134,6 +154,9 @@ fn wrong_codes(list: &str) -> Option<Mistake<'_>>
     ensures { IfSome result (λ m. IsWrong m.wrong m.word.now) }
 {
     for part in list.split(',') {
+        if codes_descend(part) {
+            return mistake_at(Wrong::CodesDescend, part);
+        }
         if is_wrong_codes(part.as_bytes()) {
             return mistake_at(Wrong::Codes, part);
         }
@@ -185,17 +208,45 @@ fn wrong_source<'a>(source: Source<'a>, input: &str) -> Option<Mistake<'a>>
     }
 }
 
-/// The first option behind IN.
+/// The first option behind IN, or `--axes` or `--info` there.
 fn late_option(words: &[String]) -> Option<Mistake<'_>>
     ensures { IfSome result (λ m. IsWrong m.wrong m.word.now) }
 {
     for word in words {
         match kind_of(word) {
+            Kind::Place if topic_of(word).is_some() => {
+                return mistake_at(Wrong::ShownLate, word);
+            }
             Kind::Place | Kind::End => {}
             _ => return mistake_at(Wrong::Late, word),
         }
     }
     None
+}
+
+/// What is wrong with an argument in the position of IN behind `--axes` or `--info`: it looks like an option.
+fn wrong_option(word: &str) -> Option<Mistake<'_>>
+    ensures { IfSome result (λ m. IsWrong m.wrong m.word.now) }
+{
+    if !looks_like_option(word) {
+        return None;
+    }
+    if is_no_option(word) && topic_of(word).is_none() {
+        mistake_at(Wrong::Unknown, word)
+    } else {
+        mistake_at(Wrong::BehindShown, word)
+    }
+}
+
+/// What is wrong with the arguments `IN INDEX` behind `--axes` or `--info`.
+fn wrong_pair<'a>(input: &'a str, index: &'a str) -> Option<Mistake<'a>>
+    ensures { IfSome result (λ m. IsWrong m.wrong m.word.now) }
+{
+    match (wrong_index(index), wrong_option(input)) {
+        (None, _) => None,
+        (Some(_), Some(mistake)) => Some(mistake),
+        (Some(mistake), None) => Some(mistake),
+    }
 }
 
 /// What is wrong with the arguments `IN [INDEX]` behind `--axes` or `--info`.
@@ -205,8 +256,11 @@ fn wrong_shown(words: &[String]) -> Option<Mistake<'_>>
     match words {
         [] => mistake_at(Wrong::NoInput, ""),
         [_] => None,
-        [_, index] => wrong_index(index),
-        [_, _, word, ..] => mistake_at(Wrong::BehindShown, word),
+        [input, index] => wrong_pair(input, index),
+        [input, _, word, ..] => match wrong_option(input) {
+            Some(mistake) => Some(mistake),
+            None => mistake_at(Wrong::BehindShown, word),
+        },
     }
 }
 
@@ -298,7 +352,7 @@ fn wrong_setting<'a>(
 {
     match setting {
         Setting::Limits if chosen.limits.is_none() => mistake_at(Wrong::Limits, value),
-        Setting::FaceIndex if chosen.index.is_none() => wrong_index(value),
+        Setting::FaceIndex if chosen.index.is_none() => wrong_face_index(value),
         Setting::GidsFile
         | Setting::Text
         | Setting::Gids
@@ -336,10 +390,13 @@ fn wrong_from_option<'a>(chosen: Chosen<'a>, words: &'a [String]) -> Option<Mist
     }
 }
 
-/// Whether one of the arguments is an option that says OUT or INDEX.
+/// Whether one of the arguments is an option that says OUT or INDEX, or one with its value, as `-oFILE`.
 fn says_output(words: &[String]) -> bool {
     for word in words {
-        if let Kind::Setting(Setting::Output | Setting::FaceIndex) = kind_of(word) {
+        if let Kind::Setting(Setting::Output | Setting::FaceIndex) = kind_of(front(word)) {
+            return true;
+        }
+        if let [b'-', b'o', _, ..] = word.as_bytes() {
             return true;
         }
     }

@@ -1,14 +1,18 @@
 //! The texts of mistakes.
 
 use crate::mistakes::{Mistake, Wrong};
-use crate::nearest::nearest_option;
+use crate::nearest::{Remedy, remedy_of};
 use std::fmt;
 
 /// What a list of glyphs may have.
 pub const PARTS_WANTED: &str = "expected: numbers to 65535 and ranges as 36-38, or * alone";
 
 /// What a list of characters may have.
-pub const CODES_WANTED: &str = "expected: numbers as U+0041 and ranges as U+0041-005A";
+pub const CODES_WANTED: &str =
+    "expected: hexadecimal numbers and ranges, as U+0041-005A; U+ may be left out";
+
+/// What is expected in place of a range whose ends aren't in order.
+pub const ORDER_WANTED: &str = "expected: the lesser number first, as 10-20";
 
 /// How many characters of an argument a line has.
 const MOST: usize = 40;
@@ -53,14 +57,17 @@ impl fmt::Display for Mistake<'_> {
             Wrong::Unknown => write!(f, "{word} is no option"),
             Wrong::Twice => write!(f, "{word} is given twice"),
             Wrong::NoValue => write!(f, "{word}: its value is missing"),
-            Wrong::GlyphsTwice => write!(f, "{word}: the glyphs are requested twice"),
+            Wrong::GlyphsTwice => write!(f, "{word} is a second option that requests glyphs"),
             Wrong::BesideOption => { write!(f, "GID \"{word}\": an option requests the glyphs") }
             Wrong::InputTwice => write!(f, "{word}: standard input is requested twice"),
             Wrong::Index => write!(f, "INDEX \"{word}\" is not a number"),
+            Wrong::FaceIndex => write!(f, "--face-index: \"{word}\" is not a number"),
             Wrong::Glyph => write!(f, "GID \"{word}\" is not a glyph number"),
             Wrong::Limits => write!(f, "--limits: \"{word}\" is not TOKENS,DEPTH[,BYTES]"),
             Wrong::Coordinate => write!(f, "--at: \"{word}\" is not TAG=VALUE"),
             Wrong::Codes => write!(f, "--unicodes: \"{word}\" is not a character number"),
+            Wrong::CodesDescend => write!(f, "--unicodes: the range \"{word}\" descends"),
+            Wrong::Descends => write!(f, "--gids: the range \"{word}\" descends"),
             Wrong::Part => write!(f, "--gids: \"{word}\" is not a glyph number"),
             Wrong::BesideInput => write!(f, "\"{word}\" is one argument too many"),
             Wrong::NoOutputOption => write!(f, "-o OUT is missing"),
@@ -76,9 +83,10 @@ pub struct Advice<'a>(pub &'a Mistake<'a>);
 impl fmt::Display for Advice<'_> {
     fn fmt<W: fmt::Write>(&self, f: &mut fmt::Formatter<W>) -> fmt::Result {
         match self.0.wrong {
-            Wrong::Unknown => match nearest_option(self.0.word) {
-                Some(option) => write!(f, "did you mean {option}?"),
-                None => write!(f, "see subset_font --help"),
+            Wrong::Unknown => match remedy_of(self.0.word) {
+                Remedy::Apart(option) => { write!(f, "{option} and its value are two arguments") }
+                Remedy::Instead(option) => write!(f, "did you mean {option}?"),
+                Remedy::Manual => write!(f, "see subset_font --help"),
             },
             other => write!(f, "{}", expected(other)),
         }
@@ -90,7 +98,7 @@ fn expected(wrong: Wrong) -> &'static str {
     match wrong {
         Wrong::NoInput => "expected: the file of a font, or - for standard input",
         Wrong::NoOutput => "expected: a file for the new font, or - for standard output",
-        Wrong::NoIndex | Wrong::Index => {
+        Wrong::NoIndex | Wrong::Index | Wrong::FaceIndex => {
             "expected: the face of a collection, from 0; of other fonts 0"
         }
         Wrong::NoGlyphs => "expected: glyph numbers as 36,37,38, or an option as --text",
@@ -102,16 +110,20 @@ fn expected(wrong: Wrong) -> &'static str {
         Wrong::Unknown => "see subset_font --help",
         Wrong::Twice => "expected: each option at most once",
         Wrong::NoValue => "see subset_font --help",
-        Wrong::GlyphsTwice | Wrong::BesideOption => {
+        Wrong::GlyphsTwice =>
+            "expected: only one of --gids, --text, --unicodes or a -file of these",
+        Wrong::BesideOption => {
             "expected: GID or one of --gids, --text and --unicodes or their -file"
         }
         Wrong::InputTwice => "expected: - for IN or for FILE, not for both",
         Wrong::Glyph => "expected: numbers from 0 to 65535, with commas, as 36,37,38",
         Wrong::Limits => "expected: numbers, as 1000000,64, with DEPTH from 1 to 255",
-        Wrong::Coordinate => { "expected: a tag and a decimal number, as wght=650, or a name" }
+        Wrong::Coordinate => { "expected: coordinates as wght=650,wdth=87.5, or a name alone" }
         Wrong::Part => PARTS_WANTED,
         Wrong::Codes => CODES_WANTED,
-        Wrong::BesideInput => "expected: IN and options, where -o or --face-index is one",
+        Wrong::Descends | Wrong::CodesDescend => ORDER_WANTED,
+        Wrong::BesideInput =>
+            "expected: with -o or --face-index, IN and options alone; glyphs by --gids",
         Wrong::NoOutputOption => "expected: a file for the new font, or - for standard output",
         Wrong::NoSource => "expected: --gids, --text, --unicodes, or a file of one",
     }

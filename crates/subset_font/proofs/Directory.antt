@@ -8,7 +8,9 @@ use Rattle.subsetter_base.proofs.ByteLemmas.{range-fits, range-take_drop, range-
 use Rattle.subsetter_base.proofs.Options.{just_is}
 use Rattle.subsetter_sfnt.specs.declared.face.TableRecord.{TableRecord}
 use Rattle.subsetter_sfnt.specs.Read.{record_of, directory_records, find_record}
+use Rattle.subset_font.specs.Broken.{is_cut, cut_hint, first_cut}
 use Rattle.subset_font.specs.declared.face.Place.{Place}
+use Rattle.subset_font.specs.declared.hint.Hint.{Hint}
 use Rattle.subset_font.specs.FaceView.{place_view}
 use Rattle.subset_font.specs.Tables.{new_row, new_rows}
 use Rattle.subset_lines.specs.declared.sizes.TableSize.{TableSize}
@@ -63,6 +65,16 @@ found_here tag rest others r total e t h = sym (ap (place_among tag) e ∙ ap (�
 
 pub found_later : (tag : List ℕ) (rest others : List TableRecord) (r : TableRecord) (total : Option Place) → rest ≡ r ∷ others → bytes_eq r.tag.0 tag ≡ false → place_among tag rest ≡ total → place_among tag others ≡ total
 found_later tag rest others r total e t h = sym (ap (place_among tag) e ∙ ap (λ b. option_map place_view (cond b (Some r) (find_record tag others))) t) ∙ h
+
+-- the first record whose table ends behind the file
+pub cut_none : (size : ℕ) (R : List ℕ) (p : ℕ) (total : Option Hint) → range R p 16 ≡ None → first_cut size (records_from R p) ≡ total → None ≡ total
+cut_none size R p total h t = sym (ap (first_cut size) (no_more R p (range-short R p 16 h))) ∙ t
+
+pub cut_here : (size : ℕ) (rest others : List TableRecord) (r : TableRecord) (total : Option Hint) → rest ≡ r ∷ others → is_cut size r ≡ true → first_cut size rest ≡ total → Some (cut_hint size r) ≡ total
+cut_here size rest others r total e t h = sym (ap (first_cut size) e ∙ ap (λ b. cond b (Some (cut_hint size r)) (first_cut size others)) t) ∙ h
+
+pub cut_later : (size : ℕ) (rest others : List TableRecord) (r : TableRecord) (total : Option Hint) → rest ≡ r ∷ others → is_cut size r ≡ false → first_cut size rest ≡ total → first_cut size others ≡ total
+cut_later size rest others r total e t h = sym (ap (first_cut size) e ∙ ap (λ b. cond b (Some (cut_hint size r)) (first_cut size others)) t) ∙ h
 
 -- ---- a row for each record
 

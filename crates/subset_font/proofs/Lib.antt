@@ -3,3 +3,4 @@ mod Making
 mod Failing
 mod Steps
 mod Outcomes
+mod Limiting

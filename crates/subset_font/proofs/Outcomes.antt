@@ -14,12 +14,12 @@ use Rattle.subset_font.specs.declared.failure.Failure.{Failure}
 use Rattle.subset_font.specs.declared.failure.Failure.TheVariants.{Error, NoInstance}
 
 module _ (plan : Plan) (bytes : List ℕ) where
-  pub outcome_of : (task : Task) → IsPlaced plan bytes task → (made : Made) → IsMade task bytes made → (r : Result Outcome Failure) → IfOk r (λ o. o.made ≡ made) → IfOk r (λ o. o.more.items ≡ more_text plan bytes made.font.items) → IfOk r (IsOutcome plan bytes)
+  pub outcome_of : (task : Task) → IsPlaced plan bytes task → (made : Made) → IsMade task bytes made → (r : Result Outcome Failure) → IfOk r (λ o. o.made ≡ made) → IfOk r (λ o. o.more.items ≡ more_text plan bytes made) → IfOk r (IsOutcome plan bytes)
   outcome_of task placed made is (Ok o) kept more = record {
     task = task;
     is_placed = placed;
     is_made = subst (IsMade task bytes) (sym kept) is;
-    more_is = more ∙ ap (λ (m : Made). more_text plan bytes m.font.items) (sym kept);
+    more_is = more ∙ ap (λ (m : Made). more_text plan bytes m) (sym kept);
   }
   outcome_of task placed made is (Err e) kept more = tt
 

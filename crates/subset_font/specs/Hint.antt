@@ -1,35 +1,28 @@
 -- What a second line says of a font that is refused.
-use Rattle.std.specs.Prelude.{ℕ, ◌+◌, ◌*◌, ◌==◌, nat_le, nat_lt, if◌then◌else◌, Bool, true, false, List, [], ◌∷◌, length, Option, Some, None, codes}
+use Rattle.std.specs.Prelude.{ℕ, ◌+◌, ◌-◌, ◌*◌, ◌==◌, nat_le, nat_lt, if◌then◌else◌, Bool, true, false, List, [], ◌∷◌, length, Option, Some, None, codes}
 use Rattle.std.specs.Option.{option_and_then, option_map}
 use Rattle.subsetter_base.specs.Bytes.{number}
 use Rattle.subsetter_base.specs.declared.error.Error.{Error as Refusal}
 use Rattle.subsetter_base.specs.declared.error.Error.TheVariants.{UnknownKind, MalformedFont, Unimplemented, SubsetError, OverflowError, CFFError, OutOfMemory}
 use Rattle.subsetter_base.specs.declared.tag.Tag.{Tag}
-use Rattle.subsetter_sfnt.specs.Read.{Font, stored}
+use Rattle.subsetter_sfnt.specs.Extras.{all_extras}
+use Rattle.subsetter_sfnt.specs.Read.{Font, find_record, records, stored}
+use Rattle.subset_lines.specs.declared.info.Outlines.{Outlines}
+use Rattle.subset_lines.specs.declared.info.Outlines.TheVariants.{TrueType, Cff, Cff2 as HasCff2, Missing}
 use Rattle.subset_font.specs.Asked.{face_glyphs}
+use Rattle.subset_font.specs.Broken.{or_else, no_font, cut_table, missing_table}
+use Rattle.subset_font.specs.Info.{outlines_of}
+use Rattle.subset_font.specs.FaceView.{place_view}
 use Rattle.subset_font.specs.Made.{face_of}
+use Rattle.subset_font.specs.Tables.{bytes_or_none, records_in}
+use Rattle.subset_font.specs.declared.face.Place.{Place}
 use Rattle.subset_font.specs.declared.task.Asked.{Asked}
 use Rattle.subset_font.specs.declared.task.Asked.TheVariants.{These, Every, ByText, ByCharacters}
 use Rattle.subset_font.specs.declared.task.Task.{Task}
 use Rattle.subset_font.specs.declared.failure.Failure.{Failure}
 use Rattle.subset_font.specs.declared.failure.Failure.TheVariants.{Error, NoMapping, NoInstance, Usage, List as WrongList, Read, ReadList, Write, Output}
 use Rattle.subset_font.specs.declared.hint.Hint.{Hint}
-use Rattle.subset_font.specs.declared.hint.Hint.TheVariants.{Woff, Woff2, NoFace, NoGlyph, NoTable, NoEntries, Descends, Outside, Cff2, NoUnicode, WrongAxes}
-
--- `wOFF` begins a WOFF, `wOF2` a WOFF2
-abbrev pub packed_by : ℕ → Option Hint
-packed_by word = if word == 0x774F4646 then Some Woff else (if word == 0x774F4632 then Some Woff2 else None)
-
-abbrev pub packed : List ℕ → Option Hint
-packed bytes = option_and_then packed_by (number bytes 0 4)
-
--- how many faces a collection says that it has: `ttcf` begins one, and numFonts stands at byte 8
-abbrev pub face_count : List ℕ → Option ℕ
-face_count bytes = option_and_then (λ word. if word == 0x74746366 then number bytes 8 4 else None) (number bytes 0 4)
-
--- a collection that has no face of the index
-abbrev pub no_face : List ℕ → ℕ → Option Hint
-no_face bytes index = option_and_then (λ count. if nat_lt index count then None else Some (NoFace index count)) (face_count bytes)
+use Rattle.subset_font.specs.declared.hint.Hint.TheVariants.{NoGlyph, NoEntries, Descends, Outside, Cff2, NoUnicode, WrongAxes, NoAxes, NoOutlines, NoMetrics, FewMetrics}
 
 -- the first of the glyphs that a face of so many doesn't have
 abbrev pub first_past : ℕ → List ℕ → Option ℕ
@@ -43,18 +36,13 @@ no_glyph font Every = None
 no_glyph font (ByText text) = None
 no_glyph font (ByCharacters given) = None
 
--- the first that is there
-abbrev pub or_else : Option Hint → Option Hint → Option Hint
-or_else (Some hint) other = Some hint
-or_else None other = other
-
 -- a face without a table
-abbrev pub without : Tag → Option (List ℕ) → Option Hint
-without tag None = Some (NoTable tag)
-without tag (Some bytes) = None
+abbrev pub without : Font → Tag → Option (List ℕ) → Option Hint
+without font tag None = Some (missing_table font tag)
+without font tag (Some bytes) = None
 
 abbrev pub no_table : Font → Tag → Option Hint
-no_table font tag = without tag (stored font tag.0)
+no_table font tag = without font tag (stored font tag.0)
 
 -- a face without a table that only the task needs: `maxp` says how many glyphs it has, and `hmtx` their widths
 abbrev pub no_table_for_widths : Bool → Font → Option Hint
@@ -100,14 +88,14 @@ listed (ByText text) = []
 listed (ByCharacters given) = []
 
 -- what is wrong with the TrueType outlines of glyphs, by `glyf`, `loca` and `head`, whose number at byte 50 is the format of loca
-abbrev pub wrong_tables : List ℕ → Option (List ℕ) → Option (List ℕ) → Option (List ℕ) → Option Hint
-wrong_tables glyphs None loca head = None
-wrong_tables glyphs (Some glyf) None head = Some (NoTable (record { 0 = codes "loca" }))
-wrong_tables glyphs (Some glyf) (Some loca) None = Some (NoTable (record { 0 = codes "head" }))
-wrong_tables glyphs (Some glyf) (Some loca) (Some head) = option_and_then (λ format. first_wrong glyf loca format glyphs) (number head 50 2)
+abbrev pub wrong_tables : Font → List ℕ → Option (List ℕ) → Option (List ℕ) → Option (List ℕ) → Option Hint
+wrong_tables font glyphs None loca head = None
+wrong_tables font glyphs (Some glyf) None head = Some (missing_table font (record { 0 = codes "loca" }))
+wrong_tables font glyphs (Some glyf) (Some loca) None = Some (missing_table font (record { 0 = codes "head" }))
+wrong_tables font glyphs (Some glyf) (Some loca) (Some head) = option_and_then (λ format. first_wrong glyf loca format glyphs) (number head 50 2)
 
 abbrev pub no_outline : Task → List ℕ → Option Hint
-no_outline task bytes = wrong_tables (listed task.asked) (stored (face_of task bytes) (codes "glyf")) (stored (face_of task bytes) (codes "loca")) (stored (face_of task bytes) (codes "head"))
+no_outline task bytes = wrong_tables (face_of task bytes) (listed task.asked) (stored (face_of task bytes) (codes "glyf")) (stored (face_of task bytes) (codes "loca")) (stored (face_of task bytes) (codes "head"))
 
 -- outlines of CFF2
 abbrev pub cff2_in : Option (List ℕ) → Option Hint
@@ -117,38 +105,92 @@ cff2_in None = None
 abbrev pub is_cff2 : Font → Option Hint
 is_cff2 font = cff2_in (stored font (codes "CFF2"))
 
+-- `hhea` says at byte 34 how many metrics `hmtx` has, of four bytes each (OpenType, "hhea" and "hmtx"): none, or more than are there
+abbrev pub few_metrics_by : ℕ → Option ℕ → Option Hint
+few_metrics_by count None = Some (FewMetrics count)
+few_metrics_by count (Some advance) = None
+
+abbrev pub wrong_count : List ℕ → ℕ → Option Hint
+wrong_count hmtx count = if count == 0 then Some NoMetrics else few_metrics_by count (number hmtx (4 * (count - 1)) 2)
+
+abbrev pub wrong_metrics_of : List ℕ → List ℕ → Option Hint
+wrong_metrics_of hhea hmtx = option_and_then (wrong_count hmtx) (number hhea 34 2)
+
+abbrev pub wrong_metrics_by : Font → List ℕ → Option (List ℕ) → Option Hint
+wrong_metrics_by font hmtx (Some hhea) = wrong_metrics_of hhea hmtx
+wrong_metrics_by font hmtx None = Some (missing_table font (record { 0 = codes "hhea" }))
+
+abbrev pub wrong_metrics : Font → Option Hint
+wrong_metrics font = option_and_then (λ hmtx. wrong_metrics_by font hmtx (stored font (codes "hhea"))) (stored font (codes "hmtx"))
+
+-- none of the tables that have outlines
+abbrev pub no_outlines_by : Outlines → Option Hint
+no_outlines_by TrueType = None
+no_outlines_by Cff = None
+no_outlines_by HasCff2 = None
+no_outlines_by Missing = Some NoOutlines
+
+abbrev pub no_outlines : Font → Option Hint
+no_outlines font = no_outlines_by (outlines_of font)
+
 -- what isn't there of a face: the face itself or a listed glyph; or a table
-abbrev pub no_face_or_glyph : Task → List ℕ → Option Hint
-no_face_or_glyph task bytes = or_else (no_face bytes task.index) (no_glyph (face_of task bytes) task.asked)
+abbrev pub no_font_or_glyph : Task → List ℕ → Option Hint
+no_font_or_glyph task bytes = or_else (no_font (face_of task bytes)) (no_glyph (face_of task bytes) task.asked)
 
 abbrev pub no_part : Task → List ℕ → Option Hint
-no_part task bytes = or_else (no_face_or_glyph task bytes) (no_table_for task bytes)
+no_part task bytes = or_else (no_font_or_glyph task bytes) (no_table_for task bytes)
+
+-- a table that ends behind the file, or else metrics
+unfoldable pub wrong_table : Font → Option Hint
+wrong_table font = or_else (cut_table font) (wrong_metrics font)
+
+abbrev pub wrong_outlines : Task → List ℕ → Option Hint
+wrong_outlines task bytes = or_else (no_outline task bytes) (wrong_table (face_of task bytes))
 
 abbrev pub hint_of_malformed : Task → List ℕ → Option Hint
-hint_of_malformed task bytes = or_else (no_part task bytes) (no_outline task bytes)
+hint_of_malformed task bytes = or_else (no_part task bytes) (wrong_outlines task bytes)
+
+-- or else no outlines
+unfoldable pub cut_or_bare : Font → Option Hint
+cut_or_bare font = or_else (cut_table font) (no_outlines font)
+
+abbrev pub hint_of_unknown : Font → Option Hint
+hint_of_unknown font = or_else (no_font font) (cut_or_bare font)
 
 abbrev pub hint_of_error : Refusal → Task → List ℕ → Option Hint
-hint_of_error UnknownKind task bytes = or_else (packed bytes) (no_face bytes task.index)
+hint_of_error UnknownKind task bytes = hint_of_unknown (face_of task bytes)
 hint_of_error MalformedFont task bytes = hint_of_malformed task bytes
 hint_of_error Unimplemented task bytes = is_cff2 (face_of task bytes)
 hint_of_error SubsetError task bytes = None
-hint_of_error OverflowError task bytes = None
+hint_of_error OverflowError task bytes = wrong_metrics (face_of task bytes)
 hint_of_error CFFError task bytes = None
 hint_of_error OutOfMemory task bytes = None
 
--- why a face has no mapping of Unicode characters: no cmap, or none of its tables that are read
+-- why a face has no mapping of Unicode characters: there is no face, no cmap, or none of its tables that are read
+unfoldable pub no_mapping : Font → Option Hint
+no_mapping font = or_else (no_table font (record { 0 = codes "cmap" })) (Some NoUnicode)
+
 abbrev pub hint_of_mapping : Font → Option Hint
-hint_of_mapping font = or_else (no_table font (record { 0 = codes "cmap" })) (Some NoUnicode)
+hint_of_mapping font = or_else (no_font font) (no_mapping font)
 
 -- what is said behind a failure to print axes
 abbrev pub axes_hint_of_error : Refusal → List ℕ → ℕ → Option Hint
-axes_hint_of_error UnknownKind bytes index = or_else (packed bytes) (no_face bytes index)
+axes_hint_of_error UnknownKind bytes index = no_font (record { bytes = bytes; index = index; extras = all_extras })
 axes_hint_of_error MalformedFont bytes index = Some WrongAxes
 axes_hint_of_error Unimplemented bytes index = None
 axes_hint_of_error SubsetError bytes index = None
 axes_hint_of_error OverflowError bytes index = None
 axes_hint_of_error CFFError bytes index = None
 axes_hint_of_error OutOfMemory bytes index = None
+
+-- a face without axes: it has no `fvar`, or the file is cut before its end
+abbrev pub no_axes_by : Font → Option (List ℕ) → Option Place → Option Hint
+no_axes_by font (Some fvar) place = None
+no_axes_by font None None = Some NoAxes
+no_axes_by font None (Some place) = Some (missing_table font (record { 0 = codes "fvar" }))
+
+abbrev pub no_axes : Font → Option Hint
+no_axes font = no_axes_by font (stored font (codes "fvar")) (option_map place_view (find_record (codes "fvar") (records_in (bytes_or_none (records font)))))
 
 abbrev pub axes_hint : Failure → List ℕ → ℕ → Option Hint
 axes_hint (Error e) bytes index = axes_hint_of_error e bytes index

@@ -9,6 +9,9 @@ pub mod Hint
 pub mod Axes
 pub mod Tables
 pub mod Notes
+pub mod Missing
+pub mod Broken
+pub mod LimitHint
 pub mod Named
 pub mod Outcome
 pub mod Info

@@ -10,6 +10,7 @@ use Rattle.subset_lines.specs.Sizes.{sizes_text}
 use Rattle.subset_lines.specs.declared.sizes.TableSize.{TableSize}
 use Rattle.subset_font.specs.Axes.{axes_known}
 use Rattle.subset_font.specs.Made.{face_of, IsMade, IsUnmade}
+use Rattle.subset_font.specs.Missing.{missing}
 use Rattle.subset_font.specs.Named.{face_settings}
 use Rattle.subset_font.specs.Notes.{notes_for}
 use Rattle.subset_font.specs.Tables.{bytes_or_none, records_in, table_sizes}
@@ -17,6 +18,7 @@ use Rattle.subset_font.specs.declared.task.Task.{Task}
 use Rattle.subset_font.specs.declared.task.Plan.{Plan}
 use Rattle.subset_font.specs.declared.task.Form.{Form}
 use Rattle.subset_font.specs.declared.task.Form.TheVariants.{Lines, Json, Silence}
+use Rattle.subset_font.specs.declared.subset.Made.{Made}
 use Rattle.subset_font.specs.declared.outcome.Outcome.{Outcome}
 use Rattle.subset_font.specs.declared.failure.Failure.{Failure}
 use Rattle.subset_font.specs.declared.failure.Failure.TheVariants.{Error, NoInstance}
@@ -30,17 +32,17 @@ sizes_of font new = table_sizes (records_in (bytes_or_none (records font))) (rec
 abbrev pub sizes_if : Bool → Font → List ℕ → Option (List TableSize)
 sizes_if verbose font new = if verbose then Some (sizes_of font new) else None
 
--- the members of a JSON object: sizes, tables with `--verbose`, and notes on the coordinates
-abbrev pub members_of : Bool → Option (List (Tag × ℤ)) → Font → List ℕ → List ℕ
-members_of verbose at font new = members (length font.bytes) (length new) (sizes_if verbose font new) (axes_known font) (notes_for (axes_known font) at)
+-- the members of a JSON object: sizes, tables with `--verbose`, and notes on the coordinates and on characters without a glyph
+abbrev pub members_of : Bool → Option (List (Tag × ℤ)) → Font → Made → List ℕ
+members_of verbose at font made = members (length font.bytes) (length made.font.items) (sizes_if verbose font made.font.items) (axes_known font) (notes_for (axes_known font) at) (missing made.picked.characters.items made.picked.glyphs.items)
 
-abbrev pub more_by : Form → Bool → Option (List (Tag × ℤ)) → Font → List ℕ → List ℕ
-more_by Lines verbose at font new = if verbose then sizes_text (sizes_of font new) (length font.bytes) (length new) else []
-more_by Json verbose at font new = members_of verbose at font new
-more_by Silence verbose at font new = []
+abbrev pub more_by : Form → Bool → Option (List (Tag × ℤ)) → Font → Made → List ℕ
+more_by Lines verbose at font made = if verbose then sizes_text (sizes_of font made.font.items) (length font.bytes) (length made.font.items) else []
+more_by Json verbose at font made = members_of verbose at font made
+more_by Silence verbose at font made = []
 
-abbrev pub more_text : Plan → List ℕ → List ℕ → List ℕ
-more_text plan bytes new = more_by plan.task.form plan.verbose (option_copied plan.task.at) (face_of plan.task bytes) new
+abbrev pub more_text : Plan → List ℕ → Made → List ℕ
+more_text plan bytes made = more_by plan.task.form plan.verbose (option_copied plan.task.at) (face_of plan.task bytes) made
 
 -- ---- what is made
 
@@ -53,7 +55,7 @@ pub record IsOutcome (plan : Plan) (bytes : List ℕ) (outcome : Outcome) : Type
   pub task : Task
   pub is_placed : IsPlaced plan bytes task
   pub is_made : IsMade task bytes outcome.made
-  pub more_is : outcome.more.items ≡ more_text plan bytes outcome.made.font.items
+  pub more_is : outcome.more.items ≡ more_text plan bytes outcome.made
 
 -- the font has no such instance, or its `fvar` can't be read
 pub record IsUnplaced (plan : Plan) (bytes : List ℕ) (failure : Failure) : Type 0 where

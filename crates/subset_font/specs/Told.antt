@@ -1,5 +1,5 @@
 -- How the new numbers are printed.
-use Rattle.std.specs.Prelude.{ℕ, List, []}
+use Rattle.std.specs.Prelude.{ℕ, Bool, false, List, []}
 use Rattle.subset_lines.specs.Text.{Numbers}
 use Rattle.subset_lines.specs.Lines.{lines_of}
 use Rattle.subset_lines.specs.Json.{json_of}
@@ -11,6 +11,12 @@ use Rattle.subset_font.specs.declared.outcome.Outcome.{Outcome}
 -- the numbers of what was made
 abbrev pub numbers_of : Made → Numbers
 numbers_of made = record { characters = made.picked.characters.items; glyphs = made.picked.glyphs.items; order = made.mapper }
+
+-- whether standard error gets a JSON object, in which the notes are: it does where the font goes to standard output
+abbrev pub has_notes : Form → Bool → Bool
+has_notes Lines is_font_there = false
+has_notes Json is_font_there = is_font_there
+has_notes Silence is_font_there = false
 
 -- what is printed of it
 abbrev pub told_of : Form → Outcome → List ℕ

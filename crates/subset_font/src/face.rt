@@ -31,7 +31,7 @@ pub struct Place {
 }
 
 /// What the bytes from an offset on begin with.
-fn kind_at(file: &[u8], at: usize) -> Option<Kind>
+pub fn kind_at(file: &[u8], at: usize) -> Option<Kind>
     ensures { option_map kind_view result ≡ kind_at file.now at }
 {
     match Reader::new_at(file, at).read::<u32>()? {

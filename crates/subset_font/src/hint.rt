@@ -4,12 +4,16 @@ ghost use Rattle.std.specs.Prelude.{◌≡◌, ◌≤◌};
 ghost use Rattle.subsetter_sfnt.specs.Extras.{all_extras};
 ghost use Rattle.subset_font.specs.Asked.{face_glyphs};
 ghost use Rattle.subset_font.specs.Made.{face_of};
-ghost use Rattle.subset_font.specs.Hint.{packed, face_count, no_face, first_past, no_glyph, no_table, no_table_for_widths, no_table_for, entry, wrong_range, wrong_between, wrong_outline, first_wrong, listed, no_outline, is_cff2, no_face_or_glyph, no_part, hint_of_malformed, hint_of_error, hint_of_mapping, axes_hint_of_error, axes_hint, hint_of};
+ghost use Rattle.subset_font.specs.Hint.{first_past, no_glyph, no_table, no_table_for_widths, no_table_for, entry, wrong_range, wrong_between, wrong_outline, first_wrong, listed, no_outline, is_cff2, wrong_metrics_of, wrong_metrics, no_outlines, no_font_or_glyph, no_part, wrong_table, wrong_outlines, hint_of_malformed, cut_or_bare, hint_of_unknown, hint_of_error, no_mapping, hint_of_mapping, no_axes, axes_hint_of_error, axes_hint, hint_of};
 
-use crate::face::{count_glyphs, table};
+use crate::broken::{cut_table, missing_table, no_font};
+use crate::face::{count_glyphs, find_place, table};
 use crate::failure::Failure;
+use crate::info::outlines_of;
+use crate::tables::directory_of;
 use crate::task::{Asked, Task};
 use std::fmt;
+use subset_lines::Outlines;
 use subsetter::{Error, Tag};
 use subsetter_base::read::Reader;
 
@@ -20,8 +24,20 @@ pub enum Hint {
     Woff,
     /// The file is a WOFF2.
     Woff2,
+    /// The file begins as no font does.
+    NotFont,
+    /// The file has no bytes.
+    Empty,
     /// The collection has so many faces, of which none has this index.
     NoFace(u32, u32),
+    /// No font begins where the collection says that the face of this index does.
+    NoHeader(u32),
+    /// The directory of the face isn't inside the file.
+    CutDirectory,
+    /// A table ends at this byte, behind the file, which has so many bytes.
+    Cut(Tag, u64, u64),
+    /// The face has none of the tables that have outlines.
+    NoOutlines,
     /// The face has so many glyphs, of which none has this number.
     NoGlyph(u16, u16),
     /// The face has no table of this tag.
@@ -38,13 +54,30 @@ pub enum Hint {
     NoUnicode,
     /// `fvar` can't be read.
     WrongAxes,
+    /// The face has no `fvar`.
+    NoAxes,
+    /// `hhea` says that `hmtx` has no metrics.
+    NoMetrics,
+    /// `hhea` says that `hmtx` has so many metrics, and it is shorter.
+    FewMetrics(u16),
+    /// The new font has more bytes than these.
+    MoreBytes(u32),
+    /// A glyph needs more than so many tokens and such a depth.
+    LittleLimits(u32, u8),
 }
 
 impl fmt::Display for Hint {
     fn fmt<W: fmt::Write>(&self, f: &mut fmt::Formatter<W>) -> fmt::Result {
         match *self {
-            Hint::Woff => write!(f, "WOFF: unpack it first"),
-            Hint::Woff2 => write!(f, "WOFF2: unpack it first"),
+            Hint::Woff => write!(f, "a WOFF file: unpack it first"),
+            Hint::Woff2 => write!(f, "a WOFF2 file: unpack it first"),
+            Hint::NotFont => {
+                write!(
+                    f,
+                    "not a font: its first bytes are none of TrueType, OpenType, a collection"
+                )
+            }
+            Hint::Empty => write!(f, "the file is empty"),
             Hint::NoFace(index, 0) => write!(f, "INDEX {index}: the collection has no face"),
             Hint::NoFace(index, count) => {
                 let last = count.saturating_sub(1);
@@ -53,6 +86,17 @@ impl fmt::Display for Hint {
                     "INDEX {index}: the faces of the collection are 0 to {last}"
                 )
             }
+            Hint::NoHeader(index) => {
+                write!(f, "INDEX {index}: no font begins where the collection says")
+            }
+            Hint::CutDirectory => write!(f, "the file is cut in its table directory"),
+            Hint::Cut(tag, end, size) => {
+                write!(
+                    f,
+                    "the file is cut: table {tag} ends at byte {end}, the file at {size}"
+                )
+            }
+            Hint::NoOutlines => write!(f, "the face has no table glyf, CFF or CFF2"),
             Hint::NoGlyph(glyph, 0) => write!(f, "GID {glyph}: the face has no glyph"),
             Hint::NoGlyph(glyph, count) => {
                 let last = count.saturating_sub(1);
@@ -65,40 +109,22 @@ impl fmt::Display for Hint {
             Hint::Cff2 => write!(f, "CFF2: its outlines aren't read"),
             Hint::NoUnicode => write!(f, "cmap: no table for Unicode in format 4 or 12"),
             Hint::WrongAxes => write!(f, "fvar: the table can't be read"),
+            Hint::NoAxes => write!(f, "no axes in the font"),
+            Hint::NoMetrics => write!(f, "hhea: numberOfHMetrics is 0"),
+            Hint::FewMetrics(count) => {
+                write!(f, "hhea: numberOfHMetrics is {count}, and hmtx is shorter")
+            }
+            Hint::MoreBytes(most) => {
+                write!(f, "the new font has more than the {most} bytes of --limits")
+            }
+            Hint::LittleLimits(tokens, depth) => {
+                write!(
+                    f,
+                    "a glyph needs more than the {tokens},{depth} of --limits"
+                )
+            }
         }
     }
-}
-
-/// Whether a file is a WOFF or a WOFF2.
-fn packed(font: &[u8]) -> Option<Hint>
-    ensures { result ≡ packed font.now }
-{
-    match Reader::new_at(font, 0).read::<u32>()? {
-        0x774F4646 => Some(Hint::Woff),
-        0x774F4632 => Some(Hint::Woff2),
-        _ => None,
-    }
-}
-
-/// How many faces a collection says that it has.
-pub fn face_count(font: &[u8]) -> Option<u32>
-    ensures { result ≡ face_count font.now }
-{
-    match Reader::new_at(font, 0).read::<u32>()? {
-        0x74746366 => Reader::new_at(font, 8).read::<u32>(),
-        _ => None,
-    }
-}
-
-/// Whether a collection has no face of an index.
-fn no_face(font: &[u8], index: u32) -> Option<Hint>
-    ensures { result ≡ no_face font.now index }
-{
-    let count = face_count(font)?;
-    if index < count {
-        return None;
-    }
-    Some(Hint::NoFace(index, count))
 }
 
 /// The first of the glyphs that a face of so many glyphs doesn't have.
@@ -131,7 +157,7 @@ fn no_table(font: &[u8], index: u32, tag: Tag) -> Option<Hint>
 {
     match table(font, index, tag) {
         Some(_) => None,
-        None => Some(Hint::NoTable(tag)),
+        None => Some(missing_table(font, index, tag)),
     }
 }
 
@@ -234,10 +260,10 @@ fn no_outline(font: &[u8], task: &Task<'_>) -> Option<Hint>
 {
     let glyf = table(font, task.index, Tag::GLYF)?;
     let Some(loca) = table(font, task.index, Tag::LOCA) else {
-        return Some(Hint::NoTable(Tag::LOCA));
+        return Some(missing_table(font, task.index, Tag::LOCA));
     };
     let Some(head) = table(font, task.index, Tag::HEAD) else {
-        return Some(Hint::NoTable(Tag::HEAD));
+        return Some(missing_table(font, task.index, Tag::HEAD));
     };
     let format = Reader::new_at(head, 50).read::<u16>()?;
     first_wrong(glyf, loca, format, listed(&task.asked))
@@ -253,25 +279,90 @@ fn is_cff2(font: &[u8], index: u32) -> Option<Hint>
     }
 }
 
-/// What isn't there of a face: the face itself, or a listed glyph.
-fn no_face_or_glyph(font: &[u8], task: &Task<'_>) -> Option<Hint>
-    ensures { result ≡ no_face_or_glyph task.now font.now }
+/// What is wrong with the number of metrics in `hhea`, by the length of `hmtx`.
+fn wrong_metrics_of(hhea: &[u8], hmtx: &[u8]) -> Option<Hint>
+    ensures { result ≡ wrong_metrics_of hhea.now hmtx.now }
 {
-    no_face(font, task.index).or(no_glyph(font, task))
+    let count = Reader::new_at(hhea, 34).read::<u16>()?;
+    if count == 0 {
+        return Some(Hint::NoMetrics);
+    }
+    match Reader::new_at(hmtx, 4 * (usize::from(count) - 1)).read::<u16>() {
+        Some(_) => None,
+        None => Some(Hint::FewMetrics(count)),
+    }
+}
+
+/// What is wrong with the metrics of a face.
+fn wrong_metrics(font: &[u8], index: u32) -> Option<Hint>
+    ensures { result ≡ wrong_metrics (record { bytes = font.now; index = index; extras = all_extras }) }
+{
+    let hmtx = table(font, index, Tag::HMTX)?;
+    match table(font, index, Tag::HHEA) {
+        Some(hhea) => wrong_metrics_of(hhea, hmtx),
+        None => Some(missing_table(font, index, Tag::HHEA)),
+    }
+}
+
+/// Whether a face has none of the tables that have outlines.
+fn no_outlines(font: &[u8], index: u32) -> Option<Hint>
+    ensures { result ≡ no_outlines (record { bytes = font.now; index = index; extras = all_extras }) }
+{
+    match outlines_of(font, index) {
+        Outlines::Missing => Some(Hint::NoOutlines),
+        _ => None,
+    }
+}
+
+/// What isn't there of a face: the face itself, or a listed glyph.
+fn no_font_or_glyph(font: &[u8], task: &Task<'_>) -> Option<Hint>
+    ensures { result ≡ no_font_or_glyph task.now font.now }
+{
+    no_font(font, task.index).or(no_glyph(font, task))
 }
 
 /// What isn't there of a face: the same, or a table.
 fn no_part(font: &[u8], task: &Task<'_>) -> Option<Hint>
     ensures { result ≡ no_part task.now font.now }
 {
-    no_face_or_glyph(font, task).or(no_table_for(font, task))
+    no_font_or_glyph(font, task).or(no_table_for(font, task))
+}
+
+/// What is wrong with a table that ends behind the file, or else with metrics.
+#[tactic(auto, unfolding(crate::specs::Hint::wrong_table))]
+fn wrong_table(font: &[u8], index: u32) -> Option<Hint>
+    ensures { result ≡ wrong_table (record { bytes = font.now; index = index; extras = all_extras }) }
+{
+    cut_table(font, index).or(wrong_metrics(font, index))
+}
+
+/// What is wrong with outlines, with a table that ends behind the file, or with metrics.
+fn wrong_outlines(font: &[u8], task: &Task<'_>) -> Option<Hint>
+    ensures { result ≡ wrong_outlines task.now font.now }
+{
+    no_outline(font, task).or(wrong_table(font, task.index))
 }
 
 /// What more is known of a face that is malformed.
 fn hint_of_malformed(font: &[u8], task: &Task<'_>) -> Option<Hint>
     ensures { result ≡ hint_of_malformed task.now font.now }
 {
-    no_part(font, task).or(no_outline(font, task))
+    no_part(font, task).or(wrong_outlines(font, task))
+}
+
+/// What is wrong with a table that ends behind the file, or else that there are no outlines.
+#[tactic(auto, unfolding(crate::specs::Hint::cut_or_bare))]
+fn cut_or_bare(font: &[u8], index: u32) -> Option<Hint>
+    ensures { result ≡ cut_or_bare (record { bytes = font.now; index = index; extras = all_extras }) }
+{
+    cut_table(font, index).or(no_outlines(font, index))
+}
+
+/// What more is known of a file that is of no known kind.
+fn hint_of_unknown(font: &[u8], index: u32) -> Option<Hint>
+    ensures { result ≡ hint_of_unknown (record { bytes = font.now; index = index; extras = all_extras }) }
+{
+    no_font(font, index).or(cut_or_bare(font, index))
 }
 
 /// What more is known of a font that is refused by an error.
@@ -279,18 +370,27 @@ fn hint_of_error(error: Error, font: &[u8], task: &Task<'_>) -> Option<Hint>
     ensures { result ≡ hint_of_error error task.now font.now }
 {
     match error {
-        Error::UnknownKind => packed(font).or(no_face(font, task.index)),
+        Error::UnknownKind => hint_of_unknown(font, task.index),
         Error::MalformedFont => hint_of_malformed(font, task),
         Error::Unimplemented => is_cff2(font, task.index),
+        Error::OverflowError => wrong_metrics(font, task.index),
         _ => None,
     }
+}
+
+/// What is known of a face without a mapping of Unicode characters.
+#[tactic(auto, unfolding(crate::specs::Hint::no_mapping))]
+fn no_mapping(font: &[u8], index: u32) -> Option<Hint>
+    ensures { result ≡ no_mapping (record { bytes = font.now; index = index; extras = all_extras }) }
+{
+    no_table(font, index, Tag::new(b"cmap")).or(Some(Hint::NoUnicode))
 }
 
 /// What more is known of a font without a mapping of Unicode characters.
 fn hint_of_mapping(font: &[u8], index: u32) -> Option<Hint>
     ensures { result ≡ hint_of_mapping (record { bytes = font.now; index = index; extras = all_extras }) }
 {
-    no_table(font, index, Tag::new(b"cmap")).or(Some(Hint::NoUnicode))
+    no_font(font, index).or(no_mapping(font, index))
 }
 
 /// What more is known of a font whose axes can't be printed, by an error.
@@ -298,9 +398,22 @@ fn axes_hint_of_error(error: Error, font: &[u8], index: u32) -> Option<Hint>
     ensures { result ≡ axes_hint_of_error error font.now index }
 {
     match error {
-        Error::UnknownKind => packed(font).or(no_face(font, index)),
+        Error::UnknownKind => no_font(font, index),
         Error::MalformedFont => Some(Hint::WrongAxes),
         _ => None,
+    }
+}
+
+/// What is noted of a face without axes: it has no `fvar`, or the file is cut before its end.
+pub fn no_axes(font: &[u8], index: u32) -> Option<Hint>
+    ensures { result ≡ no_axes (record { bytes = font.now; index = index; extras = all_extras }) }
+{
+    let tag = Tag::new(b"fvar");
+    let place = find_place(directory_of(font, index), tag);
+    match (table(font, index, tag), place) {
+        (Some(_), _) => None,
+        (None, None) => Some(Hint::NoAxes),
+        (None, Some(_)) => Some(missing_table(font, index, tag)),
     }
 }
 

@@ -6,10 +6,11 @@ ghost use Rattle.subset_font.specs.Info.{outlines_of, other_outlines, permission
 ghost use Rattle.subset_font.specs.declared.failure.Failure.TheVariants.{Output, Usage};
 
 use crate::asked::first_glyphs;
+use crate::broken::face_count;
 use crate::carried::read_whole;
 use crate::face::{count_glyphs, header_place, table};
 use crate::failure::Failure;
-use crate::hint::{face_count, find_hint};
+use crate::hint::find_hint;
 use crate::subset::make_of;
 use crate::tables::{directory_of, tables_of};
 use crate::task::{Asked, Form, Task};
@@ -20,7 +21,7 @@ use subsetter::{Error, Extras, Limits, Options, Tag};
 use subsetter_base::read::Reader;
 
 /// What the outlines of a face are.
-fn outlines_of(font: &[u8], index: u32) -> Outlines
+pub fn outlines_of(font: &[u8], index: u32) -> Outlines
     ensures { result ≡ outlines_of (record { bytes = font.now; index = index; extras = all_extras }) }
 {
     match table(font, index, Tag::GLYF) {

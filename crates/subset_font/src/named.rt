@@ -210,4 +210,4 @@ pub fn instance_names(alloc: Global, font: &[u8], index: u32) -> Result<Vec<u8>,
 }
 
 /// The line where there are no names.
-const NO_NAMES: &[u8] = b"the font has no named instances with names\n";
+const NO_NAMES: &[u8] = b"the font has no named instances\n";

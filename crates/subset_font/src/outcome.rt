@@ -11,6 +11,7 @@ ghost use Rattle.subset_font.specs.declared.failure.Failure.TheVariants.{Error a
 ghost use Rattle.subsetter_base.specs.declared.error.Error.TheVariants.{OutOfMemory};
 
 use crate::failure::Failure;
+use crate::missing::missing;
 use crate::named::face_settings;
 use crate::notes::{known_axes, notes_for};
 use crate::subset::{Made, make_of};
@@ -83,32 +84,34 @@ fn members_of(
     index: u32,
     verbose: bool,
     at: Option<&[(Tag, i32)]>,
-    new: &[u8],
+    made: &Made,
 ) -> Result<Vec<u8>, AllocError>
-    ensures { IfOk result (λ v. v.items ≡ members_of verbose (option_copied at.entry) (record { bytes = font.now; index = index; extras = all_extras }) new.now) }
+    ensures { IfOk result (λ v. v.items ≡ members_of verbose (option_copied at.entry) (record { bytes = font.now; index = index; extras = all_extras }) made.now) }
 {
-    let tables = sizes_if(alloc, verbose, font, index, new)?;
+    let tables = sizes_if(alloc, verbose, font, index, &made.font)?;
     let axes = known_axes(alloc, font, index)?;
     let notes = notes_for(alloc, &axes, at)?;
+    let characters = missing(alloc, &made.picked.characters, &made.picked.glyphs)?;
     json_members(
         alloc,
         font.len() as u64,
-        new.len() as u64,
+        made.font.len() as u64,
         as_given(&tables),
         &axes,
         &notes,
+        &characters,
     )
     .map_err(|_| AllocError)
 }
 
 /// What is printed behind the numbers.
-fn more_of(alloc: Global, font: &[u8], plan: &Plan<'_>, new: &[u8]) -> Result<Vec<u8>, AllocError>
-    ensures { IfOk result (λ v. v.items ≡ more_text plan.now font.now new.now) }
+fn more_of(alloc: Global, font: &[u8], plan: &Plan<'_>, made: &Made) -> Result<Vec<u8>, AllocError>
+    ensures { IfOk result (λ v. v.items ≡ more_text plan.now font.now made.now) }
 {
     let index = plan.task.index;
     match plan.task.form {
-        Form::Lines if plan.verbose => lines_of_sizes(alloc, font, index, new),
-        Form::Json => members_of(alloc, font, index, plan.verbose, plan.task.at, new),
+        Form::Lines if plan.verbose => lines_of_sizes(alloc, font, index, &made.font),
+        Form::Json => members_of(alloc, font, index, plan.verbose, plan.task.at, made),
         Form::Lines => Ok(Vec::new(alloc)),
         Form::Silence => Ok(Vec::new(alloc)),
     }
@@ -117,10 +120,10 @@ fn more_of(alloc: Global, font: &[u8], plan: &Plan<'_>, new: &[u8]) -> Result<Ve
 /// The same for what was made, which is kept.
 fn with_more(alloc: Global, font: &[u8], plan: &Plan<'_>, made: Made) -> Result<Outcome, Failure>
     ensures made { IfOk result (λ o. o.made ≡ made) }
-    ensures more { IfOk result (λ o. o.more.items ≡ more_text plan.now font.now made.font.items) }
+    ensures more { IfOk result (λ o. o.more.items ≡ more_text plan.now font.now made) }
     ensures err { IfErr result (λ e. e ≡ Refused OutOfMemory) }
 {
-    match more_of(alloc, font, plan, &made.font) {
+    match more_of(alloc, font, plan, &made) {
         Ok(more) => Ok(Outcome { made, more }),
         Err(_) => Err(Failure::Error(Error::OutOfMemory)),
     }

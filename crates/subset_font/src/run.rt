@@ -5,6 +5,7 @@ ghost use Rattle.std.specs.Process.{exit_status};
 ghost use Rattle.std.specs.Vec.Iter.{into_iter_items};
 ghost use Rattle.subset_font.specs.Chosen.{IsListFor, wanted_of, wanted_by, wanted_for, IsTaskOf, IsPlanOf};
 ghost use Rattle.subset_font.specs.Failure.{status_of_end};
+ghost use Rattle.subset_font.specs.Told.{has_notes};
 ghost use Rattle.subset_font.specs.declared.failure.Failure.TheVariants.{Error as Refused, Read as CannotRead, Usage};
 ghost use Rattle.subsetter_base.specs.declared.error.Error.TheVariants.{OutOfMemory};
 
@@ -12,13 +13,15 @@ use crate::axes::carry_axes;
 use crate::carried::{carry_out, read_whole};
 use crate::failure::{Failure, Told, file_of, status_of_run};
 use crate::help::{HELP, VERSION_LINE};
-use crate::hint::{Hint, find_axes_hint, find_hint};
+use crate::hint::{Hint, find_axes_hint, find_hint, no_axes};
 use crate::info::carry_info;
+use crate::limit_hint::find_limit_hint;
+use crate::missing::missing_in;
 use crate::named::instance_names;
 use crate::notes::{known_axes, notes_for};
 use crate::reason::{Noted, reason_of, unread};
-use crate::streams::{Source, Target, hold_streams, lines_beside, open_source};
-use crate::task::{Asked, Plan, Task, at_of, extras_of, form_of, instance_of, limits_of};
+use crate::streams::{Source, Target, goes_to_output, hold_streams, lines_beside, open_source};
+use crate::task::{Asked, Form, Plan, Task, at_of, extras_of, form_of, instance_of, limits_of};
 use std::alloc::Global;
 use std::fs::OpenFile;
 use std::io::{BufWriter, ErrorKind, Read, Write};
@@ -26,8 +29,9 @@ use std::process::{ExitCode, Termination};
 use std::rt::{Env, Files};
 use std::{env, io};
 use subset_args::{
-    Advice, ArgsError, CODES_WANTED, Command, FileKind, GlyphList, Glyphs, Job, PARTS_WANTED,
-    Shown, Topic, find_mistake, find_wrong, read_list, read_words,
+    Advice, ArgsError, CODES_WANTED, Command, FileKind, GlyphList, Glyphs, Job, ORDER_WANTED,
+    PARTS_WANTED, Shown, Topic, codes_descend, descends, find_mistake, find_wrong, read_list,
+    read_words,
 };
 use subset_lines::note_lines;
 use subsetter::{Error, Options};
@@ -213,12 +217,13 @@ fn carry_buffered<R: Read, W: Write, L: Write>(
     carry_out(alloc, plan, input, room, source, output, &mut lines)
 }
 
-/// Does a plan on files and the standard streams. The output's file is made by its first write. Why the system refused one
-/// is kept.
+/// Does a plan on files and the standard streams. The output's file is made by its first write; the lines go to standard error
+/// where the font goes to standard output. Why the system refused one is kept.
 fn perform<R: Files + Print + Eprint + Input + AllocGlobal>(
     rt: &R,
     job: &Job,
     plan: &Plan<'_>,
+    is_font_there: bool,
     source: &mut Vec<u8>,
     reason: &mut Option<io::Error>,
 ) -> Result<(), Failure>
@@ -228,7 +233,7 @@ fn perform<R: Files + Print + Eprint + Input + AllocGlobal>(
     let room = room_of(&opened, reason)?;
     let mut input = Noted::new(opened);
     let mut output = Noted::new(Target::new(rt, job.output.as_str()));
-    let mut lines = Noted::new(lines_beside(rt, job.output.as_str()));
+    let mut lines = Noted::new(lines_beside(rt, is_font_there));
     let ended = carry_buffered(
         rt.alloc(),
         plan,
@@ -267,10 +272,29 @@ fn tell_hint<R: Eprint>(rt: &R, hint: Option<Hint>) {
     }
 }
 
+/// Whether a part of a file's list is a range whose ends aren't in order.
+fn is_descending(kind: FileKind, part: &str) -> bool {
+    match kind {
+        FileKind::Glyphs => descends(part),
+        FileKind::Characters => codes_descend(part),
+        FileKind::Text => false,
+    }
+}
+
 /// Reports which part of a file's list is wrong, and what is expected.
 fn report_part<R: Eprint>(rt: &R, kind: FileKind, part: &[u8]) {
-    let part = Shown(str::from_utf8(part).unwrap_or("?"));
+    let part = str::from_utf8(part).unwrap_or("?");
+    let is_descending = is_descending(kind, part);
+    let part = Shown(part);
     let _ = match kind {
+        FileKind::Glyphs if is_descending => {
+            let _ = eprintln!(rt; "--gids-file: the range \"{part}\" descends");
+            rt.eprintln(ORDER_WANTED)
+        }
+        FileKind::Characters if is_descending => {
+            let _ = eprintln!(rt; "--unicodes-file: the range \"{part}\" descends");
+            rt.eprintln(ORDER_WANTED)
+        }
         FileKind::Glyphs => {
             let _ = eprintln!(rt; "--gids-file: \"{part}\" is not a glyph number");
             rt.eprintln(PARTS_WANTED)
@@ -295,7 +319,19 @@ fn report_list<R: Eprint>(rt: &R, ended: &Result<(), Failure>, glyphs: &Glyphs, 
     }
 }
 
-/// Reports coordinates that the font doesn't have, and the axes that it has. They are passed over where memory runs out.
+/// Whether standard error has the notes already, in a JSON object.
+fn has_notes(form: Form, is_font_there: bool) -> bool
+    ensures { result ≡ has_notes form is_font_there }
+{
+    match form {
+        Form::Json => is_font_there,
+        Form::Lines => false,
+        Form::Silence => false,
+    }
+}
+
+/// Reports coordinates that the font doesn't have, with the axes that it has, and characters without a glyph. They are passed
+/// over where memory runs out.
 fn report_notes<R: Eprint + AllocGlobal>(rt: &R, font: &[u8], plan: &Plan<'_>) {
     let Ok(axes) = known_axes(rt.alloc(), font, plan.task.index) else {
         return;
@@ -303,7 +339,10 @@ fn report_notes<R: Eprint + AllocGlobal>(rt: &R, font: &[u8], plan: &Plan<'_>) {
     let Ok(notes) = notes_for(rt.alloc(), &axes, plan.task.at) else {
         return;
     };
-    if let Ok(text) = note_lines(rt.alloc(), &axes, &notes) {
+    let Some(characters) = missing_in(rt.alloc(), font, plan.task.index, &plan.task.asked) else {
+        return;
+    };
+    if let Ok(text) = note_lines(rt.alloc(), &axes, &notes, &characters) {
         print_lines(rt, &text);
     }
 }
@@ -325,7 +364,10 @@ fn report_names<R: Eprint + AllocGlobal>(rt: &R, font: &[u8], index: u32) {
 
 /// Reports more of a run that failed, as far as it can be seen in the font.
 fn report_more<R: Eprint + AllocGlobal>(rt: &R, failure: &Failure, font: &[u8], plan: &Plan<'_>) {
-    tell_hint(rt, find_hint(failure, font, &plan.task));
+    match find_hint(failure, font, &plan.task) {
+        Some(hint) => tell_hint(rt, Some(hint)),
+        None => tell_hint(rt, find_limit_hint(rt.alloc(), failure, font, plan)),
+    }
     if let Failure::NoInstance = failure {
         report_names(rt, font, plan.task.index);
     }
@@ -349,10 +391,12 @@ fn run_job<R: Files + Print + Eprint + Input + AllocGlobal>(rt: &R, job: &Job) -
     };
     let plan = plan_of(job, &list);
     let mut font = Vec::new(rt.alloc());
-    let ended = perform(rt, job, &plan, &mut font, &mut reason);
+    let is_font_there = goes_to_output(rt, job.output.as_str());
+    let ended = perform(rt, job, &plan, is_font_there, &mut font, &mut reason);
     let status = report(rt, &ended, file_of(&ended, job));
     tell_reason(rt, reason);
     match &ended {
+        Ok(()) if has_notes(plan.task.form, is_font_there) => {}
         Ok(()) => report_notes(rt, &font, &plan),
         Err(failure) => report_more(rt, failure, &font, &plan),
     }
@@ -434,8 +478,10 @@ fn run_shown<R: Files + Print + Eprint + Input + AllocGlobal>(
     let ended = perform_shown(rt, topic, json, input, index, &mut font, &mut reason);
     let status = report(rt, &ended, unread_file(&ended, input));
     tell_reason(rt, reason);
-    if let Err(failure) = &ended {
-        tell_hint(rt, find_axes_hint(failure, &font, index));
+    match (&ended, topic) {
+        (Err(failure), _) => tell_hint(rt, find_axes_hint(failure, &font, index)),
+        (Ok(()), Topic::Axes) if !json => tell_hint(rt, no_axes(&font, index)),
+        (Ok(()), _) => {}
     }
     status
 }

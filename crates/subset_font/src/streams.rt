@@ -114,9 +114,14 @@ fn is_standard_output<R: Files>(rt: &R, name: &str) -> bool {
     }
 }
 
+/// Whether the font goes to standard output.
+pub fn goes_to_output<R: Files>(rt: &R, output: &str) -> bool {
+    is_stream(output) || is_standard_output(rt, output)
+}
+
 /// What the lines go to: standard output, or if the font goes there, standard error.
-pub fn lines_beside<'a, R: Files + Print + Eprint>(rt: &'a R, output: &str) -> Lines<'a, R> {
-    if is_stream(output) || is_standard_output(rt, output) {
+pub fn lines_beside<'a, R: Print + Eprint>(rt: &'a R, is_font_there: bool) -> Lines<'a, R> {
+    if is_font_there {
         return Lines::Error(rt);
     }
     Lines::Output(rt)

@@ -3,7 +3,7 @@ use std::alloc::Global;
 use std::io;
 use std::io::{ErrorKind, Read, Write};
 use std::test::*;
-use subsetter::{Error, Extras, GlyphRemapper, Limits, Options};
+use subsetter::{Error, Extras, GlyphRemapper, Limits, Options, Tag};
 
 // ---- fonts
 
@@ -249,6 +249,47 @@ fn each_failure_has_its_text(rt: HostRuntime) -> Result<(), Fail> {
         (Failure::Output, "cannot write standard output"),
     ] {
         let text = format!(in rt.alloc(); "{failure}")?;
+        assert_eq!(rt; text.as_str(), want);
+    }
+    Ok(())
+}
+
+#[test]
+fn each_hint_of_a_file_has_its_text(rt: HostRuntime) -> Result<(), Fail> {
+    for (hint, want) in [
+        (Hint::Woff, "a WOFF file: unpack it first"),
+        (Hint::Woff2, "a WOFF2 file: unpack it first"),
+        (
+            Hint::NotFont,
+            "not a font: its first bytes are none of TrueType, OpenType, a collection",
+        ),
+        (Hint::Empty, "the file is empty"),
+        (
+            Hint::NoHeader(1),
+            "INDEX 1: no font begins where the collection says",
+        ),
+        (Hint::CutDirectory, "the file is cut in its table directory"),
+        (
+            Hint::Cut(Tag::GLYF, 46248, 3000),
+            "the file is cut: table glyf ends at byte 46248, the file at 3000",
+        ),
+        (Hint::NoOutlines, "the face has no table glyf, CFF or CFF2"),
+        (Hint::NoAxes, "no axes in the font"),
+        (Hint::NoMetrics, "hhea: numberOfHMetrics is 0"),
+        (
+            Hint::FewMetrics(65535),
+            "hhea: numberOfHMetrics is 65535, and hmtx is shorter",
+        ),
+        (
+            Hint::MoreBytes(100),
+            "the new font has more than the 100 bytes of --limits",
+        ),
+        (
+            Hint::LittleLimits(20, 64),
+            "a glyph needs more than the 20,64 of --limits",
+        ),
+    ] {
+        let text = format!(in rt.alloc(); "{hint}")?;
         assert_eq!(rt; text.as_str(), want);
     }
     Ok(())

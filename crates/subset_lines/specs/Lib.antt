@@ -7,6 +7,7 @@ pub mod Names
 pub mod Axes
 pub mod Quoted
 pub mod Notes
+pub mod Missing
 pub mod Sizes
 pub mod Info
 pub mod AxesJson

@@ -1,9 +1,10 @@
--- What is noted of coordinates that a font doesn't have.
+-- What is noted of coordinates and of characters that a font doesn't have.
 use Rattle.std.specs.Prelude.{ℕ, ℤ, List, [], ◌∷◌, ◌++◌, map, codes}
 use Rattle.subsetter_base.specs.declared.tag.Tag.{Tag}
 use Rattle.subsetter_variation.specs.declared.axes.Axis.{Axis}
 use Rattle.subset_lines.specs.Axes.{shown}
 use Rattle.subset_lines.specs.Fixed.{fixed_text}
+use Rattle.subset_lines.specs.Missing.{missing_line, missing_string}
 use Rattle.subset_lines.specs.Quoted.{quoted}
 use Rattle.subset_lines.specs.declared.notes.Note.{Note}
 use Rattle.subset_lines.specs.declared.notes.Note.TheVariants.{NoAxis, Clamped}
@@ -44,11 +45,25 @@ abbrev pub notes_text : List Axis → List Note → List ℕ
 notes_text axes [] = []
 notes_text axes (note ∷ notes) = note_lines (note ∷ notes) ++ axes_note axes ++ codes "\n"
 
+-- and one for the characters without a glyph
+abbrev pub all_text : List Axis → List Note → List ℕ → List ℕ
+all_text axes notes characters = notes_text axes notes ++ missing_line characters
+
 -- the same as an array of strings
 abbrev pub note_strings : List Note → List ℕ
 note_strings [] = []
 note_strings (note ∷ notes) = (quoted (note_text note) ++ codes ",") ++ note_strings notes
 
-abbrev pub notes_array : List Axis → List Note → List ℕ
-notes_array axes [] = codes "[]"
-notes_array axes (note ∷ notes) = codes "[" ++ note_strings (note ∷ notes) ++ quoted (axes_note axes) ++ codes "]"
+abbrev pub coordinate_strings : List Axis → List Note → List ℕ
+coordinate_strings axes [] = []
+coordinate_strings axes (note ∷ notes) = note_strings (note ∷ notes) ++ quoted (axes_note axes)
+
+abbrev pub comma_behind : List Note → List ℕ
+comma_behind [] = []
+comma_behind (note ∷ notes) = codes ","
+
+unfoldable pub all_strings : List Axis → List Note → List ℕ → List ℕ
+all_strings axes notes characters = coordinate_strings axes notes ++ missing_string (comma_behind notes) characters
+
+abbrev pub notes_array : List Axis → List Note → List ℕ → List ℕ
+notes_array axes notes characters = codes "[" ++ all_strings axes notes characters ++ codes "]"

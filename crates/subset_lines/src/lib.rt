@@ -16,6 +16,7 @@ mod fixed;
 mod info;
 mod json;
 mod members;
+mod missing;
 mod names;
 mod notes;
 mod plain;
@@ -25,7 +26,7 @@ mod text;
 
 pub use axes::{FontAxes, after_four, name_of, read_axes, write_axes};
 pub use axes_json::{text_of_name, write_axes_json};
-pub use entry::{Numbering, Unwritten};
+pub use entry::{Numbering, Unwritten, take_first};
 pub use info::{Info, Outlines, write_info, write_info_json};
 pub use json::{json_numbers, write_json};
 pub use members::json_members;

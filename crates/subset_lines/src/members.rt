@@ -34,18 +34,19 @@ fn write_members<W: Write>(
     tables: Option<&[TableSize]>,
     axes: &[Axis],
     notes: &[Note],
+    characters: &[char],
     out: &mut W,
 ) -> Result<(), Unwritten>
-    ensures { OnOk result (Appends (W.contents out.old) (W.contents out.new) (members old new (option_copied tables.entry) axes.now notes.now)) }
+    ensures { OnOk result (Appends (W.contents out.old) (W.contents out.new) (members old new (option_copied tables.entry) axes.now notes.now characters.now)) }
 {
     write_sizes_member(old, new, out)?;
     write_tables(tables, out)?;
     write_text(b",\"notes\":", out)?;
-    write_notes_array(alloc, axes, notes, out)
+    write_notes_array(alloc, axes, notes, characters, out)
 }
 
 /// The text of further members of the JSON object of a subset: the sizes of both files in bytes, their tables, if they are
-/// given, and notes.
+/// given, and notes on coordinates and on characters without a glyph.
 ///
 /// `Unwritten` where a request for memory was refused.
 pub fn json_members(
@@ -55,10 +56,11 @@ pub fn json_members(
     tables: Option<&[TableSize]>,
     axes: &[Axis],
     notes: &[Note],
+    characters: &[char],
 ) -> Result<Vec<u8>, Unwritten>
-    ensures { IfOk result (λ text. text.items ≡ members old new (option_copied tables.entry) axes.now notes.now) }
+    ensures { IfOk result (λ text. text.items ≡ members old new (option_copied tables.entry) axes.now notes.now characters.now) }
 {
     let mut text = Vec::new(alloc);
-    write_members(alloc, old, new, tables, axes, notes, &mut text)?;
+    write_members(alloc, old, new, tables, axes, notes, characters, &mut text)?;
     Ok(text)
 }

@@ -1,15 +1,16 @@
-//! What is noted of coordinates that a font doesn't have.
+//! What is noted of coordinates and of characters that a font doesn't have.
 
 ghost use Rattle.std.specs.Prelude.{◌≡◌, ◌++◌, [], OnOk, IfOk, codes, map};
 ghost use Rattle.std.specs.Io.KnownBytes.{Appends};
 ghost use Rattle.subset_lines.specs.Axes.{shown};
 ghost use Rattle.subset_lines.specs.Fixed.{fixed_text};
-ghost use Rattle.subset_lines.specs.Notes.{no_axis_text, setting_text, clamped_text, note_text, range_text, ranges_text, axes_note, note_lines, notes_text, note_strings, notes_array};
+ghost use Rattle.subset_lines.specs.Notes.{no_axis_text, setting_text, clamped_text, note_text, range_text, ranges_text, axes_note, note_lines, notes_text, all_text, note_strings, coordinate_strings, comma_behind, all_strings, notes_array};
 ghost use Rattle.subset_lines.specs.Quoted.{quoted};
 
 use crate::axes::write_tag;
 use crate::entry::Unwritten;
 use crate::fixed::write_labelled;
+use crate::missing::{write_missing_line, write_missing_string};
 use crate::quoted::write_quoted;
 use crate::text::write_text;
 use std::alloc::Global;
@@ -143,15 +144,34 @@ fn write_all_notes<W: Write>(axes: &[Axis], notes: &[Note], out: &mut W) -> Resu
     write_text(b"\n", out)
 }
 
-/// The lines of notes: one for each, and a last one of the axes that the font has, as `axes: wght 100 to 900`. It is empty
-/// where there are no notes.
+/// Writes the same, and the note of characters without a glyph.
+#[tactic(auto, using(crate::proofs::Written::both))]
+fn write_all<W: Write>(
+    axes: &[Axis],
+    notes: &[Note],
+    characters: &[char],
+    out: &mut W,
+) -> Result<(), Unwritten>
+    ensures { OnOk result (Appends (W.contents out.old) (W.contents out.new) (all_text axes.now notes.now characters.now)) }
+{
+    write_all_notes(axes, notes, out)?;
+    write_missing_line(characters, out)
+}
+
+/// The lines of notes: one for each, and behind them one of the axes that the font has, as `axes: wght 100 to 900`; and one of
+/// the characters without a glyph, if there are any. It is empty where there is nothing to note.
 ///
 /// `Unwritten` where a request for memory was refused.
-pub fn note_lines(alloc: Global, axes: &[Axis], notes: &[Note]) -> Result<Vec<u8>, Unwritten>
-    ensures { IfOk result (λ text. text.items ≡ notes_text axes.now notes.now) }
+pub fn note_lines(
+    alloc: Global,
+    axes: &[Axis],
+    notes: &[Note],
+    characters: &[char],
+) -> Result<Vec<u8>, Unwritten>
+    ensures { IfOk result (λ text. text.items ≡ all_text axes.now notes.now characters.now) }
 {
     let mut text = Vec::new(alloc);
-    write_all_notes(axes, notes, &mut text)?;
+    write_all(axes, notes, characters, &mut text)?;
     Ok(text)
 }
 
@@ -194,22 +214,61 @@ fn write_note_strings<W: Write>(alloc: Global, notes: &[Note], out: &mut W) -> R
     Ok(())
 }
 
+/// Writes the notes of coordinates as JSON strings with commas between them.
+#[tactic(auto, using(crate::proofs::Written::both))]
+fn write_coordinate_strings<W: Write>(
+    alloc: Global,
+    axes: &[Axis],
+    notes: &[Note],
+    out: &mut W,
+) -> Result<(), Unwritten>
+    ensures { OnOk result (Appends (W.contents out.old) (W.contents out.new) (coordinate_strings axes.now notes.now)) }
+{
+    if notes.is_empty() {
+        return Ok(());
+    }
+    write_note_strings(alloc, notes, out)?;
+    let text = axes_bytes(alloc, axes)?;
+    write_quoted(&text, out)
+}
+
+/// A comma, if there are notes in front of it.
+fn comma_behind(notes: &[Note]) -> &'static [u8]
+    ensures { result.now ≡ comma_behind notes.now }
+{
+    match notes {
+        [] => b"",
+        _ => b",",
+    }
+}
+
+/// Writes all notes as JSON strings with commas between them.
+#[tactic(auto, using(crate::proofs::Written::both), unfolding(crate::specs::Notes::all_strings))]
+fn write_all_strings<W: Write>(
+    alloc: Global,
+    axes: &[Axis],
+    notes: &[Note],
+    characters: &[char],
+    out: &mut W,
+) -> Result<(), Unwritten>
+    ensures { OnOk result (Appends (W.contents out.old) (W.contents out.new) (all_strings axes.now notes.now characters.now)) }
+{
+    write_coordinate_strings(alloc, axes, notes, out)?;
+    write_missing_string(alloc, comma_behind(notes), characters, out)
+}
+
 /// Writes the same notes as a JSON array of strings.
 #[tactic(auto, using(crate::proofs::Written::both))]
 pub fn write_notes_array<W: Write>(
     alloc: Global,
     axes: &[Axis],
     notes: &[Note],
+    characters: &[char],
     out: &mut W,
 ) -> Result<(), Unwritten>
-    ensures { OnOk result (Appends (W.contents out.old) (W.contents out.new) (notes_array axes.now notes.now)) }
+    ensures { OnOk result (Appends (W.contents out.old) (W.contents out.new) (notes_array axes.now notes.now characters.now)) }
 {
-    if notes.is_empty() {
-        return write_text(b"[]", out);
-    }
     write_text(b"[", out)?;
-    write_note_strings(alloc, notes, out)?;
-    let text = axes_bytes(alloc, axes)?;
-    write_quoted(&text, out)?;
+    write_all_strings(alloc, axes, notes, characters, out)?;
     write_text(b"]", out)
 }

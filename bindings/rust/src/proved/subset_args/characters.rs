@@ -85,6 +85,23 @@ fn codes_in(part: &str) -> Option<Codes> {
     }
 }
 
+/// Whether of two codes the one is less.
+fn is_less(one: Option<u32>, other: Option<u32>) -> bool {
+    match (one, other) {
+        (Some(one), Some(other)) => one < other,
+        (Some(_), None) => false,
+        (None, _) => false,
+    }
+}
+
+/// Whether a part of a list is a range whose ends are codes, and not in order.
+pub fn codes_descend(part: &str) -> bool {
+    match part.split_once('-') {
+        Some((first, last)) => is_less(code_of(last), code_of(first)),
+        None => false,
+    }
+}
+
 /// Adds the character of a code, if it has one.
 fn push_code(characters: &mut Vec<char>, code: u32) -> Result<(), AllocError> {
     if let Some(character) = char::from_u32(code) {

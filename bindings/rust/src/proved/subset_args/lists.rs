@@ -96,6 +96,23 @@ fn ends_in(part: &str) -> Option<Ends> {
     }
 }
 
+/// Whether of two numbers the one is less.
+fn is_less(one: Option<u16>, other: Option<u16>) -> bool {
+    match (one, other) {
+        (Some(one), Some(other)) => one < other,
+        (Some(_), None) => false,
+        (None, _) => false,
+    }
+}
+
+/// Whether a part of a list is a range whose ends are numbers, and not in order.
+pub fn descends(part: &str) -> bool {
+    match part.split_once('-') {
+        Some((first, last)) => is_less(u16_of(last), u16_of(first)),
+        None => false,
+    }
+}
+
 /// Adds the glyphs of a range.
 fn push_range(glyphs: &mut Vec<u16>, first: u16, last: u16) -> Result<(), AllocError> {
     for number in u32::from(first)..u32::from(last) + 1 {

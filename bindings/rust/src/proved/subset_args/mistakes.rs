@@ -3,10 +3,11 @@
 
 use crate::rattle::prelude::String;
 
-use crate::proved::subset_args::characters::is_wrong_codes;
+use crate::proved::subset_args::characters::{codes_descend, is_wrong_codes};
 use crate::proved::subset_args::coordinates::is_coordinate;
 use crate::proved::subset_args::jobs::{first_topic, is_name, is_stream, topic_of};
-use crate::proved::subset_args::lists::{is_wrong_part, FileKind};
+use crate::proved::subset_args::lists::{descends, is_wrong_part, FileKind};
+use crate::proved::subset_args::nearest::front;
 use crate::proved::subset_args::options::{
     kind_of, looks_like_option, Chosen, Kind, Setting, Source,
 };
@@ -45,6 +46,8 @@ pub enum Wrong {
     InputTwice,
     /// INDEX isn't a number below 2^32.
     Index,
+    /// The value of `--face-index` isn't a number below 2^32.
+    FaceIndex,
     /// GID isn't a number below 2^16.
     Glyph,
     /// It isn't TOKENS,DEPTH[,BYTES].
@@ -53,8 +56,12 @@ pub enum Wrong {
     Coordinate,
     /// It is no number and no range of glyphs.
     Part,
+    /// It is a range of glyphs whose ends aren't in order.
+    Descends,
     /// It is no number and no range of characters.
     Codes,
+    /// It is a range of characters whose ends aren't in order.
+    CodesDescend,
     /// It is a second argument beside IN, where an option says OUT or INDEX.
     BesideInput,
     /// No option says OUT.
@@ -85,6 +92,14 @@ fn wrong_index(word: &str) -> Option<Mistake<'_>> {
     }
 }
 
+/// The value of `--face-index` that isn't a number.
+fn wrong_face_index(word: &str) -> Option<Mistake<'_>> {
+    match u32_of(word) {
+        Some(_) => None,
+        None => mistake_at(Wrong::FaceIndex, word),
+    }
+}
+
 /// The first value of a list that isn't a glyph's number.
 fn wrong_glyph(list: &str) -> Option<Mistake<'_>> {
     for part in list.split(',') {
@@ -111,6 +126,9 @@ fn wrong_part(list: &str) -> Option<Mistake<'_>> {
         return None;
     }
     for part in list.split(',') {
+        if descends(part) {
+            return mistake_at(Wrong::Descends, part);
+        }
         if is_wrong_part(part.as_bytes()) {
             return mistake_at(Wrong::Part, part);
         }
@@ -121,6 +139,9 @@ fn wrong_part(list: &str) -> Option<Mistake<'_>> {
 /// The first part of a list that is no number and no range of characters.
 fn wrong_codes(list: &str) -> Option<Mistake<'_>> {
     for part in list.split(',') {
+        if codes_descend(part) {
+            return mistake_at(Wrong::CodesDescend, part);
+        }
         if is_wrong_codes(part.as_bytes()) {
             return mistake_at(Wrong::Codes, part);
         }
@@ -164,10 +185,13 @@ fn wrong_source<'a>(source: Source<'a>, input: &str) -> Option<Mistake<'a>> {
     }
 }
 
-/// The first option behind IN.
+/// The first option behind IN, or `--axes` or `--info` there.
 fn late_option(words: &[String]) -> Option<Mistake<'_>> {
     for word in words {
         match kind_of(word) {
+            Kind::Place if topic_of(word).is_some() => {
+                return mistake_at(Wrong::ShownLate, word);
+            }
             Kind::Place | Kind::End => {}
             _ => return mistake_at(Wrong::Late, word),
         }
@@ -175,13 +199,37 @@ fn late_option(words: &[String]) -> Option<Mistake<'_>> {
     None
 }
 
+/// What is wrong with an argument in the position of IN behind `--axes` or `--info`: it looks like an option.
+fn wrong_option(word: &str) -> Option<Mistake<'_>> {
+    if !looks_like_option(word) {
+        return None;
+    }
+    if is_no_option(word) && topic_of(word).is_none() {
+        mistake_at(Wrong::Unknown, word)
+    } else {
+        mistake_at(Wrong::BehindShown, word)
+    }
+}
+
+/// What is wrong with the arguments `IN INDEX` behind `--axes` or `--info`.
+fn wrong_pair<'a>(input: &'a str, index: &'a str) -> Option<Mistake<'a>> {
+    match (wrong_index(index), wrong_option(input)) {
+        (None, _) => None,
+        (Some(_), Some(mistake)) => Some(mistake),
+        (Some(mistake), None) => Some(mistake),
+    }
+}
+
 /// What is wrong with the arguments `IN [INDEX]` behind `--axes` or `--info`.
 fn wrong_shown(words: &[String]) -> Option<Mistake<'_>> {
     match words {
         [] => mistake_at(Wrong::NoInput, ""),
         [_] => None,
-        [_, index] => wrong_index(index),
-        [_, _, word, ..] => mistake_at(Wrong::BehindShown, word),
+        [input, index] => wrong_pair(input, index),
+        [input, _, word, ..] => match wrong_option(input) {
+            Some(mistake) => Some(mistake),
+            None => mistake_at(Wrong::BehindShown, word),
+        },
     }
 }
 
@@ -263,7 +311,7 @@ fn wrong_setting<'a>(
 ) -> Option<Mistake<'a>> {
     match setting {
         Setting::Limits if chosen.limits.is_none() => mistake_at(Wrong::Limits, value),
-        Setting::FaceIndex if chosen.index.is_none() => wrong_index(value),
+        Setting::FaceIndex if chosen.index.is_none() => wrong_face_index(value),
         Setting::GidsFile
         | Setting::Text
         | Setting::Gids
@@ -305,10 +353,13 @@ fn wrong_from_option<'a>(chosen: Chosen<'a>, words: &'a [String]) -> Option<Mist
     }
 }
 
-/// Whether one of the arguments is an option that says OUT or INDEX.
+/// Whether one of the arguments is an option that says OUT or INDEX, or one with its value, as `-oFILE`.
 fn says_output(words: &[String]) -> bool {
     for word in words {
-        if let Kind::Setting(Setting::Output | Setting::FaceIndex) = kind_of(word) {
+        if let Kind::Setting(Setting::Output | Setting::FaceIndex) = kind_of(front(word)) {
+            return true;
+        }
+        if let [b'-', b'o', _, ..] = word.as_bytes() {
             return true;
         }
     }

@@ -22,7 +22,7 @@ pub struct Place {
 }
 
 /// What the bytes from an offset on begin with.
-fn kind_at(file: &[u8], at: usize) -> Option<Kind> {
+pub fn kind_at(file: &[u8], at: usize) -> Option<Kind> {
     match Reader::new_at(file, at).read::<u32>()? {
         0x00010000 | 0x74727565 | 0x4F54544F => Some(Kind::Single),
         0x74746366 => Some(Kind::Collection),

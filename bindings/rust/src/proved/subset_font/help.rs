@@ -32,14 +32,19 @@ Which glyphs, where no GID is given:
   --gids-file FILE  the same from a file, also with blanks
                     and line ends; - is standard input
   --text TEXT       the glyphs of TEXT's characters by the
-                    font's cmap, unshaped
+                    font's cmap, unshaped; a line end is a
+                    character, too
   --text-file FILE  the same of a file's text, without its
                     line ends
-  --unicodes LIST   the glyphs of characters, by numbers and
-                    ranges, as U+0041-005A,20AC
+  --unicodes LIST   the glyphs of characters, by hexadecimal
+                    numbers and ranges, U+0041-005A,20AC; U+
+                    may be left out
   --unicodes-file FILE
                     the same from a file, also with blanks
                     and line ends
+A character without a glyph is shown by glyph 0, with a note
+on standard error. D800-DFFF are no characters, and are
+passed over.
 
 Which files:
   -o OUT, --output-file OUT
@@ -51,26 +56,33 @@ What the new font has:
   --at TAG=VALUE[,TAG=VALUE..]
                     a variable font at coordinates, as
                     wght=650,wdth=87.5, or at a named
-                    instance, as Bold
-  --no-hinting      no instructions of TrueType outlines
-  --no-names        no table name
-  --no-glyph-names  no names of glyphs in post
+                    instance, as Bold or bold
+  --no-hinting      leaves out the instructions of TrueType
+                    outlines
+  --no-names        leaves out the table name
+  --no-glyph-names  leaves out the names of glyphs in post
   --limits TOKENS,DEPTH[,BYTES]
-                    how far a charstring may run
-                    (default 1000000,64), and the most
-                    bytes of the font
+                    the most numbers and operators of a
+                    glyph, the greatest depth of its
+                    subroutines (default 1000000,64), and
+                    the most bytes of the new font
+With --at an axis that isn't named is at its default. Of a
+tag that is given twice the last value counts. A tag that
+the font lacks is passed over, and a value outside its axis
+is clamped, with a note on standard error.
 
 What is printed:
   --widths          also the widths, for W in a PDF
   --verbose         also each table's bytes before and after
   --json            one JSON object in place of the lines
   --quiet           no lines
-  --axes            (first argument) the axes of IN: tag,
-                    least, default and greatest coordinate;
-                    and its named instances
-  --info            (first argument) outlines, glyphs and
-                    tables of IN, what its maker permits,
-                    and whether a subset is made of it
+  --axes            must be the first argument: the axes of
+                    IN, by tag, least, default and greatest
+                    coordinate; and its named instances
+  --info            must be the first argument: outlines,
+                    glyphs and tables of IN, what its maker
+                    permits, and whether a subset is made
+                    of it
   -h, --help        this text
   --version         the version
 
@@ -78,7 +90,9 @@ What is printed:
 
 Status: 0 OUT has the new font, 1 the font or a glyph is
 refused or memory ran out, 2 an argument is wrong, 3 a file
-can't be read or written.
+can't be read or written. With --axes and --info: 0 it is
+printed, for --info also where a subset would be refused,
+1 IN is no font, or with --axes its table fvar is cut.
 
 Examples:
   subset_font DejaVuSans.ttf subset.ttf 0 36,37,38

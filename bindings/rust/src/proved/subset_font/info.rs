@@ -4,10 +4,11 @@
 use crate::rattle::prelude::{String, Vec};
 
 use crate::proved::subset_font::asked::first_glyphs;
+use crate::proved::subset_font::broken::face_count;
 use crate::proved::subset_font::carried::read_whole;
 use crate::proved::subset_font::face::{count_glyphs, header_place, table};
 use crate::proved::subset_font::failure::Failure;
-use crate::proved::subset_font::hint::{face_count, find_hint};
+use crate::proved::subset_font::hint::find_hint;
 use crate::proved::subset_font::subset::make_of;
 use crate::proved::subset_font::tables::{directory_of, tables_of};
 use crate::proved::subset_font::task::{Asked, Form, Task};
@@ -18,7 +19,7 @@ use crate::rattle::alloc::{AllocError, Global};
 use crate::rattle::io::{Read, Write};
 
 /// What the outlines of a face are.
-fn outlines_of(font: &[u8], index: u32) -> Outlines {
+pub fn outlines_of(font: &[u8], index: u32) -> Outlines {
     match table(font, index, Tag::GLYF) {
         Some(_) => Outlines::TrueType,
         None => other_outlines(font, index),

@@ -9,12 +9,15 @@ use crate::rattle::prelude::HostRuntime;
 
 mod asked;
 mod axes;
+mod broken;
 mod carried;
 mod face;
 mod failure;
 mod help;
 mod hint;
 mod info;
+mod limit_hint;
+mod missing;
 mod named;
 mod notes;
 mod outcome;

@@ -4,6 +4,7 @@
 use crate::rattle::prelude::Vec;
 
 use crate::proved::subset_font::failure::Failure;
+use crate::proved::subset_font::missing::missing;
 use crate::proved::subset_font::named::face_settings;
 use crate::proved::subset_font::notes::{known_axes, notes_for};
 use crate::proved::subset_font::subset::{make_of, Made};
@@ -72,28 +73,35 @@ fn members_of(
     index: u32,
     verbose: bool,
     at: Option<&[(Tag, i32)]>,
-    new: &[u8],
+    made: &Made,
 ) -> Result<Vec<u8>, AllocError> {
-    let tables = sizes_if(alloc, verbose, font, index, new)?;
+    let tables = sizes_if(alloc, verbose, font, index, &made.font)?;
     let axes = known_axes(alloc, font, index)?;
     let notes = notes_for(alloc, &axes, at)?;
+    let characters = missing(alloc, &made.picked.characters, &made.picked.glyphs)?;
     json_members(
         alloc,
         font.len() as u64,
-        new.len() as u64,
+        made.font.len() as u64,
         as_given(&tables),
         &axes,
         &notes,
+        &characters,
     )
     .map_err(|_| AllocError)
 }
 
 /// What is printed behind the numbers.
-fn more_of(alloc: Global, font: &[u8], plan: &Plan<'_>, new: &[u8]) -> Result<Vec<u8>, AllocError> {
+fn more_of(
+    alloc: Global,
+    font: &[u8],
+    plan: &Plan<'_>,
+    made: &Made,
+) -> Result<Vec<u8>, AllocError> {
     let index = plan.task.index;
     match plan.task.form {
-        Form::Lines if plan.verbose => lines_of_sizes(alloc, font, index, new),
-        Form::Json => members_of(alloc, font, index, plan.verbose, plan.task.at, new),
+        Form::Lines if plan.verbose => lines_of_sizes(alloc, font, index, &made.font),
+        Form::Json => members_of(alloc, font, index, plan.verbose, plan.task.at, made),
         Form::Lines => Ok(Vec::new(alloc)),
         Form::Silence => Ok(Vec::new(alloc)),
     }
@@ -101,7 +109,7 @@ fn more_of(alloc: Global, font: &[u8], plan: &Plan<'_>, new: &[u8]) -> Result<Ve
 
 /// The same for what was made, which is kept.
 fn with_more(alloc: Global, font: &[u8], plan: &Plan<'_>, made: Made) -> Result<Outcome, Failure> {
-    match more_of(alloc, font, plan, &made.font) {
+    match more_of(alloc, font, plan, &made) {
         Ok(more) => Ok(Outcome { made, more }),
         Err(_) => Err(Failure::Error(Error::OutOfMemory)),
     }

@@ -4,23 +4,26 @@
 use crate::rattle::prelude::{AllocGlobal, Eprint, Input, IteratorExt, Print, String, Vec};
 
 use crate::proved::subset_args::{
-    find_mistake, find_wrong, read_list, read_words, Advice, ArgsError, Command, FileKind,
-    GlyphList, Glyphs, Job, Shown, Topic, CODES_WANTED, PARTS_WANTED,
+    codes_descend, descends, find_mistake, find_wrong, read_list, read_words, Advice, ArgsError,
+    Command, FileKind, GlyphList, Glyphs, Job, Shown, Topic, CODES_WANTED, ORDER_WANTED,
+    PARTS_WANTED,
 };
 use crate::proved::subset_font::axes::carry_axes;
 use crate::proved::subset_font::carried::{carry_out, read_whole};
 use crate::proved::subset_font::failure::{file_of, status_of_run, Failure, Told};
 use crate::proved::subset_font::help::{HELP, VERSION_LINE};
-use crate::proved::subset_font::hint::{find_axes_hint, find_hint, Hint};
+use crate::proved::subset_font::hint::{find_axes_hint, find_hint, no_axes, Hint};
 use crate::proved::subset_font::info::carry_info;
+use crate::proved::subset_font::limit_hint::find_limit_hint;
+use crate::proved::subset_font::missing::missing_in;
 use crate::proved::subset_font::named::instance_names;
 use crate::proved::subset_font::notes::{known_axes, notes_for};
 use crate::proved::subset_font::reason::{reason_of, unread, Noted};
 use crate::proved::subset_font::streams::{
-    hold_streams, lines_beside, open_source, Source, Target,
+    goes_to_output, hold_streams, lines_beside, open_source, Source, Target,
 };
 use crate::proved::subset_font::task::{
-    at_of, extras_of, form_of, instance_of, limits_of, Asked, Plan, Task,
+    at_of, extras_of, form_of, instance_of, limits_of, Asked, Form, Plan, Task,
 };
 use crate::proved::subset_lines::note_lines;
 use crate::proved::subsetter::{Error, Options};
@@ -191,12 +194,13 @@ fn carry_buffered<R: Read, W: Write, L: Write>(
     carry_out(alloc, plan, input, room, source, output, &mut lines)
 }
 
-/// Does a plan on files and the standard streams. The output's file is made by its first write. Why the system refused one
-/// is kept.
+/// Does a plan on files and the standard streams. The output's file is made by its first write; the lines go to standard error
+/// where the font goes to standard output. Why the system refused one is kept.
 fn perform<R: Files + Print + Eprint + Input + AllocGlobal>(
     rt: &R,
     job: &Job,
     plan: &Plan<'_>,
+    is_font_there: bool,
     source: &mut Vec<u8>,
     reason: &mut Option<io::Error>,
 ) -> Result<(), Failure> {
@@ -204,7 +208,7 @@ fn perform<R: Files + Print + Eprint + Input + AllocGlobal>(
     let room = room_of(&opened, reason)?;
     let mut input = Noted::new(opened);
     let mut output = Noted::new(Target::new(rt, job.output.as_str()));
-    let mut lines = Noted::new(lines_beside(rt, job.output.as_str()));
+    let mut lines = Noted::new(lines_beside(rt, is_font_there));
     let ended = carry_buffered(
         rt.alloc(),
         plan,
@@ -241,10 +245,29 @@ fn tell_hint<R: Eprint>(rt: &R, hint: Option<Hint>) {
     }
 }
 
+/// Whether a part of a file's list is a range whose ends aren't in order.
+fn is_descending(kind: FileKind, part: &str) -> bool {
+    match kind {
+        FileKind::Glyphs => descends(part),
+        FileKind::Characters => codes_descend(part),
+        FileKind::Text => false,
+    }
+}
+
 /// Reports which part of a file's list is wrong, and what is expected.
 fn report_part<R: Eprint>(rt: &R, kind: FileKind, part: &[u8]) {
-    let part = Shown(core::str::from_utf8(part).unwrap_or("?"));
+    let part = core::str::from_utf8(part).unwrap_or("?");
+    let is_descending = is_descending(kind, part);
+    let part = Shown(part);
     let _ = match kind {
+        FileKind::Glyphs if is_descending => {
+            let _ = eprintln!(rt; "--gids-file: the range \"{part}\" descends");
+            rt.eprintln(ORDER_WANTED)
+        }
+        FileKind::Characters if is_descending => {
+            let _ = eprintln!(rt; "--unicodes-file: the range \"{part}\" descends");
+            rt.eprintln(ORDER_WANTED)
+        }
         FileKind::Glyphs => {
             let _ = eprintln!(rt; "--gids-file: \"{part}\" is not a glyph number");
             rt.eprintln(PARTS_WANTED)
@@ -269,7 +292,17 @@ fn report_list<R: Eprint>(rt: &R, ended: &Result<(), Failure>, glyphs: &Glyphs, 
     }
 }
 
-/// Reports coordinates that the font doesn't have, and the axes that it has. They are passed over where memory runs out.
+/// Whether standard error has the notes already, in a JSON object.
+fn has_notes(form: Form, is_font_there: bool) -> bool {
+    match form {
+        Form::Json => is_font_there,
+        Form::Lines => false,
+        Form::Silence => false,
+    }
+}
+
+/// Reports coordinates that the font doesn't have, with the axes that it has, and characters without a glyph. They are passed
+/// over where memory runs out.
 fn report_notes<R: Eprint + AllocGlobal>(rt: &R, font: &[u8], plan: &Plan<'_>) {
     let axes = match known_axes(rt.alloc(), font, plan.task.index) {
         Ok(axes) => axes,
@@ -283,7 +316,13 @@ fn report_notes<R: Eprint + AllocGlobal>(rt: &R, font: &[u8], plan: &Plan<'_>) {
             return;
         }
     };
-    if let Ok(text) = note_lines(rt.alloc(), &axes, &notes) {
+    let characters = match missing_in(rt.alloc(), font, plan.task.index, &plan.task.asked) {
+        Some(characters) => characters,
+        _ => {
+            return;
+        }
+    };
+    if let Ok(text) = note_lines(rt.alloc(), &axes, &notes, &characters) {
         print_lines(rt, &text);
     }
 }
@@ -305,7 +344,10 @@ fn report_names<R: Eprint + AllocGlobal>(rt: &R, font: &[u8], index: u32) {
 
 /// Reports more of a run that failed, as far as it can be seen in the font.
 fn report_more<R: Eprint + AllocGlobal>(rt: &R, failure: &Failure, font: &[u8], plan: &Plan<'_>) {
-    tell_hint(rt, find_hint(failure, font, &plan.task));
+    match find_hint(failure, font, &plan.task) {
+        Some(hint) => tell_hint(rt, Some(hint)),
+        None => tell_hint(rt, find_limit_hint(rt.alloc(), failure, font, plan)),
+    }
     if let Failure::NoInstance = failure {
         report_names(rt, font, plan.task.index);
     }
@@ -327,10 +369,12 @@ fn run_job<R: Files + Print + Eprint + Input + AllocGlobal>(rt: &R, job: &Job) -
     };
     let plan = plan_of(job, &list);
     let mut font = Vec::new(rt.alloc());
-    let ended = perform(rt, job, &plan, &mut font, &mut reason);
+    let is_font_there = goes_to_output(rt, job.output.as_str());
+    let ended = perform(rt, job, &plan, is_font_there, &mut font, &mut reason);
     let status = report(rt, &ended, file_of(&ended, job));
     tell_reason(rt, reason);
     match &ended {
+        Ok(()) if has_notes(plan.task.form, is_font_there) => {}
         Ok(()) => report_notes(rt, &font, &plan),
         Err(failure) => report_more(rt, failure, &font, &plan),
     }
@@ -409,8 +453,10 @@ fn run_shown<R: Files + Print + Eprint + Input + AllocGlobal>(
     let ended = perform_shown(rt, topic, json, input, index, &mut font, &mut reason);
     let status = report(rt, &ended, unread_file(&ended, input));
     tell_reason(rt, reason);
-    if let Err(failure) = &ended {
-        tell_hint(rt, find_axes_hint(failure, &font, index));
+    match (&ended, topic) {
+        (Err(failure), _) => tell_hint(rt, find_axes_hint(failure, &font, index)),
+        (Ok(()), Topic::Axes) if !json => tell_hint(rt, no_axes(&font, index)),
+        (Ok(()), _) => {}
     }
     status
 }

@@ -27,16 +27,17 @@ fn write_members<W: Write>(
     tables: Option<&[TableSize]>,
     axes: &[Axis],
     notes: &[Note],
+    characters: &[char],
     out: &mut W,
 ) -> Result<(), Unwritten> {
     write_sizes_member(old, new, out)?;
     write_tables(tables, out)?;
     write_text(b",\"notes\":", out)?;
-    write_notes_array(alloc, axes, notes, out)
+    write_notes_array(alloc, axes, notes, characters, out)
 }
 
 /// The text of further members of the JSON object of a subset: the sizes of both files in bytes, their tables, if they are
-/// given, and notes.
+/// given, and notes on coordinates and on characters without a glyph.
 ///
 /// `Unwritten` where a request for memory was refused.
 pub fn json_members(
@@ -46,8 +47,9 @@ pub fn json_members(
     tables: Option<&[TableSize]>,
     axes: &[Axis],
     notes: &[Note],
+    characters: &[char],
 ) -> Result<Vec<u8>, Unwritten> {
     let mut text = Vec::new(alloc);
-    write_members(alloc, old, new, tables, axes, notes, &mut text)?;
+    write_members(alloc, old, new, tables, axes, notes, characters, &mut text)?;
     Ok(text)
 }

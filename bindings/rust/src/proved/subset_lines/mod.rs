@@ -16,6 +16,7 @@ mod fixed;
 mod info;
 mod json;
 mod members;
+mod missing;
 mod names;
 mod notes;
 mod plain;
@@ -25,7 +26,7 @@ mod text;
 
 pub use axes::{after_four, name_of, read_axes, write_axes, FontAxes};
 pub use axes_json::{text_of_name, write_axes_json};
-pub use entry::Numbering;
+pub use entry::{take_first, Numbering};
 pub use info::{write_info, write_info_json, Info, Outlines};
 pub use json::{json_numbers, write_json};
 pub use members::json_members;

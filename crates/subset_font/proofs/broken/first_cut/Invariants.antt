@@ -1,0 +1,15 @@
+use Rattle.std.proofs.Common.{◌≡◌, ◌-◌, ◌≤◌, length}
+use Rattle.subset_font.specs.Broken.{first_cut}
+use Rattle.subset_font.specs.Tables.{records_in}
+use Rattle.subset_font.proofs.Directory.{records_from}
+use Rattle.subset_font.proofs.broken.first_cut.Given as goal
+
+abbrev pub invariant-loop-bytes : goal.invariant-loop-bytes
+invariant-loop-bytes l = record {
+  same : l.r.bytes ≡ l.records;
+  within : l.r.place ≤ length l.records;
+  rest : first_cut l.size (records_from l.records l.r.place) ≡ first_cut l.size (records_in l.records);
+}
+
+abbrev pub decreases-loop-bytes : goal.decreases-loop-bytes
+decreases-loop-bytes l = length l.records - l.r.place

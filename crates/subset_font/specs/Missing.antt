@@ -1,0 +1,30 @@
+-- The characters that a face has no glyph for.
+use Rattle.std.specs.Prelude.{◌≡◌, ℕ, ◌==◌, ◌&&◌, nat_lt, not, Bool, if◌then◌else◌, List, [], ◌∷◌, ◌++◌, drop, length, Option, Some, None}
+use Rattle.std.specs.List.{list_any}
+use Rattle.subsetter_sfnt.specs.Read.{Font}
+use Rattle.subset_lines.specs.Text.{first}
+use Rattle.subset_font.specs.Asked.{IsAsked}
+use Rattle.subset_font.specs.declared.task.Asked.{Asked}
+
+abbrev pub is_listed : List ℕ → ℕ → Bool
+is_listed found c = list_any (λ x. x == c) found
+
+-- a character that is shown by glyph 0 is listed once; a note names three, so a fourth is the last that is listed
+abbrev pub with_missing : List ℕ → Option ℕ → ℕ → List ℕ
+with_missing found None g = found
+with_missing found (Some c) g = if g == 0 && nat_lt (length found) 4 && not (is_listed found c) then found ++ c ∷ [] else found
+
+-- those of characters with these glyphs, behind others
+abbrev pub missing_behind : List ℕ → List ℕ → List ℕ → List ℕ
+missing_behind found characters [] = found
+missing_behind found characters (g ∷ glyphs) = missing_behind (with_missing found (first characters) g) (drop 1 characters) glyphs
+
+abbrev pub missing : List ℕ → List ℕ → List ℕ
+missing characters glyphs = missing_behind [] characters glyphs
+
+-- those that a task asks a face for
+pub record IsMissing (font : Font) (asked : Asked) (found : List ℕ) : Type 0 where
+  pub characters : List ℕ
+  pub glyphs : List ℕ
+  pub is_asked : IsAsked font asked characters glyphs
+  pub are : found ≡ missing characters glyphs

@@ -1,0 +1,129 @@
+//! What is wrong with a file as a whole: its first bytes, its directory, and tables that end behind it.
+
+ghost use Rattle.std.specs.Prelude.{◌≡◌, ◌+◌, length};
+ghost use Rattle.subsetter_sfnt.specs.Extras.{all_extras};
+ghost use Rattle.subsetter_sfnt.specs.Read.{record_of};
+ghost use Rattle.subset_font.specs.Broken.{packed, not_font, face_count, no_face, no_directory, no_font, is_cut, cut_hint, first_cut, cut_table, missing_table};
+ghost use Rattle.subset_font.specs.Tables.{records_in};
+
+use crate::face::{Place, find_place, header_place, kind_at, place_in, records, tag_in};
+use crate::hint::Hint;
+use crate::tables::directory_of;
+use subsetter::Tag;
+use subsetter_base::read::Reader;
+
+/// Whether a file is a WOFF or a WOFF2.
+fn packed(font: &[u8]) -> Option<Hint>
+    ensures { result ≡ packed font.now }
+{
+    match Reader::new_at(font, 0).read::<u32>()? {
+        0x774F4646 => Some(Hint::Woff),
+        0x774F4632 => Some(Hint::Woff2),
+        _ => None,
+    }
+}
+
+/// How many faces a collection says that it has.
+pub fn face_count(font: &[u8]) -> Option<u32>
+    ensures { result ≡ face_count font.now }
+{
+    match Reader::new_at(font, 0).read::<u32>()? {
+        0x74746366 => Reader::new_at(font, 8).read::<u32>(),
+        _ => None,
+    }
+}
+
+/// Whether a collection has no face of an index.
+fn no_face(font: &[u8], index: u32) -> Option<Hint>
+    ensures { result ≡ no_face font.now index }
+{
+    let count = face_count(font)?;
+    if index < count {
+        return None;
+    }
+    Some(Hint::NoFace(index, count))
+}
+
+/// Whether a file begins as no font does.
+fn not_font(font: &[u8]) -> Option<Hint>
+    ensures { result ≡ not_font font.now }
+{
+    if font.len() == 0 {
+        return Some(Hint::Empty);
+    }
+    match kind_at(font, 0) {
+        Some(_) => None,
+        None => Some(Hint::NotFont),
+    }
+}
+
+/// Whether the header of a face isn't there, or its directory isn't inside the file.
+fn no_directory(font: &[u8], index: u32) -> Option<Hint>
+    ensures { result ≡ no_directory (record { bytes = font.now; index = index; extras = all_extras }) }
+{
+    match (header_place(font, index), records(font, index)) {
+        (None, _) => Some(Hint::NoHeader(index)),
+        (Some(_), None) => Some(Hint::CutDirectory),
+        (Some(_), Some(_)) => None,
+    }
+}
+
+/// What is wrong with a file before a table is looked for.
+pub fn no_font(font: &[u8], index: u32) -> Option<Hint>
+    ensures { result ≡ no_font (record { bytes = font.now; index = index; extras = all_extras }) }
+{
+    packed(font).or(not_font(font).or(no_face(font, index).or(no_directory(font, index))))
+}
+
+/// Where a table ends.
+fn end_of(place: Place) -> u64
+    ensures { result ≡ place.offset + place.length }
+{
+    u64::from(place.offset) + u64::from(place.length)
+}
+
+/// Whether the table of a record ends behind a file of so many bytes.
+fn is_cut(bytes: &[u8], size: u64) -> bool
+    requires { length bytes.now ≡ 16 }
+    ensures { result ≡ is_cut size (record_of bytes.now) }
+{
+    end_of(place_in(bytes)) > size
+}
+
+/// That it does so.
+fn cut_hint(bytes: &[u8], size: u64) -> Hint
+    requires { length bytes.now ≡ 16 }
+    ensures { result ≡ cut_hint size (record_of bytes.now) }
+{
+    Hint::Cut(tag_in(bytes), end_of(place_in(bytes)), size)
+}
+
+/// The first table of a directory that ends behind a file of so many bytes.
+fn first_cut(records: &[u8], size: u64) -> Option<Hint>
+    ensures { result ≡ first_cut size (records_in records.now) }
+{
+    let mut r = Reader::new(records);
+    while let Some(bytes) = r.read_bytes(16) {
+        if is_cut(bytes, size) {
+            return Some(cut_hint(bytes, size));
+        }
+    }
+    None
+}
+
+/// The first table of a face that ends behind the file.
+pub fn cut_table(font: &[u8], index: u32) -> Option<Hint>
+    ensures { result ≡ cut_table (record { bytes = font.now; index = index; extras = all_extras }) }
+{
+    first_cut(directory_of(font, index), font.len() as u64)
+}
+
+/// Why a table of a face isn't found: it ends behind the file, or the directory doesn't have it.
+pub fn missing_table(font: &[u8], index: u32, tag: Tag) -> Hint
+    ensures { result ≡ missing_table (record { bytes = font.now; index = index; extras = all_extras }) tag }
+{
+    match find_place(directory_of(font, index), tag) {
+        Some(place) => Hint::Cut(tag, end_of(place), font.len() as u64),
+        None => Hint::NoTable(tag),
+    }
+}

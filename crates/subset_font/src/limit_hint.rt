@@ -1,0 +1,95 @@
+//! That the limits of `--limits` are why no font is made: with others one is made.
+
+ghost use Rattle.std.specs.Prelude.{◌≡◌, IfSome};
+ghost use Rattle.subset_font.specs.LimitHint.{within, IsTooLong, IsTooLittle, IsLimitHint};
+
+use crate::failure::Failure;
+use crate::hint::Hint;
+use crate::outcome::make_planned;
+use crate::task::{Plan, Task};
+use std::alloc::Global;
+use subsetter::{Error, Limits, Options};
+
+/// A plan within other limits.
+fn within<'a>(plan: &Plan<'a>, limits: Limits) -> Plan<'a>
+    ensures { result ≡ within limits plan.now }
+{
+    let task = plan.task;
+    Plan {
+        task: Task {
+            asked: task.asked,
+            index: task.index,
+            options: Options {
+                limits,
+                extras: task.options.extras,
+            },
+            widths: task.widths,
+            form: task.form,
+            at: task.at,
+        },
+        instance: plan.instance,
+        verbose: plan.verbose,
+    }
+}
+
+/// Whether the new font has more bytes than it may have.
+fn too_long(alloc: Global, font: &[u8], plan: &Plan<'_>) -> Option<u32>
+    ensures { IfSome result (IsTooLong plan.now font.now) }
+{
+    let limits = plan.task.options.limits;
+    let most = limits.bytes()?;
+    let unbounded = Limits::new(limits.tokens(), limits.depth())?;
+    let Ok(outcome) = make_planned(alloc, font, &within(plan, unbounded)) else {
+        return None;
+    };
+    if outcome.made.font.len() > most as usize {
+        return Some(most);
+    }
+    None
+}
+
+/// Whether a font is made within the default limits.
+fn too_little(alloc: Global, font: &[u8], plan: &Plan<'_>) -> Option<(u32, u8)>
+    ensures { IfSome result (λ p. IsTooLittle plan.now font.now p.0 p.1) }
+{
+    let limits = plan.task.options.limits;
+    match make_planned(alloc, font, &within(plan, Limits::default())) {
+        Ok(_) => Some((limits.tokens(), limits.depth())),
+        Err(_) => None,
+    }
+}
+
+/// Which of the limits is why no font is made, if one of them is.
+fn limit_hint(alloc: Global, font: &[u8], plan: &Plan<'_>) -> Option<Hint>
+    ensures { IfSome result (IsLimitHint plan.now font.now) }
+{
+    if let Some(most) = too_long(alloc, font, plan) {
+        return Some(Hint::MoreBytes(most));
+    }
+    match too_little(alloc, font, plan) {
+        Some((tokens, depth)) => Some(Hint::LittleLimits(tokens, depth)),
+        None => None,
+    }
+}
+
+/// Whether other limits than the default ones are given.
+fn has_limits(plan: &Plan<'_>) -> bool {
+    plan.task.options.limits != Limits::default()
+}
+
+/// Which of the limits is why no font is made, where they are given and the error can come from them. None where memory runs out.
+pub fn find_limit_hint(
+    alloc: Global,
+    failure: &Failure,
+    font: &[u8],
+    plan: &Plan<'_>,
+) -> Option<Hint>
+    ensures { IfSome result (IsLimitHint plan.now font.now) }
+{
+    match failure {
+        Failure::Error(Error::OverflowError | Error::CFFError) if has_limits(plan) => {
+            limit_hint(alloc, font, plan)
+        }
+        _ => None,
+    }
+}
