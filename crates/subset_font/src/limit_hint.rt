@@ -1,7 +1,7 @@
 //! That the limits of `--limits` are why no font is made: with others one is made.
 
 ghost use Rattle.std.specs.Prelude.{◌≡◌, IfSome};
-ghost use Rattle.subset_font.specs.LimitHint.{within, IsTooLong, IsTooLittle, IsLimitHint};
+ghost use Rattle.subset_font.specs.LimitHint.{within, IsLimitHint};
 
 use crate::failure::Failure;
 use crate::hint::Hint;
@@ -32,9 +32,9 @@ fn within<'a>(plan: &Plan<'a>, limits: Limits) -> Plan<'a>
     }
 }
 
-/// Whether the new font has more bytes than it may have.
-fn too_long(alloc: Global, font: &[u8], plan: &Plan<'_>) -> Option<u32>
-    ensures { IfSome result (IsTooLong plan.now font.now) }
+/// That the new font has more bytes than it may have, if so.
+fn too_long(alloc: Global, font: &[u8], plan: &Plan<'_>) -> Option<Hint>
+    ensures { IfSome result (IsLimitHint plan.now font.now) }
 {
     let limits = plan.task.options.limits;
     let most = limits.bytes()?;
@@ -43,32 +43,30 @@ fn too_long(alloc: Global, font: &[u8], plan: &Plan<'_>) -> Option<u32>
         return None;
     };
     if outcome.made.font.len() > most as usize {
-        return Some(most);
+        return Some(Hint::MoreBytes(most));
     }
     None
 }
 
-/// Whether a font is made within the default limits.
-fn too_little(alloc: Global, font: &[u8], plan: &Plan<'_>) -> Option<(u32, u8)>
-    ensures { IfSome result (λ p. IsTooLittle plan.now font.now p.0 p.1) }
+/// That a font is made within the default limits, if so.
+fn too_little(alloc: Global, font: &[u8], plan: &Plan<'_>) -> Option<Hint>
+    ensures { IfSome result (IsLimitHint plan.now font.now) }
 {
     let limits = plan.task.options.limits;
-    match make_planned(alloc, font, &within(plan, Limits::default())) {
-        Ok(_) => Some((limits.tokens(), limits.depth())),
-        Err(_) => None,
-    }
+    let default = Limits::default();
+    let Ok(_outcome) = make_planned(alloc, font, &within(plan, default)) else {
+        return None;
+    };
+    Some(Hint::LittleLimits(limits.tokens(), limits.depth()))
 }
 
 /// Which of the limits is why no font is made, if one of them is.
 fn limit_hint(alloc: Global, font: &[u8], plan: &Plan<'_>) -> Option<Hint>
     ensures { IfSome result (IsLimitHint plan.now font.now) }
 {
-    if let Some(most) = too_long(alloc, font, plan) {
-        return Some(Hint::MoreBytes(most));
-    }
-    match too_little(alloc, font, plan) {
-        Some((tokens, depth)) => Some(Hint::LittleLimits(tokens, depth)),
-        None => None,
+    match too_long(alloc, font, plan) {
+        Some(hint) => Some(hint),
+        None => too_little(alloc, font, plan),
     }
 }
 

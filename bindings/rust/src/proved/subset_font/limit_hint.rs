@@ -28,8 +28,8 @@ fn within<'a>(plan: &Plan<'a>, limits: Limits) -> Plan<'a> {
     }
 }
 
-/// Whether the new font has more bytes than it may have.
-fn too_long(alloc: Global, font: &[u8], plan: &Plan<'_>) -> Option<u32> {
+/// That the new font has more bytes than it may have, if so.
+fn too_long(alloc: Global, font: &[u8], plan: &Plan<'_>) -> Option<Hint> {
     let limits = plan.task.options.limits;
     let most = limits.bytes()?;
     let unbounded = Limits::new(limits.tokens(), limits.depth())?;
@@ -40,28 +40,29 @@ fn too_long(alloc: Global, font: &[u8], plan: &Plan<'_>) -> Option<u32> {
         }
     };
     if outcome.made.font.len() > most as usize {
-        return Some(most);
+        return Some(Hint::MoreBytes(most));
     }
     None
 }
 
-/// Whether a font is made within the default limits.
-fn too_little(alloc: Global, font: &[u8], plan: &Plan<'_>) -> Option<(u32, u8)> {
+/// That a font is made within the default limits, if so.
+fn too_little(alloc: Global, font: &[u8], plan: &Plan<'_>) -> Option<Hint> {
     let limits = plan.task.options.limits;
-    match make_planned(alloc, font, &within(plan, Limits::default())) {
-        Ok(_) => Some((limits.tokens(), limits.depth())),
-        Err(_) => None,
-    }
+    let default = Limits::default();
+    let _outcome = match make_planned(alloc, font, &within(plan, default)) {
+        Ok(_outcome) => _outcome,
+        _ => {
+            return None;
+        }
+    };
+    Some(Hint::LittleLimits(limits.tokens(), limits.depth()))
 }
 
 /// Which of the limits is why no font is made, if one of them is.
 fn limit_hint(alloc: Global, font: &[u8], plan: &Plan<'_>) -> Option<Hint> {
-    if let Some(most) = too_long(alloc, font, plan) {
-        return Some(Hint::MoreBytes(most));
-    }
-    match too_little(alloc, font, plan) {
-        Some((tokens, depth)) => Some(Hint::LittleLimits(tokens, depth)),
-        None => None,
+    match too_long(alloc, font, plan) {
+        Some(hint) => Some(hint),
+        None => too_little(alloc, font, plan),
     }
 }
 
