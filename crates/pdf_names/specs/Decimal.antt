@@ -1,5 +1,5 @@
 -- A coordinate of 65536ths as a decimal number: the shortest that rounds back to it (Technical Note 5902).
-use Rattle.std.specs.Prelude.{ℕ, zero, suc, ◌+◌, ◌*◌, ◌/◌, ◌%◌, ◌^◌, ◌==◌, ◌&&◌, ◌||◌, nat_lt, Bool, if◌then◌else◌, List, [], ◌∷◌, ◌++◌, codes, decimal, ℤ, unsigned_abs}
+use Rattle.std.specs.Prelude.{◌≡◌, ◌≢◌, ◌<◌, ℕ, zero, suc, ◌+◌, ◌*◌, ◌/◌, ◌%◌, ◌^◌, ◌==◌, ◌&&◌, ◌||◌, nat_lt, Bool, if◌then◌else◌, List, [], ◌∷◌, ◌++◌, codes, decimal, ℤ, unsigned_abs}
 use Rattle.pdf_text.specs.Numbers.{sign}
 
 -- a quotient to the nearest whole number, halves to the even one
@@ -39,3 +39,11 @@ size_text n = decimal_text (decimals n) (rounded (decimals n) n)
 -- `-7.5`
 unfoldable pub value_text : ℤ → List ℕ
 value_text v = sign v ++ size_text (unsigned_abs v)
+
+-- a number of units that rounds back to 65536ths, as none does with fewer decimals
+pub record IsShortest (n k m : ℕ) : Type 0 where
+  pub back : back k m ≡ n
+  pub shortest : (j o : ℕ) → j < k → back j o ≢ n
+
+abbrev pub ShortestIsTaken : Type 0
+ShortestIsTaken = (n : ℕ) → IsShortest n (decimals n) (rounded (decimals n) n)
