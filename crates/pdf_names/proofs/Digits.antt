@@ -13,6 +13,6 @@ one_digit w left m power d total after less p is a t =
     let digit : d ≡ 48 + m / 10 ^ (left - 1) % 10 = is ∙ ap (λ (s : ℕ). 48 + m / s % 10) p in
     ap (λ (l : List ℕ). l ++ digits (left - 1) m) a ∙ (append_assoc w (d ∷ []) (digits (left - 1) m) ∙ (ap (λ (x : ℕ). w ++ (x ∷ digits (left - 1) m)) digit ∙ (ap (λ (l : List ℕ). w ++ l) (sym (next left m less)) ∙ t)))
 
-pub no_digit : (w : List ℕ) (m : ℕ) → w ++ digits 0 m ≡ w
+pub no_digit : (w : List ℕ) (left m : ℕ) (total : List ℕ) → left ≡ 0 → w ++ digits left m ≡ total → w ≡ total
 unfolding digits
-no_digit w m = append-nil w
+no_digit w left m total none t = sym (append-nil w) ∙ (ap (λ (k : ℕ). w ++ digits k m) (sym none) ∙ t)

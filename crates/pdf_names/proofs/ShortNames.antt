@@ -1,8 +1,9 @@
 -- The name of a font off its default is one of at most 120 characters.
 use Rattle.std.proofs.Common.{◌≡◌, ℕ, ℤ, zero, suc, ◌+◌, ◌*◌, ◌/◌, ◌%◌, ◌^◌, ◌<◌, ◌≤◌, Bool, true, false, List, [], ◌∷◌, ◌++◌, Option, Some, None, length, take, refl, sym, subst, arith, length-append, length-take}
-use Rattle.std.specs.Prelude.{◌==◌, if◌then◌else◌, nat_le, int_eq, All, codes, decimal, unsigned_abs}
+use Rattle.std.specs.Prelude.{◌==◌, if◌then◌else◌, nat_le, All, codes, decimal, unsigned_abs}
 use Rattle.std.specs.Int.{is_negative}
 use Rattle.std.specs.Option.{option_and_then, option_map_or}
+use Rattle.std.specs.Ordering.{int_eq}
 use Rattle.subsetter_base.specs.Bytes.{number}
 use Rattle.subsetter_base.specs.declared.tag.Tag.{Tag}
 use Rattle.subsetter_variation.specs.declared.axes.Axis.{Axis}

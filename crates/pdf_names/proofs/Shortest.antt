@@ -1,5 +1,5 @@
 -- The shortest decimal number.
-use Rattle.std.proofs.Common.{◌≡◌, ◌≢◌, ℕ, suc, ◌+◌, ◌-◌, ◌*◌, ◌/◌, ◌%◌, ◌^◌, ◌<◌, ◌≤◌, Bool, true, false, refl, sym, ap, ◌∙◌, arith, eq-eqb, eqb-eq}
+use Rattle.std.proofs.Common.{◌≡◌, ◌≢◌, ℕ, suc, ◌+◌, ◌-◌, ◌*◌, ◌/◌, ◌%◌, ◌^◌, ◌<◌, ◌≤◌, Bool, true, false, refl, sym, ap, ◌∙◌, arith, eq-eqb}
 use borrow.Author.Count.{below_more, below_none}
 use Rattle.std.specs.Prelude.{◌==◌, ◌&&◌, ◌||◌, nat_lt, if◌then◌else◌}
 use Rattle.std.proofs.lemmas.Bool.Decides.{nat_tests}
@@ -92,10 +92,10 @@ five_back n = five n (rounded 5 n) (near (n * 100000))
 -- ---- by the tests, the last one first
 
 is_back : (n k : ℕ) → rounds_back k n ≡ true → back k (rounded k n) ≡ n
-is_back n k h = eqb-eq (back k (rounded k n)) n h
+is_back n k h = grind (arith, nat_tests)
 
 shortest_of : (n k : ℕ) → back k (rounded k n) ≡ n → ((j : ℕ) → j < k → Fails n j) → IsShortest n k (rounded k n)
-shortest_of n k b s = record { back = b; shortest = λ j o l. s j l o }
+shortest_of n k b s = record { rounds = b; shortest = λ j o l. s j l o }
 
 from_4 : (n : ℕ) (b : Bool) → rounds_back 4 n ≡ b → ((j : ℕ) → j < 4 → Fails n j) → IsShortest n (if b then 4 else 5) (rounded (if b then 4 else 5) n)
 from_4 n true h s = shortest_of n 4 (is_back n 4 h) s

@@ -1,5 +1,6 @@
 -- The coordinates of a font in its name (Technical Note 5902).
-use Rattle.std.specs.Prelude.{ℕ, ℤ, int_eq, if◌then◌else◌, List, [], ◌∷◌, ◌++◌, codes}
+use Rattle.std.specs.Prelude.{ℕ, ℤ, if◌then◌else◌, List, [], ◌∷◌, ◌++◌, codes}
+use Rattle.std.specs.Ordering.{int_eq}
 use Rattle.subsetter_base.specs.declared.tag.Tag.{Tag}
 use Rattle.subsetter_variation.specs.declared.axes.Axis.{Axis}
 use Rattle.pdf_moved.specs.Movement.{clamped}

@@ -42,7 +42,7 @@ value_text v = sign v ++ size_text (unsigned_abs v)
 
 -- a number of units that rounds back to 65536ths, as none does with fewer decimals
 pub record IsShortest (n k m : ℕ) : Type 0 where
-  pub back : back k m ≡ n
+  pub rounds : back k m ≡ n
   pub shortest : (j o : ℕ) → j < k → back j o ≢ n
 
 abbrev pub ShortestIsTaken : Type 0

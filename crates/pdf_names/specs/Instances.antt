@@ -1,7 +1,8 @@
 -- The named instance at a font's coordinates (OpenType, "fvar"), and its name (Technical Note 5902).
-use Rattle.std.specs.Prelude.{ℕ, ℤ, zero, suc, ◌+◌, ◌*◌, ◌==◌, ◌&&◌, ◌||◌, nat_le, nat_lt, int_eq, Bool, false, if◌then◌else◌, List, [], ◌∷◌, ◌++◌, drop, is_some, codes, Option, Some, None}
+use Rattle.std.specs.Prelude.{ℕ, ℤ, zero, suc, ◌+◌, ◌*◌, ◌==◌, ◌&&◌, ◌||◌, nat_le, nat_lt, Bool, false, if◌then◌else◌, List, [], ◌∷◌, ◌++◌, drop, is_some, codes, Option, Some, None}
 use Rattle.std.specs.Int.{w32, cast_signed}
 use Rattle.std.specs.Option.{option_and_then, option_map_or}
+use Rattle.std.specs.Ordering.{int_eq}
 use Rattle.subsetter_base.specs.Bytes.{number, range}
 use Rattle.subsetter_base.specs.declared.tag.Tag.{Tag}
 use Rattle.subsetter_variation.specs.Optional.{◌>>=◌}

@@ -1,6 +1,6 @@
 //! A coordinate of 65536ths as a decimal number (Technical Note 5902).
 
-ghost use Rattle.std.specs.Prelude.{◌≡◌, ◌<◌, ◌≤◌, ◌^◌, ◌/◌, ◌++◌, IfErr, OnOk, unsigned_abs};
+ghost use Rattle.std.specs.Prelude.{◌≡◌, ◌+◌, ◌<◌, ◌≤◌, ◌^◌, ◌++◌, IfErr, decimal, OnOk, unsigned_abs};
 ghost use Rattle.subsetter_base.specs.declared.error.Error.TheVariants.{OutOfMemory};
 ghost use Rattle.pdf_text.specs.Numbers.{sign};
 ghost use Rattle.pdf_names.specs.Decimal.{back, decimal_text, decimals, digits, fraction, nearest_even, rounded, rounds_back, size_text, value_text};
@@ -106,6 +106,7 @@ fn write_digits(text: &mut Vec<u8>, k: u32, m: u64) -> Result<(), Error>
 }
 
 /// Writes the point and the decimals, if there are any.
+#[tactic(auto, using(pdf_text::proofs::Pieces::two_written))]
 fn write_fraction(text: &mut Vec<u8>, k: u32, m: u64) -> Result<(), Error>
     requires { k ≤ 5 }
     ensures ok { OnOk result (text.new.items ≡ text.old.items ++ fraction k m) }
@@ -118,14 +119,22 @@ fn write_fraction(text: &mut Vec<u8>, k: u32, m: u64) -> Result<(), Error>
     write_digits(text, k, m)
 }
 
+/// Writes a whole number.
+fn write_whole(text: &mut Vec<u8>, n: u64) -> Result<(), Error>
+    ensures ok { OnOk result (text.new.items ≡ text.old.items ++ decimal n) }
+    ensures err { IfErr result (λ e. e ≡ OutOfMemory) }
+{
+    write!(text, "{n}").map_err(|_| Error::OutOfMemory)
+}
+
 /// Writes a number that is counted in units of its last decimal.
+#[tactic(auto, unfolding(crate::specs::Decimal::decimal_text), using(pdf_text::proofs::Pieces::two_written))]
 fn write_decimal(text: &mut Vec<u8>, k: u32, m: u64) -> Result<(), Error>
     requires { k ≤ 5 }
     ensures ok { OnOk result (text.new.items ≡ text.old.items ++ decimal_text k m) }
     ensures err { IfErr result (λ e. e ≡ OutOfMemory) }
 {
-    let whole = m / power(k);
-    write!(text, "{whole}").map_err(|_| Error::OutOfMemory)?;
+    write_whole(text, m / power(k))?;
     write_fraction(text, k, m)
 }
 
@@ -150,6 +159,7 @@ fn write_size(text: &mut Vec<u8>, n: u32) -> Result<(), Error>
 }
 
 /// Writes a coordinate of 65536ths.
+#[tactic(auto, unfolding(crate::specs::Decimal::value_text), using(pdf_text::proofs::Pieces::two_written))]
 pub fn write_value(text: &mut Vec<u8>, value: i32) -> Result<(), Error>
     ensures ok { OnOk result (text.new.items ≡ text.old.items ++ value_text value) }
     ensures err { IfErr result (λ e. e ≡ OutOfMemory) }

@@ -46,6 +46,16 @@ fn whole_name(
     Ok(text)
 }
 
+/// The first 110 bytes, or all where there are fewer.
+fn front_of(bytes: &[u8]) -> &[u8]
+    ensures { result.now ≡ take 110 bytes.now }
+{
+    if bytes.len() <= 110 {
+        return bytes;
+    }
+    &bytes[..110]
+}
+
 /// The front of a prefix, and six letters that a text determines.
 #[tactic(auto, using(pdf_text::proofs::Pieces::four_behind_nothing))]
 fn cut_name(alloc: Global, front: &[u8], text: &[u8]) -> Result<Vec<u8>, Error>
@@ -53,7 +63,7 @@ fn cut_name(alloc: Global, front: &[u8], text: &[u8]) -> Result<Vec<u8>, Error>
     ensures err { IfErr result (λ e. e ≡ OutOfMemory) }
 {
     let mut cut = Vec::new(alloc);
-    cut.extend_from_slice(&front[..front.len().min(110)])?;
+    cut.extend_from_slice(front_of(front))?;
     cut.extend_from_slice(b"-")?;
     cut.extend_from_slice(&tag_of(text))?;
     cut.extend_from_slice(b"...")?;
