@@ -19,6 +19,7 @@ ALLOWED = {
     ("cid_embed", "write_width"): (1, "`write!` tells a refused request as fmt::Error, and a number's text has no other error"),
     ("subset_rows", "status_of"): (1, "its status"),
     ("subset_rows", "fmt"): (1, "the list of all errors, in which a status is looked up"),
+    ("pdf_names", "write_whole"): (1, "`write!` reports a refused request as fmt::Error, and a number's text has no other error"),
     ("pdf_text", "write_cid"): (1, "`write!` reports a refused request as fmt::Error, and a number's text has no other error"),
     ("pdf_text", "write_width"): (1, "`write!` reports a refused request as fmt::Error, and a number's text has no other error"),
     ("pdf_text", "write_integer"): (1, "`write!` reports a refused request as fmt::Error, and a number's text has no other error"),

@@ -1,0 +1,2 @@
+pub mod Stems
+pub mod View

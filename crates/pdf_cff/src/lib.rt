@@ -1,0 +1,11 @@
+//! What a PDF takes of a `CFF ` table (Technical Note 5176): its first name, and its first vertical stem.
+//!
+//! ```text
+//! let said = said_in(alloc, cff)?;     // said.name: "Made-Bold", said.stem: 83
+//! ```
+#![tactic(auto)]
+
+mod said;
+mod stems;
+
+pub use said::{Said, said_in};

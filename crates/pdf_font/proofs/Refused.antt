@@ -1,0 +1,63 @@
+-- What is refused before an embedding is made.
+use Rattle.std.proofs.Common.{◌≡◌, ℕ, List, [], Bool, true, false, Option, None, ℤ, sym, ap, subst, ◌∙◌}
+use Rattle.std.specs.Prelude.{codes}
+use Rattle.subsetter_base.specs.declared.tag.Tag.{Tag}
+use Rattle.subsetter_base.specs.declared.error.Error.{Error}
+use Rattle.subsetter_base.specs.declared.error.Error.TheVariants.{OutOfMemory}
+use Rattle.subsetter_sfnt.specs.Fault.{HasOpeningFault, no_kind, no_entry, entry_outside, no_face, nested, cut_directory, no_outlines as without_outlines, lone_cff2}
+use Rattle.subsetter_sfnt.specs.Read.{Font, stored}
+use Rattle.subsetter.specs.Fault.{in_opening}
+use Rattle.subsetter_variable.specs.Standing.{IsAtDefault, no_outlines}
+use Rattle.subsetter_variable.specs.Subset.{whole, as_it_is}
+use Rattle.subsetter_variable.proofs.Static.{one_static}
+use Rattle.subsetter_variable.proofs.Unopened.{no_glyf, same_stored}
+use Rattle.cid_embed.specs.Embed.{numbering, IsEmbeddingAnswer, in_font, in_subset}
+use Rattle.cid_embed_at.specs.Embed.{in_static}
+use Rattle.pdf_codes.specs.Codes.{Used, glyphs_of}
+use Rattle.pdf_codes.specs.Shown.{has_long_text}
+use Rattle.pdf_values.specs.Permission.{is_permitted, permission}
+use Rattle.pdf_values.specs.declared.permission.Permission.{Permission}
+use Rattle.pdf_font.specs.PdfFont.{HasFontFault, HasNoPdfFont, in_embedding, long_text, not_permitted}
+use Rattle.pdf_font.specs.declared.choice.FontOptions.{FontOptions}
+use Rattle.pdf_font.specs.declared.error.FontError.TheVariants.{Subset, NotPermitted, TextTooLong}
+
+-- opening takes no memory
+pub not_memory : (font : Font) (e : Error) → HasOpeningFault font e → e ≡ OutOfMemory → ⊥
+not_memory font _ (no_kind k) m = cc
+not_memory font _ (no_entry k d) m = cc
+not_memory font _ (entry_outside at k d lt) m = cc
+not_memory font _ (no_face at k d n) m = cc
+not_memory font _ (nested at k d n) m = cc
+not_memory font _ (cut_directory at h n) m = cc
+not_memory font _ (without_outlines r g k d) m = cc
+not_memory font _ (lone_cff2 g k d) m = cc
+
+module _ (font : Font) (settings : List (Tag × ℤ)) (options : FontOptions) (us : List Used) where
+  closed : (e : Error) → HasOpeningFault font e → IsAtDefault (whole font) settings
+  closed e fault = no_outlines (same_stored font (codes "glyf") ∙ no_glyf font e fault)
+
+  pub unopened : (e : Error) → HasOpeningFault font e → (order : List ℕ) × HasFontFault font settings options us order (Subset e)
+  unopened e fault = ([], in_embedding (in_static font (as_it_is (closed e fault)) (in_font (in_subset (in_opening fault)))))
+
+  pub unopened_final : (e : Error) → HasOpeningFault font e → HasNoPdfFont font settings options us
+  unopened_final e fault = λ f p.
+      let a = p.made.embedded in
+      let is : a.static ≡ font = one_static font settings (numbering (glyphs_of us)) a.static font a.is_static (as_it_is (closed e fault)) in
+      let answer : IsEmbeddingAnswer options.limits.tokens options.limits.depth font (glyphs_of us) p.made.new = subst (λ (x : Font). IsEmbeddingAnswer options.limits.tokens options.limits.depth x (glyphs_of us) p.made.new) is a.answer in
+      answer.clean e (in_subset (in_opening fault))
+
+  pub forbidden : (p : Permission) → p ≡ permission (stored font (codes "OS/2")) → is_permitted p options.rights ≡ false → (order : List ℕ) × HasFontFault font settings options us order (NotPermitted p)
+  forbidden p is h =
+      ([], subst (λ (x : Permission). HasFontFault font settings options us [] (NotPermitted x)) (sym is) (not_permitted (sym (ap (λ (x : Permission). is_permitted x options.rights) is) ∙ h)))
+
+  pub forbidden_final : (p : Permission) → p ≡ permission (stored font (codes "OS/2")) → is_permitted p options.rights ≡ false → HasNoPdfFont font settings options us
+  forbidden_final p is h = λ f q.
+      let same : f.permission ≡ p = q.permission ∙ sym is in
+      let yes : is_permitted p options.rights ≡ true = sym (ap (λ (x : Permission). is_permitted x options.rights) same) ∙ q.permitted in
+      let both : true ≡ false = sym yes ∙ h in cc
+
+  pub too_long : has_long_text us ≡ true → (order : List ℕ) × HasFontFault font settings options us order TextTooLong
+  too_long h = ([], long_text h)
+
+  pub too_long_final : has_long_text us ≡ true → HasNoPdfFont font settings options us
+  too_long_final h = λ f q. let both : true ≡ false = sym h ∙ q.short in cc

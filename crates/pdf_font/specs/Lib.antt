@@ -1,0 +1,9 @@
+pub mod Chosen
+pub mod Frequent
+pub mod Made
+pub mod Metrics
+pub mod Moved
+pub mod Opened
+pub mod PdfFont
+pub mod Program
+pub mod Source

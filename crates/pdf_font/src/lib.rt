@@ -1,0 +1,33 @@
+//! What a PDF has of a font for the glyphs in use, from one call: the font program, the codes, the widths, the values of
+//! the font descriptor, the ToUnicode CMap and the CMap of the codes.
+//!
+//! ```text
+//! let shown = [Shown { glyph: 36, text: &['A'] }, Shown { glyph: 5, text: &['f', 'i'] }];
+//! let font = pdf_font(alloc, data, 0, &[], &shown, &FontOptions::default())?;
+//! // font.program, font.codes, font.widths, font.descriptor, font.to_unicode ..
+//! ```
+#![tactic(auto)]
+
+mod call;
+mod choice;
+mod described;
+mod error;
+mod font;
+mod moved;
+mod program;
+mod tag;
+#[cfg(test)]
+mod tests;
+mod widths;
+
+pub use call::pdf_font;
+pub use choice::{Direction, FontOptions, ProgramChoice};
+pub use described::Descriptor;
+pub use error::FontError;
+pub use font::PdfFont;
+pub use pdf_codes::{Codes, Shown, codes_of};
+pub use pdf_glyphs::Columns;
+pub use pdf_text::{Column, DefaultColumn, NamedCmap, ProgramKind};
+pub use pdf_values::{Bounds, Edges, Heights, Permission, Rights, Usage, Values};
+pub use subsetter::{Limits, Tag};
+pub use tag::SubsetTag;
