@@ -1,1 +1,2 @@
+mod FirstStems
 mod StemSteps

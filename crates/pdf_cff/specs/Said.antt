@@ -1,5 +1,5 @@
 -- What a PDF takes of a `CFF ` table (Technical Note 5176): its first name, and its first vertical stem.
-use Rattle.std.specs.Prelude.{ℕ, if◌then◌else◌, List, [], ◌∷◌, map, Option, Some, None}
+use Rattle.std.specs.Prelude.{ℕ, if◌then◌else◌, List, [], ◌∷◌, map, Option, None}
 use Rattle.std.specs.Option.{option_and_then, option_map, option_or, unwrap_or}
 use Rattle.std.specs.Result.{result_ok}
 use Rattle.subsetter_cffdata.specs.Index.{index_at}
