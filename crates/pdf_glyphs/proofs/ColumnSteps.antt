@@ -1,10 +1,10 @@
 -- Columns of glyphs that have a width.
-use Rattle.std.proofs.Common.{◌≡◌, ℕ, ◌≤◌, min, List, [], ◌∷◌, ◌++◌, length, drop, Option, None, refl, sym, ap, ◌∙◌, inl, inr, arith}
+use Rattle.std.proofs.Common.{◌≡◌, ℕ, ◌≤◌, min, List, [], ◌∷◌, ◌++◌, length, drop, Option, refl, sym, ap, ◌∙◌, inl, inr, arith}
 use Rattle.std.proofs.lemmas.Bool.{cases_lt}
 use Rattle.std.proofs.lemmas.List.{append-nil, drop_all}
 use Rattle.pdf_text.specs.declared.columns.Column.{Column}
 use Rattle.pdf_glyphs.specs.HeightVariation.{Variation}
-use Rattle.pdf_glyphs.specs.Vertical.{Vertical, columns_at, columns_of, vertical_metric}
+use Rattle.pdf_glyphs.specs.Vertical.{Vertical, columns_at}
 
 no_widths : (t : Vertical) (v : Option Variation) (glyphs : List ℕ) → columns_at t v glyphs [] ≡ []
 no_widths t v [] = refl
@@ -22,10 +22,3 @@ none_left t v glyphs widths index past = elim (cases_lt index (length glyphs)) [
 pub columns_done : (t : Vertical) (v : Option Variation) (glyphs widths : List ℕ) (index : ℕ) (made total : List Column) → min (length glyphs) (length widths) ≤ index → made ++ columns_at t v (drop index glyphs) (drop index widths) ≡ total → made ≡ total
 columns_done t v glyphs widths index made total past h =
     sym (append-nil made) ∙ sym (ap (λ (rest : List Column). made ++ rest) (none_left t v glyphs widths index past)) ∙ h
-
--- of a font at its default
-pub plain_columns : (t : Vertical) (glyphs widths : List ℕ) → columns_at t None glyphs widths ≡ columns_of t glyphs widths
-plain_columns t [] [] = refl
-plain_columns t [] (w ∷ ws) = refl
-plain_columns t (g ∷ gs) [] = refl
-plain_columns t (g ∷ gs) (w ∷ ws) = ap (λ (cs : List Column). vertical_metric t g w ∷ cs) (plain_columns t gs ws)
