@@ -27,14 +27,14 @@ use Rattle.pdf_text.specs.Cmap.{cmap_text}
 use Rattle.pdf_text.specs.SubsetName.{font_name}
 use Rattle.pdf_values.specs.Name.{postscript_name}
 use Rattle.pdf_values.specs.Permission.{is_permitted, permission}
-use Rattle.pdf_font.specs.Chosen.{extras_of, is_vertical}
-use Rattle.pdf_font.specs.Frequent.{IsMostFrequent}
-use Rattle.pdf_font.specs.Moved.{values_in}
-use Rattle.pdf_font.specs.Program.{IsProgram, kind_of}
-use Rattle.pdf_font.specs.Source.{tag_in, vertical_of}
-use Rattle.pdf_font.specs.declared.choice.Direction.{Direction}
-use Rattle.pdf_font.specs.declared.choice.Direction.TheVariants.{Horizontal, Vertical as TopToBottom}
-use Rattle.pdf_font.specs.declared.choice.FontOptions.{FontOptions}
+use Rattle.pdf_source.specs.Chosen.{extras_of, is_vertical}
+use Rattle.pdf_source.specs.Frequent.{IsMostFrequent}
+use Rattle.pdf_source.specs.Moved.{values_in}
+use Rattle.pdf_source.specs.Program.{IsProgram, kind_of}
+use Rattle.pdf_source.specs.Source.{tag_in, vertical_of}
+use Rattle.pdf_source.specs.declared.choice.Direction.{Direction}
+use Rattle.pdf_source.specs.declared.choice.Direction.TheVariants.{Horizontal, Vertical as TopToBottom}
+use Rattle.pdf_source.specs.declared.choice.FontOptions.{FontOptions}
 use Rattle.pdf_font.specs.declared.error.FontError.{FontError}
 use Rattle.pdf_font.specs.declared.error.FontError.TheVariants.{Subset, NotPermitted, TextTooLong}
 use Rattle.pdf_font.specs.declared.font.PdfFont.{PdfFont}

@@ -1,9 +1,9 @@
 -- What a caller chooses.
 use Rattle.std.specs.Prelude.{Bool, true, false}
 use Rattle.subsetter_sfnt.specs.declared.extras.Extras.{Extras}
-use Rattle.pdf_font.specs.declared.choice.Direction.{Direction}
-use Rattle.pdf_font.specs.declared.choice.Direction.TheVariants.{Horizontal, Vertical}
-use Rattle.pdf_font.specs.declared.choice.FontOptions.{FontOptions}
+use Rattle.pdf_source.specs.declared.choice.Direction.{Direction}
+use Rattle.pdf_source.specs.declared.choice.Direction.TheVariants.{Horizontal, Vertical}
+use Rattle.pdf_source.specs.declared.choice.FontOptions.{FontOptions}
 
 -- names are never kept
 abbrev pub extras_of : FontOptions → Extras

@@ -8,7 +8,7 @@ use Rattle.pdf_values.specs.Descriptor.{SourceTables}
 use Rattle.pdf_values.specs.declared.bounds.Bounds.{Bounds}
 use Rattle.pdf_values.specs.declared.bounds.Bounds.TheVariants.{Font}
 use Rattle.pdf_values.specs.declared.descriptor.Known.{Known}
-use Rattle.pdf_font.specs.declared.tag.SubsetTag.{SubsetTag}
+use Rattle.pdf_source.specs.declared.tag.SubsetTag.{SubsetTag}
 
 abbrev pub tables_of : (List ℕ → Option (List ℕ)) → SourceTables
 tables_of find = record { head = find (codes "head"); hhea = find (codes "hhea"); os2 = find (codes "OS/2"); post = find (codes "post") }

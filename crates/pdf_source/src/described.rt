@@ -9,18 +9,17 @@ ghost use Rattle.pdf_glyphs.specs.Vertical.{vertical_view};
 ghost use Rattle.pdf_text.specs.SubsetName.{font_name, IsTag};
 ghost use Rattle.pdf_values.specs.Descriptor.{tables_view};
 ghost use Rattle.pdf_values.specs.Name.{postscript_name};
-ghost use Rattle.pdf_font.specs.Moved.{place_seen, values_by};
-ghost use Rattle.pdf_font.specs.Source.{bounds_by, known_of, outlines_of, tables_of, tag_in, vertical_of};
+ghost use Rattle.pdf_source.specs.Moved.{location_seen, values_by};
+ghost use Rattle.pdf_source.specs.Source.{bounds_by, known_of, outlines_of, tables_of, tag_in, vertical_of};
 
-use crate::moved::{Place, movement_of};
+use crate::moved::{Location, movement_of};
 use crate::tag::SubsetTag;
-use pdf_moved::values_at;
 use pdf_glyphs::{OutlineTables, VerticalTables, box_around, top_of};
+use pdf_moved::values_at;
 use pdf_text::{font_name, tag_of};
 use pdf_values::{Bounds, Known, Tables, Values, postscript_name, values_of};
 use std::alloc::Global;
-use subsetter::Tag;
-use subsetter_base::Error;
+use subsetter_base::{Error, Tag};
 use subsetter_sfnt::face::Face;
 
 /// The values of a font descriptor (ISO 32000-1, Table 122).
@@ -92,20 +91,20 @@ fn bounds_by(glyf: Option<&[u8]>, choice: Bounds) -> Bounds
 
 /// The values of a font, of which the new font has so many glyphs, at coordinates that are off its default, if they are.
 pub fn values_by(
-    place: &Option<Place>,
+    location: &Option<Location>,
     face: &Face<'_>,
     new: &Face<'_>,
     count: u16,
     choice: Bounds,
     settings: &[(Tag, i32)],
 ) -> Values
-    ensures { result ≡ values_by (option_map place_seen place.now) (table_in face.now.«data».now face.now.records.now) (table_in new.now.«data».now new.now.records.now) count choice settings.now }
+    ensures { result ≡ values_by (option_map location_seen location.now) (table_in face.now.«data».now face.now.records.now) (table_in new.now.«data».now new.now.records.now) count choice settings.now }
 {
     let tables = tables_of(face);
     let known = known_of(face, new, count);
-    match place {
+    match location {
         None => values_of(tables, known, bounds_by(face.stored(Tag::GLYF), choice)),
-        Some(place) => values_at(tables, known, movement_of(face, settings, place)),
+        Some(location) => values_at(tables, known, movement_of(face, settings, location)),
     }
 }
 

@@ -1,0 +1,4 @@
+mod Counting
+mod Numbers
+mod Passed
+mod Tags
