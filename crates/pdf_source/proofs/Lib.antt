@@ -1,4 +1,3 @@
 mod Counting
 mod Numbers
-mod Passed
 mod Tags
