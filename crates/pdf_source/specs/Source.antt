@@ -5,6 +5,7 @@ use Rattle.pdf_glyphs.specs.Tops.{top_of}
 use Rattle.pdf_glyphs.specs.Vertical.{Vertical}
 use Rattle.pdf_text.specs.SubsetName.{tag_of}
 use Rattle.pdf_values.specs.Descriptor.{SourceTables}
+use Rattle.pdf_values.specs.Name.{postscript_name}
 use Rattle.pdf_values.specs.declared.bounds.Bounds.{Bounds}
 use Rattle.pdf_values.specs.declared.bounds.Bounds.TheVariants.{Font}
 use Rattle.pdf_values.specs.declared.descriptor.Known.{Known}
@@ -32,6 +33,10 @@ known_of find new count = record {
 abbrev pub bounds_by : Option (List ℕ) → Bounds → Bounds
 bounds_by None choice = Font
 bounds_by (Some glyf) choice = choice
+
+-- the PostScript name
+unfoldable pub source_name : (List ℕ → Option (List ℕ)) → List ℕ
+source_name find = postscript_name (find (codes "name")) None
 
 -- the caller's tag, or that of the program
 abbrev pub tag_in : Option SubsetTag → List ℕ → List ℕ

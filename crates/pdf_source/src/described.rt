@@ -1,6 +1,6 @@
 //! The font descriptor.
 
-ghost use Rattle.std.specs.Prelude.{◌≡◌, codes, IfOk, IfErr, None};
+ghost use Rattle.std.specs.Prelude.{◌≡◌, IfOk, IfErr};
 ghost use Rattle.std.specs.Option.{option_copied, option_map};
 ghost use Rattle.subsetter_base.specs.declared.error.Error.TheVariants.{OutOfMemory};
 ghost use Rattle.subsetter_sfnt.specs.Read.{table_in};
@@ -8,9 +8,8 @@ ghost use Rattle.pdf_glyphs.specs.Boxes.{outlines_view};
 ghost use Rattle.pdf_glyphs.specs.Vertical.{vertical_view};
 ghost use Rattle.pdf_text.specs.SubsetName.{font_name, IsTag};
 ghost use Rattle.pdf_values.specs.Descriptor.{tables_view};
-ghost use Rattle.pdf_values.specs.Name.{postscript_name};
 ghost use Rattle.pdf_source.specs.Moved.{location_seen, values_by};
-ghost use Rattle.pdf_source.specs.Source.{bounds_by, known_of, outlines_of, tables_of, tag_in, vertical_of};
+ghost use Rattle.pdf_source.specs.Source.{bounds_by, known_of, outlines_of, source_name, tables_of, tag_in, vertical_of};
 
 use crate::moved::{Location, movement_of};
 use crate::tag::SubsetTag;
@@ -120,13 +119,14 @@ fn tag_in(program: &[u8], tag: Option<SubsetTag>) -> [u8; 6]
 }
 
 /// FontName: the tag, `+` and the PostScript name.
+#[tactic(auto, unfolding(crate::specs::Source::source_name))]
 pub fn name_in(
     alloc: Global,
     face: &Face<'_>,
     program: &[u8],
     tag: Option<SubsetTag>,
 ) -> Result<Vec<u8>, Error>
-    ensures ok { IfOk result (λ name. name.items ≡ font_name (tag_in tag program.now) (postscript_name (table_in face.now.«data».now face.now.records.now (codes "name")) None)) }
+    ensures ok { IfOk result (λ name. name.items ≡ font_name (tag_in tag program.now) (source_name (table_in face.now.«data».now face.now.records.now))) }
     ensures err { IfErr result (λ e. e ≡ OutOfMemory) }
 {
     let name = postscript_name(alloc, face.stored(Tag::NAME), None)?;
