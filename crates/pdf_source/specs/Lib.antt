@@ -1,3 +1,4 @@
+pub mod Cff
 pub mod Chosen
 pub mod Frequent
 pub mod Made

@@ -14,6 +14,7 @@ use Rattle.pdf_values.specs.declared.bounds.Bounds.{Bounds}
 use Rattle.pdf_values.specs.declared.descriptor.Values.{Values}
 use Rattle.pdf_moved.specs.Movement.{Movement}
 use Rattle.pdf_moved.specs.Values.{values_at}
+use Rattle.pdf_source.specs.Cff.{said_by}
 use Rattle.pdf_source.specs.Source.{bounds_by, known_of, tables_of}
 use Rattle.pdf_source.specs.declared.moved.Location.{Location as GivenLocation}
 
@@ -51,10 +52,10 @@ location_in find settings = location_of (find (codes "glyf")) find settings
 abbrev pub movement_of : (List ℕ → Option (List ℕ)) → List (Tag × ℤ) → Location → Movement
 movement_of find settings p = record { at = p.at; axes = p.axes; settings = settings; mvar = find (codes "MVAR") }
 
-abbrev pub values_by : Option Location → (List ℕ → Option (List ℕ)) → (List ℕ → Option (List ℕ)) → ℕ → Bounds → List (Tag × ℤ) → Values
-values_by None find new count choice settings = values_of (tables_of find) (known_of find new count) (bounds_by (find (codes "glyf")) choice)
-values_by (Some p) find new count choice settings = values_at (tables_of find) (known_of find new count) (movement_of find settings p)
+abbrev pub values_by : Option Location → Option ℕ → (List ℕ → Option (List ℕ)) → (List ℕ → Option (List ℕ)) → ℕ → Bounds → List (Tag × ℤ) → Values
+values_by None stem find new count choice settings = values_of (tables_of find) (known_of stem find new count) (bounds_by (find (codes "glyf")) choice)
+values_by (Some p) stem find new count choice settings = values_at (tables_of find) (known_of stem find new count) (movement_of find settings p)
 
 -- the values of the descriptor, of the tables that look-ups find in the source and in the new font
 abbrev pub values_in : (List ℕ → Option (List ℕ)) → (List ℕ → Option (List ℕ)) → ℕ → Bounds → List (Tag × ℤ) → Values
-values_in find new count choice settings = values_by (location_in find settings) find new count choice settings
+values_in find new count choice settings = values_by (location_in find settings) (said_by find).stem find new count choice settings

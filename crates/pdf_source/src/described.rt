@@ -11,6 +11,7 @@ ghost use Rattle.pdf_values.specs.Descriptor.{tables_view};
 ghost use Rattle.pdf_source.specs.Moved.{location_seen, values_by};
 ghost use Rattle.pdf_source.specs.Source.{bounds_by, known_of, outlines_of, source_name, tables_of, tag_in, vertical_of};
 
+use crate::cff::said_by;
 use crate::moved::{Location, movement_of};
 use crate::tag::SubsetTag;
 use pdf_glyphs::{OutlineTables, VerticalTables, box_around, top_of};
@@ -64,9 +65,9 @@ fn tables_of<'a>(face: &Face<'a>) -> Tables<'a>
     }
 }
 
-/// What is known of glyphs: of the source, and of so many of the new font.
-fn known_of(face: &Face<'_>, new: &Face<'_>, count: u16) -> Known
-    ensures { result ≡ known_of (table_in face.now.«data».now face.now.records.now) (table_in new.now.«data».now new.now.records.now) count }
+/// What is known of glyphs: of the source, which says this stem, and of so many of the new font.
+fn known_of(stem: Option<u32>, face: &Face<'_>, new: &Face<'_>, count: u16) -> Known
+    ensures { result ≡ known_of stem (table_in face.now.«data».now face.now.records.now) (table_in new.now.«data».now new.now.records.now) count }
 {
     let outlines = outlines_of(face);
     let cmap = face.stored(Tag::new(b"cmap"));
@@ -74,7 +75,7 @@ fn known_of(face: &Face<'_>, new: &Face<'_>, count: u16) -> Known
         cap_top: top_of(outlines, cmap, 'H'),
         x_top: top_of(outlines, cmap, 'x'),
         kept: box_around(outlines_of(new), count),
-        stem: None,
+        stem,
     }
 }
 
@@ -88,19 +89,21 @@ fn bounds_by(glyf: Option<&[u8]>, choice: Bounds) -> Bounds
     }
 }
 
-/// The values of a font, of which the new font has so many glyphs, at coordinates that are off its default, if they are.
+/// The values of a font that says this stem, of which the new font has so many glyphs, at coordinates that are off its
+/// default, if they are.
 pub fn values_by(
     location: &Option<Location>,
+    stem: Option<u32>,
     face: &Face<'_>,
     new: &Face<'_>,
     count: u16,
     choice: Bounds,
     settings: &[(Tag, i32)],
 ) -> Values
-    ensures { result ≡ values_by (option_map location_seen location.now) (table_in face.now.«data».now face.now.records.now) (table_in new.now.«data».now new.now.records.now) count choice settings.now }
+    ensures { result ≡ values_by (option_map location_seen location.now) stem (table_in face.now.«data».now face.now.records.now) (table_in new.now.«data».now new.now.records.now) count choice settings.now }
 {
     let tables = tables_of(face);
-    let known = known_of(face, new, count);
+    let known = known_of(stem, face, new, count);
     match location {
         None => values_of(tables, known, bounds_by(face.stored(Tag::GLYF), choice)),
         Some(location) => values_at(tables, known, movement_of(face, settings, location)),
@@ -118,8 +121,21 @@ fn tag_in(program: &[u8], tag: Option<SubsetTag>) -> [u8; 6]
     }
 }
 
-/// FontName: the tag, `+` and the PostScript name.
+/// The PostScript name: that of `name`, else the first of `CFF `.
 #[tactic(auto, unfolding(crate::specs::Source::source_name))]
+fn source_name(alloc: Global, face: &Face<'_>) -> Result<Vec<u8>, Error>
+    ensures ok { IfOk result (λ name. name.items ≡ source_name (table_in face.now.«data».now face.now.records.now)) }
+    ensures err { IfErr result (λ e. e ≡ OutOfMemory) }
+{
+    let name = postscript_name(alloc, face.stored(Tag::NAME), None)?;
+    if name.len() > 0 {
+        return Ok(name);
+    }
+    let said = said_by(alloc, face)?;
+    postscript_name(alloc, None, said.name)
+}
+
+/// FontName: the tag, `+` and the PostScript name.
 pub fn name_in(
     alloc: Global,
     face: &Face<'_>,
@@ -129,6 +145,6 @@ pub fn name_in(
     ensures ok { IfOk result (λ name. name.items ≡ font_name (tag_in tag program.now) (source_name (table_in face.now.«data».now face.now.records.now))) }
     ensures err { IfErr result (λ e. e ≡ OutOfMemory) }
 {
-    let name = postscript_name(alloc, face.stored(Tag::NAME), None)?;
+    let name = source_name(alloc, face)?;
     font_name(alloc, &tag_in(program, tag), &name)
 }

@@ -8,6 +8,7 @@
 //! ```
 #![tactic(auto)]
 
+mod cff;
 mod choice;
 mod described;
 mod moved;

@@ -16,5 +16,5 @@ returns-in-None c =
     c.values_of.ensures.value
     ∙ ap (λ (t : SourceTables). values_of t c.known_of-known.result c.bounds_by.result) c.tables_of-tables.ensures
     ∙ ap (λ (known : Known). values_of (tables_of find) known c.bounds_by.result) c.known_of-known.ensures
-    ∙ ap (λ (b : Bounds). values_of (tables_of find) (known_of find new c.args.count) b) bounds
-    ∙ ap (λ (location : Option Location). values_by location find new c.args.count c.args.choice c.args.settings.now) (sym (ap (option_map location_seen) c.in-None.is))
+    ∙ ap (λ (b : Bounds). values_of (tables_of find) (known_of c.args.stem find new c.args.count) b) bounds
+    ∙ ap (λ (location : Option Location). values_by location c.args.stem find new c.args.count c.args.choice c.args.settings.now) (sym (ap (option_map location_seen) c.in-None.is))
