@@ -4,7 +4,7 @@ use Rattle.pdf_codes.specs.Codes.{AreCids, AreCodes, Used}
 use Rattle.pdf_codes.specs.Leading.{AreLed, own_cmap, own_name, pairs_with, text_of, name_of}
 use Rattle.pdf_codes.specs.declared.codes.Codes.{Codes}
 use Rattle.pdf_text.specs.declared.named.NamedCmap.{NamedCmap}
-use Rattle.pdf_font.specs.Frequent.{IsMostFrequent}
+use Rattle.pdf_source.specs.Frequent.{IsMostFrequent}
 
 module _ (codes cids ks ds : List ℕ) (k : ks ≡ codes) (d : ds ≡ cids) (e : Option NamedCmap) where
   pub led : (choice : Codes) (us : List Used) → AreCodes choice us codes → AreCids us cids → ((c : Codes) (u : List Used) → AreCodes c u ks → AreCids u ds → AreLed (text_of e) ks ds) → AreLed (text_of e) codes cids

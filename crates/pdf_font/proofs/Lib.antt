@@ -1,12 +1,8 @@
 mod AllWidths
 mod Answered
-mod Counting
 mod Filling
 mod Fresh
 mod NewLaws
-mod Numbers
 mod Opening
-mod Passed
 mod Refused
 mod Tables
-mod Tags

@@ -18,7 +18,7 @@ use Rattle.pdf_codes.specs.Shown.{has_long_text}
 use Rattle.pdf_values.specs.Permission.{is_permitted, permission}
 use Rattle.pdf_values.specs.declared.permission.Permission.{Permission}
 use Rattle.pdf_font.specs.PdfFont.{HasFontFault, HasNoPdfFont, in_embedding, long_text, not_permitted}
-use Rattle.pdf_font.specs.declared.choice.FontOptions.{FontOptions}
+use Rattle.pdf_source.specs.declared.choice.FontOptions.{FontOptions}
 use Rattle.pdf_font.specs.declared.error.FontError.TheVariants.{Subset, NotPermitted, TextTooLong}
 
 -- opening takes no memory

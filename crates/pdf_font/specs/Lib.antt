@@ -1,9 +1,3 @@
-pub mod Chosen
-pub mod Frequent
-pub mod Made
-pub mod Metrics
-pub mod Moved
 pub mod Opened
 pub mod PdfFont
-pub mod Program
-pub mod Source
+pub mod Taken

@@ -4,9 +4,9 @@ use Rattle.subsetter_sfnt.specs.Read.{Font, table_in}
 use Rattle.subsetter_variable.specs.Subset.{IsTheAnswerAt}
 use Rattle.cid_embed.specs.Embed.{numbering}
 use Rattle.pdf_codes.specs.Shown.{uses_of}
-use Rattle.pdf_font.specs.Made.{made_seen}
+use Rattle.pdf_source.specs.Made.{made_seen}
 use Rattle.pdf_font.specs.PdfFont.{font_of}
-use Rattle.pdf_font.specs.declared.program.NewFont.{NewFont}
+use Rattle.pdf_source.specs.declared.program.NewFont.{NewFont}
 use Rattle.pdf_font.proofs.Answered.{embed_refused, embed_final, at_us, few, refused, new_refused, new_final}
 use Rattle.pdf_font.proofs.call.made.Goals as goal
 
@@ -40,8 +40,8 @@ returns-in_err-new-clause-err c =
     let e = c.in_ok-embedded.embedded in
     let a = at_us font c.args.coordinates.now c.args.options.now (uses_of c.args.shown.now) c.deref.result.now eg e c.in_ok-embedded.ensures.ok in
     rw (p.1, p.2) (
-      new_refused font c.args.coordinates.now c.args.options.now (uses_of c.args.shown.now) e a find c.requires.find c.len.result c.len.ensures c.in_err-new.field-0.0
-      (refused font c.args.coordinates.now c.args.options.now (uses_of c.args.shown.now) e a find c.requires.find c.len.result c.len.ensures {X = NewFont} made_seen c.in_err-new.field-0.0 c.in_err-new.ensures)
+    new_refused font c.args.coordinates.now c.args.options.now (uses_of c.args.shown.now) e a find c.requires.find c.len.result c.len.ensures c.in_err-new.field-0.0
+    (refused font c.args.coordinates.now c.args.options.now (uses_of c.args.shown.now) e a find c.requires.find c.len.result c.len.ensures {X = NewFont} made_seen c.in_err-new.field-0.0 c.in_err-new.ensures)
     )
 
 pub returns-in_err-new-clause-no_answer : goal.returns-in_err-new-clause-no_answer
@@ -54,8 +54,8 @@ returns-in_err-new-clause-no_answer c =
     let a = at_us font c.args.coordinates.now c.args.options.now (uses_of c.args.shown.now) c.deref.result.now eg e c.in_ok-embedded.ensures.ok in
     let same = subst (λ (l : List ℕ). IsTheAnswerAt font c.args.coordinates.now (numbering l) e.font.items) eg c.in_ok-embedded.ensures.same in
     rw (p.1, p.2) (
-      new_final font c.args.coordinates.now c.args.options.now (uses_of c.args.shown.now) e a find c.requires.find c.len.result c.len.ensures same c.in_err-new.field-0.0
-      (refused font c.args.coordinates.now c.args.options.now (uses_of c.args.shown.now) e a find c.requires.find c.len.result c.len.ensures {X = NewFont} made_seen c.in_err-new.field-0.0 c.in_err-new.ensures)
+    new_final font c.args.coordinates.now c.args.options.now (uses_of c.args.shown.now) e a find c.requires.find c.len.result c.len.ensures same c.in_err-new.field-0.0
+    (refused font c.args.coordinates.now c.args.options.now (uses_of c.args.shown.now) e a find c.requires.find c.len.result c.len.ensures {X = NewFont} made_seen c.in_err-new.field-0.0 c.in_err-new.ensures)
     )
 
 pub filled-requires-clause-glyphs : goal.filled-requires-clause-glyphs

@@ -10,8 +10,8 @@ use Rattle.subsetter_sfnt.specs.declared.flavor.FontFlavor.{FontFlavor}
 use Rattle.subsetter_sfnt.specs.declared.flavor.FontFlavor.TheVariants.{TrueType, Cff}
 use Rattle.pdf_text.specs.declared.values.ProgramKind.{ProgramKind}
 use Rattle.pdf_text.specs.declared.values.ProgramKind.TheVariants.{TrueType as TrueTypeFile, BareCff, OpenType as OpenTypeFile}
-use Rattle.pdf_font.specs.declared.choice.ProgramChoice.{ProgramChoice}
-use Rattle.pdf_font.specs.declared.choice.ProgramChoice.TheVariants.{Smallest, OpenType}
+use Rattle.pdf_source.specs.declared.choice.ProgramChoice.{ProgramChoice}
+use Rattle.pdf_source.specs.declared.choice.ProgramChoice.TheVariants.{Smallest, OpenType}
 
 -- what the program is, by the kind of the outlines
 abbrev pub kind_of : FontFlavor → ProgramChoice → ProgramKind

@@ -7,8 +7,8 @@ count_of ws w = count_by (λ u. u == w) ws
 
 -- it is the width of a glyph, no glyph has a more frequent one, and each glyph before it has a rarer one
 pub record IsMostFrequent (ws : List ℕ) (w : ℕ) : Type 0 where
-  pub place : ℕ
-  pub within : place < length ws
-  pub there : slice_index ws place ≡ w
+  pub index : ℕ
+  pub within : index < length ws
+  pub there : slice_index ws index ≡ w
   pub most : (i : ℕ) → i < length ws → count_of ws (slice_index ws i) ≤ count_of ws w
-  pub earliest : (i : ℕ) → i < place → count_of ws (slice_index ws i) < count_of ws w
+  pub earliest : (i : ℕ) → i < index → count_of ws (slice_index ws i) < count_of ws w

@@ -9,14 +9,13 @@ ghost use Rattle.subsetter_base.specs.declared.error.Error.TheVariants.{OutOfMem
 ghost use Rattle.subsetter_sfnt.specs.Read.{table_in};
 ghost use Rattle.cid_embed.specs.Afresh.{advance_in, measures_of, widths_from, widths_of};
 ghost use Rattle.cid_embed.specs.Width.{thousandths};
-ghost use Rattle.pdf_font.specs.Frequent.{IsMostFrequent, count_of};
-ghost use Rattle.pdf_font.specs.Metrics.{measures_seen};
+ghost use Rattle.pdf_source.specs.Frequent.{IsMostFrequent, count_of};
+ghost use Rattle.pdf_source.specs.Metrics.{measures_seen};
 
 use std::alloc::Global;
 use std::collections::HashMap;
-use subsetter::Tag;
-use subsetter_base::Error;
 use subsetter_base::read::Reader;
+use subsetter_base::{Error, Tag};
 use subsetter_sfnt::face::Face;
 
 /// What advances and widths are found by.
@@ -117,14 +116,14 @@ fn counts_of(alloc: Global, widths: &[u32]) -> Result<HashMap<u32, u32>, Error>
     Ok(counts)
 }
 
-/// The place of a width that is more frequent than one before it, else that of this one.
-fn more_frequent(counts: &HashMap<u32, u32>, widths: &[u32], best: usize, place: usize) -> usize
+/// The index of a width, if it is more frequent than the best one so far, else the index of that.
+fn more_frequent(counts: &HashMap<u32, u32>, widths: &[u32], best: usize, index: usize) -> usize
     requires best { best < length widths.now }
-    requires place { place < length widths.now }
-    ensures { result ≡ (if nat_lt (unwrap_or (get nat_eq counts.now (slice_index widths.now best)) 0) (unwrap_or (get nat_eq counts.now (slice_index widths.now place)) 0) then place else best) }
+    requires index { index < length widths.now }
+    ensures { result ≡ (if nat_lt (unwrap_or (get nat_eq counts.now (slice_index widths.now best)) 0) (unwrap_or (get nat_eq counts.now (slice_index widths.now index)) 0) then index else best) }
 {
-    if counted(counts, widths[best]) < counted(counts, widths[place]) {
-        place
+    if counted(counts, widths[best]) < counted(counts, widths[index]) {
+        index
     } else {
         best
     }

@@ -1,12 +1,13 @@
 //! What a caller chooses.
 
 ghost use Rattle.std.specs.Prelude.{◌≡◌};
-ghost use Rattle.pdf_font.specs.Chosen.{extras_of, is_vertical};
+ghost use Rattle.pdf_source.specs.Chosen.{extras_of, is_vertical, IsDefault};
 
 use crate::tag::SubsetTag;
 use pdf_codes::Codes;
 use pdf_values::{Bounds, Rights};
-use subsetter::{Extras, Limits};
+use subsetter_sfnt::extras::Extras;
+use subsetter_type2::limits::Limits;
 
 /// What the font program of a CFF font is.
 #[derive(Clone, Copy, PartialEq, Eq, Debug)]
@@ -45,7 +46,9 @@ pub struct FontOptions {
 
 impl FontOptions {
     /// Hinting is kept, no CIDSet is made, the tag is computed, and of each choice the first counts.
-    pub fn default() -> Self {
+    pub fn default() -> Self
+        ensures { IsDefault result }
+    {
         FontOptions {
             limits: Limits::default(),
             hinting: true,

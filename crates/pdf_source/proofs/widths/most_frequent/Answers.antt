@@ -2,9 +2,9 @@ use Rattle.std.proofs.Common.{◌≡◌, ◌<◌, ℕ, List, length, subst, refl
 use Rattle.std.specs.Prelude.{nat_eq, slice_index}
 use Rattle.std.specs.HashMap.{get}
 use Rattle.std.specs.Option.{unwrap_or}
-use Rattle.pdf_font.specs.Frequent.{count_of}
-use Rattle.pdf_font.proofs.Counting.{IsBest, best_counted, is_most}
-use Rattle.pdf_font.proofs.widths.most_frequent.Goals as goal
+use Rattle.pdf_source.specs.Frequent.{count_of}
+use Rattle.pdf_source.proofs.Counting.{IsBest, best_counted, is_most}
+use Rattle.pdf_source.proofs.widths.most_frequent.Goals as goal
 
 pub loop-i-preserved : goal.loop-i-preserved
 loop-i-preserved c =

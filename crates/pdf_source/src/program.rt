@@ -4,19 +4,20 @@ ghost use Rattle.std.specs.Prelude.{◌≡◌};
 ghost use Rattle.subsetter_base.specs.Bytes.{number};
 ghost use Rattle.subsetter_base.specs.Gives.{Gives};
 ghost use Rattle.subsetter_sfnt.specs.Read.{table_in};
-ghost use Rattle.pdf_font.specs.Made.{made_in, made_seen, profile_in, profile_seen};
-ghost use Rattle.pdf_font.specs.Program.{bare_cff, count_in, flavor_by, flavor_in, kind_of, program_in};
+ghost use Rattle.pdf_source.specs.Made.{made_in, made_seen, profile_in, profile_seen};
+ghost use Rattle.pdf_source.specs.Program.{bare_cff, count_in, flavor_by, flavor_in, kind_of, program_in};
 
+use crate::cff::said_by;
 use crate::choice::{FontOptions, ProgramChoice};
 use crate::described::values_by;
-use crate::moved::place_in;
+use crate::moved::location_in;
 use crate::widths::widths_of;
 use pdf_text::ProgramKind;
 use pdf_values::Values;
 use std::alloc::Global;
-use subsetter::{Extras, Tag};
-use subsetter_base::Error;
 use subsetter_base::read::Reader;
+use subsetter_base::{Error, Tag};
+use subsetter_sfnt::extras::Extras;
 use subsetter_sfnt::face::Face;
 use subsetter_sfnt::flavor::FontFlavor;
 use subsetter_sfnt::parse::parse;
@@ -104,8 +105,17 @@ fn profile_of(
     let new = parse(file, 0, Extras::ALL)?;
     let count = count_in(&new, flavor_in(file), requested)?;
     let widths = widths_of(alloc, &new, count)?;
-    let place = place_in(alloc, face, settings)?;
-    let values = values_by(&place, face, &new, count, options.bounds, settings);
+    let location = location_in(alloc, face, settings)?;
+    let said = said_by(alloc, face)?;
+    let values = values_by(
+        &location,
+        said.stem,
+        face,
+        &new,
+        count,
+        options.bounds,
+        settings,
+    );
     Ok(Profile {
         count,
         widths,

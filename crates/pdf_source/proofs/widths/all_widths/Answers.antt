@@ -3,10 +3,10 @@ use Rattle.std.specs.Option.{ok_or}
 use Rattle.std.proofs.lemmas.Result.{err_from_is_err_and}
 use Rattle.subsetter_base.specs.declared.error.Error.TheVariants.{MalformedFont}
 use Rattle.subsetter_base.proofs.Results.{with_front}
-use Rattle.pdf_font.specs.Metrics.{measures_seen}
+use Rattle.pdf_source.specs.Metrics.{measures_seen}
 use Rattle.cid_embed.specs.Afresh.{advance_in, widths_from}
-use Rattle.pdf_font.proofs.Numbers.{width_read, width_missing}
-use Rattle.pdf_font.proofs.widths.all_widths.Goals as goal
+use Rattle.pdf_source.proofs.Numbers.{width_read, width_missing}
+use Rattle.pdf_source.proofs.widths.all_widths.Goals as goal
 
 pub returns-in_err-advance : goal.returns-in_err-advance
 returns-in_err-advance c =

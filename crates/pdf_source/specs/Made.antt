@@ -1,5 +1,5 @@
 -- What is read of a new font, step by step.
-use Rattle.std.specs.Prelude.{◌≡◌, ℕ, List, Option, Result, Ok, ℤ}
+use Rattle.std.specs.Prelude.{ℕ, List, Option, Result, Ok, ℤ}
 use Rattle.subsetter_base.specs.Bytes.{◌>>=◌}
 use Rattle.subsetter_base.specs.declared.tag.Tag.{Tag}
 use Rattle.subsetter_base.specs.declared.error.Error.{Error}
@@ -8,13 +8,11 @@ use Rattle.subsetter_sfnt.specs.Read.{as_font, table_in}
 use Rattle.cid_embed.specs.Afresh.{widths_of}
 use Rattle.pdf_text.specs.declared.values.ProgramKind.{ProgramKind}
 use Rattle.pdf_values.specs.declared.descriptor.Values.{Values}
-use Rattle.pdf_values.specs.declared.permission.Permission.{Permission}
-use Rattle.pdf_font.specs.Program.{count_in, flavor_in, kind_of, program_in}
-use Rattle.pdf_font.specs.Moved.{values_in}
-use Rattle.pdf_font.specs.declared.choice.FontOptions.{FontOptions}
-use Rattle.pdf_font.specs.declared.font.PdfFont.{PdfFont}
-use Rattle.pdf_font.specs.declared.program.NewFont.{NewFont}
-use Rattle.pdf_font.specs.declared.program.Profile.{Profile as GivenProfile}
+use Rattle.pdf_source.specs.Program.{count_in, flavor_in, kind_of, program_in}
+use Rattle.pdf_source.specs.Moved.{values_in}
+use Rattle.pdf_source.specs.declared.choice.FontOptions.{FontOptions}
+use Rattle.pdf_source.specs.declared.program.NewFont.{NewFont}
+use Rattle.pdf_source.specs.declared.program.Profile.{Profile as GivenProfile}
 
 -- how many glyphs it has, their widths, and the values of the descriptor
 pub record Profile : Type 0 where
@@ -46,13 +44,3 @@ made_in find settings options requested file = do
   profile ← profile_in find settings options requested file
   program ← program_in (kind_of (flavor_in file) options.program) file
   Ok (record { kind = kind_of (flavor_in file) options.program; program = program; profile = profile })
-
--- what is taken over of a new font, with the CIDs of the glyphs in use and what the font permits
-pub record Takes (n : NewFont) (numbers : List ℕ) (p : Permission) (f : PdfFont) : Type 0 where
-  pub kind : f.kind ≡ n.kind
-  pub program : f.program.items ≡ n.program.items
-  pub count : f.glyph_count ≡ n.profile.count
-  pub widths : f.widths.items ≡ n.profile.widths.items
-  pub values : f.descriptor.values ≡ n.profile.values
-  pub cids : f.cids.items ≡ numbers
-  pub permission : f.permission ≡ p

@@ -8,19 +8,18 @@ ghost use Rattle.subsetter_base.specs.declared.error.Error.TheVariants.{OutOfMem
 ghost use Rattle.subsetter_sfnt.specs.Read.{table_in};
 ghost use Rattle.subsetter_instance.specs.Source.{place};
 ghost use Rattle.pdf_moved.specs.Movement.{movement_view};
-ghost use Rattle.pdf_font.specs.Moved.{are_zero, axes_in, movement_of, place_by, place_in, place_seen, unless_zero};
+ghost use Rattle.pdf_source.specs.Moved.{are_zero, axes_in, movement_of, location_by, location_in, location_seen, unless_zero};
 
 use pdf_moved::Movement;
 use std::alloc::Global;
-use subsetter::Tag;
-use subsetter_base::Error;
+use subsetter_base::{Error, Tag};
 use subsetter_instance::source::place;
 use subsetter_sfnt::face::Face;
 use subsetter_variation::axes::{Axis, axes};
 
 /// Where a font is off its default.
 #[derive(Drop)]
-pub struct Place {
+pub struct Location {
     /// The normalized coordinates, in 16384ths.
     pub at: Vec<i32>,
     pub axes: Vec<Axis>,
@@ -78,44 +77,44 @@ fn are_zero(at: &[i32]) -> bool
 }
 
 /// What is read, unless each coordinate is 0.
-fn place_by(at: Option<Vec<i32>>, axes: Option<Vec<Axis>>) -> Option<Place>
-    ensures { option_map place_seen result ≡ place_by (option_map (λ v. v.items) at) (option_map (λ v. v.items) axes) }
+fn location_by(at: Option<Vec<i32>>, axes: Option<Vec<Axis>>) -> Option<Location>
+    ensures { option_map location_seen result ≡ location_by (option_map (λ v. v.items) at) (option_map (λ v. v.items) axes) }
 {
     let at = at?;
     let axes = axes?;
     if are_zero(&at) {
         return None;
     }
-    Some(Place { at, axes })
+    Some(Location { at, axes })
 }
 
 /// Where a font of outlines in `glyf` is off its default; none at its default.
-pub fn place_in(
+pub fn location_in(
     alloc: Global,
     face: &Face<'_>,
     settings: &[(Tag, i32)],
-) -> Result<Option<Place>, Error>
-    ensures { Gives (λ o. option_map place_seen o) result (Ok (place_in (table_in face.now.«data».now face.now.records.now) settings.now)) }
+) -> Result<Option<Location>, Error>
+    ensures { Gives (λ o. option_map location_seen o) result (Ok (location_in (table_in face.now.«data».now face.now.records.now) settings.now)) }
 {
     if face.stored(Tag::GLYF).is_none() {
         return Ok(None);
     }
     let at = coordinates_of(alloc, face, settings)?;
     let axes = axes_of(alloc, face.stored(Tag::new(b"fvar")))?;
-    Ok(place_by(at, axes))
+    Ok(location_by(at, axes))
 }
 
 /// Where a font is moved to.
 pub fn movement_of<'a>(
     face: &Face<'a>,
     settings: &'a [(Tag, i32)],
-    place: &'a Place,
+    location: &'a Location,
 ) -> Movement<'a>
-    ensures { movement_view result ≡ movement_of (table_in face.now.«data».now face.now.records.now) settings.now (place_seen place.now) }
+    ensures { movement_view result ≡ movement_of (table_in face.now.«data».now face.now.records.now) settings.now (location_seen location.now) }
 {
     Movement {
-        at: &place.at,
-        axes: &place.axes,
+        at: &location.at,
+        axes: &location.axes,
         settings,
         mvar: face.stored(Tag::new(b"MVAR")),
     }

@@ -5,7 +5,7 @@ use Rattle.std.specs.Option.{unwrap_or}
 use Rattle.std.proofs.lemmas.Bool.{eqb-true, ltb-true, lt-ltb, cases_lt}
 use Rattle.std.proofs.lemmas.List.{length-take}
 use Rattle.std.proofs.lemmas.List.Sums.{count_by_more_no, count_by_more_yes, count_by-le-length}
-use Rattle.pdf_font.specs.Frequent.{IsMostFrequent, count_of}
+use Rattle.pdf_source.specs.Frequent.{IsMostFrequent, count_of}
 
 -- a count of so few fits
 pub counted_few : (ws : List ℕ) (i n w : ℕ) → i < length ws → length ws < 2 ^ 32 → n ≡ count_of (take i ws) w → n + 1 < 2 ^ 32
@@ -69,9 +69,9 @@ best_step f n i best next lt b e = by (ltb (f best) (f i)) refl
 pub best_counted : (ws : List ℕ) (f : ℕ → ℕ) → ((w : ℕ) → f w ≡ count_of ws w) → (i best next : ℕ) → i < length ws → IsBest (λ j. count_of ws (slice_index ws j)) (length ws) i best → next ≡ cond (ltb (f (slice_index ws best)) (f (slice_index ws i))) i best → IsBest (λ j. count_of ws (slice_index ws j)) (length ws) (i + 1) next
 best_counted ws f h i best next lt b e =
     best_step (λ j. count_of ws (slice_index ws j)) (length ws) i best next lt b (
-      e ∙ ap (λ (n : ℕ). cond (ltb n (f (slice_index ws i))) i best) (h (slice_index ws best)) ∙ ap (λ (n : ℕ). cond (ltb (count_of ws (slice_index ws best)) n) i best) (h (slice_index ws i))
+    e ∙ ap (λ (n : ℕ). cond (ltb n (f (slice_index ws i))) i best) (h (slice_index ws best)) ∙ ap (λ (n : ℕ). cond (ltb (count_of ws (slice_index ws best)) n) i best) (h (slice_index ws i))
     )
 
 -- the width there
 pub is_most : (ws : List ℕ) (best w : ℕ) → IsBest (λ j. count_of ws (slice_index ws j)) (length ws) (length ws) best → w ≡ slice_index ws best → IsMostFrequent ws w
-is_most ws best w b e = subst (IsMostFrequent ws) (sym e) (record { place = best; within = b.within; there = refl; most = b.most; earliest = b.earliest })
+is_most ws best w b e = subst (IsMostFrequent ws) (sym e) (record { index = best; within = b.within; there = refl; most = b.most; earliest = b.earliest })
