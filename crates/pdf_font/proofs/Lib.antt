@@ -3,6 +3,7 @@ mod Answered
 mod Counting
 mod Filling
 mod Fresh
+mod LawProofs
 mod NewLaws
 mod Numbers
 mod Opening

@@ -1,5 +1,5 @@
 -- What is refused before an embedding is made.
-use Rattle.std.proofs.Common.{◌≡◌, ℕ, List, [], Bool, true, false, Option, None, ℤ, sym, ap, subst, ◌∙◌}
+use Rattle.std.proofs.Common.{◌≡◌, ℕ, List, [], Bool, true, false, Option, None, Result, Ok, Err, ℤ, refl, sym, ap, subst, ◌∙◌}
 use Rattle.std.specs.Prelude.{codes}
 use Rattle.subsetter_base.specs.declared.tag.Tag.{Tag}
 use Rattle.subsetter_base.specs.declared.error.Error.{Error}
@@ -17,9 +17,12 @@ use Rattle.pdf_codes.specs.Codes.{Used, glyphs_of}
 use Rattle.pdf_codes.specs.Shown.{has_long_text}
 use Rattle.pdf_values.specs.Permission.{is_permitted, permission}
 use Rattle.pdf_values.specs.declared.permission.Permission.{Permission}
+use Rattle.pdf_font.specs.First.{CanBeOpened, IsFoundFirst}
 use Rattle.pdf_font.specs.PdfFont.{HasFontFault, HasNoPdfFont, in_embedding, long_text, not_permitted}
 use Rattle.pdf_font.specs.declared.choice.FontOptions.{FontOptions}
+use Rattle.pdf_font.specs.declared.error.FontError.{FontError}
 use Rattle.pdf_font.specs.declared.error.FontError.TheVariants.{Subset, NotPermitted, TextTooLong}
+use Rattle.pdf_font.specs.declared.font.PdfFont.{PdfFont}
 
 -- opening takes no memory
 pub not_memory : (font : Font) (e : Error) → HasOpeningFault font e → e ≡ OutOfMemory → ⊥
@@ -61,3 +64,43 @@ module _ (font : Font) (settings : List (Tag × ℤ)) (options : FontOptions) (u
 
   pub too_long_final : has_long_text us ≡ true → HasNoPdfFont font settings options us
   too_long_final h = λ f q. let both : true ≡ false = sym h ∙ q.short in cc
+
+  -- ---- what is found first
+
+  abbrev pub First : Result PdfFont FontError → Type 0
+  First r = IsFoundFirst font options us r
+
+  abbrev Permitted : Bool → Type 0
+  Permitted b = is_permitted (permission (stored font (codes "OS/2"))) options.rights ≡ b
+
+  pub first_unopened : (d : Error) → HasOpeningFault font d → First (Err (Subset d))
+  first_unopened d fault = record {
+    unopened = λ e f. (d, refl, fault);
+    forbidden = λ clean no. absurd (clean d fault);
+    long = λ clean yes l. absurd (clean d fault);
+  }
+
+  permitted_by : (p : Permission) (b : Bool) → p ≡ permission (stored font (codes "OS/2")) → is_permitted p options.rights ≡ b → Permitted b
+  permitted_by p b is h = sym (ap (λ (x : Permission). is_permitted x options.rights) is) ∙ h
+
+  pub first_forbidden : CanBeOpened font → (p : Permission) → p ≡ permission (stored font (codes "OS/2")) → is_permitted p options.rights ≡ false → First (Err (NotPermitted p))
+  first_forbidden clean p is h = record {
+    unopened = λ e f. absurd (clean e f);
+    forbidden = λ _ no. ap (λ (x : Permission). Err (NotPermitted x)) is;
+    long = λ _ yes l. absurd (let no = permitted_by p false is h in let both : true ≡ false = sym yes ∙ no in cc);
+  }
+
+  pub first_long : CanBeOpened font → (p : Permission) → p ≡ permission (stored font (codes "OS/2")) → is_permitted p options.rights ≡ true → First (Err TextTooLong)
+  first_long clean p is h = record {
+    unopened = λ e f. absurd (clean e f);
+    forbidden = λ _ no. absurd (let yes = permitted_by p true is h in let both : true ≡ false = sym yes ∙ no in cc);
+    long = λ _ yes l. refl;
+  }
+
+  -- where none of them is found, nothing is said
+  pub first_none : CanBeOpened font → (p : Permission) → p ≡ permission (stored font (codes "OS/2")) → is_permitted p options.rights ≡ true → has_long_text us ≡ false → (r : Result PdfFont FontError) → First r
+  first_none clean p is h short r = record {
+    unopened = λ e f. absurd (clean e f);
+    forbidden = λ _ no. absurd (let yes = permitted_by p true is h in let both : true ≡ false = sym yes ∙ no in cc);
+    long = λ _ yes l. absurd (let both : true ≡ false = sym l ∙ short in cc);
+  }

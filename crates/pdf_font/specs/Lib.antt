@@ -1,5 +1,7 @@
 pub mod Chosen
+pub mod First
 pub mod Frequent
+pub mod Laws
 pub mod Made
 pub mod Metrics
 pub mod Moved
