@@ -1,11 +1,14 @@
 -- What is refused before an embedding is made.
-use Rattle.std.proofs.Common.{◌≡◌, ℕ, List, [], Bool, true, false, Option, None, Result, Ok, Err, ℤ, refl, sym, ap, subst, ◌∙◌}
+use Rattle.std.proofs.Common.{◌≡◌, ℕ, List, [], Bool, true, false, Option, None, Result, Ok, Err, ℤ, refl, sym, ap, subst, ◌∙◌, ◌⊎◌, inl, inr}
+use Rattle.std.specs.Borrow.{Bor}
 use Rattle.std.specs.Prelude.{codes}
+use Rattle.std.specs.Option.{option_copied}
 use Rattle.subsetter_base.specs.declared.tag.Tag.{Tag}
 use Rattle.subsetter_base.specs.declared.error.Error.{Error}
 use Rattle.subsetter_base.specs.declared.error.Error.TheVariants.{OutOfMemory}
 use Rattle.subsetter_sfnt.specs.Fault.{HasOpeningFault, no_kind, no_entry, entry_outside, no_face, nested, cut_directory, no_outlines as without_outlines, lone_cff2}
-use Rattle.subsetter_sfnt.specs.Read.{Font, stored}
+use Rattle.subsetter_sfnt.specs.Read.{Font, stored, table_in}
+use Rattle.subsetter_sfnt.specs.declared.face.Face.{Face}
 use Rattle.subsetter.specs.Fault.{in_opening}
 use Rattle.subsetter_variable.specs.Standing.{IsAtDefault, no_outlines}
 use Rattle.subsetter_variable.specs.Subset.{whole, as_it_is}
@@ -18,6 +21,7 @@ use Rattle.pdf_codes.specs.Shown.{has_long_text}
 use Rattle.pdf_values.specs.Permission.{is_permitted, permission}
 use Rattle.pdf_values.specs.declared.permission.Permission.{Permission}
 use Rattle.pdf_font.specs.First.{CanBeOpened, IsFoundFirst}
+use Rattle.pdf_font.specs.Opened.{IsOpened}
 use Rattle.pdf_font.specs.PdfFont.{HasFontFault, HasNoPdfFont, in_embedding, long_text, not_permitted}
 use Rattle.pdf_font.specs.declared.choice.FontOptions.{FontOptions}
 use Rattle.pdf_font.specs.declared.error.FontError.{FontError}
@@ -34,6 +38,15 @@ not_memory font _ (nested at k d n) m = cc
 not_memory font _ (cut_directory at h n) m = cc
 not_memory font _ (without_outlines r g k d) m = cc
 not_memory font _ (lone_cff2 g k d) m = cc
+
+-- an error of an embedding, under its name
+pub named : {X : Type 0} (e : Error) → (e ≡ OutOfMemory) ⊎ X → (Subset e ≡ Subset OutOfMemory) ⊎ X
+named e (inl m) = inl (ap Subset m)
+named e (inr x) = inr x
+
+-- what the font permits is read of the `OS/2` that its face finds
+pub permission_found : (font : Font) (face : Face) → IsOpened font face → (os2 : Option (Bor (List ℕ))) (tag : List ℕ) (p : Permission) → tag ≡ codes "OS/2" → option_copied os2 ≡ table_in face.«data».now face.records.now tag → p ≡ permission (option_copied os2) → p ≡ permission (stored font (codes "OS/2"))
+permission_found font face opened os2 tag p t found is = is ∙ ap permission (found ∙ ap (table_in face.«data».now face.records.now) t ∙ ap (λ (find : List ℕ → Option (List ℕ)). find (codes "OS/2")) opened.find)
 
 module _ (font : Font) (settings : List (Tag × ℤ)) (options : FontOptions) (us : List Used) where
   closed : (e : Error) → HasOpeningFault font e → IsAtDefault (whole font) settings
