@@ -1,56 +1,41 @@
--- What a PDF takes of a `CFF ` table (Technical Note 5176): its first name, and its first vertical stem.
-use Rattle.std.specs.Prelude.{ℕ, ◌==◌, if◌then◌else◌, List, [], ◌∷◌, map, Option, Some, None}
-use Rattle.std.specs.Option.{option_and_then, option_map, option_or, unwrap_or}
-use Rattle.std.specs.Result.{result_ok}
-use Rattle.subsetter_cffdata.specs.Index.{index_at}
-use Rattle.subsetter_type2.specs.Subroutines.{entry_at}
-use Rattle.subsetter_cff.specs.Read.Cff.{Cff, is_cid_keyed}
-use Rattle.subsetter_cff.specs.Read.FontDicts.{font_dicts}
-use Rattle.subsetter_cff.specs.Read.Opened.{opened}
-use Rattle.subsetter_cff.specs.Read.Private.{Private, no_private, private_at}
-use Rattle.subsetter_cff.specs.Read.TopDicts.{first_offset}
-
--- ---- the name
-
--- the first entry of the Name INDEX (section 7)
-abbrev pub first_name : Cff → Option (List ℕ)
-first_name cff = option_and_then (λ names. entry_at names.0 0) (index_at cff.names)
-
--- ---- the stem
+-- The vertical stem that a private dict says (Technical Note 5176, section 15 "Private DICT Data").
+use Rattle.std.specs.Prelude.{ℕ, ◌+◌, ◌*◌, ◌/◌, ◌<◌, ◌≤◌, ◌==◌, if◌then◌else◌, List, [], ◌∷◌, Option, Some, None}
+use Rattle.std.specs.Option.{option_and_then, option_or}
+use Rattle.std.specs.Str.{bytes_eq}
+use Rattle.subsetter_cffdata.specs.Dict.{Entry}
+use Rattle.subsetter_cffdata.specs.Numbers.{Number, as_u32}
+use Rattle.subsetter_cffdata.specs.Values.{thousand}
 
 -- StdVW (section 15, table 23)
 abbrev pub stem_operator : List ℕ
 stem_operator = 11 ∷ []
 
+-- one number in thousandths, where it isn't below 0 and has at most three decimals
+abbrev pub in_thousandths : List Number → Option ℕ
+in_thousandths (x ∷ []) = option_and_then as_u32 (thousand x)
+in_thousandths _ = None
+
+-- so many thousandths of a unit in thousandths of the em, to the nearest, halves up; units to the em are above 0
+abbrev pub of_em : ℕ → ℕ → ℕ
+of_em units n = (2 * n + units) / (2 * units)
+
 abbrev pub above_0 : ℕ → Option ℕ
 above_0 n = if n == 0 then None else Some n
 
--- StdVW of a private dict, if it is a whole number above 0
-abbrev pub stem_in : Private → Option ℕ
-stem_in p = option_and_then above_0 (first_offset stem_operator p.entries)
+-- operands in thousandths of the em
+abbrev pub stem_by : ℕ → List Number → Option ℕ
+stem_by units xs = option_and_then (λ n. above_0 (of_em units n)) (in_thousandths xs)
 
--- that of the first private dict that has one
-abbrev pub first_stem : List Private → Option ℕ
-first_stem [] = None
-first_stem (p ∷ ps) = option_or (stem_in p) (first_stem ps)
+-- StdVW, of an entry that is one
+abbrev pub stem_of : ℕ → Entry → Option ℕ
+stem_of units e = if bytes_eq e.operator stem_operator then stem_by units e.operands else None
 
--- the private dict that a dict names; an empty one where it can't be read
-abbrev pub private_of : Option Private → Private
-private_of found = unwrap_or found no_private
+-- that of the first entry that says one
+abbrev pub stem_in : ℕ → List Entry → Option ℕ
+stem_in units [] = None
+stem_in units (e ∷ es) = option_or (stem_of units e) (stem_in units es)
 
--- those of the font dicts, in their order, else that of the top dict
-abbrev pub privates : Cff → List Private
-privates cff = if is_cid_keyed cff then map (λ d. private_of (private_at cff.bytes d)) (unwrap_or (font_dicts cff) []) else private_of (private_at cff.bytes cff.top) ∷ []
-
--- ---- both
-
-pub record Said : Type 0 where
-  pub name : Option (List ℕ)
-  pub stem : Option ℕ
-
-abbrev pub said_of : Cff → Said
-said_of cff = record { name = first_name cff; stem = first_stem (privates cff) }
-
--- of a table that can't be opened nothing
-abbrev pub said_in : List ℕ → Said
-said_in bytes = unwrap_or (option_map said_of (result_ok (opened bytes))) (record { name = None; stem = None })
+-- no whole number of thousandths of the em is nearer than r, and of two that are as near r is the higher
+pub record IsNearest (n units r : ℕ) : Type 0 where
+  pub low : 2 * units * r ≤ 2 * n + units
+  pub high : 2 * n + units < 2 * units * (r + 1)

@@ -1,6 +1,6 @@
 -- What the code has of a table.
 use Rattle.std.specs.Option.{option_copied}
-use Rattle.pdf_cff.specs.Stems.{Said}
+use Rattle.pdf_cff.specs.Said.{Said}
 use Rattle.pdf_cff.specs.declared.said.Said.{Said as Given}
 
 abbrev pub said_view : Given → Said

@@ -25,14 +25,15 @@ use Rattle.cid_embed.specs.declared.embedding.Embedded.{Embedded}
 use Rattle.cid_embed_at.specs.Embed.{HasEmbedFaultAt, HasNoEmbeddingAt, IsEmbeddingAnswerAt, in_numbering}
 use Rattle.pdf_codes.specs.Codes.{IsOverfull, Used, glyphs_of}
 use Rattle.pdf_values.specs.declared.permission.Permission.{Permission}
-use Rattle.pdf_font.specs.Made.{Made, Takes, made_in, made_seen}
+use Rattle.pdf_source.specs.Made.{Made, made_in, made_seen}
+use Rattle.pdf_font.specs.Taken.{Takes}
 use Rattle.pdf_font.specs.PdfFont.{HasFontFault, HasNoPdfFont, IsEmbeddedFor, IsFilled, in_embedding, no_maxp, overfull}
-use Rattle.pdf_font.specs.Program.{IsProgram}
-use Rattle.pdf_font.specs.Moved.{values_in}
-use Rattle.pdf_font.specs.declared.choice.FontOptions.{FontOptions}
+use Rattle.pdf_source.specs.Program.{IsProgram}
+use Rattle.pdf_source.specs.Moved.{values_in}
+use Rattle.pdf_source.specs.declared.choice.FontOptions.{FontOptions}
 use Rattle.pdf_font.specs.declared.error.FontError.TheVariants.{Subset}
 use Rattle.pdf_font.specs.declared.font.PdfFont.{PdfFont}
-use Rattle.pdf_font.specs.declared.program.NewFont.{NewFont}
+use Rattle.pdf_source.specs.declared.program.NewFont.{NewFont}
 use Rattle.pdf_font.proofs.NewLaws.{IsRead, LacksMaxp, MadeCase, made_case, numbered, some_glyphs}
 
 -- a table that isn't there

@@ -11,7 +11,7 @@ use Rattle.subsetter_sfnt.specs.Read.{as_font, directory_records, header_by_kind
 use Rattle.subsetter_sfnt.specs.Written.{kind_word}
 use Rattle.subsetter_sfnt.specs.declared.flavor.FontFlavor.{FontFlavor}
 use Rattle.subsetter_sfnt.specs.declared.flavor.FontFlavor.TheVariants.{TrueType, Cff}
-use Rattle.pdf_font.specs.Program.{flavor_by, flavor_in}
+use Rattle.pdf_source.specs.Program.{flavor_by, flavor_in}
 
 opened_at : (kind : FontFlavor) (file : List ℕ) → number file 0 4 ≡ Some (kind_word kind) → opened_header (as_font file) ≡ Ok 0
 unfolding opened_header

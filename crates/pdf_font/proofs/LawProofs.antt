@@ -23,7 +23,7 @@ use Rattle.pdf_values.specs.Permission.{is_permitted, permission}
 use Rattle.pdf_values.specs.declared.permission.Permission.{Permission}
 use Rattle.pdf_font.specs.Laws.{CodesNeedNoFont, CodesStay, HaveNoFault}
 use Rattle.pdf_font.specs.PdfFont.{HasFontFault, IsPdfFont, in_embedding, long_text, no_maxp, not_permitted, overfull}
-use Rattle.pdf_font.specs.declared.choice.FontOptions.{FontOptions}
+use Rattle.pdf_source.specs.declared.choice.FontOptions.{FontOptions}
 use Rattle.pdf_font.specs.declared.error.FontError.{FontError}
 use Rattle.pdf_font.specs.declared.font.PdfFont.{PdfFont}
 use Rattle.pdf_font.proofs.Tables.{no_maxp_again}

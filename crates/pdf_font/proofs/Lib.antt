@@ -1,13 +1,8 @@
 mod AllWidths
 mod Answered
-mod Counting
-mod Filling
 mod Fresh
 mod LawProofs
 mod NewLaws
-mod Numbers
 mod Opening
-mod Passed
 mod Refused
 mod Tables
-mod Tags

@@ -24,12 +24,12 @@ use Rattle.cid_embed.specs.Afresh.{widths_of}
 use Rattle.cid_embed.specs.Embed.{numbering, IsEmbeddingAnswer, in_subset, in_widths}
 use Rattle.cid_embed.specs.Width.{width, HasWidthFault}
 use Rattle.cid_embed.specs.declared.embedding.Embedded.{Embedded}
-use Rattle.pdf_font.specs.Made.{Made, Profile, made_in, profile_in}
-use Rattle.pdf_font.specs.Program.{IsProgram, bare_cff, count_in, flavor_in, kind_of, program_in}
-use Rattle.pdf_font.specs.Moved.{values_in}
-use Rattle.pdf_font.specs.declared.choice.FontOptions.{FontOptions}
-use Rattle.pdf_font.specs.declared.choice.ProgramChoice.{ProgramChoice}
-use Rattle.pdf_font.specs.declared.choice.ProgramChoice.TheVariants.{Smallest, OpenType}
+use Rattle.pdf_source.specs.Made.{Made, Profile, made_in, profile_in}
+use Rattle.pdf_source.specs.Program.{IsProgram, bare_cff, count_in, flavor_in, kind_of, program_in}
+use Rattle.pdf_source.specs.Moved.{values_in}
+use Rattle.pdf_source.specs.declared.choice.FontOptions.{FontOptions}
+use Rattle.pdf_source.specs.declared.choice.ProgramChoice.{ProgramChoice}
+use Rattle.pdf_source.specs.declared.choice.ProgramChoice.TheVariants.{Smallest, OpenType}
 use Rattle.pdf_font.proofs.Fresh.{Opens, new_opens, same_flavor}
 use Rattle.pdf_font.proofs.Tables.{no_maxp_again}
 use Rattle.pdf_font.proofs.AllWidths.{AreAllWidths, are_all_widths}

@@ -23,7 +23,7 @@ use Rattle.pdf_values.specs.declared.permission.Permission.{Permission}
 use Rattle.pdf_font.specs.First.{CanBeOpened, IsFoundFirst}
 use Rattle.pdf_font.specs.Opened.{IsOpened}
 use Rattle.pdf_font.specs.PdfFont.{HasFontFault, HasNoPdfFont, in_embedding, long_text, not_permitted}
-use Rattle.pdf_font.specs.declared.choice.FontOptions.{FontOptions}
+use Rattle.pdf_source.specs.declared.choice.FontOptions.{FontOptions}
 use Rattle.pdf_font.specs.declared.error.FontError.{FontError}
 use Rattle.pdf_font.specs.declared.error.FontError.TheVariants.{Subset, NotPermitted, TextTooLong}
 use Rattle.pdf_font.specs.declared.font.PdfFont.{PdfFont}

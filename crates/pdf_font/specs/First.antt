@@ -6,7 +6,7 @@ use Rattle.subsetter_sfnt.specs.Read.{Font, stored}
 use Rattle.pdf_codes.specs.Codes.{Used}
 use Rattle.pdf_codes.specs.Shown.{has_long_text}
 use Rattle.pdf_values.specs.Permission.{is_permitted, permission}
-use Rattle.pdf_font.specs.declared.choice.FontOptions.{FontOptions}
+use Rattle.pdf_source.specs.declared.choice.FontOptions.{FontOptions}
 use Rattle.pdf_font.specs.declared.error.FontError.{FontError}
 use Rattle.pdf_font.specs.declared.error.FontError.TheVariants.{Subset, NotPermitted, TextTooLong}
 use Rattle.pdf_font.specs.declared.font.PdfFont.{PdfFont}

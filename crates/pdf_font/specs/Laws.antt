@@ -4,7 +4,7 @@ use Rattle.subsetter_base.specs.declared.tag.Tag.{Tag}
 use Rattle.subsetter_sfnt.specs.Read.{Font}
 use Rattle.pdf_codes.specs.Codes.{AreCodes, Used}
 use Rattle.pdf_font.specs.PdfFont.{HasFontFault, IsPdfFont}
-use Rattle.pdf_font.specs.declared.choice.FontOptions.{FontOptions}
+use Rattle.pdf_source.specs.declared.choice.FontOptions.{FontOptions}
 use Rattle.pdf_font.specs.declared.error.FontError.{FontError}
 use Rattle.pdf_font.specs.declared.font.PdfFont.{PdfFont}
 

@@ -1,11 +1,5 @@
-pub mod Chosen
 pub mod First
-pub mod Frequent
 pub mod Laws
-pub mod Made
-pub mod Metrics
-pub mod Moved
 pub mod Opened
 pub mod PdfFont
-pub mod Program
-pub mod Source
+pub mod Taken

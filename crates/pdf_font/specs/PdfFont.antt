@@ -25,16 +25,15 @@ use Rattle.pdf_glyphs.specs.declared.columns.Columns.{Columns}
 use Rattle.pdf_text.specs.Bits.{IsCidSet}
 use Rattle.pdf_text.specs.Cmap.{cmap_text}
 use Rattle.pdf_text.specs.SubsetName.{font_name}
-use Rattle.pdf_values.specs.Name.{postscript_name}
 use Rattle.pdf_values.specs.Permission.{is_permitted, permission}
-use Rattle.pdf_font.specs.Chosen.{extras_of, is_vertical}
-use Rattle.pdf_font.specs.Frequent.{IsMostFrequent}
-use Rattle.pdf_font.specs.Moved.{values_in}
-use Rattle.pdf_font.specs.Program.{IsProgram, kind_of}
-use Rattle.pdf_font.specs.Source.{tag_in, vertical_of}
-use Rattle.pdf_font.specs.declared.choice.Direction.{Direction}
-use Rattle.pdf_font.specs.declared.choice.Direction.TheVariants.{Horizontal, Vertical as TopToBottom}
-use Rattle.pdf_font.specs.declared.choice.FontOptions.{FontOptions}
+use Rattle.pdf_source.specs.Chosen.{extras_of, is_vertical}
+use Rattle.pdf_source.specs.Frequent.{IsMostFrequent}
+use Rattle.pdf_source.specs.Moved.{values_in}
+use Rattle.pdf_source.specs.Program.{IsProgram, kind_of}
+use Rattle.pdf_source.specs.Source.{source_name, tag_in, vertical_of}
+use Rattle.pdf_source.specs.declared.choice.Direction.{Direction}
+use Rattle.pdf_source.specs.declared.choice.Direction.TheVariants.{Horizontal, Vertical as TopToBottom}
+use Rattle.pdf_source.specs.declared.choice.FontOptions.{FontOptions}
 use Rattle.pdf_font.specs.declared.error.FontError.{FontError}
 use Rattle.pdf_font.specs.declared.error.FontError.TheVariants.{Subset, NotPermitted, TextTooLong}
 use Rattle.pdf_font.specs.declared.font.PdfFont.{PdfFont}
@@ -72,7 +71,7 @@ pub record IsFilled (find : List ℕ → Option (List ℕ)) (options : FontOptio
   pub coded : IsCoded options us f
   pub default_width : IsMostFrequent f.widths.items f.default_width
   pub columns : AreColumns options.direction (vertical_of find) (glyphs_of us) widths f.columns
-  pub name : f.descriptor.font_name.items ≡ font_name (tag_in options.tag f.program.items) (postscript_name (find (codes "name")) None)
+  pub name : f.descriptor.font_name.items ≡ font_name (tag_in options.tag f.program.items) (source_name find)
   pub cid_set : IsCidSetIf options.cid_set f.glyph_count (option_map (λ v. v.items) f.cid_set)
 
 pub record IsEmbeddedFor (font : Font) (settings : List (Tag × ℤ)) (options : FontOptions) (us : List Used) (f : PdfFont) : Type 0 where

@@ -14,12 +14,11 @@ ghost use Rattle.pdf_font.specs.PdfFont.{HasFontFault, HasNoPdfFont, IsEmbeddedF
 ghost use Rattle.pdf_font.specs.declared.error.FontError.{FontError as SpecFontError};
 ghost use Rattle.pdf_font.specs.declared.error.FontError.TheVariants.{Subset};
 
-use crate::choice::FontOptions;
 use crate::error::FontError;
 use crate::font::{PdfFont, filled};
-use crate::program::new_font;
 use cid_embed_at::embed_with_variations_and_options;
 use pdf_codes::{Shown, glyphs_of, has_long_text};
+use pdf_source::{FontOptions, new_font};
 use pdf_values::{Permission, is_permitted, permission_of};
 use std::alloc::Global;
 use subsetter::{Extras, Options, Tag, check_opening};

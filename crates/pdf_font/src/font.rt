@@ -7,16 +7,15 @@ ghost use Rattle.subsetter_base.specs.Places.{HasAllAboveZero};
 ghost use Rattle.subsetter_sfnt.specs.Read.{table_in};
 ghost use Rattle.pdf_codes.specs.Codes.{AreCids, IsOverfull, glyphs_of};
 ghost use Rattle.pdf_codes.specs.Shown.{uses_of};
-ghost use Rattle.pdf_font.specs.Made.{Takes};
+ghost use Rattle.pdf_font.specs.Taken.{Takes};
 ghost use Rattle.pdf_font.specs.PdfFont.{AreColumns, IsCidSetIf, IsFilled};
-ghost use Rattle.pdf_font.specs.Source.{vertical_of};
+ghost use Rattle.pdf_source.specs.Source.{vertical_of};
 
-use crate::choice::{Direction, FontOptions};
-use crate::described::{Descriptor, name_in, vertical_of};
-use crate::program::NewFont;
-use crate::widths::most_frequent;
 use pdf_codes::{Shown, codes_and_texts, encoding_of};
 use pdf_glyphs::{Columns, columns_of};
+use pdf_source::{
+    Descriptor, Direction, FontOptions, NewFont, most_frequent, name_in, vertical_of,
+};
 use pdf_text::{NamedCmap, ProgramKind, cid_set};
 use pdf_values::Permission;
 use std::alloc::Global;

@@ -9,27 +9,19 @@
 #![tactic(auto)]
 
 mod call;
-mod choice;
-mod described;
 mod error;
 mod font;
 mod laws;
-mod moved;
-mod program;
-mod tag;
 #[cfg(test)]
 mod tests;
-mod widths;
 
 pub use call::pdf_font;
-pub use choice::{Direction, FontOptions, ProgramChoice};
-pub use described::Descriptor;
 pub use error::FontError;
 pub use font::PdfFont;
 pub use laws::{answers_have_no_fault, codes_need_no_font, codes_stay};
 pub use pdf_codes::{Codes, Shown, codes_of};
 pub use pdf_glyphs::Columns;
+pub use pdf_source::{Descriptor, Direction, FontOptions, ProgramChoice, SubsetTag};
 pub use pdf_text::{Column, DefaultColumn, NamedCmap, ProgramKind};
 pub use pdf_values::{Bounds, Edges, Heights, Permission, Rights, Usage, Values};
 pub use subsetter::{Limits, Tag};
-pub use tag::SubsetTag;

@@ -1,8 +1,8 @@
 //! The rows of a font made for this, against the values of an independent program.
 
 use crate::call::pdf_font;
-use crate::choice::FontOptions;
 use pdf_codes::{Codes, Shown};
+use pdf_source::FontOptions;
 use pdf_text::ProgramKind;
 use pdf_values::{Bounds, Edges, Heights, Permission, Usage, Values};
 use std::test::*;
@@ -313,7 +313,10 @@ fn variable_row(rt: HostRuntime) -> Result<(), Fail> {
         return Ok(());
     };
     assert_eq!(rt; font.cids.as_slice(), [1, 2, 3, 4, 5].as_slice());
-    assert_eq!(rt; font.widths.as_slice(), [500, 716, 667, 556, 1000, 667].as_slice());
+    assert_eq!(rt;
+        font.widths.as_slice(),
+        [500, 716, 667, 556, 1000, 667].as_slice()
+    );
     let wanted = Values {
         flags: 70,
         bounds: Edges {

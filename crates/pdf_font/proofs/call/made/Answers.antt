@@ -6,9 +6,9 @@ use Rattle.subsetter_variable.specs.Standing.{IsAtDefault}
 use Rattle.subsetter_variable.specs.Subset.{IsTheAnswerAt, whole}
 use Rattle.cid_embed.specs.Embed.{numbering}
 use Rattle.pdf_codes.specs.Shown.{uses_of}
-use Rattle.pdf_font.specs.Made.{made_seen}
+use Rattle.pdf_source.specs.Made.{made_seen}
 use Rattle.pdf_font.specs.PdfFont.{font_of}
-use Rattle.pdf_font.specs.declared.program.NewFont.{NewFont}
+use Rattle.pdf_source.specs.declared.program.NewFont.{NewFont}
 use Rattle.pdf_font.proofs.Answered.{all_answered, at_us, embed_final, embed_refused, few, filled_final, filled_refused, new_final, new_refused, permission_taken, refused, widths_few, widths_some}
 use Rattle.pdf_font.proofs.call.made.Goals as goal
 
