@@ -112,7 +112,7 @@ module _ (font : Font) (settings : List (Tag × ℤ)) (options : FontOptions) (u
         let static : other.static ≡ a.static = one_static font settings (numbering (glyphs_of us)) other.static a.static other.is_static a.is_static in
         let kinds : other.answer.embedded.subset.keeps.kind ≡ kind = just_is other.answer.embedded.subset.keeps.kind kind (sym other.answer.embedded.subset.keeps.kind_is ∙ ap flavor static ∙ a.answer.embedded.subset.keeps.kind_is) in
         let none : table (as_font p.made.new.font.items) (codes "maxp") ≡ None = subst (λ (b : List ℕ). table (as_font b) (codes "maxp") ≡ None) file l.1.copy in
-        not_there (table (as_font p.made.new.font.items) (codes "maxp")) none (p.made.profile (kinds ∙ l.1.kind_is)))
+        not_there (table (as_font p.made.new.font.items) (codes "maxp")) none (p.made.maxp (kinds ∙ l.1.kind_is)))
 
     -- ---- what is filled in
 
@@ -152,7 +152,7 @@ module _ (font : Font) (settings : List (Tag × ℤ)) (options : FontOptions) (u
             drawn = drawn;
             kind = t.kind ∙ read.kind_is;
             program = subst (λ k. IsProgram k e.font.items f.program.items) (sym t.kind) (subst (λ (b : List ℕ). IsProgram n.kind e.font.items b) (sym t.program) read.program);
-            profile = read.maxp;
+            maxp = read.maxp;
             cids = t.cids;
             counted = t.count ∙ read.count;
             widths = ap (map Some) t.widths ∙ read.widths;

@@ -1,7 +1,7 @@
 mod AllWidths
 mod Answered
-mod Filling
 mod Fresh
+mod LawProofs
 mod NewLaws
 mod Opening
 mod Refused

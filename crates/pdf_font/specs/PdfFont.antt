@@ -83,10 +83,10 @@ pub record IsEmbeddedFor (font : Font) (settings : List (Tag × ℤ)) (options :
   pub same : IsTheAnswerAt font settings (numbering (glyphs_of us)) new.font.items
   -- elsewhere than at its default it has each glyph exactly as it is drawn there
   pub drawn : ¬ (IsAtDefault (whole font) settings) → HasGlyphsDrawn (whole font) settings (numbering (glyphs_of us)) new.font.items
-  -- the program is that font, or its `CFF `
+  -- the program is that font, or its `CFF `; one of TrueType has `maxp` (9.9)
   pub kind : f.kind ≡ kind_of embedded.answer.embedded.subset.keeps.kind options.program
   pub program : IsProgram f.kind new.font.items f.program.items
-  pub profile : embedded.answer.embedded.subset.keeps.kind ≡ TrueType → IsSome (table embedded.static (codes "maxp"))
+  pub maxp : embedded.answer.embedded.subset.keeps.kind ≡ TrueType → IsSome (table (as_font new.font.items) (codes "maxp"))
   -- each of its glyphs has a CID, and the width of its source
   pub cids : f.cids.items ≡ new.cids.items
   pub counted : f.glyph_count ≡ length embedded.answer.embedded.subset.keeps.order

@@ -11,12 +11,14 @@
 mod call;
 mod error;
 mod font;
+mod laws;
 #[cfg(test)]
 mod tests;
 
 pub use call::pdf_font;
 pub use error::FontError;
 pub use font::PdfFont;
+pub use laws::{answers_have_no_fault, codes_need_no_font, codes_stay};
 pub use pdf_codes::{Codes, Shown, codes_of};
 pub use pdf_glyphs::Columns;
 pub use pdf_source::{Descriptor, Direction, FontOptions, ProgramChoice, SubsetTag};
