@@ -1,0 +1,5 @@
+pub mod Content
+pub mod File
+pub mod Pages
+pub mod Read
+pub mod View
