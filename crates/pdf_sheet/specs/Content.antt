@@ -1,6 +1,7 @@
 -- Content streams that show glyphs by their codes (ISO 32000-1, 9.4, 14.6 and 14.9.4).
 use Rattle.std.specs.Prelude.{ℕ, ◌+◌, ◌-◌, ◌*◌, ◌/◌, ◌%◌, ◌==◌, Bool, true, false, if◌then◌else◌, List, [], ◌∷◌, ◌++◌, codes, decimal, min}
 use Rattle.pdf_text.specs.Cmap.{hex_string}
+use Rattle.pdf_sheet.specs.Units.{units_of}
 use Rattle.pdf_sheet.specs.declared.glyphs.SheetGlyph.{SheetGlyph}
 use Rattle.pdf_sheet.specs.declared.frame.Layout.{Layout}
 use Rattle.pdf_sheet.specs.declared.frame.Layout.TheVariants.{Line, Grid}
@@ -17,7 +18,7 @@ span_begin units = codes "/Span << /ActualText " ++ (hex_string (65279 ∷ units
 
 -- a glyph, by its code; with an ActualText where the code doesn't say its text
 abbrev pub shown_text : SheetGlyph → List ℕ
-shown_text g = if g.is_said then code_text g.code else span_begin g.units.now ++ (code_text g.code ++ codes "EMC\n")
+shown_text g = if g.is_said then code_text g.code else span_begin (units_of g.text.now) ++ (code_text g.code ++ codes "EMC\n")
 
 -- ---- where it stands, in points
 

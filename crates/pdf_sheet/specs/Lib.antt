@@ -1,3 +1,4 @@
+pub mod Units
 pub mod Content
 pub mod File
 pub mod Pages

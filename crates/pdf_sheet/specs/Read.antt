@@ -1,10 +1,11 @@
 -- What a reader of a content stream finds: which codes are shown, in order, and with which ActualText.
 use Rattle.std.specs.Prelude.{◌≡◌, ◌<◌, ℕ, if◌then◌else◌, Bool, true, false, List, [], ◌∷◌, ◌++◌, map, length, codes, All, Option, Some, None}
-use Rattle.std.specs.List.{concat}
+use Rattle.std.specs.List.{flat_map}
 use Rattle.std.specs.Option.{option_map, option_and_then}
 use Rattle.std.specs.Str.{bytes_eq}
 use Rattle.pdf_text.specs.Tokens.{tokens}
 use Rattle.pdf_text.specs.Cmap.{hex_in}
+use Rattle.pdf_sheet.specs.Units.{units_of}
 use Rattle.pdf_sheet.specs.declared.glyphs.SheetGlyph.{SheetGlyph}
 use Rattle.pdf_sheet.specs.declared.frame.Layout.{Layout}
 use Rattle.pdf_sheet.specs.declared.frame.Frame.{Frame}
@@ -32,13 +33,13 @@ shown_in text = shown_from [] None (tokens text)
 
 -- the code of a glyph; and its text behind a byte order mark, where the code doesn't say it
 abbrev pub showing : SheetGlyph → Showing
-showing g = record { string = Some (g.code ∷ []); actual = if g.is_said then None else Some (65279 ∷ g.units.now) }
+showing g = record { string = Some (g.code ∷ []); actual = if g.is_said then None else Some (65279 ∷ units_of g.text.now) }
 
--- numbers of 16 bits
+-- a code of 16 bits, and characters
 pub record IsShowable (g : SheetGlyph) : Type 0 where
   pub code : g.code < 65536
-  pub units : All (λ u. u < 65536) g.units.now
+  pub text : All (λ c. c < 1114112) g.text.now
 
 -- the pages show each glyph, in order
 abbrev pub AreShown : Type 0
-AreShown = (layout : Layout) (vertical : Bool) (gs : List SheetGlyph) → All IsShowable gs → concat (map (λ p. shown_in (content (frame_of layout vertical gs) p)) (pages_of layout gs)) ≡ map showing gs
+AreShown = (layout : Layout) (vertical : Bool) (gs : List SheetGlyph) → All IsShowable gs → flat_map (λ p. shown_in (content (frame_of layout vertical gs) p)) (pages_of layout gs) ≡ map showing gs

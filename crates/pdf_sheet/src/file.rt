@@ -1,6 +1,6 @@
 //! A file of objects (ISO 32000-1, 7.5).
 
-ghost use Rattle.std.specs.Prelude.{◌≡◌, ◌≤◌, ◌<◌, ◌+◌, ◌*◌, ◌/◌, ◌%◌, ◌^◌, ◌++◌, ◌∷◌, ◌⊎◌, ◌×◌, [], All, IfErr, IfOk, OnOk, codes, decimal, length, map};
+ghost use Rattle.std.specs.Prelude.{◌≡◌, ◌≤◌, ◌<◌, ◌+◌, ◌*◌, ◌/◌, ◌%◌, ◌^◌, ◌++◌, ◌∷◌, ◌⊎◌, [], All, IfErr, IfOk, OnOk, codes, decimal, length, map};
 ghost use Rattle.std.specs.List.{concat};
 ghost use Rattle.subsetter_base.specs.declared.error.Error.TheVariants.{OutOfMemory, OverflowError};
 ghost use Rattle.pdf_text.specs.Objects.{object_text, objects_from, offsets_from};
@@ -77,19 +77,38 @@ pub fn push_objects(body: &mut Body, text: &[u8], offsets: &[usize]) -> Result<(
 
 // ---- the table
 
-/// An offset in ten digits.
-fn digits_of(offset: usize) -> [u8; 10]
-    ensures { result ≡ digits 10 offset }
+/// The last digit of a number.
+fn last_digit(n: usize) -> u8
+    ensures { result ≡ 48 + n % 10 }
 {
-    let mut digits = [48_u8; 10];
-    let mut rest = offset;
-    let mut place = 10;
-    while place > 0 {
-        place -= 1;
-        digits[place] = 48 + (rest % 10) as u8;
-        rest /= 10;
-    }
-    digits
+    48 + (n % 10) as u8
+}
+
+/// The last five digits of a number.
+fn five_digits(n: usize) -> [u8; 5]
+    ensures { result ≡ digits 5 n }
+{
+    let tens = n / 10;
+    let hundreds = tens / 10;
+    let thousands = hundreds / 10;
+    let ten_thousands = thousands / 10;
+    [
+        last_digit(ten_thousands),
+        last_digit(thousands),
+        last_digit(hundreds),
+        last_digit(tens),
+        last_digit(n),
+    ]
+}
+
+/// Writes an offset in ten digits.
+fn write_offset(text: &mut Vec<u8>, offset: usize) -> Result<(), Error>
+    ensures ok { OnOk result (text.new.items ≡ text.old.items ++ digits 10 offset) }
+    ensures err { IfErr result (λ e. e ≡ OutOfMemory) }
+{
+    text.extend_from_slice(&five_digits(offset / 100_000))?;
+    text.extend_from_slice(&five_digits(offset))?;
+    Ok(())
 }
 
 /// Writes the entry of an object.
@@ -98,7 +117,7 @@ fn write_row(text: &mut Vec<u8>, offset: usize) -> Result<(), Error>
     ensures ok { OnOk result (text.new.items ≡ text.old.items ++ row offset) }
     ensures err { IfErr result (λ e. e ≡ OutOfMemory) }
 {
-    text.extend_from_slice(&digits_of(offset))?;
+    write_offset(text, offset)?;
     text.extend_from_slice(b" 00000 n \n")?;
     Ok(())
 }

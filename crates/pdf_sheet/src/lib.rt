@@ -3,7 +3,7 @@
 //! Each glyph is shown by its code, with an ActualText where the code doesn't say its text.
 //!
 //! ```text
-//! let glyphs = [SheetGlyph { code: 1, is_said: true, units: &[0x41], advance: 667 }];
+//! let glyphs = [SheetGlyph { code: 1, is_said: true, text: &['A'], advance: 667 }];
 //! let file = write_sheet(alloc, values, &glyphs, Layout::Line)?;      // %PDF-1.7 .. %%EOF
 //! ```
 #![tactic(auto)]

@@ -1,6 +1,6 @@
 //! The objects before the font: catalog, pages and their contents (ISO 32000-1, 7.7).
 
-ghost use Rattle.std.specs.Prelude.{◌≡◌, ◌≤◌, ◌<◌, ◌+◌, ◌*◌, ◌^◌, ◌++◌, ◌∷◌, [], IfErr, IfOk, OnOk, codes, decimal, length};
+ghost use Rattle.std.specs.Prelude.{◌≡◌, ◌<◌, ◌+◌, ◌^◌, ◌++◌, ◌∷◌, [], IfErr, IfOk, OnOk, codes, decimal, length, min};
 ghost use Rattle.subsetter_base.specs.declared.error.Error.TheVariants.{OutOfMemory};
 ghost use Rattle.pdf_text.specs.Dictionaries.{reference};
 ghost use Rattle.pdf_text.specs.Objects.{stream_end};
@@ -45,10 +45,8 @@ fn write_kids(text: &mut Vec<u8>, count: usize) -> Result<(), Error>
     ensures ok { OnOk result (text.new.items ≡ text.old.items ++ kids 3 count) }
     ensures err { IfErr result (λ e. e ≡ OutOfMemory) }
 {
-    let mut number = 3;
-    for _page in 0..count {
-        write_kid(text, number)?;
-        number += 2;
+    for page in 0..count {
+        write_kid(text, 3 + 2 * page)?;
     }
     Ok(())
 }
@@ -191,12 +189,10 @@ fn push_pages(
     ensures err { IfErr result (λ e. e ≡ OutOfMemory) }
 {
     let mut rest = glyphs;
-    let mut number = 3;
-    for _page in 0..count {
+    for page in 0..count {
         let size = page_size(rest.len());
-        push_page(alloc, values, frame, number, &rest[..size])?;
+        push_page(alloc, values, frame, 3 + 2 * page, &rest[..size])?;
         rest = &rest[size..];
-        number += 2;
     }
     Ok(())
 }

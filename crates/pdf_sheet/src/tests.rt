@@ -9,11 +9,11 @@ use std::test::*;
 
 /// A line of three glyphs, of which two have an ActualText.
 const LINE: &[u8] =
-    b"%PDF-1.7\n%\xE2\xE3\xCF\xD3\n1 0 obj\n<< /Type /Catalog /Pages 2 0 R >>\nendobj\n2 0 obj\n<< /Type /Pages /Count 1 /Kids [3 0 R ] /MediaBox [0 0 118 144] /Resources << /Font << /F0 5 0 R >> >> >>\nendobj\n3 0 obj\n<< /Type /Page /Parent 2 0 R /Contents 4 0 R >>\nendobj\n4 0 obj\n<< /Length 144 >>\nstream\nBT\n/F0 36 Tf\n1 0 0 1 36 54 Tm\n<0001> Tj\n/Span << /ActualText <FEFF0062> >> BDC\n<0002> Tj\nEMC\n/Span << /ActualText <FEFF> >> BDC\n<ABCD> Tj\nEMC\nET\nendstream\nendobj\n5 0 obj\n<< /Type /Font /Subtype /Type0 /BaseFont /URGZOP+Made-Regular /Encoding /Identity-H /DescendantFonts [6 0 R] /ToUnicode 9 0 R >>\nendobj\n6 0 obj\n<< /Type /Font /Subtype /CIDFontType2 /BaseFont /URGZOP+Made-Regular /CIDSystemInfo << /Registry (Adobe) /Ordering (Identity) /Supplement 0 >> /FontDescriptor 7 0 R /CIDToGIDMap /Identity /DW 667 >>\nendobj\n7 0 obj\n<< /Type /FontDescriptor /FontName /URGZOP+Made-Regular /Flags 4 /FontBBox [0 -147 952 928] /ItalicAngle 0 /Ascent 905 /Descent -212 /CapHeight 688 /StemV 64 /FontWeight 400 /FontFile2 8 0 R >>\nendobj\n8 0 obj\n<< /Length1 9 /Length 9 >>\nstream\ntrue font\nendstream\nendobj\n9 0 obj\n<< /Length 9 >>\nstream\nbegincmap\nendstream\nendobj\nxref\n0 10\n0000000000 65535 f \n0000000015 00000 n \n0000000064 00000 n \n0000000185 00000 n \n0000000248 00000 n \n0000000443 00000 n \n0000000587 00000 n \n0000000801 00000 n \n0000001010 00000 n \n0000001079 00000 n \ntrailer\n<< /Size 10 /Root 1 0 R >>\nstartxref\n1137\n%%EOF\n";
+    b"%PDF-1.7\n%\xE2\xE3\xCF\xD3\n1 0 obj\n<< /Type /Catalog /Pages 2 0 R >>\nendobj\n2 0 obj\n<< /Type /Pages /Count 1 /Kids [3 0 R ] /MediaBox [0 0 118 144] /Resources << /Font << /F0 5 0 R >> >> >>\nendobj\n3 0 obj\n<< /Type /Page /Parent 2 0 R /Contents 4 0 R >>\nendobj\n4 0 obj\n<< /Length 152 >>\nstream\nBT\n/F0 36 Tf\n1 0 0 1 36 54 Tm\n<0001> Tj\n/Span << /ActualText <FEFF0062D83DDE00> >> BDC\n<0002> Tj\nEMC\n/Span << /ActualText <FEFF> >> BDC\n<ABCD> Tj\nEMC\nET\nendstream\nendobj\n5 0 obj\n<< /Type /Font /Subtype /Type0 /BaseFont /URGZOP+Made-Regular /Encoding /Identity-H /DescendantFonts [6 0 R] /ToUnicode 9 0 R >>\nendobj\n6 0 obj\n<< /Type /Font /Subtype /CIDFontType2 /BaseFont /URGZOP+Made-Regular /CIDSystemInfo << /Registry (Adobe) /Ordering (Identity) /Supplement 0 >> /FontDescriptor 7 0 R /CIDToGIDMap /Identity /DW 667 >>\nendobj\n7 0 obj\n<< /Type /FontDescriptor /FontName /URGZOP+Made-Regular /Flags 4 /FontBBox [0 -147 952 928] /ItalicAngle 0 /Ascent 905 /Descent -212 /CapHeight 688 /StemV 64 /FontWeight 400 /FontFile2 8 0 R >>\nendobj\n8 0 obj\n<< /Length1 9 /Length 9 >>\nstream\ntrue font\nendstream\nendobj\n9 0 obj\n<< /Length 9 >>\nstream\nbegincmap\nendstream\nendobj\nxref\n0 10\n0000000000 65535 f \n0000000015 00000 n \n0000000064 00000 n \n0000000185 00000 n \n0000000248 00000 n \n0000000451 00000 n \n0000000595 00000 n \n0000000809 00000 n \n0000001018 00000 n \n0000001087 00000 n \ntrailer\n<< /Size 10 /Root 1 0 R >>\nstartxref\n1145\n%%EOF\n";
 
 /// The same glyphs in a grid, in vertical writing.
 const GRID: &[u8] =
-    b"%PDF-1.7\n%\xE2\xE3\xCF\xD3\n1 0 obj\n<< /Type /Catalog /Pages 2 0 R >>\nendobj\n2 0 obj\n<< /Type /Pages /Count 1 /Kids [3 0 R ] /MediaBox [0 0 595 842] /Resources << /Font << /F0 5 0 R >> >> >>\nendobj\n3 0 obj\n<< /Type /Page /Parent 2 0 R /Contents 4 0 R >>\nendobj\n4 0 obj\n<< /Length 182 >>\nstream\nBT\n/F0 36 Tf\n1 0 0 1 52 802 Tm\n<0001> Tj\n1 0 0 1 96 802 Tm\n/Span << /ActualText <FEFF0062> >> BDC\n<0002> Tj\nEMC\n1 0 0 1 140 802 Tm\n/Span << /ActualText <FEFF> >> BDC\n<ABCD> Tj\nEMC\nET\nendstream\nendobj\n5 0 obj\n<< /Type /Font /Subtype /Type0 /BaseFont /URGZOP+Made-Regular /Encoding /Identity-V /DescendantFonts [6 0 R] /ToUnicode 9 0 R >>\nendobj\n6 0 obj\n<< /Type /Font /Subtype /CIDFontType2 /BaseFont /URGZOP+Made-Regular /CIDSystemInfo << /Registry (Adobe) /Ordering (Identity) /Supplement 0 >> /FontDescriptor 7 0 R /CIDToGIDMap /Identity /DW 667 >>\nendobj\n7 0 obj\n<< /Type /FontDescriptor /FontName /URGZOP+Made-Regular /Flags 4 /FontBBox [0 -147 952 928] /ItalicAngle 0 /Ascent 905 /Descent -212 /CapHeight 688 /StemV 64 /FontWeight 400 /FontFile2 8 0 R >>\nendobj\n8 0 obj\n<< /Length1 9 /Length 9 >>\nstream\ntrue font\nendstream\nendobj\n9 0 obj\n<< /Length 9 >>\nstream\nbegincmap\nendstream\nendobj\nxref\n0 10\n0000000000 65535 f \n0000000015 00000 n \n0000000064 00000 n \n0000000185 00000 n \n0000000248 00000 n \n0000000481 00000 n \n0000000625 00000 n \n0000000839 00000 n \n0000001048 00000 n \n0000001117 00000 n \ntrailer\n<< /Size 10 /Root 1 0 R >>\nstartxref\n1175\n%%EOF\n";
+    b"%PDF-1.7\n%\xE2\xE3\xCF\xD3\n1 0 obj\n<< /Type /Catalog /Pages 2 0 R >>\nendobj\n2 0 obj\n<< /Type /Pages /Count 1 /Kids [3 0 R ] /MediaBox [0 0 595 842] /Resources << /Font << /F0 5 0 R >> >> >>\nendobj\n3 0 obj\n<< /Type /Page /Parent 2 0 R /Contents 4 0 R >>\nendobj\n4 0 obj\n<< /Length 190 >>\nstream\nBT\n/F0 36 Tf\n1 0 0 1 52 802 Tm\n<0001> Tj\n1 0 0 1 96 802 Tm\n/Span << /ActualText <FEFF0062D83DDE00> >> BDC\n<0002> Tj\nEMC\n1 0 0 1 140 802 Tm\n/Span << /ActualText <FEFF> >> BDC\n<ABCD> Tj\nEMC\nET\nendstream\nendobj\n5 0 obj\n<< /Type /Font /Subtype /Type0 /BaseFont /URGZOP+Made-Regular /Encoding /Identity-V /DescendantFonts [6 0 R] /ToUnicode 9 0 R >>\nendobj\n6 0 obj\n<< /Type /Font /Subtype /CIDFontType2 /BaseFont /URGZOP+Made-Regular /CIDSystemInfo << /Registry (Adobe) /Ordering (Identity) /Supplement 0 >> /FontDescriptor 7 0 R /CIDToGIDMap /Identity /DW 667 >>\nendobj\n7 0 obj\n<< /Type /FontDescriptor /FontName /URGZOP+Made-Regular /Flags 4 /FontBBox [0 -147 952 928] /ItalicAngle 0 /Ascent 905 /Descent -212 /CapHeight 688 /StemV 64 /FontWeight 400 /FontFile2 8 0 R >>\nendobj\n8 0 obj\n<< /Length1 9 /Length 9 >>\nstream\ntrue font\nendstream\nendobj\n9 0 obj\n<< /Length 9 >>\nstream\nbegincmap\nendstream\nendobj\nxref\n0 10\n0000000000 65535 f \n0000000015 00000 n \n0000000064 00000 n \n0000000185 00000 n \n0000000248 00000 n \n0000000489 00000 n \n0000000633 00000 n \n0000000847 00000 n \n0000001056 00000 n \n0000001125 00000 n \ntrailer\n<< /Size 10 /Root 1 0 R >>\nstartxref\n1183\n%%EOF\n";
 
 /// The table of a grid with two pages.
 const TABLE: &[u8] =
@@ -53,19 +53,19 @@ fn three() -> [SheetGlyph<'static>; 3] {
         SheetGlyph {
             code: 1,
             is_said: true,
-            units: &[0x41],
+            text: &['A'],
             advance: 667,
         },
         SheetGlyph {
             code: 2,
             is_said: false,
-            units: &[0x62],
+            text: &['b', '\u{1F600}'],
             advance: 600,
         },
         SheetGlyph {
             code: 0xABCD,
             is_said: false,
-            units: &[],
+            text: &[],
             advance: 1,
         },
     ]
@@ -78,7 +78,7 @@ fn many(alloc: Global, count: u16) -> Result<Vec<SheetGlyph<'static>>, Fail> {
         glyphs.push(SheetGlyph {
             code,
             is_said: true,
-            units: &[],
+            text: &[],
             advance: 400_000,
         })?;
     }
