@@ -64,7 +64,7 @@ frame_of Line true gs = record { layout = Line; vertical = true; width = 144; he
 -- glyphs with so many before them
 abbrev pub glyphs_text : Frame → ℕ → List SheetGlyph → List ℕ
 glyphs_text frame k [] = []
-glyphs_text frame k (g ∷ gs) = glyph_place frame.layout frame.vertical frame.height k ++ (shown_text g ++ glyphs_text frame (k + 1) gs)
+glyphs_text frame k (g ∷ gs) = (glyph_place frame.layout frame.vertical frame.height k ++ shown_text g) ++ glyphs_text frame (k + 1) gs
 
 -- a text object with glyphs in 36 points
 abbrev pub content : Frame → List SheetGlyph → List ℕ

@@ -34,7 +34,7 @@ catalog_value = codes "<< /Type /Catalog /Pages 2 0 R >>"
 -- references to every second object from one on, each with a blank
 abbrev pub kids : ℕ → ℕ → List ℕ
 kids n zero = []
-kids n (suc count) = reference n ++ (codes " " ++ kids (n + 2) count)
+kids n (suc count) = (reference n ++ codes " ") ++ kids (n + 2) count
 
 -- the root of the pages, which has their size and their font
 abbrev pub pages_value : Frame → ℕ → ℕ → List ℕ

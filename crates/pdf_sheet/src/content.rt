@@ -25,6 +25,7 @@ fn write_placed(
 }
 
 /// Writes glyphs, one behind the other.
+#[tactic(auto, using(pdf_text::proofs::Written::one_more_written))]
 fn write_glyphs(text: &mut Vec<u8>, frame: Frame, glyphs: &[SheetGlyph<'_>]) -> Result<(), Error>
     ensures ok { OnOk result (text.new.items ≡ text.old.items ++ glyphs_text frame 0 glyphs.now) }
     ensures err { IfErr result (λ e. e ≡ OutOfMemory) }
