@@ -1,5 +1,5 @@
 -- Texts and values that are made one behind the other.
-use Rattle.std.proofs.Common.{◌≡◌, ◌≤◌, ◌<◌, ℕ, zero, suc, ◌+◌, ◌-◌, ◌*◌, ◌/◌, Bool, true, false, List, [], ◌∷◌, ◌++◌, length, get_or, map, take, drop, decimal, refl, sym, ap, subst, ◌∙◌, append_assoc, ◌⊎◌, inl, inr, arith, length-append, length-drop, Vec, Global}
+use Rattle.std.proofs.Common.{◌≡◌, ◌≤◌, ◌<◌, ℕ, zero, suc, ◌+◌, ◌-◌, ◌*◌, ◌/◌, Bool, true, false, List, [], ◌∷◌, ◌++◌, length, get_or, map, take, drop, decimal, refl, sym, ap, subst, ◌∙◌, append_assoc, ◌⊎◌, inl, inr, add-one, drop-cons, arith, length-append, length-drop, Vec, Global}
 use Rattle.std.specs.Prelude.{All, codes, min, if◌then◌else◌}
 use Rattle.std.specs.List.{concat}
 use Rattle.std.proofs.lemmas.List.{take_all, drop_all, map-append}
@@ -11,11 +11,11 @@ use Rattle.pdf_text.specs.Objects.{object_text, objects_from, offsets_from, font
 use Rattle.pdf_text.specs.declared.values.FontValues.{FontValues}
 use Rattle.pdf_text.proofs.ObjectLaws.At.{one_more_offset}
 use Rattle.pdf_text.proofs.WidthLaws.Read.{below_or_not}
-use Rattle.pdf_text.proofs.Written.{one_more_written, three_written}
+use Rattle.pdf_text.proofs.Written.{one_more_written, three_written, five_written}
 use Rattle.pdf_sheet.specs.Units.{units_of}
 use Rattle.pdf_sheet.specs.Content.{code_text, span_begin, shown_text, content, frame_of}
 use Rattle.pdf_sheet.specs.Pages.{kids, pages_value, stream_value, page_value, page_values, pages_by, pages_of, page_count, font_number, front_values, font_values, sheet_values}
-use Rattle.pdf_sheet.specs.File.{header, body_of, offsets_of, digits}
+use Rattle.pdf_sheet.specs.File.{header, body_of, offsets_of, digits, row, rows, table_front, trailer, table_and_trailer}
 use Rattle.pdf_sheet.specs.View.{texts_view}
 use Rattle.pdf_sheet.specs.declared.glyphs.SheetGlyph.{SheetGlyph}
 use Rattle.pdf_sheet.specs.declared.frame.Frame.{Frame}
@@ -213,3 +213,25 @@ pub digits_written : (n : ℕ) (w w1 w2 a b : List ℕ) → a ≡ digits 5 (n / 
 digits_written n w w1 w2 a b e f g h =
     h ∙ ap (λ (l : List ℕ). l ++ b) g ∙ append_assoc w a b ∙ ap (λ (l : List ℕ). w ++ (l ++ b)) e ∙ ap (λ (l : List ℕ). w ++ (digits 5 (n / 100000) ++ l)) f
     ∙ ap (λ (l : List ℕ). w ++ l) (ten_digits n)
+
+-- ---- the table
+
+next_of : (os : List ℕ) (i : ℕ) → i < length os → drop i os ≡ get_or os i 0 ∷ drop (i + 1) os
+next_of os i h = rw (add-one, drop-cons os i 0)
+
+pub rows_more : (os : List ℕ) (i : ℕ) (w w1 all : List ℕ) → i < length os → w1 ≡ w ++ row (get_or os i 0) → w ++ rows (drop i os) ≡ all → w1 ++ rows (drop (i + 1) os) ≡ all
+rows_more os i w w1 all l f h =
+    one_more_written w (row (get_or os i 0)) (rows (drop (i + 1) os)) all w1 f (ap (λ (l : List ℕ). w ++ rows l) (sym (next_of os i l)) ∙ h)
+
+pub offsets_pushed : (start : ℕ) (os : List ℕ) (i : ℕ) (w w1 all : List ℕ) → i < length os → w1 ≡ w ++ (start + get_or os i 0) ∷ [] → w ++ map (λ o. start + o) (drop i os) ≡ all → w1 ++ map (λ o. start + o) (drop (i + 1) os) ≡ all
+offsets_pushed start os i w w1 all l f h =
+    one_more_written w ((start + get_or os i 0) ∷ []) (map (λ o. start + o) (drop (i + 1) os)) all w1 f (ap (λ (l : List ℕ). w ++ map (λ o. start + o) l) (sym (next_of os i l)) ∙ h)
+
+pub trailer_written : (size start : ℕ) (w w1 w2 w3 w4 w5 : List ℕ) → w1 ≡ w ++ codes "trailer\n<< /Size " → w2 ≡ w1 ++ decimal size → w3 ≡ w2 ++ codes " /Root 1 0 R >>\nstartxref\n" → w4 ≡ w3 ++ decimal start → w5 ≡ w4 ++ codes "\n%%EOF\n" → w5 ≡ w ++ trailer size start
+trailer_written size start w w1 w2 w3 w4 w5 e f g h i =
+    five_written w (codes "trailer\n<< /Size ") (decimal size) (codes " /Root 1 0 R >>\nstartxref\n") (decimal start) (codes "\n%%EOF\n") w1 w2 w3 w4 w5 e f g h i
+
+pub table_written : (os : List ℕ) (start : ℕ) (w w1 w2 w3 : List ℕ) → start ≡ length w → w1 ≡ w ++ table_front (length os + 1) → w2 ≡ w1 ++ rows os → w3 ≡ w2 ++ trailer (length os + 1) start → w3 ≡ w ++ table_and_trailer os (length w)
+table_written os start w w1 w2 w3 e f g h =
+    three_written w (table_front (length os + 1)) (rows os) (trailer (length os + 1) start) w1 w2 w3 f g h
+    ∙ ap (λ n. w ++ (table_front (length os + 1) ++ (rows os ++ trailer (length os + 1) n))) e

@@ -123,7 +123,6 @@ fn write_row(text: &mut Vec<u8>, offset: usize) -> Result<(), Error>
 }
 
 /// Writes the entries of objects.
-#[tactic(auto, using(pdf_text::proofs::Written::one_more_written))]
 fn write_rows(text: &mut Vec<u8>, offsets: &[usize]) -> Result<(), Error>
     ensures ok { OnOk result (text.new.items ≡ text.old.items ++ rows offsets.now) }
     ensures err { IfErr result (λ e. e ≡ OutOfMemory) }
@@ -147,7 +146,6 @@ fn write_table_front(text: &mut Vec<u8>, size: usize) -> Result<(), Error>
 }
 
 /// Writes the trailer.
-#[tactic(auto, using(pdf_text::proofs::Written::five_written))]
 fn write_trailer(text: &mut Vec<u8>, size: usize, start: usize) -> Result<(), Error>
     ensures ok { OnOk result (text.new.items ≡ text.old.items ++ trailer size start) }
     ensures err { IfErr result (λ e. e ≡ OutOfMemory) }
@@ -161,7 +159,6 @@ fn write_trailer(text: &mut Vec<u8>, size: usize, start: usize) -> Result<(), Er
 }
 
 /// Writes the table of objects that begin at these offsets, and the trailer.
-#[tactic(auto, using(pdf_text::proofs::Written::three_written))]
 pub fn write_table(text: &mut Vec<u8>, offsets: &[usize]) -> Result<(), Error>
     ensures ok { OnOk result (text.new.items ≡ text.old.items ++ table_and_trailer offsets.now (length text.old.items)) }
     ensures err { IfErr result (λ e. e ≡ OutOfMemory) }
@@ -170,7 +167,8 @@ pub fn write_table(text: &mut Vec<u8>, offsets: &[usize]) -> Result<(), Error>
     let size = offsets.len() + 1;
     write_table_front(text, size)?;
     write_rows(text, offsets)?;
-    write_trailer(text, size, start)
+    write_trailer(text, size, start)?;
+    Ok(())
 }
 
 /// Whether ten digits are enough for the offsets in so many bytes.

@@ -61,7 +61,8 @@ fn write_page_tree(text: &mut Vec<u8>, count: usize) -> Result<(), Error>
     text.extend_from_slice(b"<< /Type /Pages /Count ")?;
     write_count(text, count)?;
     text.extend_from_slice(b" /Kids [")?;
-    write_kids(text, count)
+    write_kids(text, count)?;
+    Ok(())
 }
 
 /// Writes the size of the pages.
@@ -73,7 +74,8 @@ fn write_size(text: &mut Vec<u8>, frame: Frame) -> Result<(), Error>
     text.extend_from_slice(b"] /MediaBox [0 0 ")?;
     write_count(text, frame.width)?;
     text.extend_from_slice(b" ")?;
-    write_count(text, frame.height)
+    write_count(text, frame.height)?;
+    Ok(())
 }
 
 /// Writes the font of the pages.
@@ -152,7 +154,6 @@ fn content_value(alloc: Global, frame: Frame, glyphs: &[SheetGlyph<'_>]) -> Resu
 // ---- objects
 
 /// Puts a page and its content, which is the next object, behind other values.
-#[tactic(auto, using(crate::proofs::Steps::two_pushed))]
 fn push_page(
     alloc: Global,
     values: &mut Vec<Vec<u8>>,
