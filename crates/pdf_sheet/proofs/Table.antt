@@ -131,3 +131,14 @@ are_in_table values small k l =
     (length header + get_or (offsets_from 0 ts) (k + 1) (length (concat ts))) (get_or (offsets_of values) (k + 1) (length (body_of values))) (1 + k) (get_or values k [])
     (sym (said values k l (omega arith) ∙ own)) (sym (next_offset values (k + 1)))
     (within header (concat ts) (table_and_trailer (offsets_of values) (length (body_of values))) (get_or (offsets_from 0 ts) k 0) (get_or (offsets_from 0 ts) (k + 1) (length (concat ts))) (1 + k) (get_or values k []) h)
+
+-- ---- a file that is written
+
+pub file_written : (values : List (List ℕ)) (text offsets new : List ℕ) → text ≡ body_of values → offsets ≡ offsets_of values → new ≡ text ++ table_and_trailer offsets (length text) → new ≡ file_of values
+file_written values text offsets new e f g =
+    g ∙ ap (λ (l : List ℕ). l ++ table_and_trailer offsets (length l)) e ∙ ap (λ (os : List ℕ). body_of values ++ table_and_trailer os (length (body_of values))) f
+
+pub file_in_table : (values : List (List ℕ)) (text new : List ℕ) (size : ℕ) → text ≡ body_of values → size ≡ length text → size < 10000000000 → new ≡ file_of values → AreInTable new (length (body_of values)) values
+file_in_table values text new size e s small f =
+    let same : length text ≡ length (body_of values) = ap length e in
+    subst (λ (file : List ℕ). AreInTable file (length (body_of values)) values) (sym f) (are_in_table values (omega arith))

@@ -91,7 +91,6 @@ fn write_resources(text: &mut Vec<u8>, font: usize) -> Result<(), Error>
 }
 
 /// The root of the pages.
-#[tactic(auto, using(crate::proofs::Steps::pages_written))]
 fn pages_value(alloc: Global, frame: Frame, count: usize, font: usize) -> Result<Vec<u8>, Error>
     requires { count < 2 ^ 60 }
     ensures ok { IfOk result (λ text. text.items ≡ pages_value frame count font) }
