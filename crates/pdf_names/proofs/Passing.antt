@@ -5,7 +5,7 @@ use Rattle.std.specs.Char.{is_ascii_alphanumeric}
 use Rattle.std.specs.Fmt.{digits, digits_onto, digit_glyph}
 use Rattle.std.proofs.lemmas.List.Elements.{All-nil, All-cons, All-weaker, filter_passes}
 use Rattle.std.proofs.lemmas.Bool.Decides.{nat_tests}
-use borrow.Author.Count.{below_more, below_none}
+use borrow.Author.Count.{below_more}
 use Rattle.pdf_text.specs.SubsetName.{digest, letters, tag_of}
 use Rattle.pdf_values.specs.Name.{is_name_character}
 use Rattle.pdf_names.specs.Letters.{letters_and_digits}

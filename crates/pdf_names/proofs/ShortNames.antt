@@ -1,5 +1,5 @@
 -- The name of a font off its default is one of at most 120 characters.
-use Rattle.std.proofs.Common.{◌≡◌, ℕ, ℤ, zero, suc, ◌+◌, ◌*◌, ◌/◌, ◌%◌, ◌^◌, ◌<◌, ◌≤◌, Bool, true, false, List, [], ◌∷◌, ◌++◌, Option, Some, None, length, take, refl, sym, subst, arith, length-append, length-take}
+use Rattle.std.proofs.Common.{◌≡◌, ℕ, ℤ, zero, suc, ◌+◌, ◌/◌, ◌%◌, ◌^◌, ◌<◌, ◌≤◌, Bool, true, false, List, [], ◌∷◌, ◌++◌, Option, Some, None, length, take, refl, sym, subst, arith, length-append, length-take}
 use Rattle.std.specs.Prelude.{◌==◌, if◌then◌else◌, nat_le, All, codes, decimal, unsigned_abs}
 use Rattle.std.specs.Int.{is_negative}
 use Rattle.std.specs.Option.{option_and_then, option_map_or}
@@ -11,7 +11,7 @@ use Rattle.std.proofs.lemmas.List.Elements.{All-nil, All-cons, All-append, All-t
 use Rattle.std.proofs.lemmas.Bool.Decides.{nat_tests}
 use Rattle.pdf_moved.specs.Movement.{clamped, Movement}
 use Rattle.pdf_text.specs.Numbers.{sign}
-use Rattle.pdf_text.specs.SubsetName.{digest, or_font, tag_of}
+use Rattle.pdf_text.specs.SubsetName.{or_font, tag_of}
 use Rattle.pdf_values.specs.Name.{or_else, postscript_name, table_name}
 use Rattle.pdf_values.proofs.Characters.{table_passes}
 use Rattle.pdf_names.specs.AxisTexts.{axes_text, axis_text, setting_text}

@@ -5,8 +5,9 @@
 use crate::decimal::write_value;
 use crate::moved_name::name_at;
 use pdf_moved::Movement;
+use std::alloc::Global;
 use std::test::*;
-use subsetter_base::Tag;
+use subsetter_base::{Error, Tag};
 use subsetter_variation::axes::Axis;
 
 /// IDs 1 and 6, and three instances: `Semi Bold Oblique`, `Thin Oblique` with a PostScript name, and `Thin`.
@@ -65,16 +66,25 @@ fn axis(tag: &[u8; 4], coordinates: [i32; 3]) -> Axis {
     }
 }
 
-fn axes() -> [Axis; 2] {
-    [
+/// The name at coordinates on `wght` and `slnt`.
+fn name_of(alloc: Global, names: &[u8], weight: i32, slant: i32) -> Result<Vec<u8>, Error> {
+    let at = [];
+    let axes = [
         axis(b"wght", [6553600, 26214400, 58982400]),
         axis(b"slnt", [-655360, 0, 0]),
-    ]
+    ];
+    let settings = [(Tag::new(b"wght"), weight), (Tag::new(b"slnt"), slant)];
+    let movement = Movement {
+        at: &at,
+        axes: &axes,
+        settings: &settings,
+        mvar: None,
+    };
+    name_at(alloc, Some(names), Some(&FVAR), movement, None)
 }
 
 #[test]
 fn names_of_instances(rt: HostRuntime) -> Result<(), Fail> {
-    let axes = axes();
     let rows = [
         (
             NAMES.as_slice(),
@@ -105,14 +115,7 @@ fn names_of_instances(rt: HostRuntime) -> Result<(), Fail> {
         (&[], 42598400, 0, "Font_650wght"),
     ];
     for (names, weight, slant, wanted) in rows {
-        let settings = [(Tag::new(b"wght"), weight), (Tag::new(b"slnt"), slant)];
-        let movement = Movement {
-            at: &[],
-            axes: &axes,
-            settings: &settings,
-            mvar: None,
-        };
-        let name = name_at(rt.alloc(), Some(names), Some(&FVAR), movement, None)?;
+        let name = name_of(rt.alloc(), names, weight, slant)?;
         assert_eq!(rt; name.as_slice(), wanted.as_bytes());
     }
     Ok(())

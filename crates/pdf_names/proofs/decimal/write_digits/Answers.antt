@@ -1,4 +1,4 @@
-use Rattle.std.proofs.Common.{rules, ◌≡◌, ℕ, ◌+◌, ◌-◌, ◌<◌, ◌/◌, ◌%◌, ◌^◌, [], ◌∷◌, ◌++◌, refl, arith}
+use Rattle.std.proofs.Common.{rules, ◌≡◌, ◌+◌, ◌<◌, ◌/◌, ◌%◌, [], ◌∷◌, ◌++◌, refl, arith}
 use Rattle.pdf_names.specs.Decimal.{digits}
 use Rattle.pdf_names.proofs.Digits.{no_digit, one_digit}
 use Rattle.pdf_names.proofs.decimal.write_digits.Goals as goal
