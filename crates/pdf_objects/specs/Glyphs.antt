@@ -11,13 +11,20 @@ use Rattle.pdf_sheet.specs.declared.glyphs.SheetGlyph.{SheetGlyph}
 use Rattle.pdf_text.specs.Columns.{no_column}
 use Rattle.pdf_text.specs.declared.values.FontValues.{FontValues}
 
+-- the advance of a CID in vertical writing
+abbrev pub column_advance : Columns → ℕ → ℕ
+column_advance c cid = unsigned_abs (get_or c.each.items cid no_column).advance
+
 -- how far a line goes on with a CID: its width, or in vertical writing its advance
 abbrev pub advance_by : Option Columns → List ℕ → ℕ → ℕ
 advance_by None widths cid = get_or widths cid 0
-advance_by (Some c) widths cid = unsigned_abs (get_or c.each.items cid no_column).advance
+advance_by (Some c) widths cid = column_advance c cid
 
 abbrev pub advance_of : PdfFont → ℕ → ℕ
 advance_of f cid = advance_by f.columns f.widths.items cid
+
+abbrev pub texts_of : List Shown → List (List ℕ)
+texts_of shown = map (λ (s : Shown). s.text.now) shown
 
 -- as many as have a code, a CID, a text, and whether it is said
 abbrev pub size_of : PdfFont → List Shown → ℕ
@@ -27,7 +34,7 @@ size_of f shown = min (min (length f.codes.items) (length f.cids.items)) (min (l
 pub record AreGlyphsOf (f : PdfFont) (shown : List Shown) (gs : List SheetGlyph) : Type 0 where
   pub codes : map (λ (g : SheetGlyph). g.code) gs ≡ take (size_of f shown) f.codes.items
   pub is_said : map (λ (g : SheetGlyph). g.is_said) gs ≡ take (size_of f shown) f.is_said.items
-  pub texts : map (λ (g : SheetGlyph). g.text.now) gs ≡ map (λ (s : Shown). s.text.now) (take (size_of f shown) shown)
+  pub texts : map (λ (g : SheetGlyph). g.text.now) gs ≡ take (size_of f shown) (texts_of shown)
   pub advances : map (λ (g : SheetGlyph). g.advance) gs ≡ map (advance_of f) (take (size_of f shown) f.cids.items)
 
 pub record IsSheetOf (f : PdfFont) (shown : List Shown) (layout : Layout) (file : List ℕ) : Type 0 where

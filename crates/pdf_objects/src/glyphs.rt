@@ -1,8 +1,8 @@
 //! The entries of a font as glyphs of a sheet.
 
-ghost use Rattle.std.specs.Prelude.{◌≡◌, ◌≤◌, length, min, IfOk, IfErr};
+ghost use Rattle.std.specs.Prelude.{◌≡◌, ◌≤◌, ◌<◌, [], false, None, length, get_or, min, IfOk, IfErr};
 ghost use Rattle.subsetter_base.specs.declared.error.Error.TheVariants.{OutOfMemory};
-ghost use Rattle.pdf_objects.specs.Glyphs.{AreGlyphsOf, advance_by, advance_of, size_of};
+ghost use Rattle.pdf_objects.specs.Glyphs.{AreGlyphsOf, advance_by, advance_of, column_advance, size_of, texts_of};
 
 use pdf_font::{Columns, PdfFont, Shown};
 use pdf_sheet::SheetGlyph;
@@ -11,7 +11,7 @@ use subsetter_base::Error;
 
 /// The advance of a CID in vertical writing.
 fn column_advance(columns: &Columns, cid: u16) -> u32
-    ensures { (widths : List ℕ) → result ≡ advance_by (Some columns.now) widths cid }
+    ensures { result ≡ column_advance columns.now cid }
 {
     let place = cid as usize;
     if place < columns.each.len() {
@@ -49,6 +49,23 @@ fn size_of(font: &PdfFont, shown: &[Shown<'_>]) -> usize
     coded.min(font.is_said.len().min(shown.len()))
 }
 
+/// An entry as a glyph of a sheet.
+#[tactic(auto, using(crate::proofs::Steps::text_at))]
+fn glyph_at<'a>(font: &PdfFont, shown: &[Shown<'a>], place: usize) -> SheetGlyph<'a>
+    requires { place < size_of font.now shown.now }
+    ensures code { result.code ≡ get_or font.now.codes.items place 0 }
+    ensures is_said { result.is_said ≡ get_or font.now.is_said.items place false }
+    ensures text { result.text.now ≡ get_or (texts_of shown.now) place [] }
+    ensures advance { result.advance ≡ advance_of font.now (get_or font.now.cids.items place 0) }
+{
+    SheetGlyph {
+        code: font.codes[place],
+        is_said: font.is_said[place],
+        text: shown[place].text,
+        advance: advance_of(font, font.cids[place]),
+    }
+}
+
 /// The glyphs of a sheet.
 pub fn glyphs_of<'a>(
     alloc: Global,
@@ -61,12 +78,7 @@ pub fn glyphs_of<'a>(
     let size = size_of(font, shown);
     let mut glyphs = Vec::with_capacity(alloc, size)?;
     for place in 0..size {
-        glyphs.push(SheetGlyph {
-            code: font.codes[place],
-            is_said: font.is_said[place],
-            text: shown[place].text,
-            advance: advance_of(font, font.cids[place]),
-        })?;
+        glyphs.push(glyph_at(font, shown, place))?;
     }
     Ok(glyphs)
 }

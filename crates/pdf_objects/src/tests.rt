@@ -396,7 +396,7 @@ fn is_as_said(alloc: Global, row: &Row) -> Result<bool, Fail> {
     let objects = write_objects(alloc, &font, 4)?;
     same = same && objects.offsets.len() == row.objects.len();
     for k in 0..objects.offsets.len().min(row.objects.len()) {
-        let value = objects.offsets[k] + 8 + k / 6;
+        let value = objects.offsets[k].saturating_add(8 + k / 6);
         same = same && has_at(&objects.text, value, row.objects[k]);
     }
     Ok(same)

@@ -1,9 +1,9 @@
 -- What a reader of a sheet's contents finds.
 use Rattle.std.proofs.Common.{◌≡◌, ◌≤◌, ◌<◌, ℕ, suc, zero, ◌+◌, ◌-◌, ◌*◌, ◌/◌, ◌%◌, ◌^◌, Bool, true, false, List, [], ◌∷◌, ◌++◌, length, map, take, drop, refl, sym, ap, ◌∙◌, append_assoc, arith}
 use Rattle.std.proofs.lemmas.Bool.Decides.{nat_tests}
-use Rattle.std.specs.Prelude.{nat_lt, All, Option, Some, None, codes, decimal, min, ◌==◌, if◌then◌else◌}
+use Rattle.std.specs.Prelude.{nat_lt, All, Option, Some, None, codes, decimal, ◌==◌, if◌then◌else◌}
 use Rattle.std.specs.List.{flat_map}
-use Rattle.std.specs.Str.{bytes_eq, all_ascii_digits}
+use Rattle.std.specs.Str.{bytes_eq}
 use Rattle.std.proofs.lemmas.List.{map-append, take-append-drop, length-drop}
 use Rattle.std.proofs.lemmas.List.Elements.{All-nil, All-cons, All-head, All-tail, All-take, All-drop}
 use Rattle.pdf_text.specs.Cmap.{hex_string, hex_in}
@@ -15,7 +15,7 @@ use Rattle.pdf_sheet.specs.declared.glyphs.SheetGlyph.{SheetGlyph}
 use Rattle.pdf_sheet.specs.declared.frame.Layout.{Layout}
 use Rattle.pdf_sheet.specs.declared.frame.Layout.TheVariants.{Line, Grid}
 use Rattle.pdf_sheet.specs.declared.frame.Frame.{Frame}
-use Rattle.pdf_sheet.specs.Content.{code_text, span_begin, shown_text, place_text, cell_x, cell_y, line_place, glyph_place, advance_of, line_extent, frame_of, glyphs_text, content}
+use Rattle.pdf_sheet.specs.Content.{code_text, span_begin, shown_text, place_text, cell_x, cell_y, line_place, glyph_place, frame_of, glyphs_text, content}
 use Rattle.pdf_sheet.specs.Units.{units_of}
 use Rattle.pdf_sheet.specs.Pages.{pages_by, page_count, pages_of}
 use Rattle.pdf_sheet.specs.Read.{Showing, shown_from, shown_in, showing, IsShowable, AreShown}

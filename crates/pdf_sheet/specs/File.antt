@@ -1,5 +1,5 @@
 -- A PDF file (ISO 32000-1, 7.5): header, objects, cross-reference table and trailer.
-use Rattle.std.specs.Prelude.{◌≡◌, ◌<◌, ℕ, zero, suc, ◌+◌, ◌*◌, ◌/◌, ◌%◌, List, [], ◌∷◌, ◌++◌, length, get_or, take, drop, codes, decimal}
+use Rattle.std.specs.Prelude.{◌<◌, ℕ, zero, suc, ◌+◌, ◌*◌, ◌/◌, ◌%◌, List, [], ◌∷◌, ◌++◌, length, get_or, take, drop, codes, decimal}
 use Rattle.std.specs.List.{concat}
 use Rattle.std.specs.Str.Parse.{digits_value}
 use Rattle.pdf_text.specs.Objects.{objects_from, offsets_from, IsObjectAt}

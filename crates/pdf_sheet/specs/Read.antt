@@ -1,14 +1,12 @@
 -- What a reader of a content stream finds: which codes are shown, in order, and with which ActualText.
-use Rattle.std.specs.Prelude.{◌≡◌, ◌<◌, ℕ, if◌then◌else◌, Bool, true, false, List, [], ◌∷◌, ◌++◌, map, length, codes, All, Option, Some, None}
+use Rattle.std.specs.Prelude.{◌≡◌, ◌<◌, ℕ, if◌then◌else◌, Bool, List, [], ◌∷◌, map, codes, All, Option, Some, None}
 use Rattle.std.specs.List.{flat_map}
-use Rattle.std.specs.Option.{option_map, option_and_then}
 use Rattle.std.specs.Str.{bytes_eq}
 use Rattle.pdf_text.specs.Tokens.{tokens}
 use Rattle.pdf_text.specs.Cmap.{hex_in}
 use Rattle.pdf_sheet.specs.Units.{units_of}
 use Rattle.pdf_sheet.specs.declared.glyphs.SheetGlyph.{SheetGlyph}
 use Rattle.pdf_sheet.specs.declared.frame.Layout.{Layout}
-use Rattle.pdf_sheet.specs.declared.frame.Frame.{Frame}
 use Rattle.pdf_sheet.specs.Content.{content, frame_of}
 use Rattle.pdf_sheet.specs.Pages.{pages_of}
 

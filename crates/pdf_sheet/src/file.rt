@@ -172,7 +172,7 @@ pub fn write_table(text: &mut Vec<u8>, offsets: &[usize]) -> Result<(), Error>
 }
 
 /// Whether ten digits are enough for the offsets in so many bytes.
-pub fn checked(size: usize) -> Result<(), Error>
+pub fn checked(size: u64) -> Result<(), Error>
     ensures ok { OnOk result (size < 10000000000) }
     ensures err { IfErr result (λ e. (e ≡ OverflowError) × (10000000000 ≤ size)) }
 {

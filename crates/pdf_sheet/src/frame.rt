@@ -29,12 +29,12 @@ pub struct Frame {
 // ---- the page
 
 /// How far glyphs go on, up to a bound.
-fn advance_of(glyphs: &[SheetGlyph<'_>]) -> usize
+fn advance_of(glyphs: &[SheetGlyph<'_>]) -> u64
     ensures { result ≡ min (advance_of glyphs.now) 398000 }
 {
-    let mut advance: usize = 0;
+    let mut advance: u64 = 0;
     for glyph in glyphs {
-        advance = (advance + glyph.advance as usize).min(398_000);
+        advance = (advance + u64::from(glyph.advance)).min(398_000);
     }
     advance
 }
@@ -44,7 +44,7 @@ fn line_extent(glyphs: &[SheetGlyph<'_>]) -> usize
     ensures value { result ≡ line_extent glyphs.now }
 {
     let advance = advance_of(glyphs);
-    72 + (36 * advance + 999) / 1000
+    72 + ((36 * advance + 999) / 1000) as usize
 }
 
 /// The page.

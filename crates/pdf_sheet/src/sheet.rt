@@ -23,7 +23,7 @@ fn font_number(layout: Layout, size: usize) -> Result<u32, Error>
     ensures ok { IfOk result (λ first. first ≡ font_number (page_count layout size)) }
     ensures err { IfErr result (λ e. (e ≡ OverflowError) × (2 ^ 32 ≤ font_number (page_count layout size) + 7)) }
 {
-    let number = 3 + 2 * page_count(layout, size);
+    let number = 3 + 2 * page_count(layout, size) as u64;
     if number + 7 >= 4_294_967_296 {
         return Err(Error::OverflowError);
     }
@@ -71,7 +71,7 @@ pub fn write_sheet(
 {
     let first = font_number(layout, glyphs.len())?;
     let mut body = sheet_body(alloc, values, glyphs, layout, first)?;
-    checked(body.text.len())?;
+    checked(body.text.len() as u64)?;
     write_table(&mut body.text, &body.offsets)?;
     Ok(body.text)
 }

@@ -1,5 +1,4 @@
-use Rattle.std.proofs.Common.{◌≡◌, List, ℕ, ap, ◌∙◌}
-use Rattle.std.specs.List.{concat}
+use Rattle.std.proofs.Common.{ap, ◌∙◌}
 use Rattle.pdf_text.specs.Objects.{font_objects}
 use Rattle.pdf_sheet.specs.View.{texts_view}
 use Rattle.pdf_sheet.proofs.Steps.{font_within, sheet_text, sheet_offsets}
