@@ -141,7 +141,7 @@ module _ (font : Font) (settings : List (Tag × ℤ)) (options : FontOptions) (u
       pub widths_size : length n.profile.widths.items ≡ length order
       widths_size = sym (length-map n.profile.widths.items Some) ∙ ap length (is_read n h).widths ∙ length-map order (width a.static)
 
-      pub answered : (within : IsWithin options.limits.bytes e.font.items) → IsTheAnswerAt font settings (numbering (glyphs_of us)) e.font.items → ((IsAtDefault (whole font) settings → ⊥) → HasGlyphsDrawn (whole font) settings (numbering (glyphs_of us)) e.font.items) → (f : PdfFont) → Takes n e.cids.items f.permission f → IsFilled find options us e.widths.items f → IsEmbeddedFor font settings options us f
+      pub answered : (within : IsWithin options.limits.bytes e.font.items) → IsTheAnswerAt font settings (numbering (glyphs_of us)) e.font.items → ((IsAtDefault (whole font) settings → ⊥) → HasGlyphsDrawn (whole font) settings (numbering (glyphs_of us)) e.font.items) → (f : PdfFont) → Takes n e.cids.items f.permission f → IsFilled find settings options us e.widths.items f → IsEmbeddedFor font settings options us f
       answered within same drawn f t filled =
           let read = is_read n h in
           record {
@@ -157,15 +157,15 @@ module _ (font : Font) (settings : List (Tag × ℤ)) (options : FontOptions) (u
             counted = t.count ∙ read.count;
             widths = ap (map Some) t.widths ∙ read.widths;
             values = t.values ∙ read.values ∙ ap (λ (k : ℕ). values_in find (stored (as_font e.font.items)) k options.bounds settings) (sym t.count) ∙ ap (λ (look : List ℕ → Option (List ℕ)). values_in look (stored (as_font e.font.items)) f.glyph_count options.bounds settings) ef;
-            filled = subst (λ (look : List ℕ → Option (List ℕ)). IsFilled look options us e.widths.items f) ef filled;
+            filled = subst (λ (look : List ℕ → Option (List ℕ)). IsFilled look settings options us e.widths.items f) ef filled;
           }
 
       -- of what was answered, whatever slice its widths were read of
-      pub all_answered : (within : IsWithin options.limits.bytes e.font.items) → IsTheAnswerAt font settings (numbering (glyphs_of us)) e.font.items → ((IsAtDefault (whole font) settings → ⊥) → HasGlyphsDrawn (whole font) settings (numbering (glyphs_of us)) e.font.items) → (p : Permission) (ws : List ℕ) → ws ≡ e.widths.items → (x : Result PdfFont Error) → IfOk x (λ f. IsFilled find options us ws f) → IfOk x (λ f. Takes n e.cids.items p f) → IfOk x (λ f. IsEmbeddedFor font settings options us f)
+      pub all_answered : (within : IsWithin options.limits.bytes e.font.items) → IsTheAnswerAt font settings (numbering (glyphs_of us)) e.font.items → ((IsAtDefault (whole font) settings → ⊥) → HasGlyphsDrawn (whole font) settings (numbering (glyphs_of us)) e.font.items) → (p : Permission) (ws : List ℕ) → ws ≡ e.widths.items → (x : Result PdfFont Error) → IfOk x (λ f. IsFilled find settings options us ws f) → IfOk x (λ f. Takes n e.cids.items p f) → IfOk x (λ f. IsEmbeddedFor font settings options us f)
       all_answered within same drawn p ws w (Ok f) filled t =
           answered within same drawn f
           (record { kind = t.kind; program = t.program; count = t.count; widths = t.widths; values = t.values; cids = t.cids; permission = refl })
-          (subst (λ (l : List ℕ). IsFilled find options us l f) w filled)
+          (subst (λ (l : List ℕ). IsFilled find settings options us l f) w filled)
       all_answered within same drawn p ws w (Err why) filled t = tt
 
       pub widths_some : 0 < length n.profile.widths.items

@@ -20,7 +20,8 @@ use Rattle.pdf_codes.specs.Leading.{AreLed, name_of, own_cmap, own_name, pairs_w
 use Rattle.pdf_codes.specs.Shown.{has_long_text}
 use Rattle.pdf_codes.specs.Texts.{first_text, is_said, lines_of_codes, text_in}
 use Rattle.pdf_glyphs.specs.Frequent.{most_frequent}
-use Rattle.pdf_glyphs.specs.Vertical.{Vertical, columns_of}
+use Rattle.pdf_glyphs.specs.HeightVariation.{Variation}
+use Rattle.pdf_glyphs.specs.Vertical.{Vertical, columns_at}
 use Rattle.pdf_glyphs.specs.declared.columns.Columns.{Columns}
 use Rattle.pdf_text.specs.Bits.{IsCidSet}
 use Rattle.pdf_text.specs.Cmap.{cmap_text}
@@ -30,7 +31,8 @@ use Rattle.pdf_source.specs.Chosen.{extras_of, is_vertical}
 use Rattle.pdf_source.specs.Frequent.{IsMostFrequent}
 use Rattle.pdf_source.specs.Moved.{values_in}
 use Rattle.pdf_source.specs.Program.{IsProgram, kind_of}
-use Rattle.pdf_source.specs.Source.{source_name, tag_in, vertical_of}
+use Rattle.pdf_source.specs.Named.{heights_there, name_there}
+use Rattle.pdf_source.specs.Source.{tag_in, vertical_of}
 use Rattle.pdf_source.specs.declared.choice.Direction.{Direction}
 use Rattle.pdf_source.specs.declared.choice.Direction.TheVariants.{Horizontal, Vertical as TopToBottom}
 use Rattle.pdf_source.specs.declared.choice.FontOptions.{FontOptions}
@@ -57,21 +59,21 @@ pub record IsCoded (options : FontOptions) (us : List Used) (f : PdfFont) : Type
   pub said : f.is_said.items ≡ map (is_said (coded us f.codes.items)) (coded us f.codes.items)
 
 -- columns of the CIDs that a string can show, in vertical writing alone
-abbrev pub AreColumns : Direction → Vertical → List ℕ → List ℕ → Option Columns → Type 0
-AreColumns Horizontal tables glyphs widths columns = columns ≡ None
-AreColumns TopToBottom tables glyphs widths columns = IsSome columns × IfSome columns (λ c. (c.each.items ≡ columns_of tables (numbering glyphs) widths) × (c.default ≡ most_frequent c.each.items))
+abbrev pub AreColumns : Direction → Vertical → Option Variation → List ℕ → List ℕ → Option Columns → Type 0
+AreColumns Horizontal tables heights glyphs widths columns = columns ≡ None
+AreColumns TopToBottom tables heights glyphs widths columns = IsSome columns × IfSome columns (λ c. (c.each.items ≡ columns_at tables heights (numbering glyphs) widths) × (c.default ≡ most_frequent c.each.items))
 
 -- a CIDSet for so many CIDs, where it is requested
 abbrev pub IsCidSetIf : Bool → ℕ → Option (List ℕ) → Type 0
 IsCidSetIf false count bytes = bytes ≡ None
 IsCidSetIf true count bytes = IsSome bytes × IfSome bytes (IsCidSet count)
 
--- what isn't read of the new font: of the source by a look-up, of the glyphs in use, and of the new font's CIDs, of which those of the glyphs in use have these widths
-pub record IsFilled (find : List ℕ → Option (List ℕ)) (options : FontOptions) (us : List Used) (widths : List ℕ) (f : PdfFont) : Type 0 where
+-- what isn't read of the new font: of the source by a look-up at coordinates, of the glyphs in use, and of the new font's CIDs, of which those of the glyphs in use have these widths
+pub record IsFilled (find : List ℕ → Option (List ℕ)) (settings : List (Tag × ℤ)) (options : FontOptions) (us : List Used) (widths : List ℕ) (f : PdfFont) : Type 0 where
   pub coded : IsCoded options us f
   pub default_width : IsMostFrequent f.widths.items f.default_width
-  pub columns : AreColumns options.direction (vertical_of find) (glyphs_of us) widths f.columns
-  pub name : f.descriptor.font_name.items ≡ font_name (tag_in options.tag f.program.items) (source_name find)
+  pub columns : AreColumns options.direction (vertical_of find) (heights_there find settings) (glyphs_of us) widths f.columns
+  pub name : f.descriptor.font_name.items ≡ font_name (tag_in options.tag f.program.items) (name_there find settings)
   pub cid_set : IsCidSetIf options.cid_set f.glyph_count (option_map (λ v. v.items) f.cid_set)
 
 pub record IsEmbeddedFor (font : Font) (settings : List (Tag × ℤ)) (options : FontOptions) (us : List Used) (f : PdfFont) : Type 0 where
@@ -93,7 +95,7 @@ pub record IsEmbeddedFor (font : Font) (settings : List (Tag × ℤ)) (options :
   pub widths : map Some f.widths.items ≡ map (width embedded.static) embedded.answer.embedded.subset.keeps.order
   -- the values of the descriptor, of the source at these coordinates
   pub values : f.descriptor.values ≡ values_in (stored font) (stored (as_font new.font.items)) f.glyph_count options.bounds settings
-  pub filled : IsFilled (stored font) options us new.widths.items f
+  pub filled : IsFilled (stored font) settings options us new.widths.items f
 
 pub record IsPdfFont (font : Font) (settings : List (Tag × ℤ)) (options : FontOptions) (us : List Used) (f : PdfFont) : Type 0 where
   pub made : IsEmbeddedFor font settings options us f

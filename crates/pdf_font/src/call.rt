@@ -74,6 +74,7 @@ fn made(
     filled(
         alloc,
         face,
+        coordinates,
         shown,
         options,
         &glyphs,

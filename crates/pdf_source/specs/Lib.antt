@@ -4,5 +4,6 @@ pub mod Frequent
 pub mod Made
 pub mod Metrics
 pub mod Moved
+pub mod Named
 pub mod Program
 pub mod Source

@@ -1,21 +1,24 @@
 //! The font descriptor.
 
-ghost use Rattle.std.specs.Prelude.{◌≡◌, IfOk, IfErr};
+ghost use Rattle.std.specs.Prelude.{◌≡◌, codes, IfOk, IfErr};
 ghost use Rattle.std.specs.Option.{option_copied, option_map};
 ghost use Rattle.subsetter_base.specs.declared.error.Error.TheVariants.{OutOfMemory};
 ghost use Rattle.subsetter_sfnt.specs.Read.{table_in};
 ghost use Rattle.pdf_glyphs.specs.Boxes.{outlines_view};
+ghost use Rattle.pdf_glyphs.specs.HeightVariation.{variation_view};
 ghost use Rattle.pdf_glyphs.specs.Vertical.{vertical_view};
 ghost use Rattle.pdf_text.specs.SubsetName.{font_name, IsTag};
 ghost use Rattle.pdf_values.specs.Descriptor.{tables_view};
+ghost use Rattle.pdf_source.specs.Named.{heights_by, name_by};
 ghost use Rattle.pdf_source.specs.Moved.{location_seen, values_by};
 ghost use Rattle.pdf_source.specs.Source.{bounds_by, known_of, outlines_of, source_name, tables_of, tag_in, vertical_of};
 
 use crate::cff::said_by;
 use crate::moved::{Location, movement_of};
 use crate::tag::SubsetTag;
-use pdf_glyphs::{OutlineTables, VerticalTables, box_around, top_of};
+use pdf_glyphs::{HeightVariation, OutlineTables, VerticalTables, box_around, top_of};
 use pdf_moved::values_at;
+use pdf_names::name_at;
 use pdf_text::{font_name, tag_of};
 use pdf_values::{Bounds, Known, Tables, Values, postscript_name, values_of};
 use std::alloc::Global;
@@ -135,16 +138,61 @@ fn source_name(alloc: Global, face: &Face<'_>) -> Result<Vec<u8>, Error>
     postscript_name(alloc, None, said.name)
 }
 
-/// FontName: the tag, `+` and the PostScript name.
+/// The PostScript name at a location.
+fn name_by(
+    alloc: Global,
+    location: &Option<Location>,
+    face: &Face<'_>,
+    settings: &[(Tag, i32)],
+) -> Result<Vec<u8>, Error>
+    ensures ok { IfOk result (λ name. name.items ≡ name_by (option_map location_seen location.now) (table_in face.now.«data».now face.now.records.now) settings.now) }
+    ensures err { IfErr result (λ e. e ≡ OutOfMemory) }
+{
+    match location {
+        None => source_name(alloc, face),
+        Some(location) => {
+            let name = face.stored(Tag::NAME);
+            let fvar = face.stored(Tag::new(b"fvar"));
+            name_at(
+                alloc,
+                name,
+                fvar,
+                movement_of(face, settings, location),
+                None,
+            )
+        }
+    }
+}
+
+/// FontName: the tag, `+` and the PostScript name at a location.
 pub fn name_in(
     alloc: Global,
+    location: &Option<Location>,
     face: &Face<'_>,
     program: &[u8],
     tag: Option<SubsetTag>,
+    settings: &[(Tag, i32)],
 ) -> Result<Vec<u8>, Error>
-    ensures ok { IfOk result (λ name. name.items ≡ font_name (tag_in tag program.now) (source_name (table_in face.now.«data».now face.now.records.now))) }
+    ensures ok { IfOk result (λ name. name.items ≡ font_name (tag_in tag program.now) (name_by (option_map location_seen location.now) (table_in face.now.«data».now face.now.records.now) settings.now)) }
     ensures err { IfErr result (λ e. e ≡ OutOfMemory) }
 {
-    let name = source_name(alloc, face)?;
+    let name = name_by(alloc, location, face, settings)?;
     font_name(alloc, &tag_in(program, tag), &name)
+}
+
+/// What advance heights vary by at a location.
+pub fn heights_by<'a>(
+    face: &Face<'a>,
+    location: &'a Option<Location>,
+) -> Option<HeightVariation<'a>>
+    ensures { option_map variation_view result ≡ heights_by (option_map location_seen location.now) (table_in face.now.«data».now face.now.records.now (codes "VVAR")) }
+{
+    let Some(location) = location else {
+        return None;
+    };
+    let vvar = face.stored(Tag::new(b"VVAR"))?;
+    Some(HeightVariation {
+        at: &location.at,
+        vvar,
+    })
 }

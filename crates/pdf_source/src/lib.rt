@@ -17,7 +17,8 @@ mod tag;
 mod widths;
 
 pub use choice::{Direction, FontOptions, ProgramChoice};
-pub use described::{Descriptor, name_in, vertical_of};
+pub use described::{Descriptor, heights_by, name_in, vertical_of};
+pub use moved::{Location, location_in};
 pub use program::{NewFont, Profile, new_font};
 pub use tag::SubsetTag;
 pub use widths::most_frequent;
