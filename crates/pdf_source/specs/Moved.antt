@@ -1,11 +1,10 @@
 -- Where a font is off its default (OpenType, "fvar", "avar"), and the values of its descriptor there ("MVAR").
-use Rattle.std.specs.Prelude.{ℕ, Bool, if◌then◌else◌, List, codes, Option, Some, None, Result, Ok, Err, ℤ, pos}
+use Rattle.std.specs.Prelude.{ℕ, Bool, if◌then◌else◌, List, codes, Option, Some, None, ℤ, pos}
 use Rattle.std.specs.List.{list_all}
-use Rattle.std.specs.Option.{option_and_then, ok_or}
+use Rattle.std.specs.Option.{option_and_then}
 use Rattle.std.specs.Ordering.{int_eq}
 use Rattle.std.specs.Result.{result_ok}
 use Rattle.subsetter_base.specs.declared.tag.Tag.{Tag}
-use Rattle.subsetter_base.specs.declared.error.Error.{Error}
 use Rattle.subsetter_variation.specs.Axes.{axes}
 use Rattle.subsetter_variation.specs.declared.axes.Axis.{Axis}
 use Rattle.subsetter_instance.specs.Source.{place}

@@ -1,5 +1,5 @@
 -- The font program of a new font, and what it says of its glyphs (ISO 32000-1, 9.9).
-use Rattle.std.specs.Prelude.{◌≡◌, ℕ, ◌==◌, if◌then◌else◌, List, codes, Option, Some, Result, Ok, Err}
+use Rattle.std.specs.Prelude.{◌≡◌, ℕ, ◌==◌, if◌then◌else◌, List, codes, Option, Some, Result, Ok}
 use Rattle.std.specs.Option.{ok_or, option_map_or}
 use Rattle.subsetter_base.specs.Bytes.{number, ◌>>=◌}
 use Rattle.subsetter_base.specs.declared.error.Error.{Error}
