@@ -2,7 +2,7 @@
 use Rattle.std.proofs.Common.{◌≡◌, ℕ, ◌<◌, true, List, [], ◌∷◌, length, length-append, map, Option, Some, None, Result, Ok, Err, ℤ, refl, sym, ap, subst, ◌∙◌, ◌⊎◌, inl, inr, arith}
 use Rattle.std.specs.Prelude.{codes, IsSome, IfOk, IfErr}
 use Rattle.std.proofs.lemmas.List.{length-map}
-use Rattle.subsetter_base.specs.Gives.{Gives, Fails}
+use Rattle.subsetter_base.specs.Gives.{Gives}
 use Rattle.subsetter_base.specs.Places.{HasAllAboveZero}
 use Rattle.subsetter_base.specs.declared.tag.Tag.{Tag}
 use Rattle.subsetter_base.specs.declared.error.Error.{Error}
@@ -12,11 +12,10 @@ use Rattle.subsetter_base.proofs.Options.{just_is}
 use Rattle.subsetter_base.proofs.Results.{failed_is, done_is, ok_not_err}
 use Rattle.subsetter_sfnt.specs.Read.{Font, as_font, flavor, stored, table}
 use Rattle.subsetter_sfnt.specs.declared.flavor.FontFlavor.{FontFlavor}
-use Rattle.subsetter_sfnt.specs.declared.flavor.FontFlavor.TheVariants.{TrueType}
 use Rattle.subsetter.specs.Bound.{IsWithin}
 use Rattle.subsetter_variable.specs.Afresh.{HasGlyphsDrawn}
 use Rattle.subsetter_variable.specs.Standing.{IsAtDefault}
-use Rattle.subsetter_variable.specs.Subset.{IsStatic, IsTheAnswerAt, whole}
+use Rattle.subsetter_variable.specs.Subset.{IsTheAnswerAt, whole}
 use Rattle.subsetter_variable.proofs.Stands.{fails_is}
 use Rattle.subsetter_variable.proofs.Static.{one_static}
 use Rattle.cid_embed.specs.Embed.{numbering, in_numbering as none_left}

@@ -1,5 +1,5 @@
 -- Laws of what a PDF has of a font.
-use Rattle.std.proofs.Common.{◌≡◌, ℕ, ◌<◌, true, false, List, ◌++◌, length, take, Option, Some, None, ℤ, sym, ap, subst, ◌∙◌, arith}
+use Rattle.std.proofs.Common.{◌≡◌, ℕ, ◌<◌, true, false, List, length, Option, Some, None, ℤ, sym, ap, subst, ◌∙◌, arith}
 use Rattle.std.specs.Prelude.{codes, IsSome}
 use Rattle.subsetter_base.specs.declared.tag.Tag.{Tag}
 use Rattle.subsetter_base.specs.declared.error.Error.{Error}
@@ -14,18 +14,15 @@ use Rattle.subsetter_sfnt.specs.declared.flavor.FontFlavor.TheVariants.{TrueType
 use Rattle.subsetter.specs.Bound.{IsWithin}
 use Rattle.subsetter_variable.specs.Subset.{IsStatic}
 use Rattle.subsetter_variable.proofs.Static.{one_static}
-use Rattle.cid_embed.specs.Embed.{HasEmbedFaultWithin, IsEmbeddingAnswer, numbering, in_numbering as none_left, in_font, beyond}
+use Rattle.cid_embed.specs.Embed.{HasEmbedFaultWithin, numbering, in_numbering as none_left, in_font, beyond}
 use Rattle.cid_embed.specs.declared.embedding.Embedded.{Embedded}
 use Rattle.cid_embed_at.specs.Embed.{HasEmbedFaultAt, IsEmbeddingAnswerAt, in_instance, in_numbering, in_static}
-use Rattle.pdf_codes.specs.Codes.{AreCodes, Used, glyphs_of}
+use Rattle.pdf_codes.specs.Codes.{glyphs_of}
 use Rattle.pdf_codes.proofs.StayLaws.{codes_stay as stay, codes_are_determined}
 use Rattle.pdf_values.specs.Permission.{is_permitted, permission}
 use Rattle.pdf_values.specs.declared.permission.Permission.{Permission}
 use Rattle.pdf_font.specs.Laws.{CodesNeedNoFont, CodesStay, HaveNoFault}
-use Rattle.pdf_font.specs.PdfFont.{HasFontFault, IsPdfFont, in_embedding, long_text, no_maxp, not_permitted, overfull}
-use Rattle.pdf_source.specs.declared.choice.FontOptions.{FontOptions}
-use Rattle.pdf_font.specs.declared.error.FontError.{FontError}
-use Rattle.pdf_font.specs.declared.font.PdfFont.{PdfFont}
+use Rattle.pdf_font.specs.PdfFont.{in_embedding, long_text, no_maxp, not_permitted, overfull}
 use Rattle.pdf_font.proofs.Tables.{no_maxp_again}
 
 -- ---- an embedding has no fault

@@ -1,19 +1,14 @@
-use Rattle.std.proofs.Common.{◌≡◌, ℕ, Bool, true, false, List, Option, Err, refl, sym, ap, subst, ◌∙◌, ◌⊎◌, inl, inr}
-use Rattle.std.specs.Prelude.{codes}
-use Rattle.subsetter_base.specs.declared.error.Error.{Error}
+use Rattle.std.proofs.Common.{◌≡◌, true, false, sym, ap, subst, ◌∙◌, inr}
 use Rattle.subsetter_base.specs.declared.error.Error.TheVariants.{OutOfMemory}
 use Rattle.subsetter_sfnt.specs.Fault.{HasOpeningFault}
 use Rattle.subsetter_sfnt.specs.FontAt.{font_at}
-use Rattle.subsetter_sfnt.specs.Read.{Font, stored, table_in}
+use Rattle.subsetter_sfnt.specs.Read.{Font}
 use Rattle.subsetter_sfnt.specs.declared.extras.Extras.{Extras}
 use Rattle.pdf_codes.specs.Shown.{has_long_text, uses_of}
-use Rattle.pdf_values.specs.Permission.{is_permitted, permission}
+use Rattle.pdf_values.specs.Permission.{is_permitted}
 use Rattle.pdf_values.specs.declared.permission.Permission.{Permission}
 use Rattle.pdf_font.specs.Opened.{IsOpened}
 use Rattle.pdf_font.specs.PdfFont.{font_of}
-use Rattle.pdf_font.specs.declared.error.FontError.{FontError}
-use Rattle.pdf_font.specs.declared.error.FontError.TheVariants.{Subset}
-use Rattle.pdf_font.specs.declared.font.PdfFont.{PdfFont}
 use Rattle.pdf_font.proofs.Refused.{first_forbidden, first_long, first_none, first_unopened, forbidden, forbidden_final, named, not_memory, permission_found, too_long, too_long_final, unopened, unopened_final}
 use Rattle.pdf_font.proofs.call.pdf_font.Goals as goal
 
