@@ -497,7 +497,7 @@ fn variable_rows(rt: HostRuntime) -> Result<(), Fail> {
         default_width: 500,
         columns: &[],
         default_column: (0, 0),
-        name: b"",
+        name: b"+Made_650wght_-7.5slnt",
         values: Values {
             flags: 70,
             bounds: Edges {
@@ -523,7 +523,7 @@ fn variable_rows(rt: HostRuntime) -> Result<(), Fail> {
         },
         cid_set: &[0xFF],
         to_unicode: b"/CIDInit /ProcSet findresource begin\n12 dict begin\nbegincmap\n/CIDSystemInfo << /Registry (Adobe) /Ordering (UCS) /Supplement 0 >> def\n/CMapName /Adobe-Identity-UCS def\n/CMapType 2 def\n1 begincodespacerange\n<0000> <FFFF>\nendcodespacerange\n6 beginbfchar\n<0001> <0041>\n<0002> <0042>\n<0003> <00660069>\n<0004> <D83DDE00>\n<0005> <00C1>\n<0007> <0078>\nendbfchar\nendcmap\nCMapName currentdict /CMap defineresource pop\nend\nend\n",
-        encoding_name: b"",
+        encoding_name: b"+Made_150wght",
         encoding: b"",
     };
     let options = FontOptions {
