@@ -1,5 +1,5 @@
 -- There is one answer, and its program has its widths.
-use Rattle.std.proofs.Common.{◌≡◌, ℕ, ◌<◌, ◌≤◌, Bool, List, [], ◌∷◌, length, map, Option, Some, None, Result, Ok, Err, ℤ, refl, sym, ap, subst, ◌∙◌, ◌⊎◌, inl, inr, arith}
+use Rattle.std.proofs.Common.{◌≡◌, ℕ, ◌<◌, ◌≤◌, List, [], ◌∷◌, length, map, Option, Some, None, Result, Ok, ℤ, refl, sym, ap, subst, ◌∙◌, inl, inr, arith}
 use Rattle.std.specs.Prelude.{codes, slice_index, IsSome}
 use Rattle.std.specs.Option.{option_map}
 use Rattle.std.proofs.lemmas.Bool.{cases_lt}
@@ -14,13 +14,12 @@ use Rattle.subsetter_variable.proofs.Static.{one_static}
 use Rattle.cid_embed.specs.Afresh.{widths_of}
 use Rattle.cid_embed.specs.Embed.{numbering, in_subset, in_widths}
 use Rattle.cid_embed.specs.Width.{width}
-use Rattle.cid_embed.specs.declared.embedding.Embedded.{Embedded}
 use Rattle.pdf_codes.specs.Codes.{Used, coded, glyphs_of}
 use Rattle.pdf_codes.specs.Leading.{own_cmap, own_name, pairs_with}
 use Rattle.pdf_codes.specs.Texts.{is_said, lines_of_codes}
 use Rattle.pdf_codes.proofs.StayLaws.{codes_are_determined}
 use Rattle.pdf_glyphs.specs.Frequent.{most_frequent}
-use Rattle.pdf_glyphs.specs.Vertical.{Vertical, columns_of}
+use Rattle.pdf_glyphs.specs.Vertical.{Vertical}
 use Rattle.pdf_glyphs.specs.declared.columns.Columns.{Columns}
 use Rattle.pdf_text.specs.Cmap.{cmap_text}
 use Rattle.pdf_text.specs.SubsetName.{font_name}

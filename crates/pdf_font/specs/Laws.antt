@@ -1,5 +1,5 @@
 -- Laws of what a PDF has of a font.
-use Rattle.std.specs.Prelude.{◌≡◌, ◌≢◌, List, ◌++◌, length, take, ℕ, Option, Ok, ℤ}
+use Rattle.std.specs.Prelude.{◌≡◌, ◌≢◌, List, ◌++◌, length, take, ℕ, Ok, ℤ}
 use Rattle.std.specs.Option.{option_map}
 use Rattle.subsetter_base.specs.declared.tag.Tag.{Tag}
 use Rattle.subsetter_sfnt.specs.Read.{Font, as_font, stored}
