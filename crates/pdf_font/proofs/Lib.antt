@@ -3,6 +3,7 @@ mod Answered
 mod Fresh
 mod LawProofs
 mod NewLaws
+mod OneFont
 mod Opening
 mod Refused
 mod Tables
