@@ -2,7 +2,7 @@
 use Rattle.std.proofs.Common.{◌≡◌, ℕ, ◌<◌, true, List, [], ◌∷◌, length, length-append, map, Option, Some, None, Result, Ok, Err, ℤ, refl, sym, ap, subst, ◌∙◌, ◌⊎◌, inl, inr, arith}
 use Rattle.std.specs.Prelude.{codes, IsSome, IfOk, IfErr}
 use Rattle.std.proofs.lemmas.List.{length-map}
-use Rattle.subsetter_base.specs.Gives.{Gives, Fails}
+use Rattle.subsetter_base.specs.Gives.{Gives}
 use Rattle.subsetter_base.specs.Places.{HasAllAboveZero}
 use Rattle.subsetter_base.specs.declared.tag.Tag.{Tag}
 use Rattle.subsetter_base.specs.declared.error.Error.{Error}
@@ -12,11 +12,10 @@ use Rattle.subsetter_base.proofs.Options.{just_is}
 use Rattle.subsetter_base.proofs.Results.{failed_is, done_is, ok_not_err}
 use Rattle.subsetter_sfnt.specs.Read.{Font, as_font, flavor, stored, table}
 use Rattle.subsetter_sfnt.specs.declared.flavor.FontFlavor.{FontFlavor}
-use Rattle.subsetter_sfnt.specs.declared.flavor.FontFlavor.TheVariants.{TrueType}
 use Rattle.subsetter.specs.Bound.{IsWithin}
 use Rattle.subsetter_variable.specs.Afresh.{HasGlyphsDrawn}
 use Rattle.subsetter_variable.specs.Standing.{IsAtDefault}
-use Rattle.subsetter_variable.specs.Subset.{IsStatic, IsTheAnswerAt, whole}
+use Rattle.subsetter_variable.specs.Subset.{IsTheAnswerAt, whole}
 use Rattle.subsetter_variable.proofs.Stands.{fails_is}
 use Rattle.subsetter_variable.proofs.Static.{one_static}
 use Rattle.cid_embed.specs.Embed.{numbering, in_numbering as none_left}
@@ -112,7 +111,7 @@ module _ (font : Font) (settings : List (Tag × ℤ)) (options : FontOptions) (u
         let static : other.static ≡ a.static = one_static font settings (numbering (glyphs_of us)) other.static a.static other.is_static a.is_static in
         let kinds : other.answer.embedded.subset.keeps.kind ≡ kind = just_is other.answer.embedded.subset.keeps.kind kind (sym other.answer.embedded.subset.keeps.kind_is ∙ ap flavor static ∙ a.answer.embedded.subset.keeps.kind_is) in
         let none : table (as_font p.made.new.font.items) (codes "maxp") ≡ None = subst (λ (b : List ℕ). table (as_font b) (codes "maxp") ≡ None) file l.1.copy in
-        not_there (table (as_font p.made.new.font.items) (codes "maxp")) none (p.made.profile (kinds ∙ l.1.kind_is)))
+        not_there (table (as_font p.made.new.font.items) (codes "maxp")) none (p.made.maxp (kinds ∙ l.1.kind_is)))
 
     -- ---- what is filled in
 
@@ -152,7 +151,7 @@ module _ (font : Font) (settings : List (Tag × ℤ)) (options : FontOptions) (u
             drawn = drawn;
             kind = t.kind ∙ read.kind_is;
             program = subst (λ k. IsProgram k e.font.items f.program.items) (sym t.kind) (subst (λ (b : List ℕ). IsProgram n.kind e.font.items b) (sym t.program) read.program);
-            profile = read.maxp;
+            maxp = read.maxp;
             cids = t.cids;
             counted = t.count ∙ read.count;
             widths = ap (map Some) t.widths ∙ read.widths;

@@ -1,5 +1,5 @@
 -- A new font is opened, and is of its source's kind.
-use Rattle.std.proofs.Common.{◌≡◌, ℕ, ◌/◌, List, length, Option, Some, Result, Ok, refl, sym, ap, ◌∙◌}
+use Rattle.std.proofs.Common.{◌≡◌, ℕ, ◌/◌, List, length, Option, Some, Result, Ok, sym, ap, ◌∙◌}
 use Rattle.std.specs.Option.{option_and_then, option_map_or, ok_or}
 use Rattle.subsetter_base.specs.Bytes.{number, ◌>>=◌}
 use Rattle.subsetter_base.specs.declared.error.Error.{Error}

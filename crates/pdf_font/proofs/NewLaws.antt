@@ -1,5 +1,5 @@
 -- What is read of a new font: what it was made from, unless it is a TrueType font without `maxp`.
-use Rattle.std.proofs.Common.{◌≡◌, ℕ, ◌<◌, List, ◌++◌, length, map, Option, Some, None, Result, Ok, Err, ℤ, refl, sym, ap, subst, ◌∙◌, ◌⊎◌, inl, inr, arith, length-append}
+use Rattle.std.proofs.Common.{◌≡◌, ℕ, ◌<◌, List, length, map, Option, Some, None, Result, Ok, Err, ℤ, refl, sym, ap, subst, ◌∙◌, ◌⊎◌, inl, inr, arith, length-append}
 use Rattle.std.specs.Prelude.{codes, IsSome}
 use Rattle.std.specs.Option.{ok_or}
 use Rattle.std.proofs.lemmas.List.{length-map}
@@ -9,20 +9,18 @@ use Rattle.subsetter_base.specs.declared.error.Error.{Error}
 use Rattle.subsetter_base.specs.declared.error.Error.TheVariants.{MalformedFont}
 use Rattle.subsetter_base.proofs.Options.{is_some_of}
 use Rattle.subsetter_sfnt.specs.Container.{IsSoundContainer}
-use Rattle.subsetter_sfnt.specs.Plain.{opened}
 use Rattle.subsetter_sfnt.specs.Read.{Font, as_font, stored, table, table_in}
 use Rattle.subsetter_sfnt.specs.Rows.{tags_of}
 use Rattle.subsetter_sfnt.specs.Written.{kind_word}
 use Rattle.subsetter_sfnt.specs.declared.flavor.FontFlavor.{FontFlavor}
 use Rattle.subsetter_sfnt.specs.declared.flavor.FontFlavor.TheVariants.{TrueType, Cff}
 use Rattle.subsetter.specs.Cff.Read.{KeepsCharStrings}
-use Rattle.subsetter.specs.Fault.{HasFault}
 use Rattle.subsetter.specs.Maxp.Read.{IsMaxProfile}
-use Rattle.subsetter.specs.Subset.{IsSubset, KeepsDrawing, by_outlines, by_charstrings}
+use Rattle.subsetter.specs.Subset.{KeepsDrawing, by_outlines, by_charstrings}
 use Rattle.subsetter_again.proofs.GivenOrder.{only_given}
 use Rattle.cid_embed.specs.Afresh.{widths_of}
 use Rattle.cid_embed.specs.Embed.{numbering, IsEmbeddingAnswer, in_subset, in_widths}
-use Rattle.cid_embed.specs.Width.{width, HasWidthFault}
+use Rattle.cid_embed.specs.Width.{width}
 use Rattle.cid_embed.specs.declared.embedding.Embedded.{Embedded}
 use Rattle.pdf_source.specs.Made.{Made, Profile, made_in, profile_in}
 use Rattle.pdf_source.specs.Program.{IsProgram, bare_cff, count_in, flavor_in, kind_of, program_in}

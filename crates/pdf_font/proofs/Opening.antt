@@ -1,5 +1,5 @@
 -- A face that is opened finds the tables of its font.
-use Rattle.std.proofs.Common.{◌≡◌, ℕ, List, Result, Ok, Err, ◌∙◌}
+use Rattle.std.proofs.Common.{◌≡◌, Result, Ok, Err}
 use Rattle.std.specs.Prelude.{IfOk, IfErr}
 use Rattle.subsetter_base.specs.declared.error.Error.{Error}
 use Rattle.subsetter_sfnt.specs.Fault.{HasOpeningFault}

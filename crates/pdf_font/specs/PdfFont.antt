@@ -1,5 +1,5 @@
 -- What a PDF has of a font for the glyphs in use (ISO 32000-1, 9.6 to 9.10), and why there is none.
-use Rattle.std.specs.Prelude.{◌≡◌, ◌<◌, ℕ, Bool, true, false, List, [], ◌∷◌, map, length, codes, Option, Some, None, ℤ, IfSome, IsSome, is_some}
+use Rattle.std.specs.Prelude.{◌≡◌, ℕ, Bool, true, false, List, map, length, codes, Option, Some, None, ℤ, IfSome, IsSome}
 use Rattle.std.specs.Option.{option_map}
 use Rattle.subsetter_base.specs.declared.tag.Tag.{Tag}
 use Rattle.subsetter_base.specs.declared.error.Error.{Error}
@@ -15,7 +15,7 @@ use Rattle.cid_embed.specs.Embed.{numbering}
 use Rattle.cid_embed.specs.Width.{width}
 use Rattle.cid_embed.specs.declared.embedding.Embedded.{Embedded}
 use Rattle.cid_embed_at.specs.Embed.{HasEmbedFaultAt, IsEmbeddingAnswerAt}
-use Rattle.pdf_codes.specs.Codes.{AreCids, AreCodes, IsOverfull, Used, coded, glyphs_of}
+use Rattle.pdf_codes.specs.Codes.{AreCodes, IsOverfull, Used, coded, glyphs_of}
 use Rattle.pdf_codes.specs.Leading.{AreLed, name_of, own_cmap, own_name, pairs_with, text_of}
 use Rattle.pdf_codes.specs.Shown.{has_long_text}
 use Rattle.pdf_codes.specs.Texts.{first_text, is_said, lines_of_codes, text_in}
@@ -83,10 +83,10 @@ pub record IsEmbeddedFor (font : Font) (settings : List (Tag × ℤ)) (options :
   pub same : IsTheAnswerAt font settings (numbering (glyphs_of us)) new.font.items
   -- elsewhere than at its default it has each glyph exactly as it is drawn there
   pub drawn : ¬ (IsAtDefault (whole font) settings) → HasGlyphsDrawn (whole font) settings (numbering (glyphs_of us)) new.font.items
-  -- the program is that font, or its `CFF `
+  -- the program is that font, or its `CFF `; one of TrueType has `maxp` (9.9)
   pub kind : f.kind ≡ kind_of embedded.answer.embedded.subset.keeps.kind options.program
   pub program : IsProgram f.kind new.font.items f.program.items
-  pub profile : embedded.answer.embedded.subset.keeps.kind ≡ TrueType → IsSome (table embedded.static (codes "maxp"))
+  pub maxp : embedded.answer.embedded.subset.keeps.kind ≡ TrueType → IsSome (table (as_font new.font.items) (codes "maxp"))
   -- each of its glyphs has a CID, and the width of its source
   pub cids : f.cids.items ≡ new.cids.items
   pub counted : f.glyph_count ≡ length embedded.answer.embedded.subset.keeps.order

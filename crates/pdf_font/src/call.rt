@@ -8,6 +8,7 @@ ghost use Rattle.subsetter_sfnt.specs.FontAt.{font_at};
 ghost use Rattle.subsetter_sfnt.specs.Read.{stored, table_in};
 ghost use Rattle.pdf_codes.specs.Shown.{uses_of};
 ghost use Rattle.pdf_values.specs.Permission.{permission};
+ghost use Rattle.pdf_font.specs.First.{IsFoundFirst};
 ghost use Rattle.pdf_font.specs.Opened.{IsOpened};
 ghost use Rattle.pdf_font.specs.PdfFont.{HasFontFault, HasNoPdfFont, IsEmbeddedFor, IsPdfFont, font_of};
 ghost use Rattle.pdf_font.specs.declared.error.FontError.{FontError as SpecFontError};
@@ -113,6 +114,8 @@ pub fn pdf_font(
     ensures no_answer { IfErr result (λ e. (e ≡ Subset OutOfMemory) ⊎ HasNoPdfFont (font_of «data».now index options.now) coordinates.now options.now (uses_of shown.now)) }
     // Where a fault is found before memory is taken, the answer isn't out of memory.
     ensures before_memory { (e : SpecError) → HasOpeningFault (font_of «data».now index options.now) e → result ≢ Err (Subset OutOfMemory) }
+    // Such faults come first, in this order: opening, permission, texts.
+    ensures first { IsFoundFirst (font_of «data».now index options.now) options.now (uses_of shown.now) result }
 {
     let face = match opened_face(data, index, options.extras()) {
         Ok(face) => face,
