@@ -24,7 +24,6 @@ ALLOWED = {
     ("pdf_text", "write_width"): (1, "`write!` reports a refused request as fmt::Error, and a number's text has no other error"),
     ("pdf_text", "write_integer"): (1, "`write!` reports a refused request as fmt::Error, and a number's text has no other error"),
     ("pdf_text", "write_count"): (1, "`write!` reports a refused request as fmt::Error, and a number's text has no other error"),
-    ("pdf_source", "unless_memory"): (2, "passes on that of its argument"),
     ("pdf_sheet", "write_count"): (1, "`write!` reports a refused request as fmt::Error, and a number's text has no other error"),
     ("subset_args", "enum ArgsError"): (1, "the case itself"),
     ("subset_args", "glyphs_of"): (1, "`push` takes memory and has no other error"),
@@ -47,6 +46,7 @@ ALLOWED = {
     ("subset_font", "lines_of_sizes"): (1, "`size_lines` writes into a vector, which has no other error"),
     ("subset_font", "members_of"): (1, "`json_members` writes into a vector, which has no other error"),
     ("subset_font", "with_more"): (1, "`more_of` has no other error"),
+    ("pdf_source", "unless_memory"): (2, "passes on that of its argument"),
 }
 
 WORDS = re.compile(r"\bOutOfMemory\b|\b(?:AllocError|AllocFailed)\b(?!\s*[>,}]|<\w)")
