@@ -1,5 +1,5 @@
 -- The glyphs of a sheet, and the sheet of a font.
-use Rattle.std.specs.Prelude.{◌≡◌, ℕ, List, map, length, take, get_or, min, Option, Some, None, pos, unsigned_abs}
+use Rattle.std.specs.Prelude.{◌≡◌, ℕ, List, map, length, take, get_or, min, Option, Some, None, unsigned_abs}
 use Rattle.pdf_codes.specs.declared.shown.Shown.{Shown}
 use Rattle.pdf_font.specs.declared.font.PdfFont.{PdfFont}
 use Rattle.pdf_glyphs.specs.declared.columns.Columns.{Columns}
