@@ -46,6 +46,7 @@ ALLOWED = {
     ("subset_font", "lines_of_sizes"): (1, "`size_lines` writes into a vector, which has no other error"),
     ("subset_font", "members_of"): (1, "`json_members` writes into a vector, which has no other error"),
     ("subset_font", "with_more"): (1, "`more_of` has no other error"),
+    ("pdf_cff", "unless_memory"): (2, "passes on that of its argument"),
     ("pdf_source", "unless_memory"): (2, "passes on that of its argument"),
 }
 
