@@ -19,6 +19,7 @@ use Rattle.pdf_codes.specs.Leading.{own_cmap, own_name, pairs_with}
 use Rattle.pdf_codes.specs.Texts.{is_said, lines_of_codes}
 use Rattle.pdf_codes.proofs.StayLaws.{codes_are_determined}
 use Rattle.pdf_glyphs.specs.Frequent.{most_frequent}
+use Rattle.pdf_glyphs.specs.HeightVariation.{Variation}
 use Rattle.pdf_glyphs.specs.Vertical.{Vertical}
 use Rattle.pdf_glyphs.specs.declared.columns.Columns.{Columns}
 use Rattle.pdf_text.specs.Cmap.{cmap_text}
@@ -32,7 +33,8 @@ use Rattle.pdf_source.specs.Frequent.{IsMostFrequent, count_of}
 use Rattle.pdf_source.specs.Made.{Made, made_in}
 use Rattle.pdf_source.specs.Moved.{values_in}
 use Rattle.pdf_source.specs.Program.{IsProgram, kind_of}
-use Rattle.pdf_source.specs.Source.{source_name, tag_in, vertical_of}
+use Rattle.pdf_source.specs.Named.{heights_there, name_there}
+use Rattle.pdf_source.specs.Source.{tag_in, vertical_of}
 use Rattle.pdf_source.specs.declared.choice.Direction.{Direction}
 use Rattle.pdf_source.specs.declared.choice.Direction.TheVariants.{Horizontal, Vertical as TopToBottom}
 use Rattle.pdf_source.specs.declared.choice.FontOptions.{FontOptions}
@@ -86,11 +88,11 @@ same_seen a b e d =
     let first : columns_seen a ≡ record { each = b.each.items; default = a.default } = ap (λ (l : List Column). let s : ColumnsSeen = record { each = l; default = a.default } in s) e in
     first ∙ ap (λ (x : DefaultColumn). let s : ColumnsSeen = record { each = b.each.items; default = x } in s) d
 
-one_columns : (d : Direction) (t : Vertical) (glyphs ws : List ℕ) (a b : Option Columns) → AreColumns d t glyphs ws a → AreColumns d t glyphs ws b → option_map columns_seen a ≡ option_map columns_seen b
-one_columns Horizontal t glyphs ws a b x y = ap (option_map columns_seen) (x ∙ sym y)
-one_columns TopToBottom t glyphs ws None b x y = absurd (let no = x.0 in cc)
-one_columns TopToBottom t glyphs ws (Some a) None x y = absurd (let no = y.0 in cc)
-one_columns TopToBottom t glyphs ws (Some a) (Some b) x y =
+one_columns : (d : Direction) (t : Vertical) (v : Option Variation) (glyphs ws : List ℕ) (a b : Option Columns) → AreColumns d t v glyphs ws a → AreColumns d t v glyphs ws b → option_map columns_seen a ≡ option_map columns_seen b
+one_columns Horizontal t v glyphs ws a b x y = ap (option_map columns_seen) (x ∙ sym y)
+one_columns TopToBottom t v glyphs ws None b x y = absurd (let no = x.0 in cc)
+one_columns TopToBottom t v glyphs ws (Some a) None x y = absurd (let no = y.0 in cc)
+one_columns TopToBottom t v glyphs ws (Some a) (Some b) x y =
     let each : a.each.items ≡ b.each.items = x.1.0 ∙ sym y.1.0 in
     let default : a.default ≡ b.default = x.1.1 ∙ ap most_frequent each ∙ sym y.1.1 in
     ap (λ (s : ColumnsSeen). Some s) (same_seen a b each default)
@@ -209,8 +211,8 @@ module _ (font : Font) (settings : List (Tag × ℤ)) (options : FontOptions) (u
 
   columns : option_map columns_seen f.columns ≡ option_map columns_seen g.columns
   columns =
-      let of_widths = subst (λ (l : List ℕ). AreColumns options.direction (vertical_of (stored font)) (glyphs_of us) l f.columns) requested_widths p.made.filled.columns in
-      one_columns options.direction (vertical_of (stored font)) (glyphs_of us) q.made.new.widths.items f.columns g.columns of_widths q.made.filled.columns
+      let of_widths = subst (λ (l : List ℕ). AreColumns options.direction (vertical_of (stored font)) (heights_there (stored font) settings) (glyphs_of us) l f.columns) requested_widths p.made.filled.columns in
+      one_columns options.direction (vertical_of (stored font)) (heights_there (stored font) settings) (glyphs_of us) q.made.new.widths.items f.columns g.columns of_widths q.made.filled.columns
 
   values : f.descriptor.values ≡ g.descriptor.values
   values =
@@ -218,7 +220,7 @@ module _ (font : Font) (settings : List (Tag × ℤ)) (options : FontOptions) (u
       ∙ ap (λ (n : ℕ). values_in (stored font) (stored (as_font theirs)) n options.bounds settings) counts ∙ sym q.made.values
 
   name : f.descriptor.font_name.items ≡ g.descriptor.font_name.items
-  name = p.made.filled.name ∙ ap (λ (l : List ℕ). font_name (tag_in options.tag l) (source_name (stored font))) programs ∙ sym q.made.filled.name
+  name = p.made.filled.name ∙ ap (λ (l : List ℕ). font_name (tag_in options.tag l) (name_there (stored font) settings)) programs ∙ sym q.made.filled.name
 
   abbrev same_pairs : pairs_with f.codes.items f.cids.items ≡ pairs_with g.codes.items g.cids.items
   same_pairs = ap (λ (l : List ℕ). pairs_with l f.cids.items) same_codes ∙ ap (pairs_with g.codes.items) cids
