@@ -19,10 +19,12 @@ ALLOWED = {
     ("cid_embed", "write_width"): (1, "`write!` tells a refused request as fmt::Error, and a number's text has no other error"),
     ("subset_rows", "status_of"): (1, "its status"),
     ("subset_rows", "fmt"): (1, "the list of all errors, in which a status is looked up"),
+    ("pdf_names", "write_whole"): (1, "`write!` reports a refused request as fmt::Error, and a number's text has no other error"),
     ("pdf_text", "write_cid"): (1, "`write!` reports a refused request as fmt::Error, and a number's text has no other error"),
     ("pdf_text", "write_width"): (1, "`write!` reports a refused request as fmt::Error, and a number's text has no other error"),
     ("pdf_text", "write_integer"): (1, "`write!` reports a refused request as fmt::Error, and a number's text has no other error"),
     ("pdf_text", "write_count"): (1, "`write!` reports a refused request as fmt::Error, and a number's text has no other error"),
+    ("pdf_sheet", "write_count"): (1, "`write!` reports a refused request as fmt::Error, and a number's text has no other error"),
     ("subset_args", "enum ArgsError"): (1, "the case itself"),
     ("subset_args", "glyphs_of"): (1, "`push` takes memory and has no other error"),
     ("subset_font", "no_memory"): (2, "its argument is an allocator's refusal"),
@@ -45,6 +47,8 @@ ALLOWED = {
     ("subset_font", "members_of"): (1, "`json_members` writes into a vector, which has no other error"),
     ("subset_font", "with_more"): (1, "`more_of` has no other error"),
     ("subset_font", "names_of_fvar"): (2, "passes on that of `read_axes`"),
+    ("pdf_cff", "unless_memory"): (2, "passes on that of its argument"),
+    ("pdf_source", "unless_memory"): (2, "passes on that of its argument"),
 }
 
 WORDS = re.compile(r"\bOutOfMemory\b|\b(?:AllocError|AllocFailed)\b(?!\s*[>,}]|<\w)")

@@ -6,6 +6,7 @@ use Rattle.pdf_values.specs.Fields.{field, signed_field}
 use Rattle.pdf_values.specs.Head.{units_per_em}
 use Rattle.pdf_values.specs.Rounding.{thousandths}
 use Rattle.pdf_glyphs.specs.Boxes.{Outlines, glyph_box, outlines_view}
+use Rattle.pdf_glyphs.specs.HeightVariation.{Variation, varied_height}
 use Rattle.pdf_glyphs.specs.declared.metrics.VerticalTables.{VerticalTables}
 
 -- the bytes of the tables that are there
@@ -99,3 +100,19 @@ vertical_metric t g w = option_map_or (λ a. column (units_per_em t.outlines.hea
 abbrev pub columns_of : Vertical → List ℕ → List ℕ → List Column
 columns_of t (g ∷ gs) (w ∷ ws) = vertical_metric t g w ∷ columns_of t gs ws
 columns_of t _ _ = []
+
+-- ---- off the default
+
+-- the advance height with what it varies by, if it does
+abbrev pub advance_at : Vertical → Option Variation → ℕ → Option ℕ
+advance_at t None g = advance_of t g
+advance_at t (Some v) g = option_map (varied_height v g) (advance_of t g)
+
+-- the column: its origin is that of the default
+abbrev pub metric_at : Vertical → Option Variation → ℕ → ℕ → Column
+metric_at t v g w = option_map_or (λ a. column (units_per_em t.outlines.head) w a (origin_y t g)) (advance_at t v g) (own_column w)
+
+-- of each glyph
+abbrev pub columns_at : Vertical → Option Variation → List ℕ → List ℕ → List Column
+columns_at t v (g ∷ gs) (w ∷ ws) = metric_at t v g w ∷ columns_at t v gs ws
+columns_at t v _ _ = []

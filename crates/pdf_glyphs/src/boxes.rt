@@ -63,7 +63,7 @@ pub fn glyph_box(tables: OutlineTables<'_>, glyph: u16) -> Option<GlyphBox>
 {
     let from = entry(tables, usize::from(glyph))?;
     let to = entry(tables, usize::from(glyph) + 1)?;
-    if from + 10 <= to {
+    if from <= to && 10 <= to - from {
         return box_at(tables.glyf, from);
     }
     None

@@ -1,13 +1,16 @@
 //! The columns of the CIDs that strings can show (ISO 32000-1, 9.7.4.3).
 
 ghost use Rattle.std.specs.Prelude.{◌≡◌, ◌<◌, ◌≤◌, ◌⊎◌, ℕ, [], ◌∷◌, length, IfErr, IfOk, None, OnOk, slice_index, slice_index_or};
+ghost use Rattle.std.specs.Option.{option_map};
 ghost use Rattle.subsetter_base.specs.Places.{HasAllAboveZero, with_glyphs};
 ghost use Rattle.subsetter_base.specs.declared.error.Error.TheVariants.{OutOfMemory, OverflowError};
 ghost use Rattle.pdf_glyphs.specs.Frequent.{most_frequent};
-ghost use Rattle.pdf_glyphs.specs.Vertical.{columns_of, origin_of, vertical_view};
+ghost use Rattle.pdf_glyphs.specs.HeightVariation.{variation_view};
+ghost use Rattle.pdf_glyphs.specs.Vertical.{columns_at, columns_of, origin_of, vertical_view};
 
 use crate::frequent::most_frequent;
-use crate::metrics::{VerticalTables, vertical_metric};
+use crate::heights::HeightVariation;
+use crate::metrics::{VerticalTables, metric_at};
 use crate::origins::origins_of;
 use pdf_text::{Column, DefaultColumn};
 use std::alloc::Global;
@@ -34,32 +37,67 @@ fn glyphs_of(alloc: Global, mapper: &GlyphRemapper) -> Result<Vec<u16>, Error>
 fn each_column(
     alloc: Global,
     tables: VerticalTables<'_>,
+    variation: Option<HeightVariation<'_>>,
     glyphs: &[u16],
     origins: &[Option<i16>],
     widths: &[u32],
 ) -> Result<Vec<Column>, Error>
     requires len { length origins.now ≡ length glyphs.now }
     requires are { (k : ℕ) → k < length glyphs.now → slice_index_or origins.now k None ≡ origin_of (vertical_view tables).vorg (slice_index glyphs.now k) }
-    ensures ok { IfOk result (λ columns. columns.items ≡ columns_of (vertical_view tables.entry) glyphs.now widths.now) }
+    ensures ok { IfOk result (λ columns. columns.items ≡ columns_at (vertical_view tables.entry) (option_map variation_view variation.entry) glyphs.now widths.now) }
     ensures few { IfOk result (λ columns. length columns.items ≤ length glyphs.now) }
     ensures err { IfErr result (λ e. e ≡ OutOfMemory) }
 {
     let mut columns = Vec::with_capacity(alloc, glyphs.len())?;
     for index in 0..glyphs.len().min(widths.len()) {
-        let column = vertical_metric(tables, glyphs[index], widths[index], origins[index]);
+        let column = metric_at(
+            tables,
+            variation,
+            glyphs[index],
+            widths[index],
+            origins[index],
+        );
         columns.push(column)?;
     }
     Ok(columns)
 }
 
-/// The columns of a font for the glyphs in use, in order of use, whose CIDs have these widths; it isn't moved along its axes.
+/// The columns of a font for the glyphs in use, in order of use, whose CIDs have these widths.
 ///
-/// Where the font has no advance height of a glyph its column is PDF's own: 880 and -1000.
+/// `variation` is where the font is off its default, if it is and has `VVAR`: advance heights vary as that says, and
+/// origins are those of the default. Where the font has no advance height of a glyph its column is PDF's own: 880 and
+/// -1000.
 ///
 /// # Errors
 ///
 /// - `OverflowError`: all glyphs above 0 are in use.
 /// - `OutOfMemory`: a request for memory was refused.
+pub fn columns_at(
+    alloc: Global,
+    tables: VerticalTables<'_>,
+    variation: Option<HeightVariation<'_>>,
+    glyphs: &[u16],
+    widths: &[u32],
+) -> Result<Columns, Error>
+    ensures each { IfOk result (λ c. c.each.items ≡ columns_at (vertical_view tables.entry) (option_map variation_view variation.entry) (with_glyphs (0 ∷ []) glyphs.now) widths.now) }
+    ensures default { IfOk result (λ c. c.default ≡ most_frequent c.each.items) }
+    ensures room { OnOk result (HasAllAboveZero glyphs.now → ⊥) }
+    ensures err { IfErr result (λ e. (e ≡ OutOfMemory) ⊎ ((e ≡ OverflowError) × HasAllAboveZero glyphs.now)) }
+{
+    let mapper = GlyphRemapper::new_from_glyphs(alloc, glyphs)?;
+    let origins = origins_of(alloc, tables.vorg, &mapper)?;
+    let numbered = glyphs_of(alloc, &mapper)?;
+    let _count = mapper.num_gids();
+    let each = each_column(alloc, tables, variation, &numbered, &origins, widths)?;
+    let default = most_frequent(alloc, &each)?;
+    Ok(Columns { each, default })
+}
+
+/// The same of a font that isn't moved along its axes.
+///
+/// # Errors
+///
+/// As of `columns_at`.
 pub fn columns_of(
     alloc: Global,
     tables: VerticalTables<'_>,
@@ -71,11 +109,5 @@ pub fn columns_of(
     ensures room { OnOk result (HasAllAboveZero glyphs.now → ⊥) }
     ensures err { IfErr result (λ e. (e ≡ OutOfMemory) ⊎ ((e ≡ OverflowError) × HasAllAboveZero glyphs.now)) }
 {
-    let mapper = GlyphRemapper::new_from_glyphs(alloc, glyphs)?;
-    let origins = origins_of(alloc, tables.vorg, &mapper)?;
-    let numbered = glyphs_of(alloc, &mapper)?;
-    let _count = mapper.num_gids();
-    let each = each_column(alloc, tables, &numbered, &origins, widths)?;
-    let default = most_frequent(alloc, &each)?;
-    Ok(Columns { each, default })
+    columns_at(alloc, tables, None, glyphs, widths)
 }

@@ -10,6 +10,7 @@
 mod boxes;
 mod columns;
 mod frequent;
+mod heights;
 mod metrics;
 mod origins;
 #[cfg(test)]
@@ -17,7 +18,8 @@ mod tests;
 mod tops;
 
 pub use boxes::{OutlineTables, box_around, glyph_box};
-pub use columns::{Columns, columns_of};
+pub use columns::{Columns, columns_at, columns_of};
 pub use frequent::is_most_of_all;
+pub use heights::HeightVariation;
 pub use metrics::VerticalTables;
 pub use tops::top_of;

@@ -4,9 +4,11 @@ ghost use Rattle.std.specs.Prelude.{◌≡◌, ◌≤◌, ◌<◌, ◌^◌, ◌+
 ghost use Rattle.std.specs.Option.{option_map, option_map_or};
 ghost use Rattle.pdf_values.specs.Rounding.{thousandths};
 ghost use Rattle.pdf_glyphs.specs.Boxes.{outlines_view};
-ghost use Rattle.pdf_glyphs.specs.Vertical.{advance_of, bearing_of, box_top, half, origin_of, origin_y, pair_count, vertical_metric, vertical_view};
+ghost use Rattle.pdf_glyphs.specs.HeightVariation.{variation_view};
+ghost use Rattle.pdf_glyphs.specs.Vertical.{advance_at, advance_of, bearing_of, box_top, half, metric_at, origin_of, origin_y, pair_count, vertical_view};
 
 use crate::boxes::{OutlineTables, glyph_box};
+use crate::heights::{HeightVariation, varied_height};
 use pdf_text::Column;
 use pdf_values::fields::{number_in, signed_in};
 use pdf_values::{thousandths, units_per_em};
@@ -40,6 +42,21 @@ fn advance_of(tables: VerticalTables<'_>, glyph: u16) -> Option<u16>
         return None;
     }
     number_in(tables.vmtx, 4 * usize::from(glyph.min(count - 1)))
+}
+
+/// The same with what it varies by, if it does.
+fn advance_at(
+    tables: VerticalTables<'_>,
+    variation: Option<HeightVariation<'_>>,
+    glyph: u16,
+) -> Option<u16>
+    ensures { result ≡ advance_at (vertical_view tables.entry) (option_map variation_view variation.entry) glyph }
+{
+    let advance = advance_of(tables, glyph)?;
+    match variation {
+        None => Some(advance),
+        Some(variation) => Some(varied_height(variation, glyph, advance)),
+    }
 }
 
 /// The top side bearing of a glyph.
@@ -116,17 +133,18 @@ fn scaled_y(y: Option<i32>, units: u16) -> i32
     }
 }
 
-/// The column of a glyph with a width, of which VORG has this y.
-pub fn vertical_metric(
+/// The column of a glyph with a width, of which VORG has this y. Its advance varies, its origin is that of the default.
+pub fn metric_at(
     tables: VerticalTables<'_>,
+    variation: Option<HeightVariation<'_>>,
     glyph: u16,
     width: u32,
     recorded: Option<i16>,
 ) -> Column
     requires { recorded ≡ origin_of (vertical_view tables).vorg glyph }
-    ensures { result ≡ vertical_metric (vertical_view tables.entry) glyph width }
+    ensures { result ≡ metric_at (vertical_view tables.entry) (option_map variation_view variation.entry) glyph width }
 {
-    let Some(advance) = advance_of(tables, glyph) else {
+    let Some(advance) = advance_at(tables, variation, glyph) else {
         return Column {
             advance: -1000,
             x: half(width),

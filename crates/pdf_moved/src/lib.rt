@@ -15,5 +15,5 @@ mod movement;
 mod tests;
 mod values;
 
-pub use movement::Movement;
+pub use movement::{Movement, clamped};
 pub use values::values_at;

@@ -28,7 +28,7 @@ fn within(greatest: i32, least: i32, coordinate: i32) -> i32
 }
 
 /// The user coordinate on an axis, clamped to it.
-fn clamped(axis: Axis, settings: &[(Tag, i32)]) -> i32
+pub fn clamped(axis: Axis, settings: &[(Tag, i32)]) -> i32
     ensures { result ≡ clamped axis settings.now }
 {
     let greatest = axis.maximum.max(axis.default);

@@ -40,14 +40,14 @@ or_passes : (text other : List ℕ) → All Passes text → All Passes other →
 or_passes [] other h g = g
 or_passes (b ∷ bytes) other h g = h
 
-in_passes : (kind : Kind) (name : Option (List ℕ)) → All Passes (text_in kind name)
-in_passes kind name = said_passes (text_of kind) (option_and_then (string_of kind) name) (text_passes kind)
+in_passes : (kind : Kind) (id : ℕ) (name : Option (List ℕ)) → All Passes (text_in kind id name)
+in_passes kind id name = said_passes (text_of kind) (option_and_then (string_of kind id) name) (text_passes kind)
 
-table_passes : (name : Option (List ℕ)) → All Passes (table_name name)
-table_passes name = or_passes _ _ (or_passes _ _ (or_passes _ _ (in_passes WindowsEnglish name) (in_passes Windows name)) (in_passes Unicode name)) (in_passes MacintoshRoman name)
+pub table_passes : (id : ℕ) (name : Option (List ℕ)) → IsNameText (table_name id name)
+table_passes id name = or_passes _ _ (or_passes _ _ (or_passes _ _ (in_passes WindowsEnglish id name) (in_passes Windows id name)) (in_passes Unicode id name)) (in_passes MacintoshRoman id name)
 
 pub name_passes : (name cff : Option (List ℕ)) → IsNameText (postscript_name name cff)
-name_passes name cff = or_passes (table_name name) (option_map_or plain_text cff []) (table_passes name) (said_passes plain_text cff plain_passes)
+name_passes name cff = or_passes (table_name 6 name) (option_map_or plain_text cff []) (table_passes 6 name) (said_passes plain_text cff plain_passes)
 
 pub named : (name cff : Option (List ℕ)) (text : List ℕ) → text ≡ postscript_name name cff → IsNameText text
 named name cff text e = subst IsNameText (sym e) (name_passes name cff)

@@ -4,23 +4,23 @@ use Rattle.std.specs.Option.{option_or}
 use Rattle.pdf_values.specs.declared.naming.Kind.{Kind}
 use Rattle.pdf_values.specs.Name.{string_at, string_from, or_else}
 
-module _ (kind : Kind) (name : List ℕ) (storage n i : ℕ) where
-  strings_step : i < n → string_from kind name storage (n - i) (6 + 12 * i) ≡ option_or (string_at kind name storage (6 + 12 * i)) (string_from kind name storage (n - (i + 1)) (6 + 12 * (i + 1)))
+module _ (kind : Kind) (id : ℕ) (name : List ℕ) (storage n i : ℕ) where
+  strings_step : i < n → string_from kind id name storage (n - i) (6 + 12 * i) ≡ option_or (string_at kind id name storage (6 + 12 * i)) (string_from kind id name storage (n - (i + 1)) (6 + 12 * (i + 1)))
   unfolding string_from
   strings_step h =
       let left : n - i ≡ suc (n - (i + 1)) = omega arith in
       let next : 6 + 12 * i + 12 ≡ 6 + 12 * (i + 1) = omega arith in
-      ap (λ k. string_from kind name storage k (6 + 12 * i)) left ∙ ap (λ at. option_or (string_at kind name storage (6 + 12 * i)) (string_from kind name storage (n - (i + 1)) at)) next
+      ap (λ k. string_from kind id name storage k (6 + 12 * i)) left ∙ ap (λ at. option_or (string_at kind id name storage (6 + 12 * i)) (string_from kind id name storage (n - (i + 1)) at)) next
 
-  pub strings_here : {string : List ℕ} → string_at kind name storage (6 + 12 * i) ≡ Some string → i < n → string_from kind name storage (n - i) (6 + 12 * i) ≡ Some string
-  strings_here s h = strings_step h ∙ ap (λ found. option_or found (string_from kind name storage (n - (i + 1)) (6 + 12 * (i + 1)))) s
+  pub strings_here : {string : List ℕ} → string_at kind id name storage (6 + 12 * i) ≡ Some string → i < n → string_from kind id name storage (n - i) (6 + 12 * i) ≡ Some string
+  strings_here s h = strings_step h ∙ ap (λ found. option_or found (string_from kind id name storage (n - (i + 1)) (6 + 12 * (i + 1)))) s
 
-  pub strings_on : string_at kind name storage (6 + 12 * i) ≡ None → i < n → string_from kind name storage (n - i) (6 + 12 * i) ≡ string_from kind name storage (n - (i + 1)) (6 + 12 * (i + 1))
-  strings_on s h = strings_step h ∙ ap (λ found. option_or found (string_from kind name storage (n - (i + 1)) (6 + 12 * (i + 1)))) s
+  pub strings_on : string_at kind id name storage (6 + 12 * i) ≡ None → i < n → string_from kind id name storage (n - i) (6 + 12 * i) ≡ string_from kind id name storage (n - (i + 1)) (6 + 12 * (i + 1))
+  strings_on s h = strings_step h ∙ ap (λ found. option_or found (string_from kind id name storage (n - (i + 1)) (6 + 12 * (i + 1)))) s
 
-  pub strings_end : n ≤ i → string_from kind name storage (n - i) (6 + 12 * i) ≡ None
+  pub strings_end : n ≤ i → string_from kind id name storage (n - i) (6 + 12 * i) ≡ None
   unfolding string_from
-  strings_end h = let none : n - i ≡ 0 = omega arith in ap (λ k. string_from kind name storage k (6 + 12 * i)) none
+  strings_end h = let none : n - i ≡ 0 = omega arith in ap (λ k. string_from kind id name storage k (6 + 12 * i)) none
 
 -- a text that has characters is taken, and one that has none is passed over
 pub or_kept : (text other : List ℕ) → 0 < length text → or_else text other ≡ text

@@ -1,4 +1,4 @@
--- The PostScript name of a font, name ID 6 (OpenType, "name - Naming Table").
+-- The names of a font by their IDs, and its PostScript name, ID 6 (OpenType, "name - Naming Table").
 use Rattle.std.specs.Prelude.{◌≡◌, ◌<◌, true, All, ℕ, zero, suc, ◌+◌, ◌*◌, ◌==◌, ◌&&◌, nat_le, Bool, not, if◌then◌else◌, List, [], ◌∷◌, take, drop, filter, codes, Option, Some, None}
 use Rattle.std.specs.List.{list_any}
 use Rattle.std.specs.Option.{option_and_then, option_map_or, option_or}
@@ -26,21 +26,21 @@ is_of Windows r = r.platform == 3
 is_of Unicode r = r.platform == 0
 is_of MacintoshRoman r = r.platform == 1 && r.encoding == 0
 
--- the string of the record at a place, if it is a PostScript name of a kind; strings stand in the storage
-abbrev pub string_at : Kind → List ℕ → ℕ → ℕ → Option (List ℕ)
-string_at kind name storage at = option_and_then (λ bytes. let r = record_of bytes in if r.name == 6 && is_of kind r then range name (storage + r.offset) r.size else None) (range name at 12)
+-- the string of the record at a place, if it is a name of a kind with this ID; strings stand in the storage
+abbrev pub string_at : Kind → ℕ → List ℕ → ℕ → ℕ → Option (List ℕ)
+string_at kind id name storage at = option_and_then (λ bytes. let r = record_of bytes in if r.name == id && is_of kind r then range name (storage + r.offset) r.size else None) (range name at 12)
 
 -- the first such string of that many records from a place on
-unfoldable pub string_from : Kind → List ℕ → ℕ → ℕ → ℕ → Option (List ℕ)
-string_from kind name storage zero at = None
-string_from kind name storage (suc n) at = option_or (string_at kind name storage at) (string_from kind name storage n (at + 12))
+unfoldable pub string_from : Kind → ℕ → List ℕ → ℕ → ℕ → ℕ → Option (List ℕ)
+string_from kind id name storage zero at = None
+string_from kind id name storage (suc n) at = option_or (string_at kind id name storage at) (string_from kind id name storage n (at + 12))
 
 -- count stands at byte 2, storageOffset at byte 4, and the records behind it
-abbrev pub string_of : Kind → List ℕ → Option (List ℕ)
-string_of kind name = do
+abbrev pub string_of : Kind → ℕ → List ℕ → Option (List ℕ)
+string_of kind id name = do
   count ← number name 2 2
   storage ← number name 4 2
-  string_from kind name storage count 6
+  string_from kind id name storage count 6
 
 -- a character that a PostScript name has: printable ASCII but ten
 abbrev pub is_name_character : ℕ → Bool
@@ -60,36 +60,36 @@ abbrev pub text_of : Kind → List ℕ → List ℕ
 text_of MacintoshRoman bytes = plain_text bytes
 text_of kind bytes = wide_text bytes
 
-abbrev pub text_in : Kind → Option (List ℕ) → List ℕ
-text_in kind name = option_map_or (text_of kind) (option_and_then (string_of kind) name) []
+abbrev pub text_in : Kind → ℕ → Option (List ℕ) → List ℕ
+text_in kind id name = option_map_or (text_of kind) (option_and_then (string_of kind id) name) []
 
 -- the first text that isn't empty
 abbrev pub or_else : List ℕ → List ℕ → List ℕ
 or_else [] other = other
 or_else (b ∷ bytes) other = b ∷ bytes
 
--- the name in `name`: of Windows in English, else of Windows, else of Unicode, else of Macintosh
-abbrev pub table_name : Option (List ℕ) → List ℕ
-table_name name = or_else (or_else (or_else (text_in WindowsEnglish name) (text_in Windows name)) (text_in Unicode name)) (text_in MacintoshRoman name)
+-- the name of an ID in `name`: of Windows in English, else of Windows, else of Unicode, else of Macintosh
+abbrev pub table_name : ℕ → Option (List ℕ) → List ℕ
+table_name id name = or_else (or_else (or_else (text_in WindowsEnglish id name) (text_in Windows id name)) (text_in Unicode id name)) (text_in MacintoshRoman id name)
 
--- else the first of the Name INDEX of `CFF `
+-- that of ID 6, else the first of the Name INDEX of `CFF `
 abbrev pub postscript_name : Option (List ℕ) → Option (List ℕ) → List ℕ
-postscript_name name cff = or_else (table_name name) (option_map_or plain_text cff [])
+postscript_name name cff = or_else (table_name 6 name) (option_map_or plain_text cff [])
 
 -- a text of such characters alone
 abbrev pub IsNameText : List ℕ → Type 0
 IsNameText text = All (λ b. is_name_character b ≡ true) text
 
 -- the string of one of so many records from a place on, and of none before it
-pub record IsFirstString (kind : Kind) (name : List ℕ) (storage n at : ℕ) (string : List ℕ) : Type 0 where
+pub record IsFirstString (kind : Kind) (id : ℕ) (name : List ℕ) (storage n at : ℕ) (string : List ℕ) : Type 0 where
   pub place : ℕ
   pub inside : place < n
-  pub stands : string_at kind name storage (at + 12 * place) ≡ Some string
-  pub before : (j : ℕ) → j < place → string_at kind name storage (at + 12 * j) ≡ None
+  pub stands : string_at kind id name storage (at + 12 * place) ≡ Some string
+  pub before : (j : ℕ) → j < place → string_at kind id name storage (at + 12 * j) ≡ None
 
 -- a search gives the first string, and nothing only where no record has one
 abbrev pub FirstIsTaken : Type 0
-FirstIsTaken = (kind : Kind) (name : List ℕ) (storage n at : ℕ) (string : List ℕ) → string_from kind name storage n at ≡ Some string → IsFirstString kind name storage n at string
+FirstIsTaken = (kind : Kind) (id : ℕ) (name : List ℕ) (storage n at : ℕ) (string : List ℕ) → string_from kind id name storage n at ≡ Some string → IsFirstString kind id name storage n at string
 
 abbrev pub NoneIsPassed : Type 0
-NoneIsPassed = (kind : Kind) (name : List ℕ) (storage n at : ℕ) → string_from kind name storage n at ≡ None → (j : ℕ) → j < n → string_at kind name storage (at + 12 * j) ≡ None
+NoneIsPassed = (kind : Kind) (id : ℕ) (name : List ℕ) (storage n at : ℕ) → string_from kind id name storage n at ≡ None → (j : ℕ) → j < n → string_at kind id name storage (at + 12 * j) ≡ None

@@ -32,7 +32,7 @@ pub use flags::flags_of;
 pub use heights::{Heights, heights_of};
 pub use laws::{first_is_taken, none_is_passed};
 pub use lean::italic_angle;
-pub use naming::postscript_name;
+pub use naming::{postscript_name, table_name};
 pub use permission::{Permission, Rights, Usage, is_permitted, permission_of};
 pub use rounding::{lowered, raised, thousandths};
 pub use units::units_per_em;

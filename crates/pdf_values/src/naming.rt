@@ -1,5 +1,5 @@
-//! The PostScript name of a font: name ID 6 (OpenType, "name"), else the first of the Name INDEX (Technical Note 5176,
-//! section 7).
+//! The names of a font by their IDs (OpenType, "name"), and its PostScript name: ID 6, else the first of the Name INDEX
+//! (Technical Note 5176, section 7).
 
 ghost use Rattle.std.specs.Prelude.{◌≡◌, ◌≤◌, ◌<◌, ◌^◌, [], length, IfOk, IfErr};
 ghost use Rattle.std.specs.Option.{option_copied, option_map_or};
@@ -57,14 +57,14 @@ fn is_of(kind: Kind, record: NameRecord) -> bool
     }
 }
 
-/// The string of the record at a place, if it is a PostScript name of a kind.
-fn string_at(name: &[u8], kind: Kind, storage: usize, at: usize) -> Option<&[u8]>
+/// The string of the record at a place, if it is a name of a kind with this ID.
+fn string_at(name: &[u8], kind: Kind, id: u16, storage: usize, at: usize) -> Option<&[u8]>
     requires { storage < 2 ^ 16 }
-    ensures { option_copied result ≡ string_at kind name.now storage at }
+    ensures { option_copied result ≡ string_at kind id name.now storage at }
 {
     let bytes = Reader::new_at(name, at).read_bytes(12)?;
     let entry = record_of(bytes);
-    if entry.name == 6 && is_of(kind, entry) {
+    if entry.name == id && is_of(kind, entry) {
         return Reader::new_at(name, storage + usize::from(entry.offset)).read_bytes(usize::from(
             entry.size,
         ));
@@ -74,25 +74,25 @@ fn string_at(name: &[u8], kind: Kind, storage: usize, at: usize) -> Option<&[u8]
 
 /// The first such string of that many records.
 #[tactic(auto, using(crate::proofs::Strings::strings_here, crate::proofs::Strings::strings_on, crate::proofs::Strings::strings_end))]
-fn string_from(name: &[u8], kind: Kind, storage: usize, count: u16) -> Option<&[u8]>
+fn string_from(name: &[u8], kind: Kind, id: u16, storage: usize, count: u16) -> Option<&[u8]>
     requires { storage < 2 ^ 16 }
-    ensures { option_copied result ≡ string_from kind name.now storage count 6 }
+    ensures { option_copied result ≡ string_from kind id name.now storage count 6 }
 {
     for place in 0..count {
-        if let Some(string) = string_at(name, kind, storage, 6 + 12 * usize::from(place)) {
+        if let Some(string) = string_at(name, kind, id, storage, 6 + 12 * usize::from(place)) {
             return Some(string);
         }
     }
     None
 }
 
-/// The first PostScript name of a kind.
-fn string_of(name: &[u8], kind: Kind) -> Option<&[u8]>
-    ensures { option_copied result ≡ string_of kind name.now }
+/// The first name of a kind with this ID.
+fn string_of(name: &[u8], kind: Kind, id: u16) -> Option<&[u8]>
+    ensures { option_copied result ≡ string_of kind id name.now }
 {
     let count = Reader::new_at(name, 2).read::<u16>()?;
     let storage = Reader::new_at(name, 4).read::<u16>()?;
-    string_from(name, kind, usize::from(storage), count)
+    string_from(name, kind, id, usize::from(storage), count)
 }
 
 /// Whether a PostScript name may have a character: printable ASCII but `[](){}<>/%`.
@@ -144,45 +144,50 @@ fn text_of(alloc: Global, kind: Kind, bytes: &[u8]) -> Result<Vec<u8>, Error>
     }
 }
 
-/// The PostScript name of a kind.
-fn text_in(alloc: Global, kind: Kind, name: Option<&[u8]>) -> Result<Vec<u8>, Error>
-    ensures ok { IfOk result (λ text. text.items ≡ text_in kind (option_copied name.entry)) }
+/// The name of a kind with this ID.
+fn text_in(alloc: Global, kind: Kind, id: u16, name: Option<&[u8]>) -> Result<Vec<u8>, Error>
+    ensures ok { IfOk result (λ text. text.items ≡ text_in kind id (option_copied name.entry)) }
     ensures err { IfErr result (λ e. e ≡ OutOfMemory) }
 {
     let Some(name) = name else {
         return Ok(Vec::new(alloc));
     };
-    match string_of(name, kind) {
+    match string_of(name, kind, id) {
         Some(string) => text_of(alloc, kind, string),
         None => Ok(Vec::new(alloc)),
     }
 }
 
-/// A text, or the PostScript name of a kind where the text has no characters.
+/// A text, or the name of a kind with this ID where the text has no characters.
 fn or_text_in(
     alloc: Global,
     text: Vec<u8>,
     kind: Kind,
+    id: u16,
     name: Option<&[u8]>,
 ) -> Result<Vec<u8>, Error>
-    ensures ok { IfOk result (λ t. t.items ≡ or_else text.items (text_in kind (option_copied name.entry))) }
+    ensures ok { IfOk result (λ t. t.items ≡ or_else text.items (text_in kind id (option_copied name.entry))) }
     ensures err { IfErr result (λ e. e ≡ OutOfMemory) }
 {
     if text.is_empty() {
-        return text_in(alloc, kind, name);
+        return text_in(alloc, kind, id, name);
     }
     Ok(text)
 }
 
-/// The PostScript name that `name` has, or no characters.
-fn table_name(alloc: Global, name: Option<&[u8]>) -> Result<Vec<u8>, Error>
-    ensures ok { IfOk result (λ text. text.items ≡ table_name (option_copied name.entry)) }
+/// The name that `name` has under an ID, without what a PostScript name can't have: no characters where there is none.
+///
+/// # Errors
+///
+/// `OutOfMemory` alone.
+pub fn table_name(alloc: Global, id: u16, name: Option<&[u8]>) -> Result<Vec<u8>, Error>
+    ensures ok { IfOk result (λ text. text.items ≡ table_name id (option_copied name.entry)) }
     ensures err { IfErr result (λ e. e ≡ OutOfMemory) }
 {
-    let text = text_in(alloc, Kind::WindowsEnglish, name)?;
-    let text = or_text_in(alloc, text, Kind::Windows, name)?;
-    let text = or_text_in(alloc, text, Kind::Unicode, name)?;
-    or_text_in(alloc, text, Kind::MacintoshRoman, name)
+    let text = text_in(alloc, Kind::WindowsEnglish, id, name)?;
+    let text = or_text_in(alloc, text, Kind::Windows, id, name)?;
+    let text = or_text_in(alloc, text, Kind::Unicode, id, name)?;
+    or_text_in(alloc, text, Kind::MacintoshRoman, id, name)
 }
 
 /// The characters of a string that may be missing.
@@ -201,14 +206,14 @@ fn name_of(alloc: Global, name: Option<&[u8]>, cff: Option<&[u8]>) -> Result<Vec
     ensures ok { IfOk result (λ text. text.items ≡ postscript_name (option_copied name.entry) (option_copied cff.entry)) }
     ensures err { IfErr result (λ e. e ≡ OutOfMemory) }
 {
-    let text = table_name(alloc, name)?;
+    let text = table_name(alloc, 6, name)?;
     if text.is_empty() {
         return plain_text_of(alloc, cff);
     }
     Ok(text)
 }
 
-/// The PostScript name of a font: what `name` has, else the first name of the Name INDEX of `CFF `, if the caller has
+/// The PostScript name of a font: what `name` has under ID 6, else the first name of the Name INDEX of `CFF `, if the caller has
 /// it. No characters where neither says one.
 ///
 /// # Errors

@@ -1,0 +1,2 @@
+mod FirstStems
+mod StemSteps

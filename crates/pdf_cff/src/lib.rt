@@ -1,0 +1,13 @@
+//! What a PDF takes of a `CFF ` table (Technical Note 5176): its first name, and its first vertical stem.
+//!
+//! ```text
+//! let said = said_in(alloc, cff, units)?;     // said.name: "Made-Bold", said.stem: 83
+//! ```
+#![tactic(auto)]
+
+mod said;
+mod stems;
+#[cfg(test)]
+mod tests;
+
+pub use said::{Said, said_in};

@@ -1,0 +1,76 @@
+//! Vertical stems of private dicts (Technical Note 5176, section 15).
+
+ghost use Rattle.std.specs.Prelude.{◌≡◌, ◌<◌, map};
+ghost use Rattle.std.specs.Str.{bytes_eq};
+ghost use Rattle.subsetter_cffdata.specs.Dict.{entries};
+ghost use Rattle.subsetter_cffdata.specs.Views.{number_of, operator_of};
+ghost use Rattle.pdf_cff.specs.Stems.{IsNearest, in_thousandths, of_em, stem_by, stem_in, stem_of, stem_operator};
+
+use subsetter_cffdata::dict::DictionaryParser;
+use subsetter_cffdata::number::Number;
+use subsetter_cffdata::operator::Operator;
+
+/// Whether an operator is StdVW.
+fn is_stem(operator: &Operator) -> bool
+    ensures { result ≡ bytes_eq (operator_of operator.now) stem_operator }
+{
+    operator.as_slice() == [11].as_slice()
+}
+
+/// One number in thousandths, where it isn't below 0 and has at most three decimals.
+fn in_thousandths(operands: &[Number]) -> Option<u32>
+    ensures { result ≡ in_thousandths (map number_of operands.now) }
+{
+    match operands {
+        [width] => width.times_thousand()?.as_u32(),
+        _ => None,
+    }
+}
+
+/// So many thousandths of a unit in thousandths of the em, to the nearest, halves up.
+fn of_em(units: u16, n: u32) -> u32
+    requires { 0 < units }
+    ensures value { result ≡ of_em units n }
+    ensures nearest { IsNearest n units result }
+{
+    let em = u64::from(units);
+    ((2 * u64::from(n) + em) / (2 * em)) as u32
+}
+
+/// The stem that operands say, in thousandths of the em, if it is above 0.
+fn stem_by(units: u16, operands: &[Number]) -> Option<u32>
+    requires { 0 < units }
+    ensures { result ≡ stem_by units (map number_of operands.now) }
+{
+    let stem = of_em(units, in_thousandths(operands)?);
+    if stem == 0 {
+        return None;
+    }
+    Some(stem)
+}
+
+/// That of an entry that is StdVW.
+fn stem_of(units: u16, operator: &Operator, operands: &[Number]) -> Option<u32>
+    requires { 0 < units }
+    ensures { result ≡ stem_of units (record { operator = operator_of operator.now; operands = map number_of operands.now }) }
+{
+    if !is_stem(operator) {
+        return None;
+    }
+    stem_by(units, operands)
+}
+
+/// That of the first entry of a private dict that says one. Two operands tell whether there is just one.
+pub fn stem_in(units: u16, dict: &[u8]) -> Option<u32>
+    requires { 0 < units }
+    ensures { result ≡ stem_in units (entries dict.now) }
+{
+    let mut buffer = [Number::zero(); 2];
+    let mut parser = DictionaryParser::new(dict, &mut buffer);
+    while let Some(operator) = parser.parse_entry() {
+        if let Some(stem) = stem_of(units, &operator, parser.operands()) {
+            return Some(stem);
+        }
+    }
+    None
+}

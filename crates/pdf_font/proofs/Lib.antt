@@ -1,0 +1,9 @@
+mod AllWidths
+mod Answered
+mod Fresh
+mod LawProofs
+mod NewLaws
+mod OneFont
+mod Opening
+mod Refused
+mod Tables

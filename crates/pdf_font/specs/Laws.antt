@@ -1,0 +1,62 @@
+-- Laws of what a PDF has of a font.
+use Rattle.std.specs.Prelude.{◌≡◌, ◌≢◌, List, ◌++◌, length, take, ℕ, Ok, ℤ}
+use Rattle.std.specs.Option.{option_map}
+use Rattle.subsetter_base.specs.declared.tag.Tag.{Tag}
+use Rattle.subsetter_sfnt.specs.Read.{Font, as_font, stored}
+use Rattle.cid_embed.specs.Afresh.{widths_of}
+use Rattle.pdf_codes.specs.Codes.{AreCodes, Used}
+use Rattle.pdf_codes.specs.Leading.{name_of, text_of}
+use Rattle.pdf_glyphs.specs.declared.columns.Columns.{Columns}
+use Rattle.pdf_text.specs.declared.columns.Column.{Column}
+use Rattle.pdf_text.specs.declared.columns.DefaultColumn.{DefaultColumn}
+use Rattle.pdf_text.specs.declared.values.ProgramKind.TheVariants.{BareCff}
+use Rattle.pdf_font.specs.PdfFont.{HasFontFault, IsPdfFont}
+use Rattle.pdf_source.specs.declared.choice.FontOptions.{FontOptions}
+use Rattle.pdf_font.specs.declared.error.FontError.{FontError}
+use Rattle.pdf_font.specs.declared.font.PdfFont.{PdfFont}
+
+-- what is answered has no fault, whose sizes are judged for the order of its glyphs
+abbrev pub HaveNoFault : Type 0
+HaveNoFault = (font : Font) (settings : List (Tag × ℤ)) (options : FontOptions) (us : List Used) (f : PdfFont) (p : IsPdfFont font settings options us f) (why : FontError) → ¬ (HasFontFault font settings options us p.made.embedded.answer.embedded.subset.keeps.order why)
+
+-- where more glyphs come into use, the codes of the earlier entries stay
+abbrev pub CodesStay : Type 0
+CodesStay = (font : Font) (settings : List (Tag × ℤ)) (options : FontOptions) (us more : List Used) (f longer : PdfFont) → IsPdfFont font settings options us f → IsPdfFont font settings options (us ++ more) longer → take (length f.codes.items) longer.codes.items ≡ f.codes.items
+
+-- the codes are those that the glyphs in use and the choice determine: they need no font
+abbrev pub CodesNeedNoFont : Type 0
+CodesNeedNoFont = (font : Font) (settings : List (Tag × ℤ)) (options : FontOptions) (us : List Used) (f : PdfFont) (codes : List ℕ) → IsPdfFont font settings options us f → AreCodes options.codes us codes → f.codes.items ≡ codes
+
+-- a program with `hmtx` has these widths, read afresh
+abbrev pub WidthsAgree : Type 0
+WidthsAgree = (font : Font) (settings : List (Tag × ℤ)) (options : FontOptions) (us : List Used) (f : PdfFont) → IsPdfFont font settings options us f → f.kind ≢ BareCff → widths_of (stored (as_font f.program.items)) f.glyph_count ≡ Ok f.widths.items
+
+-- ---- there is one answer
+
+pub record ColumnsSeen : Type 0 where
+  pub each : List Column
+  pub default : DefaultColumn
+
+abbrev pub columns_seen : Columns → ColumnsSeen
+columns_seen c = record { each = c.each.items; default = c.default }
+
+-- all that two say is the same; a CIDSet has the bits of the same CIDs
+pub record AreSame (f g : PdfFont) : Type 0 where
+  pub kind : f.kind ≡ g.kind
+  pub program : f.program.items ≡ g.program.items
+  pub count : f.glyph_count ≡ g.glyph_count
+  pub cids : f.cids.items ≡ g.cids.items
+  pub codes : f.codes.items ≡ g.codes.items
+  pub said : f.is_said.items ≡ g.is_said.items
+  pub widths : f.widths.items ≡ g.widths.items
+  pub default_width : f.default_width ≡ g.default_width
+  pub columns : option_map columns_seen f.columns ≡ option_map columns_seen g.columns
+  pub name : f.descriptor.font_name.items ≡ g.descriptor.font_name.items
+  pub values : f.descriptor.values ≡ g.descriptor.values
+  pub permission : f.permission ≡ g.permission
+  pub to_unicode : f.to_unicode.items ≡ g.to_unicode.items
+  pub encoding : text_of f.encoding ≡ text_of g.encoding
+  pub encoding_name : name_of f.encoding ≡ name_of g.encoding
+
+abbrev pub OneAnswer : Type 0
+OneAnswer = (font : Font) (settings : List (Tag × ℤ)) (options : FontOptions) (us : List Used) (f g : PdfFont) → IsPdfFont font settings options us f → IsPdfFont font settings options us g → AreSame f g

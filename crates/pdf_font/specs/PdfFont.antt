@@ -1,0 +1,123 @@
+-- What a PDF has of a font for the glyphs in use (ISO 32000-1, 9.6 to 9.10), and why there is none.
+use Rattle.std.specs.Prelude.{◌≡◌, ℕ, Bool, true, false, List, map, length, codes, Option, Some, None, ℤ, IfSome, IsSome}
+use Rattle.std.specs.Option.{option_map}
+use Rattle.subsetter_base.specs.declared.tag.Tag.{Tag}
+use Rattle.subsetter_base.specs.declared.error.Error.{Error}
+use Rattle.subsetter_base.specs.declared.error.Error.TheVariants.{MalformedFont, OverflowError}
+use Rattle.subsetter_sfnt.specs.Read.{Font, as_font, flavor, stored, table}
+use Rattle.subsetter_sfnt.specs.FontAt.{font_at}
+use Rattle.subsetter_sfnt.specs.declared.flavor.FontFlavor.TheVariants.{TrueType}
+use Rattle.subsetter.specs.Bound.{IsWithin}
+use Rattle.subsetter_variable.specs.Afresh.{HasGlyphsDrawn}
+use Rattle.subsetter_variable.specs.Standing.{IsAtDefault}
+use Rattle.subsetter_variable.specs.Subset.{IsStatic, IsTheAnswerAt, whole}
+use Rattle.cid_embed.specs.Embed.{numbering}
+use Rattle.cid_embed.specs.Width.{width}
+use Rattle.cid_embed.specs.declared.embedding.Embedded.{Embedded}
+use Rattle.cid_embed_at.specs.Embed.{HasEmbedFaultAt, IsEmbeddingAnswerAt}
+use Rattle.pdf_codes.specs.Codes.{AreCodes, IsOverfull, Used, coded, glyphs_of}
+use Rattle.pdf_codes.specs.Leading.{AreLed, name_of, own_cmap, own_name, pairs_with, text_of}
+use Rattle.pdf_codes.specs.Shown.{has_long_text}
+use Rattle.pdf_codes.specs.Texts.{first_text, is_said, lines_of_codes, text_in}
+use Rattle.pdf_glyphs.specs.Frequent.{most_frequent}
+use Rattle.pdf_glyphs.specs.HeightVariation.{Variation}
+use Rattle.pdf_glyphs.specs.Vertical.{Vertical, columns_at}
+use Rattle.pdf_glyphs.specs.declared.columns.Columns.{Columns}
+use Rattle.pdf_text.specs.Bits.{IsCidSet}
+use Rattle.pdf_text.specs.Cmap.{cmap_text}
+use Rattle.pdf_text.specs.SubsetName.{font_name}
+use Rattle.pdf_values.specs.Permission.{is_permitted, permission}
+use Rattle.pdf_source.specs.Chosen.{extras_of, is_vertical}
+use Rattle.pdf_source.specs.Frequent.{IsMostFrequent}
+use Rattle.pdf_source.specs.Moved.{values_in}
+use Rattle.pdf_source.specs.Program.{IsProgram, kind_of}
+use Rattle.pdf_source.specs.Named.{heights_there, name_there}
+use Rattle.pdf_source.specs.Source.{tag_in, vertical_of}
+use Rattle.pdf_source.specs.declared.choice.Direction.{Direction}
+use Rattle.pdf_source.specs.declared.choice.Direction.TheVariants.{Horizontal, Vertical as TopToBottom}
+use Rattle.pdf_source.specs.declared.choice.FontOptions.{FontOptions}
+use Rattle.pdf_font.specs.declared.error.FontError.{FontError}
+use Rattle.pdf_font.specs.declared.error.FontError.TheVariants.{Subset, NotPermitted, TextTooLong}
+use Rattle.pdf_font.specs.declared.font.PdfFont.{PdfFont}
+
+-- the font that is read
+abbrev pub font_of : List ℕ → ℕ → FontOptions → Font
+font_of bytes index options = font_at bytes index (extras_of options)
+
+-- codes of the glyphs in use, where they lead, and their texts
+pub record IsCoded (options : FontOptions) (us : List Used) (f : PdfFont) : Type 0 where
+  pub codes : AreCodes options.codes us f.codes.items
+  -- no more glyphs or pairs than there are codes
+  pub room : ¬ (IsOverfull options.codes us)
+  -- the code of each entry leads to its CID, and code 0 to CID 0
+  pub led : AreLed (text_of f.encoding) f.codes.items f.cids.items
+  pub encoding : text_of f.encoding ≡ own_cmap (is_vertical options.direction) (pairs_with f.codes.items f.cids.items)
+  pub encoding_name : name_of f.encoding ≡ own_name (is_vertical options.direction) (pairs_with f.codes.items f.cids.items)
+  -- each code has the first text of its entries that isn't empty, and what is said is that this is the entry's
+  pub texts : (k : ℕ) → text_in f.to_unicode.items k ≡ Some (first_text (coded us f.codes.items) k)
+  pub to_unicode : f.to_unicode.items ≡ cmap_text (lines_of_codes (coded us f.codes.items))
+  pub said : f.is_said.items ≡ map (is_said (coded us f.codes.items)) (coded us f.codes.items)
+
+-- columns of the CIDs that a string can show, in vertical writing alone
+abbrev pub AreColumns : Direction → Vertical → Option Variation → List ℕ → List ℕ → Option Columns → Type 0
+AreColumns Horizontal tables heights glyphs widths columns = columns ≡ None
+AreColumns TopToBottom tables heights glyphs widths columns = IsSome columns × IfSome columns (λ c. (c.each.items ≡ columns_at tables heights (numbering glyphs) widths) × (c.default ≡ most_frequent c.each.items))
+
+-- a CIDSet for so many CIDs, where it is requested
+abbrev pub IsCidSetIf : Bool → ℕ → Option (List ℕ) → Type 0
+IsCidSetIf false count bytes = bytes ≡ None
+IsCidSetIf true count bytes = IsSome bytes × IfSome bytes (IsCidSet count)
+
+-- what isn't read of the new font: of the source by a look-up at coordinates, of the glyphs in use, and of the new font's CIDs, of which those of the glyphs in use have these widths
+pub record IsFilled (find : List ℕ → Option (List ℕ)) (settings : List (Tag × ℤ)) (options : FontOptions) (us : List Used) (widths : List ℕ) (f : PdfFont) : Type 0 where
+  pub coded : IsCoded options us f
+  pub default_width : IsMostFrequent f.widths.items f.default_width
+  pub columns : AreColumns options.direction (vertical_of find) (heights_there find settings) (glyphs_of us) widths f.columns
+  pub name : f.descriptor.font_name.items ≡ font_name (tag_in options.tag f.program.items) (name_there find settings)
+  pub cid_set : IsCidSetIf options.cid_set f.glyph_count (option_map (λ v. v.items) f.cid_set)
+
+pub record IsEmbeddedFor (font : Font) (settings : List (Tag × ℤ)) (options : FontOptions) (us : List Used) (f : PdfFont) : Type 0 where
+  -- the new font: an embedding of glyph 0 and the glyphs in use, of the font as it is or of its instance
+  pub new : Embedded
+  pub embedded : IsEmbeddingAnswerAt options.limits.tokens options.limits.depth font settings (glyphs_of us) new
+  pub within : IsWithin options.limits.bytes new.font.items
+  -- there is one such font
+  pub same : IsTheAnswerAt font settings (numbering (glyphs_of us)) new.font.items
+  -- elsewhere than at its default it has each glyph exactly as it is drawn there
+  pub drawn : ¬ (IsAtDefault (whole font) settings) → HasGlyphsDrawn (whole font) settings (numbering (glyphs_of us)) new.font.items
+  -- the program is that font, or its `CFF `; one of TrueType has `maxp` (9.9)
+  pub kind : f.kind ≡ kind_of embedded.answer.embedded.subset.keeps.kind options.program
+  pub program : IsProgram f.kind new.font.items f.program.items
+  pub maxp : embedded.answer.embedded.subset.keeps.kind ≡ TrueType → IsSome (table (as_font new.font.items) (codes "maxp"))
+  -- each of its glyphs has a CID, and the width of its source
+  pub cids : f.cids.items ≡ new.cids.items
+  pub counted : f.glyph_count ≡ length embedded.answer.embedded.subset.keeps.order
+  pub widths : map Some f.widths.items ≡ map (width embedded.static) embedded.answer.embedded.subset.keeps.order
+  -- the values of the descriptor, of the source at these coordinates
+  pub values : f.descriptor.values ≡ values_in (stored font) (stored (as_font new.font.items)) f.glyph_count options.bounds settings
+  pub filled : IsFilled (stored font) settings options us new.widths.items f
+
+pub record IsPdfFont (font : Font) (settings : List (Tag × ℤ)) (options : FontOptions) (us : List Used) (f : PdfFont) : Type 0 where
+  pub made : IsEmbeddedFor font settings options us f
+  -- what the font permits, and that it does or the caller holds the rights
+  pub permission : f.permission ≡ permission (stored font (codes "OS/2"))
+  pub permitted : is_permitted f.permission options.rights ≡ true
+  pub short : has_long_text us ≡ false
+
+-- ---- why there is none
+
+-- what can stand against it, under the name of the error; sizes are judged for an order of the new font's glyphs
+pub data HasFontFault (font : Font) (settings : List (Tag × ℤ)) (options : FontOptions) (us : List Used) (order : List ℕ) : FontError → Type 0 where
+  in_embedding : {e : Error} → HasEmbedFaultAt options.limits.bytes options.limits.tokens options.limits.depth font settings (glyphs_of us) order e → HasFontFault font settings options us order (Subset e)
+  -- a TrueType program without `maxp` (ISO 32000-1, 9.9)
+  no_maxp : (static : Font) → IsStatic font settings (numbering (glyphs_of us)) static → flavor static ≡ Some TrueType → table static (codes "maxp") ≡ None → HasFontFault font settings options us order (Subset MalformedFont)
+  -- no codes are left
+  overfull : IsOverfull options.codes us → HasFontFault font settings options us order (Subset OverflowError)
+  -- `fsType` forbids it, and the caller holds no rights
+  not_permitted : is_permitted (permission (stored font (codes "OS/2"))) options.rights ≡ false → HasFontFault font settings options us order (NotPermitted (permission (stored font (codes "OS/2"))))
+  -- a text has more than 256 UTF-16 units
+  long_text : has_long_text us ≡ true → HasFontFault font settings options us order TextTooLong
+
+-- nothing is answered
+abbrev pub HasNoPdfFont : Font → List (Tag × ℤ) → FontOptions → List Used → Type 0
+HasNoPdfFont font settings options us = (f : PdfFont) → ¬ (IsPdfFont font settings options us f)

@@ -1,0 +1,144 @@
+//! What a PDF has of a font.
+
+ghost use Rattle.std.specs.Prelude.{◌≡◌, ◌<◌, ◌^◌, ◌⊎◌, codes, length, IfOk, IfErr};
+ghost use Rattle.std.specs.Option.{option_map};
+ghost use Rattle.subsetter_base.specs.declared.error.Error.TheVariants.{OutOfMemory, OverflowError};
+ghost use Rattle.subsetter_base.specs.Places.{HasAllAboveZero};
+ghost use Rattle.subsetter_sfnt.specs.Read.{table_in};
+ghost use Rattle.pdf_codes.specs.Codes.{AreCids, IsOverfull, glyphs_of};
+ghost use Rattle.pdf_codes.specs.Shown.{uses_of};
+ghost use Rattle.pdf_font.specs.Taken.{Takes};
+ghost use Rattle.pdf_font.specs.PdfFont.{AreColumns, IsCidSetIf, IsFilled};
+ghost use Rattle.pdf_source.specs.Moved.{location_seen};
+ghost use Rattle.pdf_source.specs.Named.{heights_by};
+ghost use Rattle.pdf_source.specs.Source.{vertical_of};
+
+use pdf_codes::{Shown, codes_and_texts, encoding_of};
+use pdf_glyphs::{Columns, columns_at};
+use pdf_source::{
+    Descriptor, Direction, FontOptions, Location, NewFont, heights_by, location_in, most_frequent,
+    name_in, vertical_of,
+};
+use pdf_text::{NamedCmap, ProgramKind, cid_set};
+use pdf_values::Permission;
+use std::alloc::Global;
+use subsetter_base::{Error, Tag};
+use subsetter_sfnt::face::Face;
+
+/// What a PDF has of a font for the glyphs in use.
+#[derive(Drop)]
+pub struct PdfFont {
+    /// The font program.
+    pub program: Vec<u8>,
+    pub kind: ProgramKind,
+    /// How many glyphs the program has: its CIDs are those below.
+    pub glyph_count: u16,
+    /// Of each entry the CID.
+    pub cids: Vec<u16>,
+    /// Of each entry the code, which strings hold.
+    pub codes: Vec<u16>,
+    /// Of each entry whether its text is found by its code; else ActualText says it (ISO 32000-1, 14.9.4).
+    pub is_said: Vec<bool>,
+    /// Of each CID the width, in thousandths of the em.
+    pub widths: Vec<u32>,
+    /// DW.
+    pub default_width: u32,
+    /// In vertical writing of each CID that a string can show, which are those of glyph 0 and of the glyphs in use, the
+    /// advance and the origin; else none.
+    pub columns: Option<Columns>,
+    pub descriptor: Descriptor,
+    pub permission: Permission,
+    /// The ToUnicode CMap.
+    pub to_unicode: Vec<u8>,
+    /// The CMap of the codes; none where each code is its CID.
+    pub encoding: Option<NamedCmap>,
+    pub cid_set: Option<Vec<u8>>,
+}
+
+/// CIDSet, if it is requested.
+fn cid_set_if(alloc: Global, is_requested: bool, count: u16) -> Result<Option<Vec<u8>>, Error>
+    ensures ok { IfOk result (λ set. IsCidSetIf is_requested count (option_map (λ v. v.items) set)) }
+    ensures err { IfErr result (λ e. e ≡ OutOfMemory) }
+{
+    if is_requested {
+        return Ok(Some(cid_set(alloc, count)?));
+    }
+    Ok(None)
+}
+
+/// Columns of glyphs in use at a location, in vertical writing.
+fn columns_if(
+    alloc: Global,
+    options: &FontOptions,
+    location: &Option<Location>,
+    face: &Face<'_>,
+    glyphs: &[u16],
+    widths: &[u32],
+) -> Result<Option<Columns>, Error>
+    ensures ok { IfOk result (λ columns. AreColumns options.now.direction (vertical_of (table_in face.now.«data».now face.now.records.now)) (heights_by (option_map location_seen location.now) (table_in face.now.«data».now face.now.records.now (codes "VVAR"))) glyphs.now widths.now columns) }
+    ensures err { IfErr result (λ e. (e ≡ OutOfMemory) ⊎ ((e ≡ OverflowError) × HasAllAboveZero glyphs.now)) }
+{
+    match options.direction {
+        Direction::Horizontal => Ok(None),
+        Direction::Vertical => {
+            let tables = vertical_of(face);
+            let columns = columns_at(alloc, tables, heights_by(face, location), glyphs, widths)?;
+            Ok(Some(columns))
+        }
+    }
+}
+
+/// What a PDF has of a new font for the glyphs in use: those of the source, of which this is the face, at coordinates. Its CIDs are those
+/// of the entries, and these are the widths of glyph 0 and of the glyphs in use.
+///
+/// # Errors
+///
+/// - `OverflowError`: no codes are left, or in vertical writing all glyphs above 0 are in use.
+/// - `OutOfMemory`: a request for memory was refused.
+pub fn filled(
+    alloc: Global,
+    face: &Face<'_>,
+    settings: &[(Tag, i32)],
+    shown: &[Shown<'_>],
+    options: &FontOptions,
+    glyphs: &[u16],
+    cids: Vec<u16>,
+    widths: &[u32],
+    new: NewFont,
+    permission: Permission,
+) -> Result<PdfFont, Error>
+    requires glyphs { glyphs.now ≡ glyphs_of (uses_of shown.now) }
+    requires cids { AreCids (uses_of shown.now) cids.items }
+    requires some { 0 < length new.profile.widths.items }
+    requires few { length new.profile.widths.items < 2 ^ 32 }
+    ensures ok { IfOk result (λ f. IsFilled (table_in face.now.«data».now face.now.records.now) settings.now options.now (uses_of shown.now) widths.now f) }
+    ensures takes { IfOk result (λ f. Takes new cids.items permission f) }
+    ensures err { IfErr result (λ e. (e ≡ OutOfMemory) ⊎ ((e ≡ OverflowError) × (IsOverfull options.now.codes (uses_of shown.now) ⊎ HasAllAboveZero glyphs.now))) }
+{
+    let default_width = most_frequent(alloc, &new.profile.widths)?;
+    let coded = codes_and_texts(alloc, shown, options.codes)?;
+    let encoding = encoding_of(alloc, options.is_vertical(), &coded.codes, &cids)?;
+    let location = location_in(alloc, face, settings)?;
+    let columns = columns_if(alloc, options, &location, face, glyphs, widths)?;
+    let cid_set = cid_set_if(alloc, options.cid_set, new.profile.count)?;
+    let font_name = name_in(alloc, &location, face, &new.program, options.tag, settings)?;
+    Ok(PdfFont {
+        program: new.program,
+        kind: new.kind,
+        glyph_count: new.profile.count,
+        cids,
+        codes: coded.codes,
+        is_said: coded.is_said,
+        widths: new.profile.widths,
+        default_width,
+        columns,
+        descriptor: Descriptor {
+            font_name,
+            values: new.profile.values,
+        },
+        permission,
+        to_unicode: coded.to_unicode,
+        encoding,
+        cid_set,
+    })
+}

@@ -1,0 +1,28 @@
+//! Laws of what a PDF has of a font, which no code runs.
+
+ghost use Rattle.pdf_font.specs.Laws.{CodesNeedNoFont, CodesStay, HaveNoFault, OneAnswer, WidthsAgree};
+
+/// What is answered has no fault.
+pub fn answers_have_no_fault()
+    ensures { HaveNoFault }
+{}
+
+/// Where more glyphs come into use, the codes of the earlier entries stay: pages may be written before all are known.
+pub fn codes_stay()
+    ensures { CodesStay }
+{}
+
+/// The codes are those that `codes_of` gives without the font.
+pub fn codes_need_no_font()
+    ensures { CodesNeedNoFont }
+{}
+
+/// There is one answer: the font, the coordinates, the glyphs in use and the options determine all that is answered.
+pub fn answers_are_determined()
+    ensures { OneAnswer }
+{}
+
+/// A program with `hmtx` has the widths that are answered, read afresh: program and dictionary agree (ISO 19005-2, 6.2.11.5).
+pub fn widths_agree()
+    ensures { WidthsAgree }
+{}

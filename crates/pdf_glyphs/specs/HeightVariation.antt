@@ -1,0 +1,25 @@
+-- What advance heights vary by off a font's default (OpenType, "VVAR"): its items are found as those of "HVAR" are.
+use Rattle.std.specs.Prelude.{ℕ, ◌^◌, nat_lt, if◌then◌else◌, int_le, List, ℤ, pos, ◌+ℤ◌, unsigned_abs}
+use Rattle.std.specs.Result.{result_unwrap_or}
+use Rattle.subsetter_variation.specs.ItemVariations.{advance_delta, whole_or_fault}
+use Rattle.pdf_glyphs.specs.declared.heights.HeightVariation.{HeightVariation}
+
+-- the normalized coordinates, in 16384ths, and the bytes of "VVAR"
+pub record Variation : Type 0 where
+  pub at : List ℤ
+  pub vvar : List ℕ
+
+abbrev pub variation_view : HeightVariation → Variation
+variation_view v = record { at = v.at.now; vvar = v.vvar.now }
+
+-- what a glyph's advance height varies by, in whole units, halves up; 0 where nothing is there to be read
+abbrev pub height_delta : Variation → ℕ → ℤ
+height_delta v g = result_unwrap_or (whole_or_fault (advance_delta v.vvar v.at g)) (pos 0)
+
+-- a sum as an advance: at least 0; past 16 bits the advance stays
+abbrev pub if_height : ℤ → ℕ → ℕ
+if_height sum a = if int_le sum (pos 0) then 0 else if nat_lt (unsigned_abs sum) (2 ^ 16) then unsigned_abs sum else a
+
+-- an advance height with what it varies by
+abbrev pub varied_height : Variation → ℕ → ℕ → ℕ
+varied_height v g a = if_height (pos a +ℤ height_delta v g) a

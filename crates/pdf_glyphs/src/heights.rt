@@ -1,0 +1,46 @@
+//! What advance heights vary by off a font's default (OpenType, "VVAR").
+
+ghost use Rattle.std.specs.Prelude.{◌≡◌};
+ghost use Rattle.pdf_glyphs.specs.HeightVariation.{height_delta, if_height, variation_view, varied_height};
+
+use subsetter_variation::item_variations::advance_delta;
+
+/// Where a font is off its default, and what its advance heights vary by.
+#[derive(Clone, Copy)]
+pub struct HeightVariation<'a> {
+    /// The normalized coordinates, in 16384ths.
+    pub at: &'a [i32],
+    /// The table `VVAR`.
+    pub vvar: &'a [u8],
+}
+
+/// What a glyph's advance height varies by, in whole units; 0 where nothing is there to be read.
+fn height_delta(variation: HeightVariation<'_>, glyph: u16) -> i64
+    ensures { result ≡ height_delta (variation_view variation.entry) glyph }
+{
+    match advance_delta(variation.vvar, variation.at, glyph) {
+        Ok(delta) => delta,
+        Err(_) => 0,
+    }
+}
+
+/// A sum as an advance: at least 0; past 16 bits the advance stays.
+fn if_height(sum: i128, advance: u16) -> u16
+    ensures { result ≡ if_height sum advance }
+{
+    if sum <= 0 {
+        return 0;
+    }
+    if sum < 65536 {
+        return sum as u16;
+    }
+    advance
+}
+
+/// An advance height with what it varies by.
+pub fn varied_height(variation: HeightVariation<'_>, glyph: u16, advance: u16) -> u16
+    ensures { result ≡ varied_height (variation_view variation.entry) glyph advance }
+{
+    let delta = height_delta(variation, glyph);
+    if_height(i128::from(advance) + i128::from(delta), advance)
+}

@@ -1,0 +1,5 @@
+pub mod AxisTexts
+pub mod Decimal
+pub mod Instances
+pub mod Letters
+pub mod MovedName

@@ -1,0 +1,77 @@
+-- The objects of a sheet: catalog, pages and their contents (ISO 32000-1, 7.7), and those of its font.
+use Rattle.std.specs.Prelude.{◌≤◌, ◌⊎◌, ◌^◌, ℕ, zero, suc, ◌+◌, ◌-◌, ◌*◌, ◌/◌, List, [], ◌∷◌, ◌++◌, length, take, drop, codes, decimal}
+use Rattle.pdf_text.specs.declared.values.FontValues.{FontValues}
+use Rattle.pdf_text.specs.Dictionaries.{reference}
+use Rattle.pdf_text.specs.Objects.{stream_end, references_from, objects_of, values_of}
+use Rattle.pdf_sheet.specs.declared.glyphs.SheetGlyph.{SheetGlyph}
+use Rattle.pdf_sheet.specs.declared.frame.Layout.{Layout}
+use Rattle.pdf_sheet.specs.declared.frame.Layout.TheVariants.{Line, Grid}
+use Rattle.pdf_sheet.specs.declared.frame.Frame.{Frame}
+use Rattle.pdf_sheet.specs.Content.{content, frame_of}
+use Rattle.pdf_sheet.specs.File.{body_of}
+
+-- ---- which glyphs stand on which page
+
+-- so many pages of at most 192 glyphs
+abbrev pub pages_by : ℕ → List SheetGlyph → List (List SheetGlyph)
+pages_by zero gs = []
+pages_by (suc count) gs = take 192 gs ∷ pages_by count (drop 192 gs)
+
+-- of a grid as many pages as its glyphs need, and one at least; of a line one
+abbrev pub page_count : Layout → ℕ → ℕ
+page_count Line size = 1
+page_count Grid size = 1 + (size - 1) / 192
+
+abbrev pub pages_of : Layout → List SheetGlyph → List (List SheetGlyph)
+pages_of Line gs = gs ∷ []
+pages_of Grid gs = pages_by (page_count Grid (length gs)) gs
+
+-- ---- the values of objects
+
+abbrev pub catalog_value : List ℕ
+catalog_value = codes "<< /Type /Catalog /Pages 2 0 R >>"
+
+-- references to every second object from one on, each with a blank
+abbrev pub kids : ℕ → ℕ → List ℕ
+kids n zero = []
+kids n (suc count) = (reference n ++ codes " ") ++ kids (n + 2) count
+
+-- the root of the pages, which has their size and their font
+abbrev pub pages_value : Frame → ℕ → ℕ → List ℕ
+pages_value frame count font = codes "<< /Type /Pages /Count " ++ (decimal count ++ (codes " /Kids [" ++ (kids 3 count
+    ++ (codes "] /MediaBox [0 0 " ++ (decimal frame.width ++ (codes " " ++ (decimal frame.height
+    ++ (codes "] /Resources << /Font << /F0 " ++ (reference font ++ codes " >> >> >>")))))))))
+
+-- a page whose content has this number
+abbrev pub page_value : ℕ → List ℕ
+page_value n = codes "<< /Type /Page /Parent 2 0 R /Contents " ++ (reference n ++ codes " >>")
+
+abbrev pub stream_value : List ℕ → List ℕ
+stream_value bytes = codes "<< " ++ stream_end bytes
+
+-- pages and their contents, from a number on
+abbrev pub page_values : Frame → ℕ → List (List SheetGlyph) → List (List ℕ)
+page_values frame n [] = []
+page_values frame n (p ∷ ps) = page_value (n + 1) ∷ stream_value (content frame p) ∷ page_values frame (n + 2) ps
+
+-- ---- all objects
+
+-- the number of the font, behind catalog, root, pages and contents
+abbrev pub font_number : ℕ → ℕ
+font_number count = 3 + 2 * count
+
+-- what stands before the font
+abbrev pub front_values : Layout → Frame → List SheetGlyph → List (List ℕ)
+front_values layout frame gs = catalog_value ∷ pages_value frame (page_count layout (length gs)) (font_number (page_count layout (length gs))) ∷ page_values frame 3 (pages_of layout gs)
+
+-- the objects of the font, the first with this number
+abbrev pub font_values : ℕ → FontValues → List (List ℕ)
+font_values first v = values_of v (references_from first v) (objects_of v)
+
+-- the values of a sheet's objects, from object 1 on
+abbrev pub sheet_values : Layout → FontValues → List SheetGlyph → List (List ℕ)
+sheet_values layout v gs = front_values layout (frame_of layout v.vertical gs) gs ++ font_values (font_number (page_count layout (length gs))) v
+
+-- why there is none: numbers of objects have 32 bits, and offsets ten digits
+abbrev pub IsTooLarge : Layout → FontValues → List SheetGlyph → Type 0
+IsTooLarge layout v gs = (2 ^ 32 ≤ font_number (page_count layout (length gs)) + 7) ⊎ (10000000000 ≤ length (body_of (sheet_values layout v gs)))

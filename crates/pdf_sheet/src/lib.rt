@@ -1,0 +1,23 @@
+//! A sheet: a whole PDF that shows glyphs of one font, as a line or in a grid.
+//!
+//! Each glyph is shown by its code, with an ActualText where the code doesn't say its text.
+//!
+//! ```text
+//! let glyphs = [SheetGlyph { code: 1, is_said: true, text: &['A'], advance: 667 }];
+//! let file = write_sheet(alloc, values, &glyphs, Layout::Line)?;      // %PDF-1.7 .. %%EOF
+//! ```
+#![tactic(auto)]
+
+mod content;
+mod file;
+mod frame;
+mod glyphs;
+mod hex;
+mod pages;
+mod sheet;
+#[cfg(test)]
+mod tests;
+
+pub use frame::Layout;
+pub use glyphs::SheetGlyph;
+pub use sheet::{glyphs_are_shown, objects_are_in_table, write_sheet};

@@ -1,0 +1,87 @@
+//! A sheet, and what is known of it.
+
+ghost use Rattle.std.specs.Prelude.{◌≡◌, ◌≤◌, ◌<◌, ◌+◌, ◌^◌, ◌++◌, ◌⊎◌, All, IfErr, IfOk, OnOk, length, map};
+ghost use Rattle.std.specs.List.{concat};
+ghost use Rattle.subsetter_base.specs.declared.error.Error.TheVariants.{OutOfMemory, OverflowError};
+ghost use Rattle.pdf_text.specs.Objects.{font_objects, objects_of};
+ghost use Rattle.pdf_sheet.specs.Content.{frame_of};
+ghost use Rattle.pdf_sheet.specs.Pages.{page_count, font_number, front_values, sheet_values, IsTooLarge};
+ghost use Rattle.pdf_sheet.specs.File.{body_of, offsets_of, file_of, AreInTable, ObjectsAreInTable};
+ghost use Rattle.pdf_sheet.specs.Read.{AreShown};
+ghost use Rattle.pdf_sheet.specs.View.{texts_view};
+
+use crate::file::{Body, body_of, checked, push_objects, write_table};
+use crate::frame::{Layout, frame_of};
+use crate::glyphs::SheetGlyph;
+use crate::pages::{front_values, page_count};
+use pdf_text::{FontValues, write_objects};
+use std::alloc::Global;
+use subsetter_base::Error;
+
+/// The number of the font's first object.
+fn font_number(layout: Layout, size: usize) -> Result<u32, Error>
+    ensures ok { IfOk result (λ first. first ≡ font_number (page_count layout size)) }
+    ensures err { IfErr result (λ e. (e ≡ OverflowError) × (2 ^ 32 ≤ font_number (page_count layout size) + 7)) }
+{
+    let number = 3 + 2 * page_count(layout, size) as u64;
+    if number + 7 >= 4_294_967_296 {
+        return Err(Error::OverflowError);
+    }
+    Ok(number as u32)
+}
+
+/// Header and objects of a sheet, of whose font this is the number.
+fn sheet_body(
+    alloc: Global,
+    values: FontValues<'_>,
+    glyphs: &[SheetGlyph<'_>],
+    layout: Layout,
+    first: u32,
+) -> Result<Body, Error>
+    requires { first ≡ font_number (page_count layout (length glyphs.now)) }
+    ensures text { IfOk result (λ body. body.text.items ≡ body_of (sheet_values layout values.entry glyphs.now)) }
+    ensures offsets { IfOk result (λ body. body.offsets.items ≡ offsets_of (sheet_values layout values.entry glyphs.now)) }
+    ensures err { IfErr result (λ e. (e ≡ OutOfMemory) ⊎ ((e ≡ OverflowError) × (2 ^ 32 ≤ first + 7))) }
+{
+    let frame = frame_of(layout, values.vertical, glyphs);
+    let front = front_values(alloc, layout, frame, first as usize, glyphs)?;
+    let mut body = body_of(alloc, &front)?;
+    let font = write_objects(alloc, values, first)?;
+    push_objects(&mut body, &font.text, &font.offsets)?;
+    Ok(body)
+}
+
+/// A whole PDF that shows glyphs of a font in 36 points, in a line or in a grid of as many pages as they need, at least one.
+/// The text runs as the font's values say. An em of a line and its margins are 36 points; its page has at most 14,400 points,
+/// and what is longer stands outside of it.
+///
+/// # Errors
+///
+/// - `OverflowError`: the numbers of objects don't fit 32 bits, or the objects have 10,000,000,000 bytes or more.
+/// - `OutOfMemory`: a request for memory was refused.
+pub fn write_sheet(
+    alloc: Global,
+    values: FontValues<'_>,
+    glyphs: &[SheetGlyph<'_>],
+    layout: Layout,
+) -> Result<Vec<u8>, Error>
+    ensures file { IfOk result (λ file. file.items ≡ file_of (sheet_values layout values.entry glyphs.now)) }
+    ensures at { IfOk result (λ file. AreInTable file.items (length (body_of (sheet_values layout values.entry glyphs.now))) (sheet_values layout values.entry glyphs.now)) }
+    ensures err { IfErr result (λ e. (e ≡ OutOfMemory) ⊎ ((e ≡ OverflowError) × IsTooLarge layout values.entry glyphs.now)) }
+{
+    let first = font_number(layout, glyphs.len())?;
+    let mut body = sheet_body(alloc, values, glyphs, layout, first)?;
+    checked(body.text.len() as u64)?;
+    write_table(&mut body.text, &body.offsets)?;
+    Ok(body.text)
+}
+
+/// In the table of a file each object is found.
+pub fn objects_are_in_table()
+    ensures { ObjectsAreInTable }
+{}
+
+/// A reader of the pages finds each glyph's code, in order, and its text where the code doesn't say it.
+pub fn glyphs_are_shown()
+    ensures { AreShown }
+{}

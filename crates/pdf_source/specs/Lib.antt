@@ -1,0 +1,9 @@
+pub mod Cff
+pub mod Chosen
+pub mod Frequent
+pub mod Made
+pub mod Metrics
+pub mod Moved
+pub mod Named
+pub mod Program
+pub mod Source

@@ -1,0 +1,60 @@
+-- Where a font is off its default (OpenType, "fvar", "avar"), and the values of its descriptor there ("MVAR").
+use Rattle.std.specs.Prelude.{ℕ, Bool, if◌then◌else◌, List, codes, Option, Some, None, ℤ, pos}
+use Rattle.std.specs.List.{list_all}
+use Rattle.std.specs.Option.{option_and_then}
+use Rattle.std.specs.Ordering.{int_eq}
+use Rattle.std.specs.Result.{result_ok}
+use Rattle.subsetter_base.specs.declared.tag.Tag.{Tag}
+use Rattle.subsetter_variation.specs.Axes.{axes}
+use Rattle.subsetter_variation.specs.declared.axes.Axis.{Axis}
+use Rattle.subsetter_instance.specs.Source.{place}
+use Rattle.pdf_values.specs.Descriptor.{values_of}
+use Rattle.pdf_values.specs.declared.bounds.Bounds.{Bounds}
+use Rattle.pdf_values.specs.declared.descriptor.Values.{Values}
+use Rattle.pdf_moved.specs.Movement.{Movement}
+use Rattle.pdf_moved.specs.Values.{values_at}
+use Rattle.pdf_source.specs.Cff.{said_by}
+use Rattle.pdf_source.specs.Source.{bounds_by, known_of, tables_of}
+use Rattle.pdf_source.specs.declared.moved.Location.{Location as GivenLocation}
+
+-- the normalized coordinates, in 16384ths, and the axes
+pub record Location : Type 0 where
+  pub at : List ℤ
+  pub axes : List Axis
+
+abbrev pub location_seen : GivenLocation → Location
+location_seen p = record { at = p.at.items; axes = p.axes.items }
+
+abbrev pub are_zero : List ℤ → Bool
+are_zero at = list_all (λ v. int_eq v (pos 0)) at
+
+abbrev pub unless_zero : List ℤ → List Axis → Option Location
+unless_zero at axes = if are_zero at then None else Some (record { at = at; axes = axes })
+
+-- the axes that `fvar` lists, if it can be read
+abbrev pub axes_in : Option (List ℕ) → Option (List Axis)
+axes_in fvar = option_and_then axes fvar
+
+abbrev pub location_by : Option (List ℤ) → Option (List Axis) → Option Location
+location_by None axes = None
+location_by (Some at) None = None
+location_by (Some at) (Some axes) = unless_zero at axes
+
+-- elsewhere than at its default; none of outlines that aren't in `glyf`
+abbrev pub location_of : Option (List ℕ) → (List ℕ → Option (List ℕ)) → List (Tag × ℤ) → Option Location
+location_of None find settings = None
+location_of (Some glyf) find settings = location_by (result_ok (place find settings)) (axes_in (find (codes "fvar")))
+
+abbrev pub location_in : (List ℕ → Option (List ℕ)) → List (Tag × ℤ) → Option Location
+location_in find settings = location_of (find (codes "glyf")) find settings
+
+abbrev pub movement_of : (List ℕ → Option (List ℕ)) → List (Tag × ℤ) → Location → Movement
+movement_of find settings p = record { at = p.at; axes = p.axes; settings = settings; mvar = find (codes "MVAR") }
+
+abbrev pub values_by : Option Location → Option ℕ → (List ℕ → Option (List ℕ)) → (List ℕ → Option (List ℕ)) → ℕ → Bounds → List (Tag × ℤ) → Values
+values_by None stem find new count choice settings = values_of (tables_of find) (known_of stem find new count) (bounds_by (find (codes "glyf")) choice)
+values_by (Some p) stem find new count choice settings = values_at (tables_of find) (known_of stem find new count) (movement_of find settings p)
+
+-- the values of the descriptor, of the tables that look-ups find in the source and in the new font
+abbrev pub values_in : (List ℕ → Option (List ℕ)) → (List ℕ → Option (List ℕ)) → ℕ → Bounds → List (Tag × ℤ) → Values
+values_in find new count choice settings = values_by (location_in find settings) (said_by find).stem find new count choice settings

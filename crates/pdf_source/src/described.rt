@@ -1,0 +1,198 @@
+//! The font descriptor.
+
+ghost use Rattle.std.specs.Prelude.{◌≡◌, codes, IfOk, IfErr};
+ghost use Rattle.std.specs.Option.{option_copied, option_map};
+ghost use Rattle.subsetter_base.specs.declared.error.Error.TheVariants.{OutOfMemory};
+ghost use Rattle.subsetter_sfnt.specs.Read.{table_in};
+ghost use Rattle.pdf_glyphs.specs.Boxes.{outlines_view};
+ghost use Rattle.pdf_glyphs.specs.HeightVariation.{variation_view};
+ghost use Rattle.pdf_glyphs.specs.Vertical.{vertical_view};
+ghost use Rattle.pdf_text.specs.SubsetName.{font_name, IsTag};
+ghost use Rattle.pdf_values.specs.Descriptor.{tables_view};
+ghost use Rattle.pdf_source.specs.Named.{heights_by, name_by};
+ghost use Rattle.pdf_source.specs.Moved.{location_seen, values_by};
+ghost use Rattle.pdf_source.specs.Source.{bounds_by, known_of, outlines_of, source_name, tables_of, tag_in, vertical_of};
+
+use crate::cff::said_by;
+use crate::moved::{Location, movement_of};
+use crate::tag::SubsetTag;
+use pdf_glyphs::{HeightVariation, OutlineTables, VerticalTables, box_around, top_of};
+use pdf_moved::values_at;
+use pdf_names::name_at;
+use pdf_text::{font_name, tag_of};
+use pdf_values::{Bounds, Known, Tables, Values, postscript_name, values_of};
+use std::alloc::Global;
+use subsetter_base::{Error, Tag};
+use subsetter_sfnt::face::Face;
+
+/// The values of a font descriptor (ISO 32000-1, Table 122).
+#[derive(Drop)]
+pub struct Descriptor {
+    /// FontName, with its tag.
+    pub font_name: Vec<u8>,
+    pub values: Values,
+}
+
+/// The tables that outlines are found by.
+fn outlines_of<'a>(face: &Face<'a>) -> OutlineTables<'a>
+    ensures { outlines_view result ≡ outlines_of (table_in face.now.«data».now face.now.records.now) }
+{
+    OutlineTables {
+        head: face.stored(Tag::HEAD),
+        loca: face.stored(Tag::LOCA),
+        glyf: face.stored(Tag::GLYF),
+    }
+}
+
+/// The tables that the columns of vertical writing are found by.
+pub fn vertical_of<'a>(face: &Face<'a>) -> VerticalTables<'a>
+    ensures { vertical_view result ≡ vertical_of (table_in face.now.«data».now face.now.records.now) }
+{
+    VerticalTables {
+        vhea: face.stored(Tag::new(b"vhea")),
+        vmtx: face.stored(Tag::new(b"vmtx")),
+        vorg: face.stored(Tag::new(b"VORG")),
+        outlines: outlines_of(face),
+    }
+}
+
+/// The tables that the values are read of.
+fn tables_of<'a>(face: &Face<'a>) -> Tables<'a>
+    ensures { tables_view result ≡ tables_of (table_in face.now.«data».now face.now.records.now) }
+{
+    Tables {
+        head: face.stored(Tag::HEAD),
+        hhea: face.stored(Tag::HHEA),
+        os2: face.stored(Tag::new(b"OS/2")),
+        post: face.stored(Tag::POST),
+    }
+}
+
+/// What is known of glyphs: of the source, which says this stem, and of so many of the new font.
+fn known_of(stem: Option<u32>, face: &Face<'_>, new: &Face<'_>, count: u16) -> Known
+    ensures { result ≡ known_of stem (table_in face.now.«data».now face.now.records.now) (table_in new.now.«data».now new.now.records.now) count }
+{
+    let outlines = outlines_of(face);
+    let cmap = face.stored(Tag::new(b"cmap"));
+    Known {
+        cap_top: top_of(outlines, cmap, 'H'),
+        x_top: top_of(outlines, cmap, 'x'),
+        kept: box_around(outlines_of(new), count),
+        stem,
+    }
+}
+
+/// Which glyphs FontBBox is to hold, where boxes are known of outlines in `glyf` alone.
+fn bounds_by(glyf: Option<&[u8]>, choice: Bounds) -> Bounds
+    ensures { result ≡ bounds_by (option_copied glyf.entry) choice }
+{
+    match glyf {
+        None => Bounds::Font,
+        Some(_) => choice,
+    }
+}
+
+/// The values of a font that says this stem, of which the new font has so many glyphs, at coordinates that are off its
+/// default, if they are.
+pub fn values_by(
+    location: &Option<Location>,
+    stem: Option<u32>,
+    face: &Face<'_>,
+    new: &Face<'_>,
+    count: u16,
+    choice: Bounds,
+    settings: &[(Tag, i32)],
+) -> Values
+    ensures { result ≡ values_by (option_map location_seen location.now) stem (table_in face.now.«data».now face.now.records.now) (table_in new.now.«data».now new.now.records.now) count choice settings.now }
+{
+    let tables = tables_of(face);
+    let known = known_of(stem, face, new, count);
+    match location {
+        None => values_of(tables, known, bounds_by(face.stored(Tag::GLYF), choice)),
+        Some(location) => values_at(tables, known, movement_of(face, settings, location)),
+    }
+}
+
+/// The tag of a program, or the caller's.
+fn tag_in(program: &[u8], tag: Option<SubsetTag>) -> [u8; 6]
+    ensures tag { result ≡ tag_in tag program.now }
+    ensures is { IsTag result }
+{
+    match tag {
+        Some(tag) => tag.letters(),
+        None => tag_of(program),
+    }
+}
+
+/// The PostScript name: that of `name`, else the first of `CFF `.
+#[tactic(auto, unfolding(crate::specs::Source::source_name))]
+fn source_name(alloc: Global, face: &Face<'_>) -> Result<Vec<u8>, Error>
+    ensures ok { IfOk result (λ name. name.items ≡ source_name (table_in face.now.«data».now face.now.records.now)) }
+    ensures err { IfErr result (λ e. e ≡ OutOfMemory) }
+{
+    let name = postscript_name(alloc, face.stored(Tag::NAME), None)?;
+    if name.len() > 0 {
+        return Ok(name);
+    }
+    let said = said_by(alloc, face)?;
+    postscript_name(alloc, None, said.name)
+}
+
+/// The PostScript name at a location.
+fn name_by(
+    alloc: Global,
+    location: &Option<Location>,
+    face: &Face<'_>,
+    settings: &[(Tag, i32)],
+) -> Result<Vec<u8>, Error>
+    ensures ok { IfOk result (λ name. name.items ≡ name_by (option_map location_seen location.now) (table_in face.now.«data».now face.now.records.now) settings.now) }
+    ensures err { IfErr result (λ e. e ≡ OutOfMemory) }
+{
+    match location {
+        None => source_name(alloc, face),
+        Some(location) => {
+            let name = face.stored(Tag::NAME);
+            let fvar = face.stored(Tag::new(b"fvar"));
+            name_at(
+                alloc,
+                name,
+                fvar,
+                movement_of(face, settings, location),
+                None,
+            )
+        }
+    }
+}
+
+/// FontName: the tag, `+` and the PostScript name at a location.
+pub fn name_in(
+    alloc: Global,
+    location: &Option<Location>,
+    face: &Face<'_>,
+    program: &[u8],
+    tag: Option<SubsetTag>,
+    settings: &[(Tag, i32)],
+) -> Result<Vec<u8>, Error>
+    ensures ok { IfOk result (λ name. name.items ≡ font_name (tag_in tag program.now) (name_by (option_map location_seen location.now) (table_in face.now.«data».now face.now.records.now) settings.now)) }
+    ensures err { IfErr result (λ e. e ≡ OutOfMemory) }
+{
+    let name = name_by(alloc, location, face, settings)?;
+    font_name(alloc, &tag_in(program, tag), &name)
+}
+
+/// What advance heights vary by at a location.
+pub fn heights_by<'a>(
+    face: &Face<'a>,
+    location: &'a Option<Location>,
+) -> Option<HeightVariation<'a>>
+    ensures { option_map variation_view result ≡ heights_by (option_map location_seen location.now) (table_in face.now.«data».now face.now.records.now (codes "VVAR")) }
+{
+    let Some(location) = location else {
+        return None;
+    };
+    let vvar = face.stored(Tag::new(b"VVAR"))?;
+    Some(HeightVariation {
+        at: &location.at,
+        vvar,
+    })
+}

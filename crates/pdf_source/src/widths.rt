@@ -1,0 +1,145 @@
+//! The widths of all glyphs of a new font (ISO 32000-1, 9.7.4.3).
+
+ghost use Rattle.std.specs.Prelude.{◌≡◌, ◌<◌, ◌≤◌, ◌+◌, ◌^◌, ◌*◌, ℕ, length, Ok, Err, IfOk, IfErr, nat_lt, if◌then◌else◌, slice_index};
+ghost use Rattle.std.specs.HashMap.{get};
+ghost use Rattle.std.specs.Option.{unwrap_or};
+ghost use Rattle.std.specs.Prelude.{nat_eq};
+ghost use Rattle.subsetter_base.specs.Gives.{Gives};
+ghost use Rattle.subsetter_base.specs.declared.error.Error.TheVariants.{OutOfMemory};
+ghost use Rattle.subsetter_sfnt.specs.Read.{table_in};
+ghost use Rattle.cid_embed.specs.Afresh.{advance_in, measures_of, widths_from, widths_of};
+ghost use Rattle.cid_embed.specs.Width.{thousandths};
+ghost use Rattle.pdf_source.specs.Frequent.{IsMostFrequent, count_of};
+ghost use Rattle.pdf_source.specs.Metrics.{measures_seen};
+
+use std::alloc::Global;
+use std::collections::HashMap;
+use subsetter_base::read::Reader;
+use subsetter_base::{Error, Tag};
+use subsetter_sfnt::face::Face;
+
+/// What advances and widths are found by.
+#[derive(Clone, Copy)]
+pub struct Metrics<'a> {
+    pub hmtx: &'a [u8],
+    /// numberOfHMetrics of `hhea`.
+    pub pairs: u16,
+    /// unitsPerEm of `head`, above 0.
+    pub units: u16,
+}
+
+/// The metrics of a font. What is missing or cut, and a unitsPerEm of 0, is `MalformedFont`.
+#[tactic(auto, unfolding(cid_embed::specs::Afresh::measures_of))]
+fn metrics_of<'a>(face: &Face<'a>) -> Result<Metrics<'a>, Error>
+    ensures ok { IfOk result (λ m. measures_of (table_in face.now.«data».now face.now.records.now) ≡ Ok (measures_seen m)) }
+    ensures err { IfErr result (λ e. measures_of (table_in face.now.«data».now face.now.records.now) ≡ Err e) }
+    ensures divides { IfOk result (λ m. 0 < m.units) }
+{
+    let hmtx = face.stored(Tag::HMTX).ok_or(Error::MalformedFont)?;
+    let head = face.stored(Tag::HEAD).ok_or(Error::MalformedFont)?;
+    let units = Reader::new_at(head, 18)
+        .read::<u16>()
+        .ok_or(Error::MalformedFont)?;
+    if units == 0 {
+        return Err(Error::MalformedFont);
+    }
+    let hhea = face.stored(Tag::HHEA).ok_or(Error::MalformedFont)?;
+    let pairs = Reader::new_at(hhea, 34)
+        .read::<u16>()
+        .ok_or(Error::MalformedFont)?;
+    Ok(Metrics { hmtx, pairs, units })
+}
+
+impl Metrics<'_> {
+    /// The advance of a glyph, in font design units.
+    fn advance(&self, glyph: u16) -> Option<u16>
+        ensures { result ≡ advance_in self.now.hmtx.now self.now.pairs glyph }
+    {
+        let pair = glyph.min(self.pairs.saturating_sub(1));
+        Reader::new_at(self.hmtx, 4 * usize::from(pair)).read::<u16>()
+    }
+}
+
+/// A length in thousandths of the em, rounded half up.
+fn thousandths(length: u16, units_per_em: u16) -> u32
+    requires { 0 < units_per_em }
+    ensures { result ≡ thousandths length units_per_em }
+{
+    let units = u32::from(units_per_em);
+    (2 * (u32::from(length) * 1000) + units) / (2 * units)
+}
+
+/// The widths of so many glyphs, from glyph 0 on. An advance that isn't there is `MalformedFont`.
+fn all_widths(alloc: Global, metrics: &Metrics<'_>, count: u16) -> Result<Vec<u32>, Error>
+    requires { 0 < metrics.now.units }
+    ensures { Gives (λ v. v.items) result (widths_from (measures_seen metrics.now) 0 count) }
+{
+    let mut widths = Vec::with_capacity(alloc, usize::from(count))?;
+    for glyph in 0..count {
+        let advance = metrics.advance(glyph).ok_or(Error::MalformedFont)?;
+        widths.push(thousandths(advance, metrics.units))?;
+    }
+    Ok(widths)
+}
+
+/// The widths of so many glyphs of a font, from glyph 0 on. What is missing is `MalformedFont`.
+#[tactic(auto, unfolding(cid_embed::specs::Afresh::widths_of))]
+pub fn widths_of(alloc: Global, face: &Face<'_>, count: u16) -> Result<Vec<u32>, Error>
+    ensures { Gives (λ v. v.items) result (widths_of (table_in face.now.«data».now face.now.records.now) count) }
+{
+    let metrics = metrics_of(face)?;
+    all_widths(alloc, &metrics, count)
+}
+
+/// How often a width was counted.
+fn counted(counts: &HashMap<u32, u32>, width: u32) -> u32
+    ensures { result ≡ unwrap_or (get nat_eq counts.now width) 0 }
+{
+    match counts.get(&width) {
+        Some(count) => *count,
+        None => 0,
+    }
+}
+
+/// How often each width is there.
+fn counts_of(alloc: Global, widths: &[u32]) -> Result<HashMap<u32, u32>, Error>
+    requires { length widths.now < 2 ^ 32 }
+    ensures ok { IfOk result (λ counts. (w : ℕ) → unwrap_or (get nat_eq counts w) 0 ≡ count_of widths.now w) }
+    ensures err { IfErr result (λ e. e ≡ OutOfMemory) }
+{
+    let mut counts = HashMap::new(alloc);
+    for width in widths {
+        let count = counted(&counts, *width);
+        let more = count + 1;
+        counts.insert(*width, more)?;
+    }
+    Ok(counts)
+}
+
+/// The index of a width, if it is more frequent than the best one so far, else the index of that.
+fn more_frequent(counts: &HashMap<u32, u32>, widths: &[u32], best: usize, index: usize) -> usize
+    requires best { best < length widths.now }
+    requires index { index < length widths.now }
+    ensures { result ≡ (if nat_lt (unwrap_or (get nat_eq counts.now (slice_index widths.now best)) 0) (unwrap_or (get nat_eq counts.now (slice_index widths.now index)) 0) then index else best) }
+{
+    if counted(counts, widths[best]) < counted(counts, widths[index]) {
+        index
+    } else {
+        best
+    }
+}
+
+/// The most frequent width, of several the earliest.
+pub fn most_frequent(alloc: Global, widths: &[u32]) -> Result<u32, Error>
+    requires some { 0 < length widths.now }
+    requires few { length widths.now < 2 ^ 32 }
+    ensures ok { IfOk result (λ w. IsMostFrequent widths.now w) }
+    ensures err { IfErr result (λ e. e ≡ OutOfMemory) }
+{
+    let counts = counts_of(alloc, widths)?;
+    let mut best = 0;
+    for i in 0..widths.len() {
+        best = more_frequent(&counts, widths, best, i);
+    }
+    Ok(widths[best])
+}
