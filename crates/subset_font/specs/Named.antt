@@ -68,7 +68,7 @@ names_behind before names [] = []
 names_behind before names (bytes ∷ more) = name_behind before (name_of names (number bytes 0 2)) ++ names_behind (before_next before (is_some (name_of names (number bytes 0 2)))) names more
 
 abbrev pub line_of_names : List ℕ → List ℕ
-line_of_names [] = codes "the font has no named instances with names\n"
+line_of_names [] = codes "the font has no named instances\n"
 line_of_names (b ∷ text) = (b ∷ text) ++ codes "\n"
 
 -- the records of a `fvar` that can be read
