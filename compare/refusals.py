@@ -291,7 +291,7 @@ def check_names(room):
 # What the system says of a failed call: EIO.
 REASON = b"Input/output error (os error 5)\n"
 # What the program does without: to look at the file that the lines go to and at OUT, and a file beside OUT.
-DISPENSABLE = {("open", 3), *(("size", number) for number in (2, 3, 4, 5, 6))}
+DISPENSABLE = {("open", 3), *(("size", number) for number in (1, 2, 4, 5, 6))}
 
 
 def check_files(name, data, glyphs, room):
