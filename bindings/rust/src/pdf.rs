@@ -7,7 +7,7 @@
 //! ```
 //! use subsetter::pdf::{glyphs_of, pdf_font, FontOptions};
 //!
-//! # fn main() -> Result<(), Box<dyn std::error::Error>> {
+//! # fn main() -> Result<(), subsetter::pdf::FontError> {
 //! # let data = include_bytes!("../tests/data/made.ttf");
 //! // `data` is a whole font file. A text without shaping: each character has the glyph that `cmap` gives it.
 //! let shown = glyphs_of(data, 0, "ABBA")?;

@@ -4,7 +4,6 @@
 #[path = "table/pdf.rs"]
 mod table;
 
-use std::error::Error as _;
 use std::fs;
 use subsetter::pdf::{
     codes_of, glyphs_of, pdf_font, Bounds, Codes, Direction, FontError, FontOptions, Layout,
@@ -456,12 +455,22 @@ fn no_value_of_the_descriptor_is_a_reason() {
 }
 
 #[test]
-fn errors_have_texts_and_sources() {
+fn errors_have_texts() {
     let error = FontError::from(Error::CFFError);
     assert_eq!(error.to_string(), Error::CFFError.to_string());
+    assert_eq!(FontError::TextTooLong.to_string(), "text too long");
+    let refused = pdf_font(&made("made.otf"), 0, &[], &SHOWN, &FontOptions::new());
+    let text = refused.unwrap_err().to_string();
+    assert_eq!(text, "embedding not permitted");
+}
+
+#[cfg(feature = "std")]
+#[test]
+fn errors_have_sources() {
+    use std::error::Error as _;
+    let error = FontError::from(Error::CFFError);
     let source = error.source().and_then(|it| it.downcast_ref::<Error>());
     assert_eq!(source, Some(&Error::CFFError));
-    assert_eq!(FontError::TextTooLong.to_string(), "text too long");
     assert!(FontError::TextTooLong.source().is_none());
 }
 

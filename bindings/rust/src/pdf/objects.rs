@@ -121,7 +121,7 @@ impl PdfFont {
     /// ```
     /// use subsetter::pdf::{pdf_font, FontOptions, Shown};
     ///
-    /// # fn main() -> Result<(), Box<dyn std::error::Error>> {
+    /// # fn main() -> Result<(), subsetter::pdf::FontError> {
     /// # let data = include_bytes!("../../tests/data/made.ttf");
     /// let font = pdf_font(data, 0, &[], &[Shown::new(1, "A")], &FontOptions::new())?;
     /// let objects = font.objects(4)?;
@@ -150,7 +150,7 @@ impl PdfFont {
     /// ```
     /// use subsetter::pdf::{glyphs_of, pdf_font, FontOptions, Layout};
     ///
-    /// # fn main() -> Result<(), Box<dyn std::error::Error>> {
+    /// # fn main() -> Result<(), subsetter::pdf::FontError> {
     /// # let data = include_bytes!("../../tests/data/made.ttf");
     /// let shown = glyphs_of(data, 0, "ABBA")?;
     /// let font = pdf_font(data, 0, &[], &shown, &FontOptions::new())?;
