@@ -74,13 +74,7 @@ fn string_at(name: &[u8], kind: Kind, id: u16, storage: usize, at: usize) -> Opt
 
 /// The first such string of that many records.
 #[tactic(auto, using(crate::proofs::Strings::strings_here, crate::proofs::Strings::strings_on, crate::proofs::Strings::strings_end))]
-fn string_from(
-    name: &[u8],
-    kind: Kind,
-    id: u16,
-    storage: usize,
-    count: u16,
-) -> Option<&[u8]>
+fn string_from(name: &[u8], kind: Kind, id: u16, storage: usize, count: u16) -> Option<&[u8]>
     requires { storage < 2 ^ 16 }
     ensures { option_copied result ≡ string_from kind id name.now storage count 6 }
 {
