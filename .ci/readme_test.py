@@ -1,6 +1,6 @@
 #!/usr/bin/env python3
-"""Plants bugs in the README and in the results of its figures, one at a time, in a clone: .ci/evidence.py or
-.ci/examples.py has to fail over each.
+"""Plants bugs in the README, in the results of its figures and in the README of bindings/rust, one at a time, in a clone:
+.ci/evidence.py, .ci/examples.py or .ci/pdf_examples.py has to fail over each.
 
     .ci/readme_test.py [NAME..]    all of them, or those whose names begin so
 
@@ -56,6 +56,19 @@ EXAMPLES = [
     ("a file that isn't written", "writes no subset.ttf", [("README.md", r'"subset\.ttf", subset', '"other.ttf", subset')]),
     ("another folder of the crate", "ended with", [("README.md", r'path = "CLONE/bindings/rust" \}', 'path = "CLONE/bindings/portable" }')]),
     ("a block that nothing runs", "nothing runs", [("README.md", r"(?m)^## Documents\n", "## Documents\n\n```python\nimport subsetter\n```\n")]),
+]
+# And for the program that writes a PDF, over which .ci/pdf_examples.py has to fail.
+RUST = "bindings/rust/README.md"
+SHEET = r"font\.sheet\(&shown, Layout::Line\)\?"
+PDF_EXAMPLES = [
+    ("another text of the PDF", "reads 'Hello, Hellas!'", [(RUST, r'"Hello, Ελλάδα!"', '"Hello, Hellas!"')]),
+    ("a character that the font doesn't have", "reads", [(RUST, r'"Hello, Ελλάδα!"', '"Hello, Ελλάδα\U000f0000"')]),
+    ("a PDF of no glyphs", "reads ''", [(RUST, SHEET, "font.sheet(&[], Layout::Line)?")]),
+    ("a PDF that is cut off", "qpdf", [(RUST, SHEET, "&font.sheet(&shown, Layout::Line)?[..900]")]),
+    ("a PDF that isn't written", "writes no hello.pdf", [(RUST, r'"hello\.pdf"', '"other.pdf"')]),
+    ("a call of pdf that isn't there", "ends with", [(RUST, SHEET, "font.page(&shown)?")]),
+    ("a program of 16 lines", "lines, and at most 15", [(RUST, r'( +let shown = glyphs_of.*\n)', r"\1" * 9)]),
+    ("no program that writes a PDF", "has 0 programs", [(RUST, r"a whole PDF of one line:", "a whole PDF:")]),
 ]
 # Logs of a gate: which words were given, and what it printed; the first alone is recorded.
 PASSED = "1:02 rt ci: passed\nthe bindings (bindings): passed in 60 s\n"
@@ -147,7 +160,8 @@ def try_logs(folder):
 
 def main():
     with planted.copy() as folder:
-        found = [try_plants(folder, [".ci/evidence.py"], PLANTS, sys.argv[1:]), try_plants(folder, [".ci/examples.py", "rust"], EXAMPLES, sys.argv[1:])]
+        found = [try_plants(folder, [".ci/evidence.py"], PLANTS, sys.argv[1:]), try_plants(folder, [".ci/examples.py", "rust"], EXAMPLES, sys.argv[1:]),
+                 try_plants(folder, [".ci/pdf_examples.py"], PDF_EXAMPLES, sys.argv[1:])]
         found += [] if sys.argv[1:] else [try_logs(folder)]
     tried, wrong = map(sum, zip(*found))
     print(f"readme_test: {tried} bugs and logs, {wrong} results are wrong")

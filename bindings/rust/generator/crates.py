@@ -18,6 +18,7 @@ HEAD = """//! The proved sources, crate by crate, without their contracts.
     clippy::manual_map,
     clippy::manual_range_contains,
     clippy::manual_unwrap_or,
+    clippy::manual_unwrap_or_default,
     clippy::match_like_matches_macro,
     clippy::unwrap_or_default
 )]

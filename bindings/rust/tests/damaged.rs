@@ -28,8 +28,60 @@ fn call_all(font: &[u8], index: u32) -> bool {
         ];
         let _ = subset_with_variations(font, index, &at, &few);
         let _ = embed_with_variations(font, index, &at, &[2]);
+        let _ = call_pdf(font, index);
     }
     subset(font, index, &few).is_ok()
+}
+
+/// The calls for a PDF on a font: whether there was one.
+#[cfg(feature = "variable-fonts")]
+fn call_pdf(font: &[u8], index: u32) -> bool {
+    use subsetter::pdf::{glyphs_of, pdf_font, Bounds, Codes, Direction, Layout, Rights, Shown};
+    use subsetter::{pdf::FontOptions, Tag};
+    let shown = [Shown::new(5, "fi"), Shown::new(8, "Á"), Shown::new(1, "")];
+    let held = FontOptions::new().rights(Rights::Held).cid_set(true);
+    let vertical = held.direction(Direction::Vertical).codes(Codes::EachText);
+    let at = [(Tag::new(b"wght"), 650.0), (Tag::new(b"slnt"), -7.5)];
+    let _ = pdf_font(font, index, &at, &shown, &held.bounds(Bounds::Kept));
+    let glyphs = glyphs_of(font, index, "AH\u{1f600}").unwrap_or_default();
+    let _ = pdf_font(font, index, &[], &glyphs, &FontOptions::new());
+    let made = pdf_font(font, index, &[], &shown, &vertical);
+    if let Ok(font) = &made {
+        font.sheet(&shown, Layout::Grid).unwrap();
+    }
+    made.is_ok()
+}
+
+#[cfg(feature = "variable-fonts")]
+fn pdf_fonts() -> impl Iterator<Item = Vec<u8>> {
+    let names = ["made.ttf", "made.otf", "made_variable.ttf"];
+    let folder = std::path::Path::new(env!("CARGO_MANIFEST_DIR")).join("tests/data");
+    names
+        .into_iter()
+        .map(move |name| std::fs::read(folder.join(name)).unwrap())
+}
+
+#[cfg(feature = "variable-fonts")]
+#[test]
+fn damaged_fonts_are_answered_for_a_pdf() {
+    let (mut answered, mut calls, mut state) = (0, 0, 1);
+    for font in pdf_fonts() {
+        for len in (0..font.len()).step_by(3) {
+            answered += usize::from(call_pdf(&font[..len], 0));
+            calls += 1;
+        }
+        for round in 0..2000 {
+            let mut changed = font.clone();
+            for _ in 0..1 + round % 4 {
+                let at = next(&mut state) % changed.len();
+                let values = [0, 1, 0x7f, 0x80, 0xff, next(&mut state) as u8];
+                changed[at] = values[next(&mut state) % values.len()];
+            }
+            answered += usize::from(call_pdf(&changed, 0));
+            calls += 1;
+        }
+    }
+    assert!(calls > 7000 && answered > 2000, "{answered} of {calls}");
 }
 
 /// The fonts of the rows, but for the largest and for those whose glyphs take a million tokens.

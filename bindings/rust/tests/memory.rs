@@ -181,6 +181,107 @@ fn each_request_of_an_instance_may_be_refused() {
     }
 }
 
+/// The answers of the calls in `subsetter::pdf`, each in a number, as a copy would take memory.
+#[cfg(feature = "variable-fonts")]
+mod pdf {
+    use std::hash::{Hash, Hasher};
+    use subsetter::pdf::{
+        codes_of, glyphs_of, pdf_font, Codes, Direction, FontError, FontOptions, Layout, PdfFont,
+        References, Shown,
+    };
+    use subsetter::{Error, Tag};
+
+    fn number<T: Hash>(value: &T) -> u64 {
+        let mut state = std::collections::hash_map::DefaultHasher::new();
+        value.hash(&mut state);
+        state.finish()
+    }
+
+    pub fn made(font: &[u8], text: &str, options: &FontOptions) -> Result<u64, Error> {
+        let shown = [Shown::new(1, text), Shown::new(5, "fi"), Shown::new(8, "")];
+        let at = [(Tag::new(b"wght"), 650.0)];
+        let made = pdf_font(font, 0, &at, &shown, options).map_err(|error| match error {
+            FontError::Subset(error) => error,
+            other => panic!("{other}"),
+        })?;
+        let columns = made.columns().map(|it| number(&it));
+        let encoding = made.encoding().map(|it| number(&it));
+        let lists = (made.program(), made.cids(), made.codes(), made.is_said());
+        let values = (made.widths(), made.descriptor(), made.to_unicode());
+        Ok(number(&(lists, values, columns, encoding, made.cid_set())))
+    }
+
+    /// The objects, the dictionaries and the sheets of a font.
+    pub fn written(font: &PdfFont) -> Result<u64, Error> {
+        let references = References {
+            cid_font: 2,
+            descriptor: 3,
+            program: 4,
+            to_unicode: 5,
+            cid_set: 6,
+            encoding: 7,
+        };
+        let shown = [Shown::new(1, "A"), Shown::new(5, "f"), Shown::new(1, "B")];
+        let sheets = (
+            font.sheet(&shown, Layout::Line)?,
+            font.sheet(&shown, Layout::Grid)?,
+        );
+        let objects = (font.objects(4)?, font.dictionaries(&references)?);
+        Ok(number(&(sheets, objects, font.w()?, font.w2()?)))
+    }
+
+    pub fn of(font: &[u8], options: &FontOptions) -> PdfFont {
+        let shown = [Shown::new(1, "A"), Shown::new(5, "fi"), Shown::new(1, "")];
+        pdf_font(font, 0, &[], &shown, options).unwrap()
+    }
+
+    pub fn glyphs(font: &[u8]) -> Result<u64, Error> {
+        Ok(number(&glyphs_of(font, 0, "AHxÁ")?))
+    }
+
+    pub fn codes(choice: Codes) -> Result<u64, Error> {
+        let shown = [Shown::new(1, "A"), Shown::new(5, "fi")];
+        Ok(number(&codes_of(&shown, choice)?))
+    }
+
+    pub fn options() -> [FontOptions; 3] {
+        let new = FontOptions::new();
+        [
+            new,
+            new.cid_set(true).codes(Codes::Source),
+            new.codes(Codes::EachText).direction(Direction::Vertical),
+        ]
+    }
+}
+
+#[cfg(feature = "variable-fonts")]
+#[test]
+fn each_request_of_a_pdf_font_may_be_refused() {
+    use subsetter::pdf::Codes;
+    for name in ["made.ttf", "made_version_1.otf", "made_variable.ttf"] {
+        let path = std::path::Path::new(env!("CARGO_MANIFEST_DIR")).join("tests/data");
+        let font = std::fs::read(path.join(name)).unwrap();
+        for options in pdf::options() {
+            let answer = pdf::made(&font, "A", &options);
+            assert!(answer.is_ok());
+            let requests = refuse_each(|| pdf::made(&font, "A", &options), &answer);
+            assert!(requests > 20, "{name}: {requests}");
+            let font = pdf::of(&font, &options);
+            let answer = pdf::written(&font);
+            let requests = refuse_each(|| pdf::written(&font), &answer);
+            assert!(answer.is_ok() && requests > 60, "{name}: {requests}");
+        }
+        let answer = pdf::glyphs(&font);
+        let requests = refuse_each(|| pdf::glyphs(&font), &answer);
+        assert!(answer.is_ok() && requests == 1, "{name}: {requests}");
+    }
+    for choice in [Codes::Consecutive, Codes::Source, Codes::EachText] {
+        let answer = pdf::codes(choice);
+        let requests = refuse_each(|| pdf::codes(choice), &answer);
+        assert!(answer.is_ok() && requests > 4, "{requests}");
+    }
+}
+
 #[cfg(feature = "variable-fonts")]
 #[test]
 fn a_list_of_coordinates_may_be_refused() {

@@ -9,6 +9,7 @@
     clippy::manual_map,
     clippy::manual_range_contains,
     clippy::manual_unwrap_or,
+    clippy::manual_unwrap_or_default,
     clippy::match_like_matches_macro,
     clippy::unwrap_or_default
 )]
@@ -24,10 +25,32 @@
 pub mod cid_embed;
 #[cfg(feature = "variable-fonts")]
 pub mod cid_embed_at;
-#[cfg(feature = "program")]
+#[cfg(feature = "variable-fonts")]
 pub mod cmap;
 #[cfg(feature = "program")]
 pub mod late_file;
+#[cfg(feature = "variable-fonts")]
+pub mod pdf_cff;
+#[cfg(feature = "variable-fonts")]
+pub mod pdf_codes;
+#[cfg(feature = "variable-fonts")]
+pub mod pdf_font;
+#[cfg(feature = "variable-fonts")]
+pub mod pdf_glyphs;
+#[cfg(feature = "variable-fonts")]
+pub mod pdf_moved;
+#[cfg(feature = "variable-fonts")]
+pub mod pdf_names;
+#[cfg(feature = "variable-fonts")]
+pub mod pdf_objects;
+#[cfg(feature = "variable-fonts")]
+pub mod pdf_sheet;
+#[cfg(feature = "variable-fonts")]
+pub mod pdf_source;
+#[cfg(feature = "variable-fonts")]
+pub mod pdf_text;
+#[cfg(feature = "variable-fonts")]
+pub mod pdf_values;
 #[cfg(feature = "program")]
 pub mod subset_args;
 #[cfg(feature = "program")]

@@ -11,4 +11,6 @@ mod groups;
 mod mapping;
 mod segments;
 
-pub use mapping::{find_subtable, Subtable};
+pub use mapping::find_subtable;
+#[cfg(feature = "program")]
+pub use mapping::Subtable;

@@ -15,6 +15,8 @@ pub mod error;
 pub mod glyph_remapper;
 pub mod lazy_array;
 pub mod read;
+#[cfg(feature = "variable-fonts")]
+pub mod remapper;
 pub mod tag;
 pub mod write;
 

@@ -1,0 +1,178 @@
+//! All that a PDF has of a font, from one call: the font program, the codes, the widths, the values of the font descriptor,
+//! ToUnicode and the CMap of the codes.
+//!
+//! Sections and tables in brackets are those of ISO 32000-1. Lengths are in thousandths of the em, angles in thousandths of a
+//! degree.
+//!
+//! ```
+//! use subsetter::pdf::{glyphs_of, pdf_font, FontOptions};
+//!
+//! # fn main() -> Result<(), subsetter::pdf::FontError> {
+//! # let data = include_bytes!("../tests/data/made.ttf");
+//! // `data` is a whole font file. A text without shaping: each character has the glyph that `cmap` gives it.
+//! let shown = glyphs_of(data, 0, "ABBA")?;
+//! let font = pdf_font(data, 0, &[], &shown, &FontOptions::new())?;
+//! // Strings of the page hold the codes, two bytes each.
+//! assert_eq!(font.codes(), [1, 2, 2, 1]);
+//! assert_eq!(font.widths(), [500, 667, 667]);
+//! assert_eq!(font.descriptor().cap_height, 688);
+//! assert!(font.to_unicode().starts_with(b"/CIDInit"));
+//! # Ok(())
+//! # }
+//! ```
+
+mod error;
+mod font;
+mod objects;
+mod options;
+mod values;
+
+pub use error::FontError;
+pub use font::PdfFont;
+pub use objects::{Dictionaries, Layout, Objects, References};
+pub use options::{Bounds, Codes, Direction, FontOptions, ProgramChoice, Rights, SubsetTag};
+pub use values::{Cmap, Column, Columns, Descriptor, Permission, ProgramKind, Usage};
+
+use crate::proved::cmap::find_subtable;
+use crate::proved::pdf_font as proved;
+use crate::proved::subsetter as subsetting;
+use crate::proved::subsetter_sfnt::parse::parse;
+use crate::rattle::alloc::Global;
+use crate::{library, Error, Tag};
+use alloc::vec::Vec;
+
+/// A glyph in use, and its text.
+#[derive(Debug, Copy, Clone, Eq, PartialEq, Hash)]
+pub struct Shown<'a> {
+    /// The number of the glyph in the font.
+    pub glyph: u16,
+    /// Its text: none, a character, or several (a ligature).
+    pub text: &'a str,
+}
+
+impl<'a> Shown<'a> {
+    /// A glyph with its text.
+    pub fn new(glyph: u16, text: &'a str) -> Self {
+        Self { glyph, text }
+    }
+}
+
+/// A list with room for so many.
+fn with_room<T>(count: usize) -> Result<Vec<T>, Error> {
+    let mut list = Vec::new();
+    list.try_reserve_exact(count)
+        .map_err(|_| Error::OutOfMemory)?;
+    Ok(list)
+}
+
+/// The glyph of each character of a text, by the font's table `cmap`, with the character as its text.
+///
+/// The text isn't shaped: there are no ligatures, no kerning, no reordering and no marks put in position, as a writer of Latin,
+/// Greek, Cyrillic or CJK mostly does without, and a writer of Arabic or Devanagari doesn't. A character that the font doesn't
+/// have gets glyph 0. The first Unicode table of format 12 is taken, else the first of format 4.
+///
+/// # Errors
+///
+/// Those of [`subset`](crate::subset) that come of opening the font; [`Error::MalformedFont`] where it has no such table.
+pub fn glyphs_of<'a>(data: &[u8], index: u32, text: &'a str) -> Result<Vec<Shown<'a>>, Error> {
+    let all = subsetting::Extras::ALL;
+    subsetting::check_opening(data, index, all).map_err(library::refused)?;
+    let face = parse(data, index, all).map_err(library::refused)?;
+    let cmap = face.stored(subsetting::Tag::new(b"cmap"));
+    let table = cmap.and_then(find_subtable).ok_or(Error::MalformedFont)?;
+    let mut shown = with_room(text.chars().count())?;
+    for (at, character) in text.char_indices() {
+        shown.push(Shown {
+            glyph: table.glyph_of(character),
+            text: &text[at..at + character.len_utf8()],
+        });
+    }
+    Ok(shown)
+}
+
+/// The characters of all texts, one behind the other.
+fn characters(shown: &[Shown<'_>]) -> Result<Vec<char>, Error> {
+    let mut list = with_room(shown.iter().map(|it| it.text.chars().count()).sum())?;
+    list.extend(shown.iter().flat_map(|it| it.text.chars()));
+    Ok(list)
+}
+
+/// The glyphs in use as the proved calls take them: `characters` are those of their texts.
+fn taken<'a>(
+    shown: &[Shown<'_>],
+    mut characters: &'a [char],
+) -> Result<Vec<proved::Shown<'a>>, Error> {
+    let mut list = with_room(shown.len())?;
+    for it in shown {
+        let (text, behind) = characters.split_at(it.text.chars().count());
+        characters = behind;
+        let glyph = it.glyph;
+        list.push(proved::Shown { glyph, text });
+    }
+    Ok(list)
+}
+
+/// The code of each entry, in order, as [`pdf_font`] gives it. It takes no font, so that pages can be written first.
+///
+/// Where a list goes on, the codes of the entries before stay.
+///
+/// # Errors
+///
+/// [`Error::OverflowError`]: more than 65,535 glyphs ([`Codes::Consecutive`]) or pairs of a glyph and a text
+/// ([`Codes::EachText`]), with glyph 0; [`Error::OutOfMemory`].
+pub fn codes_of(shown: &[Shown<'_>], codes: Codes) -> Result<Vec<u16>, Error> {
+    let characters = characters(shown)?;
+    let shown = taken(shown, &characters)?;
+    let found = proved::codes_of(Global, &shown, codes.chosen());
+    Ok(found.map_err(library::refused)?.into_inner())
+}
+
+/// All that a PDF has of a font for the glyphs in use, at coordinates (none: the font's default).
+///
+/// `data`, `index` and `variation_coordinates` are as for [`embed_with_variations`](crate::embed_with_variations), which makes
+/// the font program; names of the font and of its glyphs are never kept. `shown` are glyphs in order of use, with repeats if
+/// need be.
+///
+/// ```
+/// use subsetter::pdf::{pdf_font, Codes, Direction, FontOptions, Shown};
+/// use subsetter::Tag;
+///
+/// # fn main() -> Result<(), subsetter::pdf::FontError> {
+/// # let data = include_bytes!("../tests/data/made_variable.ttf");
+/// // As a shaper has them: glyph 5 is a ligature.
+/// let shown = [Shown::new(1, "A"), Shown::new(5, "fi")];
+/// let options = FontOptions::new().codes(Codes::Source).direction(Direction::Vertical);
+/// let font = pdf_font(data, 0, &[(Tag::new(b"wght"), 650.0)], &shown, &options)?;
+/// assert_eq!(font.codes(), [1, 5]);
+/// assert_eq!(font.cids(), [1, 2]);
+/// assert!(font.encoding().is_some() && font.columns().is_some());
+/// # Ok(())
+/// # }
+/// ```
+///
+/// # Errors
+///
+/// The first of these that comes:
+///
+/// - [`FontError::Subset`]: the font can't be opened.
+/// - [`FontError::NotPermitted`]: `fsType` of the table `OS/2` forbids embedding, subsets or outlines, and
+///   [`Rights::Held`] isn't chosen.
+/// - [`FontError::TextTooLong`]: a text has more than 256 UTF-16 units (512 bytes: 9.10.3).
+/// - [`FontError::Subset`]: what [`embed_with_variations`](crate::embed_with_variations) answers; [`Error::MalformedFont`]
+///   where a font with outlines in `glyf` has no `maxp` (9.9); [`Error::OverflowError`] as in [`codes_of`].
+///
+/// No value of the font descriptor is a reason: where a table is missing or cut, another source of the value is taken.
+pub fn pdf_font(
+    data: &[u8],
+    index: u32,
+    variation_coordinates: &[(Tag, f32)],
+    shown: &[Shown<'_>],
+    options: &FontOptions,
+) -> Result<PdfFont, FontError> {
+    let coordinates = library::coordinates(variation_coordinates)?;
+    let characters = characters(shown)?;
+    let shown = taken(shown, &characters)?;
+    let chosen = options.chosen();
+    let made = proved::pdf_font(Global, data, index, &coordinates, &shown, &chosen);
+    Ok(PdfFont::new(made.map_err(FontError::of)?)?)
+}

@@ -1,0 +1,145 @@
+//! What a PDF has of a font.
+
+use super::{with_room, Cmap, Column, Columns, Descriptor, Permission, ProgramKind};
+use crate::proved::pdf_font as proved;
+use crate::Error;
+use alloc::vec::Vec;
+use core::{fmt, str};
+
+/// All that a PDF has of a font for the glyphs in use: what [`pdf_font`](super::pdf_font) answers.
+///
+/// An entry is a glyph in use with its text, as the call was given them.
+pub struct PdfFont {
+    made: proved::PdfFont,
+    columns: Vec<Column>,
+}
+
+/// A text of bytes between 33 and 126.
+fn text(bytes: &[u8]) -> &str {
+    str::from_utf8(bytes).unwrap_or_default()
+}
+
+impl PdfFont {
+    pub(super) fn new(made: proved::PdfFont) -> Result<Self, Error> {
+        let each = made.columns.as_ref().map_or(&[][..], |it| &it.each);
+        let mut columns = with_room(each.len())?;
+        columns.extend(each.iter().map(|it| Column {
+            advance: it.advance,
+            x: it.x,
+            y: it.y,
+        }));
+        Ok(Self { made, columns })
+    }
+
+    /// What the proved call answered.
+    pub(super) fn made(&self) -> &proved::PdfFont {
+        &self.made
+    }
+
+    /// The font program.
+    pub fn program(&self) -> &[u8] {
+        &self.made.program
+    }
+
+    /// The font program alone, without a copy.
+    pub fn into_program(self) -> Vec<u8> {
+        self.made.program.into_inner()
+    }
+
+    /// What the font program is.
+    pub fn kind(&self) -> ProgramKind {
+        ProgramKind::of(self.made.kind)
+    }
+
+    /// How many glyphs the font program has: its CIDs are the numbers below.
+    pub fn glyph_count(&self) -> u16 {
+        self.made.glyph_count
+    }
+
+    /// The CID of each entry.
+    pub fn cids(&self) -> &[u16] {
+        &self.made.cids
+    }
+
+    /// The code of each entry, which strings hold in two bytes, the higher first.
+    pub fn codes(&self) -> &[u16] {
+        &self.made.codes
+    }
+
+    /// Of each entry whether readers find its text by its code; where they don't, ActualText says it (14.9.4).
+    pub fn is_said(&self) -> &[bool] {
+        &self.made.is_said
+    }
+
+    /// The width of each CID from 0 on, in thousandths of the em.
+    pub fn widths(&self) -> &[u32] {
+        &self.made.widths
+    }
+
+    /// DW: the most frequent width.
+    pub fn default_width(&self) -> u32 {
+        self.made.default_width
+    }
+
+    /// The columns, where text runs from top to bottom.
+    pub fn columns(&self) -> Option<Columns<'_>> {
+        let default = self.made.columns.as_ref()?.default;
+        Some(Columns {
+            each: &self.columns,
+            default: [default.y, default.advance],
+        })
+    }
+
+    /// The values of the font descriptor.
+    pub fn descriptor(&self) -> Descriptor<'_> {
+        let proved::Descriptor { font_name, values } = &self.made.descriptor;
+        let (edges, heights) = (values.bounds, values.heights);
+        Descriptor {
+            font_name: text(font_name),
+            flags: values.flags,
+            bounds: [edges.x_min, edges.y_min, edges.x_max, edges.y_max],
+            italic_angle: values.italic_angle,
+            ascent: heights.ascent,
+            descent: heights.descent,
+            cap_height: heights.cap_height,
+            x_height: heights.x_height,
+            stem_v: values.stem_v,
+            font_weight: values.font_weight,
+        }
+    }
+
+    /// What the font's maker permits.
+    pub fn permission(&self) -> Permission {
+        Permission::of(self.made.permission)
+    }
+
+    /// The ToUnicode CMap (9.10.3).
+    pub fn to_unicode(&self) -> &[u8] {
+        &self.made.to_unicode
+    }
+
+    /// The CMap from codes to CIDs; none where each code is its CID, and Encoding is `Identity-H` or `Identity-V`.
+    pub fn encoding(&self) -> Option<Cmap<'_>> {
+        let cmap = self.made.encoding.as_ref()?;
+        Some(Cmap {
+            name: text(&cmap.name),
+            text: &cmap.text,
+        })
+    }
+
+    /// The bytes of CIDSet, if it was chosen.
+    pub fn cid_set(&self) -> Option<&[u8]> {
+        self.made.cid_set.as_deref()
+    }
+}
+
+impl fmt::Debug for PdfFont {
+    fn fmt(&self, f: &mut fmt::Formatter<'_>) -> fmt::Result {
+        f.debug_struct("PdfFont")
+            .field("kind", &self.kind())
+            .field("glyph_count", &self.glyph_count())
+            .field("codes", &self.codes())
+            .field("descriptor", &self.descriptor())
+            .finish_non_exhaustive()
+    }
+}

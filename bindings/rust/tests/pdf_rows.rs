@@ -1,0 +1,222 @@
+//! Each row of `tests/data/pdf_rows.txt`, field by field.
+#![cfg(feature = "variable-fonts")]
+
+#[path = "table/pdf.rs"]
+mod table;
+
+use subsetter::pdf::{pdf_font, FontError, PdfFont, Permission, ProgramKind, Shown, Usage};
+use subsetter::pdf::{Objects, References};
+use table::{pdf_rows, PdfRow};
+
+fn shown(row: &PdfRow) -> Vec<Shown<'_>> {
+    let shown = row.shown.iter();
+    shown
+        .map(|(glyph, text)| Shown::new(*glyph, text))
+        .collect()
+}
+
+fn answer(row: &PdfRow) -> Result<PdfFont, FontError> {
+    pdf_font(&row.font, 0, &row.coordinates, &shown(row), &row.options)
+}
+
+fn hexadecimal(bytes: &[u8]) -> String {
+    bytes.iter().map(|byte| format!("{byte:02x}")).collect()
+}
+
+fn words<T: ToString>(items: impl IntoIterator<Item = T>) -> String {
+    let words: Vec<String> = items.into_iter().map(|it| it.to_string()).collect();
+    words.join(" ")
+}
+
+/// Thousandths as a number with at most three decimals.
+fn thousandths(number: i32) -> String {
+    let text = format!("{:.3}", f64::from(number) / 1000.0);
+    text.trim_end_matches('0').trim_end_matches('.').to_string()
+}
+
+fn kind(kind: ProgramKind) -> &'static str {
+    match kind {
+        ProgramKind::TrueType => "TrueType",
+        ProgramKind::BareCff => "CIDFontType0C",
+        ProgramKind::OpenType => "OpenType",
+    }
+}
+
+fn permission(permission: Permission) -> String {
+    let usage = match permission.usage {
+        Usage::Unsaid => "unsaid",
+        Usage::Installable => "installable",
+        Usage::Editable => "editable",
+        Usage::PreviewAndPrint => "preview_and_print",
+        Usage::Restricted => "restricted",
+    };
+    let (subsetting, outlines) = (permission.subsetting, permission.outlines);
+    format!(
+        "{usage} subsetting {} outlines {}",
+        u8::from(subsetting),
+        u8::from(outlines)
+    )
+}
+
+/// The columns of all CIDs, of which those that no string shows have none.
+fn columns(font: &PdfFont) -> Option<String> {
+    let columns = font.columns()?;
+    let known = columns
+        .each
+        .iter()
+        .map(|it| format!("{},{},{}", it.advance, it.x, it.y));
+    let unknown = columns.each.len()..usize::from(font.glyph_count());
+    Some(words(known.chain(unknown.map(|_| "-".to_string()))))
+}
+
+/// The fields of an answer as a row has them; a field that isn't there is left out.
+fn said(font: &PdfFont) -> Vec<(&'static str, String)> {
+    let values = font.descriptor();
+    let text = |bytes: &[u8]| String::from_utf8(bytes.to_vec()).unwrap();
+    let or_none = |it: Option<String>| it.unwrap_or_else(|| "-".to_string());
+    let mut fields = vec![
+        ("kind", kind(font.kind()).to_string()),
+        ("program", hexadecimal(font.program())),
+        ("glyph_count", font.glyph_count().to_string()),
+        ("cids", words(font.cids())),
+        ("codes", words(font.codes())),
+        (
+            "is_said",
+            words(font.is_said().iter().map(|it| u8::from(*it))),
+        ),
+        ("widths", words(font.widths())),
+        ("default_width", font.default_width().to_string()),
+        ("name", values.font_name.to_string()),
+        ("flags", values.flags.to_string()),
+        ("angle", thousandths(values.italic_angle)),
+        ("ascent", values.ascent.to_string()),
+        ("descent", values.descent.to_string()),
+        ("cap_height", values.cap_height.to_string()),
+        (
+            "x_height",
+            or_none(values.x_height.map(|it| it.to_string())),
+        ),
+        ("stem_v", values.stem_v.to_string()),
+        ("font_weight", values.font_weight.to_string()),
+        ("bounds", words(values.bounds)),
+        ("permission", permission(font.permission())),
+        ("cid_set", or_none(font.cid_set().map(hexadecimal))),
+        ("to_unicode", text(font.to_unicode())),
+    ];
+    fields.push(("w", text(&font.w().unwrap())));
+    fields.extend(font.w2().unwrap().map(|it| ("w2", text(&it))));
+    fields.extend(font.encoding().map(|it| ("encoding", text(it.text))));
+    fields.extend(columns(font).map(|it| ("columns", it)));
+    let default = font.columns().map(|it| words(it.default));
+    fields.extend(default.map(|it| ("dw2", it)));
+    fields
+}
+
+/// The bytes of the streams among the objects, by the number in the list.
+fn streams(font: &PdfFont) -> Vec<(usize, &[u8])> {
+    let mut streams = vec![(3, font.program()), (4, font.to_unicode())];
+    let further = [font.cid_set(), font.encoding().map(|it| it.text)];
+    for (stream, at) in further.into_iter().flatten().zip(5..) {
+        streams.push((at, stream));
+    }
+    streams
+}
+
+/// The objects from a number on, of which these are the dictionaries.
+fn objects(font: &PdfFont, first: u32, dictionaries: &[&str]) -> Objects {
+    let mut wanted = Objects {
+        bytes: Vec::new(),
+        offsets: Vec::new(),
+    };
+    for (at, dictionary) in dictionaries.iter().enumerate() {
+        wanted.offsets.push(wanted.bytes.len());
+        let front = format!("{} 0 obj\n{dictionary}\n", first as usize + at);
+        wanted.bytes.extend(front.bytes());
+        if let Some((_, stream)) = streams(font).iter().find(|it| it.0 == at) {
+            wanted.bytes.extend(b"stream\n");
+            wanted.bytes.extend(*stream);
+            wanted.bytes.extend(b"\nendstream\n");
+        }
+        wanted.bytes.extend(b"endobj\n");
+    }
+    wanted
+}
+
+/// Whether the objects, and the dictionaries alone, are those of a row.
+fn has_objects_of(font: &PdfFont, row: &PdfRow) -> bool {
+    let of_row = row.fields.iter().filter(|(name, _)| name == "object");
+    let texts: Vec<&str> = of_row
+        .map(|(_, value)| value.split_once(' ').unwrap().1)
+        .collect();
+    let without_length = |text: &str| {
+        let front = text.split(" /Length ").next().unwrap();
+        match text.contains(" /Length ") {
+            true => format!("{front} >>"),
+            false => text.to_string(),
+        }
+    };
+    let made = font.dictionaries(&references(font)).unwrap();
+    let dictionaries = [
+        Some(made.font),
+        Some(made.cid_font),
+        Some(made.descriptor),
+        Some(made.program),
+        Some(made.to_unicode),
+        made.cid_set,
+        made.encoding,
+    ];
+    let dictionaries: Vec<Vec<u8>> = dictionaries.into_iter().flatten().collect();
+    let wanted: Vec<String> = texts.iter().map(|it| without_length(it)).collect();
+    font.objects(4).unwrap() == objects(font, 4, &texts)
+        && dictionaries
+            .iter()
+            .eq(wanted.iter().map(|it| it.as_bytes()))
+}
+
+/// The numbers that the rows have.
+fn references(font: &PdfFont) -> References {
+    References {
+        cid_font: 5,
+        descriptor: 6,
+        program: 7,
+        to_unicode: 8,
+        cid_set: 9,
+        encoding: 9 + u32::from(font.cid_set().is_some()),
+    }
+}
+
+#[test]
+fn each_row_is_answered() {
+    let rows = pdf_rows();
+    let mut checked = 0;
+    let mut wrong = Vec::new();
+    for row in &rows {
+        let font = match (answer(row), row.wanted("error")) {
+            (Ok(font), None) => font,
+            (Err(FontError::NotPermitted(_)), Some("NotPermitted")) => continue,
+            (Err(FontError::TextTooLong), Some("TextTooLong")) => continue,
+            (found, wanted) => panic!("{}: {found:?}, and not {wanted:?}", row.name),
+        };
+        if !has_objects_of(&font, row) {
+            let made = font.objects(4).unwrap().bytes;
+            let made = String::from_utf8_lossy(&made);
+            wrong.push(format!("{}: other objects: {made}", row.name));
+        }
+        for (field, value) in said(&font) {
+            checked += 1;
+            if row.wanted(field) != Some(&value) {
+                wrong.push(format!(
+                    "{} {field}: {value}, and not {:?}",
+                    row.name,
+                    row.wanted(field)
+                ));
+            }
+        }
+    }
+    assert!(wrong.is_empty(), "{}", wrong.join("\n"));
+    assert!(
+        rows.len() >= 17 && checked > 300,
+        "{} rows, {checked} values",
+        rows.len()
+    );
+}
