@@ -77,6 +77,7 @@ LOGS = [
     ("a gate that passed", True, [], PASSED + "812 passed, 0 failed\n"),
     ("a gate with crates proved before", True, [], KEPT + PASSED + "812 passed, 0 failed\n"),
     ("a gate with a named skip", True, ["SKIP=js"], PASSED + "the page (js): skipped, as was asked for\n812 passed, 0 failed\n"),
+    ("a gate with what this test prints", True, [], "refused: a part that failed: gate: the page (js): FAILED after 3 s\n" + PASSED + "812 passed, 0 failed\n"),
     ("a gate that failed", False, [], PASSED + "812 passed, 1 failed\n"),
     ("a gate of another history", False, [], PASSED + "812 passed, 0 failed\n"),
     ("a part that failed", False, [], PASSED + "the page (js): FAILED after 3 s\n812 passed, 0 failed\n"),

@@ -44,6 +44,8 @@ def kept(text, words):
     lines = [line.strip() for line in text.strip().split("\n")]
     if not re.fullmatch(r"[1-9]\d* passed, 0 failed", lines[-1]):
         sys.exit(f"gate: the last line is {lines[-1]!r}, and no gate that passed")
+    # (the gate's own test gives logs of gates to this program, and prints what it says of each)
+    lines = [line for line in lines if not re.match(r"(refused|recorded|caught|passed)(, WRONGLY)?: ", line)]
     failed = [line for line in lines if re.search(r"\): FAILED after \d+ s$|: not run, as not all is proved$", line)]
     if failed:
         sys.exit(f"gate: {failed[0]}")
