@@ -687,7 +687,7 @@ def check_pdf_texts():
 def collection(font):
     """A collection of a font and of the same without `cmap` and `OS/2`."""
     front = 12 + 16 * font[5]
-    shift, directories = 20 + front, []
+    shift, directories = 20 + 2 * front, []
     for face in range(2):
         directory = bytearray(font[:front])
         for at in range(12, front, 16):
