@@ -637,6 +637,48 @@ static void try_glyphs(const struct row *row)
 #endif
 }
 
+static void put_number(uint8_t *at, uint32_t number, int bytes)
+{
+    while (bytes-- > 0) {
+        at[bytes] = (uint8_t)number;
+        number >>= 8;
+    }
+}
+
+/* A collection of a font and of the same without `cmap` and `OS/2`: each call takes the face that it is given. */
+static void try_faces(const struct row *row)
+{
+    size_t count = row->font[5], front = 12 + 16 * count, shift = 20 + front, size = shift + row->font_size, length;
+    uint8_t *bytes = calloc(1, size);
+    put_number(bytes, 0x74746366, 4);
+    put_number(bytes + 4, 0x10000, 4);
+    put_number(bytes + 8, 2, 4);
+    memcpy(bytes + shift, row->font, row->font_size);
+    for (size_t face = 0; face < 2; face++) {
+        uint8_t *directory = bytes + 20 + face * front;
+        put_number(bytes + 12 + 4 * face, (uint32_t)(20 + face * front), 4);
+        memcpy(directory, row->font, front);
+        for (uint8_t *record = directory + 12; record < directory + front; record += 16) {
+            put_number(record + 8, (uint32_t)(shift + ((uint32_t)record[8] << 24 | record[9] << 16 | record[10] << 8 | record[11])), 4);
+            if (face == 1 && (memcmp(record, "cmap", 4) == 0 || memcmp(record, "OS/2", 4) == 0))
+                record[3]++;
+        }
+    }
+    const uint32_t text[] = {'A'};
+    const size_t ends[] = {1};
+    uint16_t glyph[] = {7};
+    subsetter_pdf_font fonts[2];
+    check(subsetter_glyphs_of(bytes, size, 1, text, 1, glyph, 1, &length) == 2 && glyph[0] == 7, "the second face", "glyphs");
+    check(subsetter_glyphs_of(bytes, size, 0, text, 1, glyph, 1, &length) == 0 && glyph[0] == 1, "the first face", "glyphs");
+    check(subsetter_glyphs_of(bytes, size, 2, text, 1, glyph, 1, &length) == 2, "a third face", "glyphs");
+    for (uint32_t face = 0; face < 2; face++)
+        check(subsetter_make_pdf_font(bytes, size, face, NULL, 0, glyph, 1, text, 1, ends, 1, NULL, &fonts[face]) == 0, "a face", "status");
+    check(fonts[0].usage != SUBSETTER_USAGE_UNSAID && fonts[1].usage == SUBSETTER_USAGE_UNSAID, "two faces", "what they permit");
+    subsetter_free_pdf_font(&fonts[0]);
+    subsetter_free_pdf_font(&fonts[1]);
+    free(bytes);
+}
+
 static void try_statuses(void)
 {
     for (uint32_t status = 0; status < 14; status++) {
@@ -666,6 +708,7 @@ int main(int count, char **words)
             try_texts(&row);
             try_sheets(&row);
             try_glyphs(&row);
+            try_faces(&row);
         }
         free(row.font);
     }

@@ -684,6 +684,29 @@ def check_pdf_texts():
     check(type(raised(subsetter.pdf_font, font, [(1, "a" * 257)])) is subsetter.InvalidText, "a longer text")
 
 
+def collection(font):
+    """A collection of a font and of the same without `cmap` and `OS/2`."""
+    front = 12 + 16 * font[5]
+    shift, directories = 20 + 2 * front, []
+    for face in range(2):
+        directory = bytearray(font[:front])
+        for at in range(12, front, 16):
+            if face == 1 and directory[at:at + 4] in (b"cmap", b"OS/2"):
+                directory[at + 3] += 1
+            directory[at + 8:at + 12] = (int.from_bytes(directory[at + 8:at + 12], "big") + shift).to_bytes(4, "big")
+        directories.append(bytes(directory))
+    head = b"ttcf" + b"".join(it.to_bytes(4, "big") for it in (0x10000, 2, 20, 20 + front))
+    return head + b"".join(directories) + font
+
+
+def check_pdf_faces():
+    two = collection(made("made.ttf"))
+    check(subsetter.glyphs_of(two, "A") == subsetter.glyphs_of(two, "A", 0) == [(1, "A")], "glyphs of the first face")
+    check(type(raised(subsetter.glyphs_of, two, "A", 1)) is subsetter.MalformedFont, "glyphs of the second face")
+    usages = [subsetter.pdf_font(two, [(1, "A")], face).permission.usage for face in (0, 1)]
+    check(usages[0] != "unsaid" == usages[1], f"two faces for a PDF: {usages}")
+
+
 def check_pdf_choices():
     font, shown = made("made.ttf"), [(1, "A"), (5, "fi"), (1, "a")]
     plain = subsetter.pdf_font(font, shown)
@@ -804,6 +827,7 @@ def check_pdf():
     rows = check_pdf_rows()
     check_pdf_texts()
     check_pdf_choices()
+    check_pdf_faces()
     check_pdf_work()
     check_pdf_threads()
     check(rows >= 17, f"{rows} rows for PDF")

@@ -165,6 +165,35 @@ function choices(subsetter, library, files) {
     opened.close();
 }
 
+/** A collection of a font and of the same without `cmap` and `OS/2`. */
+function collection(font) {
+    const front = 12 + 16 * font[5], shift = 20 + front, bytes = new Uint8Array(shift + font.length), view = new DataView(bytes.buffer);
+    [0x74746366, 0x10000, 2, 20, 20 + front].forEach((word, i) => view.setUint32(4 * i, word));
+    bytes.set(font, shift);
+    for (const face of [0, 1]) {
+        const start = 20 + face * front;
+        bytes.set(font.subarray(0, front), start);
+        for (let at = start + 12; at < start + front; at += 16) {
+            if (face === 1 && ["cmap", "OS/2"].includes(textOfAll(bytes.subarray(at, at + 4)))) bytes[at + 3]++;
+            view.setUint32(at + 8, view.getUint32(at + 8) + shift);
+        }
+    }
+    return bytes;
+}
+
+function faces(subsetter, { MalformedFont }, font) {
+    const two = collection(font), shown = [{ glyph: 1, text: "A" }], opened = [0, 1].map((index) => subsetter.open(two, { index }));
+    equal(subsetter.glyphsOf(two, "A")[0].glyph, 1, "glyphs of the first face");
+    equal(opened[0].glyphsOf("A")[0].glyph, 1, "glyphs of the first face, opened");
+    throws(() => subsetter.glyphsOf(two, "A", { index: 1 }), MalformedFont, "glyphs of the second face");
+    throws(() => opened[1].glyphsOf("A"), MalformedFont, "glyphs of the second face, opened");
+    for (const found of [[0, 1].map((index) => subsetter.pdfFont(two, shown, { index })), opened.map((it) => it.pdfFont(shown))]) {
+        const [first, second] = found.map((it) => it.permission.usage);
+        ok(first !== "unsaid" && second === "unsaid", `what two faces permit: ${first}, ${second}`);
+    }
+    opened.forEach((it) => it.close());
+}
+
 /** What is changed in an answer changes no other, and what was made stays good after other calls. */
 function copies(subsetter, files) {
     const font = files("made.ttf"), made = subsetter.pdfFont(font, [{ glyph: 1, text: "A" }]), wanted = textOfAll(made.objects(4).bytes);
@@ -184,6 +213,7 @@ export async function runPdf(library, wasm, text, files) {
     for (const row of rows) answer(subsetter, library, row, files);
     texts(subsetter, library, files("made.ttf"));
     choices(subsetter, library, files);
+    faces(subsetter, library, files("made.ttf"));
     copies(subsetter, files);
     return rows.length;
 }
