@@ -4,7 +4,8 @@
  *   pdf_test FOLDER      where pdf_rows.txt and its fonts are
  *
  *   SUBSETTER_SHARED     over a shared library, whose memory can neither be counted nor refused
- *   SUBSETTER_BRIEF      fewer damaged fonts */
+ *   SUBSETTER_BRIEF      fewer damaged fonts
+ *   SUBSETTER_UNDAMAGED  none */
 #include "subsetter.h"
 
 #include <stdarg.h>
@@ -57,7 +58,9 @@ static void check(int holds, const char *row, const char *what)
 
 /* ---- rows */
 
-#ifdef SUBSETTER_BRIEF
+#if defined SUBSETTER_UNDAMAGED
+enum { DAMAGED = 0 };
+#elif defined SUBSETTER_BRIEF
 enum { DAMAGED = 100 };
 #else
 enum { DAMAGED = 1000 };
