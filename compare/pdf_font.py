@@ -1,24 +1,27 @@
 #!/usr/bin/python3
 """Compares what the crate's `pdf_font` says of random fonts with rules that are written a second time, and shows it to PDF readers.
 
-    compare/pdf_font.py [--faces N] [--copies N] [--seed S] [--jobs J] [--crate FOLDER] [--values] [--no-pdfbox] [--keep FOLDER]
+    compare/pdf_font.py [--faces N] [--copies N] [--seen K] [--seed S] [--jobs J] [--crate FOLDER] [--no-pdfbox] [--keep FOLDER]
 
-Of N faces of the machine (200; Debian's fonts, and a tenth more of variable ones at random coordinates) and of N damaged copies (200) it takes up
-to 40 characters, ligatures, and texts of several characters, with random options. A copy has a table `OS/2`, `post`, `name`, `vhea`, `vmtx`, `VORG` or `VVAR` that is missing, cut, changed
-or exchanged, or other numbers in `head` or `hhea`. Of each font
+Of N faces of the machine (300: Debian's fonts, and a tenth more of variable ones at random coordinates) and of N damaged copies (300) it
+takes up to 40 characters, ligatures, and texts of several characters, with random options. A copy has a table `OS/2`, `post`, `name`,
+`vhea`, `vmtx`, `VORG` or `VVAR` that is missing, cut, changed or another font's, or other numbers in `head` or `hhea`. Of each font
 
 - codes, widths, columns, descriptor, permission, ToUnicode, CMap and CIDSet, both as the crate says them and as qpdf reads them in the
   file that `sheet` writes, are those of pdf_rules.py; the dictionaries have these entries and no others;
 - an error is that of `embed`, or comes as pdf_rules.py says that the font isn't permitted;
-- `qpdf --check` finds nothing in the line, the grid, and a page made of `objects`;
+
+and of one in K (8; 0 for none), in turn:
+
+- `qpdf --check` finds nothing in the line, the grid, and a page made of `objects`, and these have the same values;
 - Poppler reads the text of the grid; MuPDF does where each glyph has one text, which its code says (several characters beyond U+FFFF
   it doesn't read);
 - PDFBox's preflight finds the page of `objects` valid as PDF/A-1b (not with an OpenType program, which PDF/A-1 forbids);
-- MuPDF and Poppler draw the line and the grid as with the whole font (off a variable font's default fontTools' instance of it), each glyph
+- MuPDF draws the line, and Poppler the grid, as with the whole font (off a variable font's default fontTools' instance of it), each glyph
   at the point that the source's own advance gives it: ink lies within two pixels, at 100 an inch, of ink.
 
---values leaves the readers out but for qpdf. It needs Cargo, and installs Debian's packages that are missing; without PDFBox it says so,
-and passes only with --no-pdfbox. The status is 1 where something differs, or nothing was compared.
+It needs Cargo, and installs Debian's packages that are missing; without PDFBox it says so, and passes only with --no-pdfbox. The status
+is 1 where something differs, or nothing was compared.
 """
 import argparse
 import base64
@@ -46,6 +49,7 @@ CHARACTERS, PIECE, FIRST = 40, 50, 7
 LOOSE = ("OS/2", "post", "name", "vhea", "vmtx", "VORG", "VVAR")
 FIELDS = {"head": [(36, 2), (38, 2), (40, 2), (42, 2), (44, 2)], "hhea": [(4, 2), (6, 2)], "post": [(4, 4), (12, 4)], "vhea": [(34, 2)], "VORG": [(4, 2), (6, 2)],
           "OS/2": [(0, 2), (4, 2), (8, 2), (30, 1), (32, 1), (33, 1), (62, 2), (68, 2), (70, 2), (74, 2), (76, 2), (86, 2), (88, 2)]}
+RIGHTS = (0, 2, 4, 6, 8, 10, 0x100, 0x102, 0x104, 0x200, 0x208, 0x302)
 EXTREMES = (0, 1, 2, 3, 4, 5, 8, 9, 10, 0x100, 0x102, 0x200, 0x7FFF, 0x8000, 0xFFFF)
 
 
@@ -54,8 +58,8 @@ EXTREMES = (0, 1, 2, 3, 4, 5, 8, 9, 10, 0x100, 0x102, 0x200, 0x7FFF, 0x8000, 0xF
 class Case:
     """A font with coordinates, options and entries, and the folder of its answer."""
 
-    def __init__(self, name, data, index, rng, folder):
-        self.name, self.data, self.index, self.folder = name, data, index, folder
+    def __init__(self, name, data, index, rng, folder, is_seen):
+        self.name, self.data, self.index, self.folder, self.is_seen = name, data, index, folder, is_seen
         self.coordinates = coordinates_of(rules.Source(data, index), rng)
         self.source = rules.Source(data, index, self.coordinates)
         self.characters = self.source.cmap() if "cmap" in self.source.tables else {}
@@ -135,7 +139,10 @@ def damaged(data, index, others, rng):
     for _ in range(rng.choice((1, 1, 2, 3))):
         tag = rng.choice([it for it in (*LOOSE, "head", "hhea", "OS/2", "OS/2") if it in tables])
         table, way = bytearray(tables[tag]), rng.choice(("missing", "cut", "field", "bytes", "other"))
-        if tag in ("head", "hhea") or way == "field" and tag in FIELDS:
+        if tag == "OS/2" and way == "bytes":
+            table[0:2], table[8:10] = struct.pack(">H", rng.randrange(5)), struct.pack(">H", rng.choice(RIGHTS))
+            done.append(f"fsType is {table[9] + 256 * table[8]} in version {table[1]}")
+        elif tag in ("head", "hhea") or way == "field" and tag in FIELDS:
             at, size = rng.choice(FIELDS[tag])
             value = rng.choice(EXTREMES) if rng.random() < 0.7 else rng.getrandbits(16)
             table[at:at + size] = (value % 256 ** size if size < 4 else value << 16 | value).to_bytes(size, "big")
@@ -404,17 +411,16 @@ def faults_of_ink(case, font):
     """What MuPDF and Poppler draw otherwise than with the whole font; and how many pictures were compared."""
     wrong, count = [], 0
     face = Face(instance_of(case.source) if case.source.is_moved else case.data, 0 if case.source.is_moved else case.index)
-    for name in ("line", "grid"):
+    for name, reader, draw in (("line", "MuPDF", readers.by_mupdf), ("grid", "Poppler", readers.by_poppler)):
         box = next(it["value"]["/MediaBox"] for it in readers.objects_of(case.file(f"{name}.pdf")).values() if "/MediaBox" in (it.get("value") or ()))
         path = case.file(f"whole-{name}.pdf")
         with open(path, "wb") as file:
             file.write(whole_page(case, font, face, name == "line", box[2:]))
-        for reader, draw in (("MuPDF", readers.by_mupdf), ("Poppler", readers.by_poppler)):
-            has, wants = draw(case.file(f"{name}.pdf")), draw(path)
-            far = readers.ink_apart(has, wants)
-            count += 1
-            if far or readers.is_blank(has) != readers.is_blank(wants):
-                wrong.append(f"{reader} draws the {name} with {far} pixels of ink elsewhere" + " (blank)" * readers.is_blank(has))
+        has, wants = draw(case.file(f"{name}.pdf")), draw(path)
+        far = readers.ink_apart(has, wants)
+        count += 1
+        if far or readers.is_blank(has) != readers.is_blank(wants):
+            wrong.append(f"{reader} draws the {name} with {far} pixels of ink elsewhere" + " (blank)" * readers.is_blank(has))
     return wrong, count
 
 
@@ -429,7 +435,7 @@ def archival_page(case, values, path):
 
 # ---- a case
 
-def judged(case, pages, only_values):
+def judged(case, pages):
     """What differs, and what was compared (as a Counter). The page for preflight goes to `pages`."""
     done, values = collections.Counter(), pdf_harness.values(case.folder)
     wants, came = outcome(case, values)
@@ -440,7 +446,7 @@ def judged(case, pages, only_values):
     wrong, font = faults_of_calls(case, values), Font(case, values)
     wrong += faults_of_values(case, values, font)
     done.update({f"kind {font.kind}": 1, "moved": int(case.source.is_moved), "vertical": int(case.is_vertical)})
-    if only_values:
+    if not case.is_seen:
         return wrong + faults_of_file(case, font, case.file("line.pdf")), done + collections.Counter(files=1)
     path = os.path.join(pages, os.path.basename(case.folder) + ".pdf")
     archival_page(case, values, path)
@@ -454,9 +460,9 @@ def judged(case, pages, only_values):
     return wrong + found + drawn, done
 
 
-def judge(case, pages, only_values):
+def judge(case, pages):
     try:
-        return judged(case, pages, only_values)
+        return judged(case, pages)
     except (readers.Unread, LookupError, ValueError, TypeError, struct.error, OSError) as error:
         return [f"not compared: {error!r}"[:300]], collections.Counter()
 
@@ -468,7 +474,7 @@ def compared_piece(cases, program, given, room):
     pdf_harness.made(program, [it.line() for it in cases], room)
     total, wrong = collections.Counter(), []
     with ThreadPoolExecutor(given.jobs) as pool:
-        for case, (faults, done) in zip(cases, pool.map(lambda it: judge(it, pages, given.values), cases)):
+        for case, (faults, done) in zip(cases, pool.map(lambda it: judge(it, pages), cases)):
             total.update(done)
             wrong += [(case, it) for it in faults]
     paths = sorted(os.path.join(pages, it) for it in os.listdir(pages))
@@ -492,7 +498,7 @@ def chosen(given):
     return taken + [(*rng.choice(small), k + 1) for k in range(given.copies)]
 
 
-def case_of(path, index, copy, others, given, folder):
+def case_of(path, index, copy, others, given, folder, is_seen):
     """A case, or None for a font without outlines or letters."""
     with open(path, "rb") as file:
         data = file.read()
@@ -505,7 +511,7 @@ def case_of(path, index, copy, others, given, folder):
             others.setdefault(tag, []).extend([tables[tag]] if tag in tables and len(others.get(tag, ())) < 40 else [])
         data, done = damaged(data, index, others, rng)
         name, index = f"{name}, copy {copy}: {done}", 0
-    case = Case(name, data, index, rng, folder)
+    case = Case(name, data, index, rng, folder, is_seen)
     return case if case.shown else None
 
 
@@ -513,7 +519,8 @@ def pieces(given, room):
     """Lists of cases, each with a folder of its own."""
     others, cases = {}, []
     for number, (path, index, copy) in enumerate(chosen(given)):
-        case = case_of(path, index, copy, others, given, os.path.join(room, str(number // PIECE), f"{number:05d}"))
+        is_seen = given.seen > 0 and number % given.seen == 0
+        case = case_of(path, index, copy, others, given, os.path.join(room, str(number // PIECE), f"{number:05d}"), is_seen)
         cases += [case] if case else []
         if len(cases) == PIECE:
             yield cases
@@ -526,9 +533,9 @@ def report(total, wrong, given):
     """The last lines; whether all is well."""
     print(f"{total['fonts']} fonts ({total['kind TrueType']} TrueType, {total['moved']} of them off their default, {total['kind BareCff']} bare CFF, {total['kind OpenType']} OpenType; "
           f"{total['vertical']} in columns), {total['refused']} refused as they should be")
-    print(f"{total['files']} files passed qpdf, {total['texts']} texts were read, {total['pictures']} pictures compared, {total['preflight']} pages judged by PDFBox")
+    print(f"{total['files']} files were read by qpdf, {total['texts']} texts were read, {total['pictures']} pictures compared, {total['preflight']} pages judged by PDFBox")
     print(f"{total['fonts'] + total['refused']} of {given.wanted} fonts compared, {len(wrong)} differences")
-    if not total["fonts"] or not total["refused"] and given.copies >= 50 or not total["pictures"] and not given.values:
+    if not total["fonts"] or not total["refused"] and given.copies >= 100 or not total["pictures"] and given.seen:
         print("too little was compared")
         return False
     if not total["preflight"] and given.with_pdfbox:
@@ -539,16 +546,16 @@ def report(total, wrong, given):
 
 def main():
     words = argparse.ArgumentParser(usage=__doc__)
-    words.add_argument("--faces", type=int, default=200)
-    words.add_argument("--copies", type=int, default=200)
+    words.add_argument("--faces", type=int, default=300)
+    words.add_argument("--copies", type=int, default=300)
+    words.add_argument("--seen", type=int, default=8)
     words.add_argument("--seed", default="pdf_font")
     words.add_argument("--jobs", type=int, default=2)
     words.add_argument("--crate", default=pdf_harness.CRATE)
-    words.add_argument("--values", action="store_true")
     words.add_argument("--no-pdfbox", action="store_true")
     words.add_argument("--keep")
     given = words.parse_args()
-    given.with_pdfbox = not given.no_pdfbox and not given.values
+    given.with_pdfbox = not given.no_pdfbox and given.seen > 0
     fonts.install(FONTS + readers.PACKAGES + (readers.PDFBOX if given.with_pdfbox else []))
     if given.with_pdfbox and not readers.has_pdfbox():
         sys.exit("pdf_font: PDFBox isn't there, and --no-pdfbox wasn't given")

@@ -4,12 +4,11 @@
     compare/pdf_font_times.py [--rounds N] [--milliseconds M] [--only WORD] [--any-machine] [--crate FOLDER]
 
 Five fonts, 80 and 2,000 glyphs that are spread over those of `cmap`, each with its character. N rounds (20) of M milliseconds (20) each, by
-turns: `embed` without names, `pdf_font` with the caller's tag, and with a computed one. A row has the medians. Bounds:
+turns: the processor time of `embed` without names, `pdf_font` with the caller's tag, and with a computed one. A row has the medians. Bounds:
 
     with the caller's tag   at most `embed`, 20 µs and 0.35 µs a code
     with a computed tag     at most 1 ns more for each byte of the font program
-    ToUnicode               60,000 codes take at most 20 ms: `pdf_font` for as many texts of one glyph, without what it takes for one (with
-                            the CMap of the codes, so that it is an upper bound)
+    ToUnicode               60,000 codes take at most 20 ms: `pdf_font` for as many glyphs with a text each, less what these take without
 
 The machine is quiet enough where other programs used at most a tenth of its processors while it ran (/proc/stat). The status is 1 where a
 bound is passed, no row was made, or the machine wasn't quiet enough: then nothing of it may be recorded. With --any-machine it says so, and goes by
@@ -31,6 +30,7 @@ FONTS = [
     ("fonts-freefont-otf", f"{fonts.OPENTYPE}/freefont/FreeSerif.otf", 0),
     ("fonts-noto-cjk", f"{fonts.OPENTYPE}/noto/NotoSansCJK-Regular.ttc", 0),
 ]
+LARGEST = ("fonts-babelstone-han", f"{fonts.TRUETYPE}/babelstone/BabelStoneHan.ttf", 0)
 COUNTS, TEXTS = (80, 2000), 60000
 # Microseconds, and microseconds a code; nanoseconds a byte; milliseconds.
 FIXED, A_CODE, A_BYTE, OF_TEXTS = 20, 0.35, 1, 20
@@ -92,7 +92,7 @@ def main():
     words.add_argument("--any-machine", action="store_true")
     words.add_argument("--crate", default=pdf_harness.CRATE)
     given = words.parse_args()
-    fonts.install([it[0] for it in FONTS])
+    fonts.install([it[0] for it in (*FONTS, LARGEST)])
     program, wrong, count = pdf_harness.built(given.crate), [], 0
     machine = Machine()
     print("| Font | Glyphs | Bytes of the program | embed, µs | the caller's tag, µs | at most, µs | a computed tag, µs | ns a byte more |")
@@ -100,9 +100,10 @@ def main():
     for row in rows_of_calls(program, given):
         wrong += printed(row)
         count += 1
-    (texts, whole, one), = numbers(program, "texts", FONTS[0][1], FONTS[0][2], given.rounds, TEXTS)
-    print(f"\nToUnicode of {texts} codes, with the CMap of the codes: {(whole - one) / 1e6:.1f} ms.")
-    wrong += [f"ToUnicode of {texts} codes: {(whole - one) / 1e6:.1f} ms"] * (whole - one > OF_TEXTS * 1e6)
+    (texts, with_texts, without), = numbers(program, "texts", *LARGEST[1:], given.rounds, TEXTS)
+    spent = (with_texts - without) / 1e6
+    print(f"\nToUnicode of {texts} codes: {spent:.1f} ms ({with_texts / 1e6:.1f} ms with texts, {without / 1e6:.1f} ms without).")
+    wrong += [f"ToUnicode of {texts} codes: {spent:.1f} ms"] * (spent > OF_TEXTS)
     others = machine.others()
     is_quiet = others <= OTHERS
     print(f"Other programs used {100 * others:.0f} % of the processors: {'quiet enough' if is_quiet else 'not quiet enough'}.")

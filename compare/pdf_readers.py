@@ -1,4 +1,5 @@
 """The PDF readers of Debian that the comparisons of PDF fonts ask: whether a file is in order, its text, its picture."""
+import html
 import json
 import os
 import re
@@ -64,8 +65,38 @@ def text_by_ghostscript(path):
     return ran(*words).decode("utf-8", "replace")
 
 
-def text_by_pdfbox(path):
-    return ran("java", "-cp", class_path(), "org.apache.pdfbox.tools.ExtractText", "-console", "-encoding", "UTF-8", path).decode("utf-8", "replace")
+def merged(paths, room):
+    """One file of the first pages of others."""
+    path = os.path.join(room, "merged.pdf")
+    ran("qpdf", "--empty", "--pages", *(word for it in paths for word in (it, "1")), "--", path)
+    return path
+
+
+def texts_by_pdfbox(paths, room):
+    """The texts of the first pages of files, in one run of PDFBox."""
+    words = ["java", "-cp", class_path(), "org.apache.pdfbox.tools.ExtractText", "-console", "-html", "-encoding", "UTF-8", merged(paths, room)]
+    said = ran(*words).decode("utf-8", "replace").partition("<body>")[2].rpartition("</body>")[0]
+    pages = said.split('<div style="page-break-before:always; page-break-after:always">')[1:]
+    if len(pages) != len(paths):
+        raise Unread(f"PDFBox finds {len(pages)} pages, not {len(paths)}")
+    return [html.unescape(re.sub(r"<[^>]*>", "", it)) for it in pages]
+
+
+def pictures_by_pdfbox(paths, room, dpi=DPI):
+    """The pictures of the first pages of files, in one run of PDFBox."""
+    folder = os.path.join(room, "pictures")
+    os.makedirs(folder)
+    ran("java", "-Djava.awt.headless=true", "-cp", class_path(), "org.apache.pdfbox.tools.PDFToImage", "-dpi", str(dpi), "-color", "gray", "-format", "png",
+        "-prefix", os.path.join(folder, "page"), merged(paths, room))
+    found = []
+    for number in range(1, len(paths) + 1):
+        with open(os.path.join(folder, f"page{number}.png"), "rb") as file:
+            found.append(picture(file.read()))
+    return found
+
+
+def text_by_pdfjs(path):
+    return ran("node", os.path.join(os.path.dirname(os.path.realpath(__file__)), "pdf_text.mjs"), path).decode("utf-8", "replace")
 
 
 # ---- pictures
@@ -90,19 +121,6 @@ def by_poppler(path, dpi=DPI):
 def by_ghostscript(path, dpi=DPI):
     words = ["gs", "-q", "-dSAFER", "-dBATCH", "-dNOPAUSE", "-sDEVICE=pgmraw", f"-r{dpi}", "-dTextAlphaBits=4", "-dGraphicsAlphaBits=4"]
     return picture(ran(*words, "-dLastPage=1", "-sOutputFile=-", path))
-
-
-def by_pdfbox(path, dpi=DPI):
-    import tempfile
-
-    with tempfile.TemporaryDirectory() as room:
-        ran("java", "-Djava.awt.headless=true", "-cp", class_path(), "org.apache.pdfbox.tools.PDFToImage", "-dpi", str(dpi), "-color", "gray", "-format", "png",
-            "-endPage", "1", "-prefix", os.path.join(room, "page"), path)
-        names = sorted(os.listdir(room))
-        if not names:
-            raise Unread("PDFBox draws nothing")
-        with open(os.path.join(room, names[0]), "rb") as file:
-            return picture(file.read())
 
 
 def ink(it, level):

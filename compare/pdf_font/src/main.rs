@@ -36,7 +36,7 @@ fn main() {
             number(4).into(),
             &words[5..],
         ),
-        "texts" => times::of_texts(&words[1], number(2), number(3), number(4)),
+        "texts" => times::of_texts(&words[1], number(2), number(3), number(4) as u16),
         word => panic!("no command {word}"),
     }
 }

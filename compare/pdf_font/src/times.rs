@@ -1,21 +1,48 @@
-//! Times by turns.
+//! Times by turns, as the processor time of this thread: what other programs use of it doesn't count.
 
 use std::fs;
 use std::hint::black_box;
 use std::time::{Duration, Instant};
-use subsetter::pdf::{pdf_font, Codes, FontOptions, Shown, SubsetTag};
+use subsetter::pdf::{pdf_font, FontOptions, Shown, SubsetTag};
 use subsetter::{embed_with_options, Options};
 
 /// Something that is timed.
 type Call<'a> = Box<dyn Fn() -> usize + 'a>;
 
+/// POSIX's `timespec` on a machine of 64 bits.
+#[repr(C)]
+struct Timespec {
+    seconds: i64,
+    nanoseconds: i64,
+}
+
+extern "C" {
+    fn clock_gettime(clock: i32, time: *mut Timespec) -> i32;
+}
+
+/// Linux's clock of the time that this thread used.
+const THREAD: i32 = 3;
+
+/// The processor time of this thread, in nanoseconds.
+fn used() -> u64 {
+    let (seconds, nanoseconds) = (0, 0);
+    let mut time = Timespec {
+        seconds,
+        nanoseconds,
+    };
+    // Safety: `time` is there for as long as the call.
+    let status = unsafe { clock_gettime(THREAD, &mut time) };
+    assert_eq!(status, 0, "no clock of this thread");
+    (time.seconds * 1_000_000_000 + time.nanoseconds) as u64
+}
+
 /// Times of a call for about so long, at least three, in nanoseconds.
 fn times_of(call: &Call<'_>, milliseconds: u64) -> Vec<u64> {
     let (start, mut times) = (Instant::now(), Vec::new());
     while times.len() < 3 || start.elapsed() < Duration::from_millis(milliseconds) {
-        let before = Instant::now();
+        let before = used();
         black_box(call());
-        times.push(before.elapsed().as_nanos() as u64);
+        times.push(used() - before);
     }
     times
 }
@@ -79,32 +106,46 @@ pub fn of_calls(path: &str, index: u32, rounds: u32, milliseconds: u64, counts: 
         let chosen = computed.tag(SubsetTag::new(b"ABCDEF").unwrap());
         let embed = Options::new().names(false).glyph_names(false);
         let calls: Vec<Call<'_>> = vec![
-            Box::new(|| embed_with_options(&data, index, &glyphs, &embed).unwrap().font.len()),
+            Box::new(|| {
+                embed_with_options(&data, index, &glyphs, &embed)
+                    .unwrap()
+                    .font
+                    .len()
+            }),
             Box::new(|| size_of(&data, index, &shown, &chosen)),
             Box::new(|| size_of(&data, index, &shown, &computed)),
         ];
         let medians = by_turns(&calls, rounds, milliseconds);
         let size = calls[1]();
-        println!("{count} {size} {} {} {}", medians[0], medians[1], medians[2]);
+        println!(
+            "{count} {size} {} {} {}",
+            medians[0], medians[1], medians[2]
+        );
     }
 }
 
-/// A line: how many codes, and the medians of `pdf_font` for as many texts of one glyph, each with a code of its own, and for that
-/// glyph alone.
-pub fn of_texts(path: &str, index: u32, rounds: u32, count: u32) {
+/// A line: how many codes, and the medians of `pdf_font` for as many glyphs with a text each, and for these without texts.
+pub fn of_texts(path: &str, index: u32, rounds: u32, count: u16) {
     let data = fs::read(path).unwrap();
-    let all = (0x4e00..).filter_map(char::from_u32).take(count as usize);
-    let texts: Vec<String> = all.map(String::from).collect();
-    let shown: Vec<Shown<'_>> = texts.iter().map(|text| Shown::new(36, text)).collect();
-    let options = FontOptions::new().codes(Codes::EachText);
-    let options = options.tag(SubsetTag::new(b"ABCDEF").unwrap());
+    let all = (0x4e00..0xd800)
+        .chain(0x2_0000..)
+        .filter_map(char::from_u32);
+    let texts: Vec<String> = all.take(count.into()).map(String::from).collect();
+    let shown: Vec<Shown<'_>> = (1..=count)
+        .zip(&texts)
+        .map(|(glyph, text)| Shown::new(glyph, text))
+        .collect();
+    let without: Vec<Shown<'_>> = (1..=count).map(|glyph| Shown::new(glyph, "")).collect();
+    let options = FontOptions::new().tag(SubsetTag::new(b"ABCDEF").unwrap());
+    let made = |shown| pdf_font(&data, index, &[], shown, &options).unwrap();
     let calls: Vec<Call<'_>> = vec![
-        Box::new(|| pdf_font(&data, index, &[], &shown, &options).unwrap().to_unicode().len()),
-        Box::new(|| pdf_font(&data, index, &[], &shown[..1], &options).unwrap().to_unicode().len()),
+        Box::new(|| made(&shown).to_unicode().len()),
+        Box::new(|| made(&without).to_unicode().len()),
     ];
-    let medians = by_turns(&calls, rounds, 20);
-    let font = pdf_font(&data, index, &[], &shown, &options).unwrap();
-    let codes = font.to_unicode().iter().filter(|it| **it == b'\n').count();
-    assert!(codes > count as usize, "{codes} lines");
+    let medians = by_turns(&calls, rounds, 1);
+    let texts = made(&shown);
+    let lines = texts.to_unicode().split(|it| *it == b'\n');
+    let lines = lines.filter(|it| it.starts_with(b"<") && it.len() >= 13);
+    assert_eq!(lines.count(), usize::from(count) + 1, "lines of ToUnicode");
     println!("{count} {} {}", medians[0], medians[1]);
 }

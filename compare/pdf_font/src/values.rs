@@ -79,7 +79,9 @@ fn lists(font: &PdfFont) -> Vec<String> {
         ));
         lines.push(format!("dw2 {}", words(columns.default)));
     }
-    let set = font.cid_set().map(|it| format!("cid_set {}", hexadecimal(it)));
+    let set = font
+        .cid_set()
+        .map(|it| format!("cid_set {}", hexadecimal(it)));
     lines.extend(set);
     if let Some(cmap) = font.encoding() {
         lines.push(format!("encoding {} {}", cmap.name, hexadecimal(cmap.text)));
