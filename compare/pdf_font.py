@@ -1,9 +1,10 @@
 #!/usr/bin/python3
 """Compares what the crate's `pdf_font` says of random fonts with rules that are written a second time, and shows it to PDF readers.
 
-    compare/pdf_font.py [--faces N] [--copies N] [--seen K] [--seed S] [--jobs J] [--crate FOLDER] [--no-pdfbox] [--keep FOLDER]
+    compare/pdf_font.py [--faces N] [--copies N] [--seen K] [--seed S] [--jobs J] [--crate FOLDER] [--program FILE] [--no-pdfbox]
+                        [--keep FOLDER]
 
-Of N faces of the machine (300: Debian's fonts, and a tenth more of variable ones at random coordinates) and of N damaged copies (300) it
+Of N faces of the machine (150: Debian's fonts, and a tenth more of variable ones at random coordinates) and of N damaged copies (150) it
 takes up to 40 characters, ligatures, and texts of several characters, with random options. A copy has a table `OS/2`, `post`, `name`,
 `vhea`, `vmtx`, `VORG` or `VVAR` that is missing, cut, changed or another font's, or other numbers in `head` or `hhea`. Of each font
 
@@ -11,7 +12,7 @@ takes up to 40 characters, ligatures, and texts of several characters, with rand
   file that `sheet` writes, are those of pdf_rules.py; the dictionaries have these entries and no others;
 - an error is that of `embed`, or comes as pdf_rules.py says that the font isn't permitted;
 
-and of one in K (8; 0 for none), in turn:
+and of one in K (6; 0 for none), in turn:
 
 - `qpdf --check` finds nothing in the line, the grid, and a page made of `objects`, and these have the same values;
 - Poppler reads the text of the grid; MuPDF does where each glyph has one text, which its code says (several characters beyond U+FFFF
@@ -44,7 +45,7 @@ from pdf_file import Face, Pdf, embedded
 
 FONTS = [it[0] for it in fonts.TRUETYPE_FONTS + fonts.CFF_FONTS] + ["fonts-inter-variable"]
 OF_THE_CRATE = [os.path.join(pdf_harness.CRATE, "tests", "data", it) for it in ("made.ttf", "made.otf", "made_variable.ttf")]
-CHARACTERS, PIECE, FIRST = 40, 50, 7
+CHARACTERS, PIECE, FIRST = 40, 120, 7
 # Tables of which a rule has a next source where they are missing, and the fields of others that are changed: offsets and sizes.
 LOOSE = ("OS/2", "post", "name", "vhea", "vmtx", "VORG", "VVAR")
 FIELDS = {"head": [(36, 2), (38, 2), (40, 2), (42, 2), (44, 2)], "hhea": [(4, 2), (6, 2)], "post": [(4, 4), (12, 4)], "vhea": [(34, 2)], "VORG": [(4, 2), (6, 2)],
@@ -364,14 +365,21 @@ def faults_of_text(case, font):
     return wrong, is_simple
 
 
-def instance_of(source):
-    """A variable font's static font at its coordinates, by fontTools."""
+def instance_of(source, glyphs):
+    """A variable font's static font at its coordinates, with the outlines of these glyphs under their numbers, by fontTools."""
     import io
 
+    from fontTools import subset
     from fontTools.ttLib import TTFont
     from fontTools.varLib import instancer
 
     font, out = TTFont(io.BytesIO(source.data), fontNumber=source.index), io.BytesIO()
+    for tag in ("GSUB", "GPOS", "GDEF", "BASE", "STAT", "MVAR", "DSIG"):
+        if tag in font:
+            del font[tag]
+    cut = subset.Subsetter(subset.Options(retain_gids=True, notdef_outline=True, layout_features=[]))
+    cut.populate(gids=glyphs)
+    cut.subset(font)
     instancer.instantiateVariableFont(font, {tag: value / 65536 for tag, value in source.at.items()}, inplace=True).save(out)
     return out.getvalue()
 
@@ -410,7 +418,7 @@ def whole_page(case, font, face, is_line, box):
 def faults_of_ink(case, font):
     """What MuPDF and Poppler draw otherwise than with the whole font; and how many pictures were compared."""
     wrong, count = [], 0
-    face = Face(instance_of(case.source) if case.source.is_moved else case.data, 0 if case.source.is_moved else case.index)
+    face = Face(instance_of(case.source, [glyph for glyph, _ in case.shown]) if case.source.is_moved else case.data, 0 if case.source.is_moved else case.index)
     for name, reader, draw in (("line", "MuPDF", readers.by_mupdf), ("grid", "Poppler", readers.by_poppler)):
         box = next(it["value"]["/MediaBox"] for it in readers.objects_of(case.file(f"{name}.pdf")).values() if "/MediaBox" in (it.get("value") or ()))
         path = case.file(f"whole-{name}.pdf")
@@ -546,12 +554,13 @@ def report(total, wrong, given):
 
 def main():
     words = argparse.ArgumentParser(usage=__doc__)
-    words.add_argument("--faces", type=int, default=300)
-    words.add_argument("--copies", type=int, default=300)
-    words.add_argument("--seen", type=int, default=8)
+    words.add_argument("--faces", type=int, default=150)
+    words.add_argument("--copies", type=int, default=150)
+    words.add_argument("--seen", type=int, default=6)
     words.add_argument("--seed", default="pdf_font")
     words.add_argument("--jobs", type=int, default=2)
     words.add_argument("--crate", default=pdf_harness.CRATE)
+    words.add_argument("--program", help="in place of the harness")
     words.add_argument("--no-pdfbox", action="store_true")
     words.add_argument("--keep")
     given = words.parse_args()
@@ -559,7 +568,7 @@ def main():
     fonts.install(FONTS + readers.PACKAGES + (readers.PDFBOX if given.with_pdfbox else []))
     if given.with_pdfbox and not readers.has_pdfbox():
         sys.exit("pdf_font: PDFBox isn't there, and --no-pdfbox wasn't given")
-    program, total, wrong, given.wanted = pdf_harness.built(given.crate), collections.Counter(), [], 0
+    program, total, wrong, given.wanted = given.program or pdf_harness.built(given.crate), collections.Counter(), [], 0
     with tempfile.TemporaryDirectory(prefix="pdf-font-") as own:
         room = given.keep or own
         for number, cases in enumerate(pieces(given, room)):

@@ -24,8 +24,8 @@ import pdf_rules as rules
 from pdf_file import Face
 
 DEJAVU, LIBERTINE = f"{fonts.TRUETYPE}/dejavu/DejaVuSans.ttf", f"{fonts.OPENTYPE}/linux-libertine/LinLibertine_R.otf"
-INTER, CJK = f"{fonts.TRUETYPE}/inter-vf/Inter.var.ttf", f"{fonts.OPENTYPE}/noto/NotoSansCJK-Regular.ttc"
-PACKAGES = ["fonts-dejavu-core", "fonts-linuxlibertine", "fonts-inter-variable", "fonts-noto-cjk", "libjs-pdf"]
+INTER, MPLUS = f"{fonts.TRUETYPE}/inter-vf/Inter.var.ttf", f"{fonts.OPENTYPE}/mplus/Mplus1-Regular.otf"
+PACKAGES = ["fonts-dejavu-core", "fonts-linuxlibertine", "fonts-inter-variable", "fonts-mplus", "libjs-pdf"]
 PLAIN, HAN = "Handgloves Ωμέγα Щука 0123".split(), "永和九年歳在癸丑"
 # What it shows, the font, coordinates, options, and entries: characters each with its own text, then pairs of a character whose glyph
 # is shown and a text.
@@ -36,8 +36,8 @@ ROWS = [
     ("a variable font at coordinates", INTER, [("wght", 650.0), ("slnt", -7.5)], [], PLAIN, []),
     ("codes of the source", DEJAVU, [], ["Source"], PLAIN, []),
     ("codes of the source, CFF outlines", LIBERTINE, [], ["Source"], PLAIN, []),
-    ("in columns", CJK, [], ["Vertical"], [HAN], []),
-    ("in columns, codes of the source", CJK, [], ["Vertical", "Source"], [HAN], []),
+    ("in columns", MPLUS, [], ["Vertical"], [HAN], []),
+    ("in columns, codes of the source", MPLUS, [], ["Vertical", "Source"], [HAN], []),
     ("a character beyond U+FFFF", DEJAVU, [], [], ["\U0001D538\U0001D7D8\U0001F600"], []),
     ("a text of several characters", DEJAVU, [], [], ["AV"], [("\ufb03", "ffi"), ("\ufb05", "ſt")]),
     ("a text of several characters, beyond U+FFFF too", DEJAVU, [], [], ["AV"], [("\ufb03", "\U0001D538f\U0001D7D8")]),
@@ -114,7 +114,7 @@ def write(case, pages):
     if "error" in values:
         sys.exit(f"pdf_font_readers: {case.name}: {values['error']}")
     font = pdf_font.Font(case, values)
-    face = Face(pdf_font.instance_of(case.source) if case.source.is_moved else case.data)
+    face = Face(pdf_font.instance_of(case.source, [glyph for glyph, _ in case.shown]) if case.source.is_moved else case.data)
     with open(case.file("whole.pdf"), "wb") as file:
         file.write(pdf_font.whole_page(case, font, face, False, (595, 842)))
     page = os.path.join(pages, os.path.basename(case.folder) + ".pdf")
