@@ -233,6 +233,15 @@ def cost_of_any_processor():
             f"CFF outlines, {100 * mean_ratio('truetype'):.0f} % for those with TrueType outlines")
 
 
+def readers_of_font():
+    """The rows that all readers read, and a table of the others."""
+    rows = results_of.result("pdf font, readers").tables[0]
+    others = [it for it in rows if set(list(it.values())[1:]) - {"read", "text"}]
+    head = "| " + " | ".join(rows[0]) + " |\n|" + "---|" * len(rows[0])
+    read = "; ".join(it["Shown"] for it in rows if it not in others)
+    return "\n".join([f"All read: {read}.", "", head, *("| " + " | ".join(it.values()) + " |" for it in others)])
+
+
 def fonts_compared():
     """What pdf_font.py compared."""
     said = " ".join(results_of.result("pdf font").body)
@@ -263,7 +272,7 @@ BLOCKS = {
     "source of instances, times": (source_of("instances, times"), ["instances, times"]),
     "sizes": (as_table("sizes"), ["sizes"]),
     "source of sizes": (source_of("sizes"), ["sizes"]),
-    "readers of a font": (as_table("pdf font, readers"), ["pdf font, readers"]),
+    "readers of a font": (readers_of_font, ["pdf font, readers"]),
     "source of pdf font, readers": (source_of("pdf font, readers"), ["pdf font, readers"]),
     "fonts compared": (fonts_compared, ["pdf font"]),
     "source of pdf font": (source_of("pdf font"), ["pdf font"]),
