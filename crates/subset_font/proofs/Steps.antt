@@ -1,5 +1,10 @@
 -- One more step of a list that is made.
-use Rattle.std.proofs.Common.{◌≡◌, ℕ, ℤ, suc, ◌+◌, ◌<◌, List, ◌∷◌, ◌++◌, length, drop, get_or, drop-cons, append_assoc, sym, ap, ◌∙◌, arith}
+use Rattle.std.proofs.Common.{◌≡◌, ℕ, ℤ, suc, ◌+◌, ◌<◌, List, ◌∷◌, ◌++◌, Bool, length, map, drop, get_or, drop-cons, append_assoc, sym, ap, ◌∙◌, arith}
+use Rattle.std.specs.Prelude.{is_some}
+use Rattle.std.specs.Borrow.{Bor}
+use Rattle.subsetter_base.specs.Bytes.{number}
+use Rattle.subset_lines.specs.Names.{name_of}
+use Rattle.subset_font.specs.Named.{name_behind, before_next, names_behind}
 use Rattle.subsetter_base.specs.declared.tag.Tag.{Tag}
 use Rattle.subsetter_variation.specs.declared.axes.Axis.{Axis}
 use Rattle.subset_lines.specs.declared.notes.Note.{Note}
@@ -11,3 +16,13 @@ note_later axes at i d old new total lt n t =
     let cut : drop i at ≡ get_or at i d ∷ drop (i + 1) at = drop-cons at i d lt ∙ ap (λ (k : ℕ). get_or at i d ∷ drop k at) next in
     let rest = notes_of axes (drop (i + 1) at) in
     ap (λ (v : List Note). v ++ rest) n ∙ (append_assoc old (if_noted (note_of axes (get_or at i d))) rest ∙ (ap (λ (l : List (Tag × ℤ)). old ++ notes_of axes l) (sym cut) ∙ t))
+
+-- one more name behind a text
+pub name_later : (names before after : List ℕ) (records : List (Bor (List ℕ))) (i : ℕ) (d : Bor (List ℕ)) (found : Bool) (old new total : List ℕ) → i < length records → new ≡ old ++ name_behind before (name_of names (number (get_or records i d).now 0 2)) → found ≡ is_some (name_of names (number (get_or records i d).now 0 2)) → after ≡ before_next before found → old ++ names_behind before names (map (λ b. b.now) (drop i records)) ≡ total → new ++ names_behind after names (map (λ b. b.now) (drop (i + 1) records)) ≡ total
+name_later names before after records i d found old new total lt n f a t =
+    let next : suc i ≡ i + 1 = omega arith in
+    let cut : drop i records ≡ get_or records i d ∷ drop (i + 1) records = drop-cons records i d lt ∙ ap (λ (k : ℕ). get_or records i d ∷ drop k records) next in
+    let name = name_of names (number (get_or records i d).now 0 2) in
+    let rest = map (λ (b : Bor (List ℕ)). b.now) (drop (i + 1) records) in
+    let before_is : after ≡ before_next before (is_some name) = a ∙ ap (λ (f : Bool). before_next before f) f in
+    ap (λ (v : List ℕ). v ++ names_behind after names rest) n ∙ (append_assoc old (name_behind before name) (names_behind after names rest) ∙ (ap (λ (b : List ℕ). old ++ (name_behind before name ++ names_behind b names rest)) before_is ∙ (ap (λ (l : List (Bor (List ℕ))). old ++ names_behind before names (map (λ (b : Bor (List ℕ)). b.now) l)) (sym cut) ∙ t)))

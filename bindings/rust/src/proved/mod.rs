@@ -27,6 +27,8 @@ pub mod cid_embed_at;
 #[cfg(feature = "program")]
 pub mod cmap;
 #[cfg(feature = "program")]
+pub mod glyph_names;
+#[cfg(feature = "program")]
 pub mod late_file;
 #[cfg(feature = "program")]
 pub mod subset_args;
