@@ -1,2 +1,2 @@
 mod Steps
-mod Names
+mod Read

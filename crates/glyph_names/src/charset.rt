@@ -1,6 +1,6 @@
 //! The SIDs of glyphs by a charset (Technical Note 5176, section 13 "Charsets").
 
-ghost use Rattle.std.specs.Prelude.{◌≡◌, ◌≤◌, [], map, IfOk};
+ghost use Rattle.std.specs.Prelude.{◌≡◌, ◌≤◌, [], map, drop, IfOk};
 ghost use Rattle.std.specs.Option.{option_map};
 ghost use Rattle.subsetter_base.specs.Bytes.{number};
 ghost use Rattle.glyph_names.specs.Charset.{run_at, take_one, next_sid, sids, sids_in, sids_at};
@@ -40,18 +40,29 @@ fn left_at(format: u8, bytes: &[u8]) -> Option<u16>
     }
 }
 
+/// The bytes from a place on.
+fn behind(bytes: &[u8], at: usize) -> &[u8]
+    ensures { result.now ≡ drop at bytes.now }
+{
+    bytes.get(at..).unwrap_or(&[])
+}
+
 /// The range at the front.
 fn run_at(format: u8, bytes: &[u8]) -> Option<Run<'_>>
     requires { format ≤ 2 }
     ensures { option_map run_view result ≡ run_at format bytes.now }
 {
-    let first = Reader::new_at(bytes, 0).read::<u16>()?;
-    let left = left_at(format, bytes)?;
+    let Some(first) = Reader::new_at(bytes, 0).read::<u16>() else {
+        return None;
+    };
+    let Some(left) = left_at(format, bytes) else {
+        return None;
+    };
     Some(Run {
         first,
         left,
         taken: 0,
-        rest: bytes.get(2 + usize::from(format)..).unwrap_or(&[]),
+        rest: behind(bytes, 2 + usize::from(format)),
     })
 }
 
@@ -141,5 +152,5 @@ pub fn sids_at(
     if offset <= 2 {
         return Ok(Vec::new(alloc));
     }
-    sids_in(alloc, count, cff.get(offset..).unwrap_or(&[]))
+    sids_in(alloc, count, behind(cff, offset))
 }
