@@ -34,15 +34,30 @@ fn left_at(format: u8, bytes: &[u8]) -> Option<u16> {
     }
 }
 
+/// The bytes from a place on.
+fn behind(bytes: &[u8], at: usize) -> &[u8] {
+    bytes.get(at..).unwrap_or(&[])
+}
+
 /// The range at the front.
 fn run_at(format: u8, bytes: &[u8]) -> Option<Run<'_>> {
-    let first = Reader::new_at(bytes, 0).read::<u16>()?;
-    let left = left_at(format, bytes)?;
+    let first = match Reader::new_at(bytes, 0).read::<u16>() {
+        Some(first) => first,
+        _ => {
+            return None;
+        }
+    };
+    let left = match left_at(format, bytes) {
+        Some(left) => left,
+        _ => {
+            return None;
+        }
+    };
     Some(Run {
         first,
         left,
         taken: 0,
-        rest: bytes.get(2 + usize::from(format)..).unwrap_or(&[]),
+        rest: behind(bytes, 2 + usize::from(format)),
     })
 }
 
@@ -123,5 +138,5 @@ pub fn sids_at(
     if offset <= 2 {
         return Ok(Vec::new(alloc));
     }
-    sids_in(alloc, count, cff.get(offset..).unwrap_or(&[]))
+    sids_in(alloc, count, behind(cff, offset))
 }
