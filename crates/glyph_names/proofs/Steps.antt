@@ -1,5 +1,5 @@
 -- One more step of a list that is made.
-use Rattle.std.proofs.Common.{◌≡◌, ℕ, suc, ◌+◌, ◌-◌, ◌<◌, List, [], ◌∷◌, ◌++◌, map, Option, Some, None, refl, sym, ap, ◌∙◌, append_assoc, append-nil, arith}
+use Rattle.std.proofs.Common.{◌≡◌, ℕ, suc, ◌+◌, ◌-◌, ◌<◌, ◌≤◌, List, [], ◌∷◌, ◌++◌, map, Option, Some, None, refl, sym, ap, ◌∙◌, append_assoc, append-nil, arith}
 use Rattle.std.specs.Borrow.{Bor}
 use Rattle.std.specs.Option.{option_map}
 use Rattle.std.proofs.lemmas.List.{map-append}
@@ -60,8 +60,11 @@ sids_cut format front n i r total less h t =
     let all = ap (λ (k : ℕ). sids format k r) (one_more n i less) ∙ no_sid format (n - (i + 1)) r h in
     sym (append-nil front) ∙ (ap (λ (l : List ℕ). front ++ l) (sym all) ∙ t)
 
-pub sids_end : (format : ℕ) (front : List ℕ) (n i : ℕ) (r : Run) (total : List ℕ) → ¬ (i < n) → front ++ sids format (n - i) r ≡ total → front ≡ total
+pub sids_end : (format : ℕ) (front : List ℕ) (n i : ℕ) (r : Run) (total : List ℕ) → n ≤ i → front ++ sids format (n - i) r ≡ total → front ≡ total
 unfolding sids
 sids_end format front n i r total more t =
     let zero_left : n - i ≡ 0 = omega arith in
     sym (append-nil front) ∙ (ap (λ (k : ℕ). front ++ sids format k r) (sym zero_left) ∙ t)
+
+pub sid_later : (format : ℕ) (front new : List ℕ) (n i : ℕ) (r after : Run) (s : ℕ) (total : List ℕ) → i < n → Some (s, after) ≡ next_sid format r → new ≡ front ++ s ∷ [] → front ++ sids format (n - i) r ≡ total → new ++ sids format (n - (i + 1)) after ≡ total
+sid_later format front new n i r after s total less h e t = ap (λ (l : List ℕ). l ++ sids format (n - (i + 1)) after) e ∙ sid_next format front n i r s after total less (sym h) t

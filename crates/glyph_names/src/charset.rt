@@ -95,7 +95,6 @@ fn next_sid(format: u8, run: Run<'_>) -> Option<(u32, Run<'_>)>
 }
 
 /// So many SIDs, as far as they are there.
-#[tactic(auto, using(crate::proofs::Steps::sid_next, crate::proofs::Steps::sids_cut, crate::proofs::Steps::sids_end))]
 fn sids(alloc: Global, format: u8, count: u32, start: Run<'_>) -> Result<Vec<u32>, AllocError>
     requires { format ≤ 2 }
     ensures { IfOk result (λ v. v.items ≡ sids format count (run_view start.entry)) }
@@ -132,12 +131,7 @@ fn sids_in(alloc: Global, count: u32, charset: &[u8]) -> Result<Vec<u32>, AllocE
 }
 
 /// The SIDs of so many glyphs, by the offset of the charset.
-pub fn sids_at(
-    alloc: Global,
-    cff: &[u8],
-    count: u32,
-    offset: usize,
-) -> Result<Vec<u32>, AllocError>
+pub fn sids_at(alloc: Global, cff: &[u8], count: u32, offset: usize) -> Result<Vec<u32>, AllocError>
     ensures { IfOk result (λ v. v.items ≡ sids_at cff.now count offset) }
 {
     if offset == 0 {

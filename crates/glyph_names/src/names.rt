@@ -42,7 +42,6 @@ fn read_sources<'a>(alloc: Global, post: &'a [u8], cff: &'a [u8]) -> Result<Sour
 }
 
 /// The name of a glyph.
-#[tactic(auto, using(crate::proofs::Read::named))]
 fn name_of<'a>(post: &'a [u8], cff: &[u8], sources: &Sources<'a>, glyph: u16) -> &'a [u8]
     requires { IsSources post.now cff.now sources.now }
     ensures { result.now ≡ glyph_name post.now cff.now glyph }

@@ -121,12 +121,7 @@ fn name_by_version<'a>(
 }
 
 /// The name of a glyph, by the names of the Macintosh and the font's own; an empty one where there is none.
-pub fn post_name<'a>(
-    macintosh: &[&'a str],
-    own: &[&'a [u8]],
-    post: &[u8],
-    glyph: u16,
-) -> &'a [u8]
+pub fn post_name<'a>(macintosh: &[&'a str], own: &[&'a [u8]], post: &[u8], glyph: u16) -> &'a [u8]
     ensures { result.now ≡ name_by_names (map (λ s. s.now) macintosh.now) (map (λ s. s.now) own.now) post.now glyph }
 {
     match Reader::new(post).read::<u32>() {

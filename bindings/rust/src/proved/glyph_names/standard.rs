@@ -7,7 +7,8 @@ use crate::rattle::prelude::{IteratorExt, Vec};
 use crate::rattle::alloc::{AllocError, Global};
 
 /// The names of the Macintosh in the order of their numbers.
-const MACINTOSH: &str = ".notdef .null nonmarkingreturn space exclam quotedbl numbersign dollar percent ampersand quotesingle parenleft \
+const MACINTOSH: &str =
+    ".notdef .null nonmarkingreturn space exclam quotedbl numbersign dollar percent ampersand quotesingle parenleft \
     parenright asterisk plus comma hyphen period slash zero one two three four five six seven eight nine colon semicolon \
     less equal greater question at A B C D E F G H I J K L M N O P Q R S T U V W X Y Z bracketleft backslash bracketright \
     asciicircum underscore grave a b c d e f g h i j k l m n o p q r s t u v w x y z braceleft bar braceright asciitilde \
@@ -26,7 +27,8 @@ const MACINTOSH: &str = ".notdef .null nonmarkingreturn space exclam quotedbl nu
     ccaron dcroat";
 
 /// The standard strings of CFF in the order of their numbers.
-const STRINGS: &str = ".notdef space exclam quotedbl numbersign dollar percent ampersand quoteright parenleft parenright asterisk plus comma \
+const STRINGS: &str =
+    ".notdef space exclam quotedbl numbersign dollar percent ampersand quoteright parenleft parenright asterisk plus comma \
     hyphen period slash zero one two three four five six seven eight nine colon semicolon less equal greater question at A \
     B C D E F G H I J K L M N O P Q R S T U V W X Y Z bracketleft backslash bracketright asciicircum underscore quoteleft \
     a b c d e f g h i j k l m n o p q r s t u v w x y z braceleft bar braceright asciitilde exclamdown cent sterling \
