@@ -283,8 +283,8 @@ def check_names(room):
                  (3, b"cannot read in\nout of memory\n"): "reading"}
         demand((got.status, got.err) in kinds, what, got)
         counts[kinds[got.status, got.err]] += 1
-    # (two lists of axes and records are read, one to look for the name and one for the line, and two names are made each time)
-    demand(counts["without them"] >= 4 and counts["before"] >= 4 and counts["reading"] > 0, "no such instance", counts)
+    # (the line takes the axes, the records and the text of a name at least)
+    demand(counts["without them"] >= 3 and counts["before"] >= 3 and counts["reading"] > 0, "no such instance", counts)
     return counts
 
 

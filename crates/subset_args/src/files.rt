@@ -2,7 +2,7 @@
 
 ghost use Rattle.std.specs.Prelude.{◌≡◌, ◌⊎◌, map, not, filter, IfOk, IfErr, IfSome, Some, None};
 ghost use Rattle.std.specs.Str.{IsUtf8};
-ghost use Rattle.subset_args.specs.Files.{list_in, IsNotText};
+ghost use Rattle.subset_args.specs.Files.{list_in, IsNotText, IsWrongIn};
 ghost use Rattle.subset_args.specs.ListView.{list_view};
 ghost use Rattle.subset_args.specs.declared.jobs.ArgsError.TheVariants.{Usage, OutOfMemory};
 
@@ -27,7 +27,9 @@ pub fn read_list(alloc: Global, kind: FileKind, text: &[u8]) -> Result<GlyphList
 }
 
 /// The part of the text of a file for which `read_list` answers `Usage`: of a list the first wrong one, and of a text all of it.
-pub fn find_wrong<'a>(kind: FileKind, text: &'a [u8]) -> Option<&'a [u8]> {
+pub fn find_wrong<'a>(kind: FileKind, text: &'a [u8]) -> Option<&'a [u8]>
+    ensures { IfSome result (λ part. IsWrongIn kind text.now part.now) }
+{
     match kind {
         FileKind::Glyphs => find_wrong_part(text),
         FileKind::Characters => find_wrong_codes(text),
