@@ -15,10 +15,11 @@
 
 /* ---- memory that is counted, and refused at one request (the linker's --wrap) */
 
-static unsigned long refused, requests;
 static long held;
 
 #ifndef SUBSETTER_SHARED
+static unsigned long refused, requests;
+
 void *__real_malloc(size_t size);
 void *__real_realloc(void *block, size_t size);
 void __real_free(void *block);
