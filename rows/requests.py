@@ -2,7 +2,7 @@
 from fractions import Fraction
 
 import sfnt
-from reading import Line, Trouble
+from reading import Line
 
 STATUS = ["DONE", "UNKNOWN_KIND", "MALFORMED_FONT", "UNIMPLEMENTED", "SUBSET_ERROR", "OVERFLOW_ERROR", "CFF_ERROR", "OUT_OF_MEMORY",
           "BUFFER_TOO_SMALL", "NO_DEPTH", "UNKNOWN_OPTION"]
@@ -172,12 +172,13 @@ class Library:
 
 
 def compiled(entries, formats):
-    """The text of today's file."""
+    """The lines of today's file."""
     library, made = Library(formats), []
     for entry in entries:
-        text = entry if isinstance(entry, str) else library.entry(entry)
+        try:
+            text = entry if isinstance(entry, str) else library.entry(entry)
+        except (ArithmeticError, AttributeError, IndexError, KeyError, TypeError, ValueError) as error:
+            entry.fails(f"{' '.join(entry.words[:2])} can't be compiled: {error!r}")
         if text is not None:
             made.append(text)
-    if not made:
-        raise Trouble("nothing is compiled")
-    return "\n".join(made) + "\n", library
+    return made

@@ -1,5 +1,6 @@
 """Fonts: tables and their directory, and what a font changes of another one."""
 import re
+import struct
 
 import cff
 import fields
@@ -82,13 +83,19 @@ class Table:
     """A table: its tag, its lines, and the fields of its record that aren't those of its bytes."""
 
     def __init__(self, tag, lines):
-        self.tag, self.lines = tag, lines
+        self.tag, self.lines, self.made = tag, lines, None
 
     def record(self):
         lines = [it for it in self.lines if it.words[0] == "record"]
         return {key: int(value, 0) for it in lines for key, value in it.keys()[0].items()}
 
     def bytes(self, formats):
+        """Its bytes (fonts that change another one share its tables)."""
+        if self.made is None:
+            self.made = self.rounds(formats)
+        return self.made
+
+    def rounds(self, formats):
         """Its bytes, in as many rounds as its labels need to stay."""
         labels = fields.Labels()
         for _ in range(ROUNDS):
@@ -211,7 +218,7 @@ class Font:
 
 def sum_of(data):
     data += bytes(-len(data) % 4)
-    return sum(int.from_bytes(data[it:it + 4], "big") for it in range(0, len(data), 4)) & 0xffffffff
+    return sum(struct.unpack(f">{len(data) // 4}I", data)) & 0xffffffff
 
 
 def without_adjustment(data):
