@@ -6,8 +6,8 @@ from fractions import Fraction
 import reading
 
 # Type: bytes, whether it has a sign, and the parts of one.
-TYPES = {"u8": (1, False, 1), "i8": (1, True, 1), "u16": (2, False, 1), "i16": (2, True, 1), "u24": (3, False, 1), "u32": (4, False, 1),
-         "i32": (4, True, 1), "i64": (8, True, 1), "offset8": (1, False, 1), "offset16": (2, False, 1), "offset32": (4, False, 1),
+TYPES = {"u8": (1, False, 1), "i8": (1, True, 1), "u16": (2, False, 1), "i16": (2, True, 1), "u32": (4, False, 1),
+         "i32": (4, True, 1), "i64": (8, True, 1), "offset16": (2, False, 1), "offset32": (4, False, 1),
          "F2Dot14": (2, True, 1 << 14), "Fixed": (4, True, 1 << 16)}
 TERM = re.compile(r"([+-]?)(?:@([\w.]+)|(0x[0-9a-fA-F]+)|(\d+(?:\.\d+)?)|([A-Z][A-Z_0-9]+))")
 VERSION = re.compile(r"(\d+)\.(\d)")
@@ -152,11 +152,11 @@ def filler(line):
     return bytes((7 * it + it // 256) % 256 for it in range(int(line.words[1])))
 
 
-RUNS = {"deltas0": (0x80, None), "deltas8": (0, "i8"), "deltas16": (0x40, "i16"), "points8": (0, "u8"), "points16": (0x80, "u16")}
+RUNS = {"deltas0": (0x80, None), "deltas8": (0, "i8"), "deltas16": (0x40, "i16"), "points8": (0, "u8")}
 
 
 def packed(line, labels, formats):
-    """A line of runs `deltas8 VALUE..`, `deltas16 VALUE..`, `deltas0 COUNT`, `points8 VALUE..` or `points16 VALUE..`: each is a
+    """A line of runs `deltas8 VALUE..`, `deltas16 VALUE..`, `deltas0 COUNT` and `points8 VALUE..`: each is a
     control byte, which has its length, and its values (packed deltas and point numbers)."""
     runs, made = [], b""
     for word in repeated(line, line.words):
