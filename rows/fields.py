@@ -10,6 +10,7 @@ TYPES = {"u8": (1, False, 1), "i8": (1, True, 1), "u16": (2, False, 1), "i16": (
          "i32": (4, True, 1), "i64": (8, True, 1), "offset16": (2, False, 1), "offset32": (4, False, 1),
          "F2Dot14": (2, True, 1 << 14), "Fixed": (4, True, 1 << 16)}
 TERM = re.compile(r"([+-]?)(?:@([\w.]+)|(0x[0-9a-fA-F]+)|(\d+(?:\.\d+)?)|([A-Z][A-Z_0-9]+))")
+PLAIN = re.compile(r"-?\d+")
 VERSION = re.compile(r"(\d+)\.(\d)")
 
 
@@ -43,7 +44,9 @@ def unquoted(word):
 
 def number(line, word, labels, formats):
     """The value of a sum of numbers, labels and names of bits."""
-    total, at = Fraction(0), 0
+    if PLAIN.fullmatch(word):
+        return int(word)
+    total, at = 0, 0
     for part in word.split("|"):
         at = 0
         while at < len(part):
@@ -55,7 +58,7 @@ def number(line, word, labels, formats):
                 line.fails(f"there is no label {label}")
             if name and name not in formats.bits:
                 line.fails(f"there is no bit {name}")
-            value = labels.last.get(label, 0) if label else int(hexadecimal, 16) if hexadecimal else formats.bits[name] if name else Fraction(decimal)
+            value = labels.last.get(label, 0) if label else int(hexadecimal, 16) if hexadecimal else formats.bits[name] if name else Fraction(decimal) if "." in decimal else int(decimal)
             total, at = total + (-value if sign == "-" else value), found.end()
         if not part:
             line.fails(f"{word} is no number")

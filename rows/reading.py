@@ -19,6 +19,11 @@ class Line:
     def fails(self, what):
         raise Trouble(f"{self.where}: {what}")
 
+    def same(self, other):
+        """Whether the words are the same, and those below."""
+        return self.words == other.words and len(self.children) == len(other.children) and all(
+            left.same(right) for left, right in zip(self.children, other.children))
+
     def keys(self, words=None):
         """The words KEY=VALUE, and those without a key."""
         pairs, others = {}, []

@@ -51,10 +51,10 @@ def items(line, labels, formats):
 
 def repetitions(line, labels, formats):
     """The objects below a line `each A..B`."""
-    found = []
-    for value in numbers(line):
-        found += items(filled(line, str(value)), labels, formats)
-    return found
+    values = numbers(line)
+    if filled(line, "").same(line):
+        return items(line, labels, formats) * len(values)
+    return [it for value in values for it in items(filled(line, str(value)), labels, formats)]
 
 
 def numbers(line):
