@@ -1,4 +1,4 @@
-"""Items of code files (.rt): functions with their clauses, types, traits, instances and constants. Bodies are kept as text."""
+"""Items of code files (.rt): functions with their clauses, types, traits, instances and constants. Bodies are kept as words."""
 import re
 
 from rattle_antt import imports_of
@@ -14,7 +14,7 @@ class Item:
     def __init__(self, kind, name, module, public, line):
         self.kind, self.name, self.module, self.public, self.line = kind, name, module, public, line
         self.words, self.clauses, self.ghosts, self.items, self.ghost_imports = [], [], [], [], []
-        self.generics, self.params, self.body, self.owner, self.path, self.trait = [], [], "", None, "", None
+        self.generics, self.params, self.body, self.owner, self.path, self.trait = [], [], [], None, "", None
 
 
 class CodeModule:
@@ -195,7 +195,7 @@ class CodeParser:
         k = self.clauses(k, made)
         if self.at(k) == ";":
             return made, k + 1
-        made.body = self.text[self.words[k][1]:self.words[self.ends[k]][1] + 1]
+        made.body = [it for it, _ in self.words[k:self.ends[k] + 1]]
         return made, self.ends[k] + 1
 
     def head(self, k, made, ends):

@@ -2,8 +2,6 @@
 has other names or stands elsewhere, and functions of src/ with the same body."""
 import re
 
-from rattle_text import code_words
-
 SMALL = 6  # words of a definition below which two may well be alike by chance
 BODY = 24  # words of a function's body, likewise
 SHAPE = 60  # words of a body that is the same but for names and fields
@@ -49,7 +47,7 @@ def name(id):
 
 def bodies(tree):
     """Functions with the same body, word for word: lists of items."""
-    return groups(tree, lambda item: tuple(it for it, _ in code_words(item.body)), BODY)
+    return groups(tree, lambda item: tuple(item.body), BODY)
 
 
 def shapes(tree):
@@ -57,10 +55,10 @@ def shapes(tree):
     return groups(tree, lambda item: shape(item.body), SHAPE)
 
 
-def shape(text):
+def shape(words):
     """A body's words, each name by where it first stands."""
     numbers, out = {}, []
-    for word, _ in code_words(text):
+    for word in words:
         if re.match(r"[A-Za-z_]\w*$", word):
             word = numbers.setdefault(word, len(numbers))
         out.append("0" if isinstance(word, str) and word[0].isdigit() else word)
