@@ -240,7 +240,7 @@ class Comparison:
     def label(self, label):
         """A part's label, with the new name of its clause or member."""
         return re.sub(r"(\S+)$", lambda found: next(iter(sorted(self.names.field(found[1]) - {found[1]})), self.names.word(found[1])), label) \
-            if " " in label and not label.endswith("derives") else label
+            if " " in label and not label.endswith("attributes") else label
 
     def title(self, a, b):
         why, seen = self.pairs.get((a, b), ""), {a}

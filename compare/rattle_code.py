@@ -5,6 +5,8 @@ from rattle_antt import imports_of
 from rattle_text import Trouble, code_words
 
 OPEN, CLOSE = {"(": ")", "[": "]", "{": "}"}, {")", "]", "}"}
+# Attributes that say nothing to a caller.
+UNSEEN = re.compile(r"(tactic|inline|allow|cold|cfg|doc|cycle|rustfmt|test|expect)\b")
 MODIFIERS = ("const", "unsafe", "extern", "final", "async")
 
 
@@ -81,6 +83,7 @@ class CodeParser:
             public, k = self.at(k + 1) != "(", k + 1
             if self.at(k) == "(":
                 k = self.ends[k] + 1
+        first = k
         tests = any(re.match(r"cfg\(test\)|test$", it.strip()) for it in attributes)
         word = self.at(k)
         if word == "ghost":
@@ -95,8 +98,11 @@ class CodeParser:
                 "static": self.value, "type": self.value}.get(self.at(k))
         if read is None:
             return self.macro(k)
+        kept = [it for it in attributes if not UNSEEN.match(it.strip())]
+        qualified = [it for it, _ in self.words[first:k]]
         made, k = read(k, module, public)
-        made.line, made.path, made.owner, made.attributes = self.line(self.words[start][1]), self.path, owner, attributes
+        made.words = qualified + made.words
+        made.line, made.path, made.owner, made.attributes = self.line(self.words[start][1]), self.path, owner, kept
         if not tests:
             into.append(made)
         return k

@@ -29,8 +29,8 @@ class View:
         own = self.members(item)
         words = self.tree.code(item, item.words, self.generics(item))
         parts[f"{label}{item.kind}"] = (words, " ".join(item.words))
-        derived = sorted(it for text in item.attributes for it in re.findall(r"\w+", text) if re.match(r"derive|repr", text))
-        parts[f"{label}derives"] = (derived, " ".join(derived))
+        attributes = sorted(it for text in item.attributes for it in re.findall(r"\w+", text))
+        parts[f"{label}attributes"] = (attributes, " ".join(attributes))
         env = {name: f"p{k}" for k, name in enumerate(item.params)}
         env.update({name: f"ghost {name}" for kind, name, _, _ in item.clauses if kind == "ghost"})
         for kind, name, text, _ in item.clauses:
