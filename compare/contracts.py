@@ -100,14 +100,14 @@ class Names:
 
     def id(self, id):
         """The new full name, by the longest prefix that has one."""
-        for names in (self.full, self.merged):
-            if id in names:
-                return names[id]
         parts = id.split(".")
         for k in range(len(parts), 0, -1):
             prefix = ".".join(parts[:k])
-            if prefix in self.prefixes:
-                parts = self.prefixes[prefix].split(".") + parts[k:]
+            new = self.full.get(prefix) or self.merged.get(prefix) or self.prefixes.get(prefix)
+            if new and k == len(parts):
+                return new
+            if new:
+                parts = new.split(".") + parts[k:]
                 break
         parts[-1] = self.plain.get(parts[-1], parts[-1])
         if len(parts) > 1 and parts[-2][:1].isupper():
@@ -188,13 +188,20 @@ class Comparison:
         return ".".join(id.split(".")[-(2 if item.owner is not None else 1):])
 
     def find_instance(self, item):
-        key = self.key(item, self.names.word)
+        own = {leaf(it): self.names.of(it) for it in (item.type_id, self.trait_of(item)) if it}
+        key = self.key(item, lambda name: own.get(name, self.names.word(name)))
         found = [it for it in self.new.tree.instances if self.key(it, lambda name: name) == key]
         if len(found) > 1:
             type_id = self.find(item.type_id) if item.type_id in self.old.tree.items else None
             near = [it for it in found if it.type_id == type_id and type_id] or [it for it in found if it.module.id == self.names.id(item.module.id)]
             found = near or [it for it in found if it.id.split(".")[0] == self.names.id(item.id).split(".")[0]]
         return found[0].id if len(found) == 1 else None
+
+    def trait_of(self, item):
+        """The full name of an instance's trait, where it is one of the checkout."""
+        path = [it for it in item.trait if re.match(r"[A-Za-z_]\w*$", it)]
+        found = self.old.tree.path(item.module, path[:1]) if path else None
+        return found[1] if found and found[0] == "def" else None
 
     @staticmethod
     def key(item, renamed):

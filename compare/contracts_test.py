@@ -198,6 +198,7 @@ VARIABLES = both(at(SPEC, "(x ∷ xs) = Some x", "(y ∷ ys) = Some y"), at(READ
 TWIN = both(at("crates/high/specs/Own.antt", "scaled, kept", "scaled"), at("crates/high/specs/Own.antt", "abbrev pub head_of", "abbrev pub kept : ℕ → ℕ\nkept n = 1 * n\n\nabbrev pub head_of"),
             at("crates/high/specs/Own.antt", "{ℕ}", "{ℕ, ◌*◌}"))
 SAME = both(at(BYTES, "kept n = 1 * n", "kept n = n"), at(BYTES, "kept", "same"), at("crates/high/specs/Own.antt", "kept", "same"))
+TYPES = both(at(SHAPES, "Strip", "Band"), at("crates/low/src/lib.rt", "Strip", "Band"), at(HIGH, "Strip", "Band"), at(SHAPES, "Figure", "Shape"))
 # Name, change, lines of FILE, the status, and a text that has to be printed.
 PLANTS = [
     ("nothing", lambda root: None, "", 0, "0 differences"),
@@ -235,6 +236,10 @@ PLANTS = [
     ("a definition is renamed", SCALED, "", 1, "low.specs.Bytes.joined"),
     ("a definition is renamed, by FILE", SCALED, "scaled -> times_256", 0, "0 differences"),
     ("a definition is renamed and changed", both(SCALED, at(BYTES, "256 * n", "257 * n")), "scaled -> times_256", 1, "times_256"),
+    ("a type and a trait are renamed", TYPES, "", 1, "it isn't in the new checkout"),
+    ("a type and a trait are renamed, by FILE", TYPES, "Strip -> Band\nFigure -> Shape", 0, "0 differences"),
+    ("the same by full names", TYPES, "low.shapes.Strip -> low.shapes.Band\nlow.shapes.Figure -> low.shapes.Shape", 0, "0 differences"),
+    ("the same, and another model", both(TYPES, at(SHAPES, "λ s. s.width", "λ s. 2 * s.width")), "Strip -> Band\nFigure -> Shape", 1, "impl Model for Strip"),
     ("a field is renamed", FIELDS, "", 1, "low.specs.Bytes.Pair"),
     ("a field is renamed, by FILE", FIELDS, ".low -> .lower", 0, "0 differences"),
     ("a field with two new names in one record", FIELDS, ".low -> .lower\n.low -> .high", 1, "could be"),
