@@ -40,7 +40,7 @@ def read(path):
 class Tree:
     """A checkout. `problems` lists the names that are found nowhere."""
 
-    def __init__(self, root, specs_alone=False):
+    def __init__(self, root):
         self.root, self.crates, self.antt, self.definitions, self.items = root, {}, {}, {}, {}
         self.problems, self.instances, self.scopes, self.memo = [], [], {}, {}
         self.names = crates_of(root)
