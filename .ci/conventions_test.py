@@ -1,0 +1,135 @@
+#!/usr/bin/env python3
+"""Plants faults in a small repository, which .ci/conventions.py has to find, and changes that it has to allow."""
+import contextlib
+import io
+import os
+import shutil
+import sys
+import tempfile
+
+sys.dont_write_bytecode = True
+HERE = os.path.dirname(os.path.realpath(__file__))
+sys.path[:0] = [HERE, os.path.join(os.path.dirname(HERE), "compare")]
+
+import contracts_test  # noqa: E402
+import conventions  # noqa: E402
+from contracts_test import at, both  # noqa: E402
+
+NONE = "".join(f"at most 0 of {kind}\n" for kind in conventions.KINDS)
+LISTS = {
+    "layers.txt": "# the layers\nbytes: low\nfonts: high\n",
+    "tables.txt": "head.unitsPerEm | low/src/head.rt | \\(head, 18\\b\n",
+    "exceptions.txt": "# what isn't so\n" + NONE,
+}
+EXCEPTIONS = ".ci/conventions/exceptions.txt"
+LONG = "// a line\n" * 401
+BODY = " {\n" + "".join(f"    let n{k} = {k} + {k};\n" for k in range(12)) + "}\n"
+
+
+def add(path, text):
+    """Writes a file, or more text at the end of one."""
+    def change(root):
+        whole = os.path.join(root, path)
+        os.makedirs(os.path.dirname(whole), exist_ok=True)
+        with open(whole, "a", encoding="utf-8") as file:
+            file.write(text)
+    return change
+
+
+def excepted(line):
+    kind = line.split()[0]
+    return both(at(EXCEPTIONS, f"at most 0 of {kind}", f"at most 1 of {kind}"), add(EXCEPTIONS, line + "\n"))
+
+
+def heap(folder, ending, count):
+    return both(*(add(f"{folder}/Heap{k}.{ending}", "-- nothing\n") for k in range(count)))
+
+
+TWIN = add("crates/high/specs/Own.antt", "\nabbrev pub many : ℕ → ℕ\nmany n = 256 * n\n")
+TWIN = both(TWIN, at("crates/high/specs/Own.antt", "{ℕ}", "{ℕ, ◌*◌}"), at("crates/low/specs/Bytes.antt", "scaled n = 256 * n", "scaled n = 256 * n * (n * n)"),
+            at("crates/high/specs/Own.antt", "256 * n", "256 * n * (n * n)"))
+FUNCTIONS = both(add("crates/low/src/read.rt", "fn one()" + BODY), add("crates/high/src/lib.rt", "fn two()" + BODY))
+READER = add("crates/high/src/lib.rt", "fn units(head: &[u8]) -> Option<u16> {\n    Reader::new_at(head, 18).read::<u16>()\n}\n")
+# Name, change, status, and a text that has to be printed.
+PLANTS = [
+    ("nothing", lambda root: None, 0, "0 faults"),
+    ("a folder of 12 files", heap("crates/low/proofs/Laws", "antt", 12), 0, "0 faults"),
+    ("a folder of 13 proofs", heap("crates/low/proofs/Laws", "antt", 13), 1, "folder crates/low/proofs/Laws: 13 files"),
+    ("a folder of 14 definitions", heap("crates/low/specs", "antt", 11), 1, "folder crates/low/specs"),
+    ("a folder of 13 sources", heap("crates/low/src/read", "rt", 13), 1, "folder crates/low/src/read"),
+    ("other files in a folder", heap("crates/low/data", "txt", 20), 0, "0 faults"),
+    ("a heap that is excepted", both(heap("crates/low/proofs/Laws", "antt", 13), excepted("folder crates/low/proofs/Laws")), 0, "1 folder"),
+    ("a file of 400 lines", add("crates/low/proofs/Laws.antt", "-- a line\n" * 400), 0, "0 faults"),
+    ("a file of over 400 lines", add("crates/low/src/read.rt", LONG), 1, "file crates/low/src/read.rt"),
+    ("the same for a reason", both(add("crates/low/src/read.rt", LONG), excepted("file crates/low/src/read.rt | one table")), 0, "1 file"),
+    ("the same without a reason", both(add("crates/low/src/read.rt", LONG), excepted("file crates/low/src/read.rt")), 1, "without its reason"),
+    ("a crate on a higher one", at("crates.txt", "low:", "low: high"), 1, "layer low on high: bytes on fonts"),
+    ("a crate on one of its layer", at(".ci/conventions/layers.txt", "bytes: low\nfonts: high", "fonts: low high"), 0, "0 faults"),
+    ("a crate without a layer", at(".ci/conventions/layers.txt", "fonts: high", "fonts:"), 1, "layer high: layers.txt doesn't have it"),
+    ("a layer with a crate too many", at(".ci/conventions/layers.txt", "fonts: high", "fonts: high higher"), 1, "layer higher: crates.txt doesn't have it"),
+    ("a crate in two layers", at(".ci/conventions/layers.txt", "fonts: high", "fonts: high low"), 1, "it stands in two layers"),
+    ("a library of the kit", at("crates.txt", "high: low", "high: low thiserror"), 0, "0 faults"),
+    ("a second reader", READER, 1, "reader crates/high/src/lib.rt of head.unitsPerEm: it belongs to crates/low/src/head.rt"),
+    ("a reader in a comment", add("crates/high/src/lib.rt", "// Reader::new_at(head, 18)\n"), 0, "0 faults"),
+    ("the one reader", add("crates/low/src/head.rt", "fn units(head: &[u8]) -> Option<u16> {\n    Reader::new_at(head, 18).read::<u16>()\n}\n"), 0, "0 faults"),
+    ("a definition that stands twice", TWIN, 1, "definition high.specs.Own.many = low.specs.Bytes.scaled"),
+    ("one that is excepted", both(TWIN, excepted("definition high.specs.Own.many = low.specs.Bytes.scaled")), 0, "1 definition"),
+    ("a third one beside two that are excepted", both(TWIN, excepted("definition high.specs.Own.many = low.specs.Bytes.scaled"),
+                                                     add("crates/high/specs/Own.antt", "\nabbrev pub more : ℕ → ℕ\nmore k = 256 * k * (k * k)\n")), 1, "high.specs.Own.more"),
+    ("a function that stands twice", FUNCTIONS, 1, "function high.two = low.read.one"),
+    ("an exception that isn't needed", excepted("folder crates/low/specs"), 1, "the exception isn't needed"),
+    ("a number that is too high", at(EXCEPTIONS, "at most 0 of file", "at most 1 of file"), 1, "the number may only fall"),
+    ("an exception without its number", both(READER, add(EXCEPTIONS, "reader crates/high/src/lib.rt of head.unitsPerEm\n")), 1, "the number may only fall"),
+    ("an exception of no kind", add(EXCEPTIONS, "house crates/low\n"), 1, "has no such kind"),
+    ("no crates", lambda root: shutil.rmtree(os.path.join(root, "crates")), 2, "no sources"),
+    ("no list of layers", lambda root: os.remove(os.path.join(root, ".ci/conventions/layers.txt")), 2, "can't be read"),
+    ("a row of tables.txt without its pattern", add(".ci/conventions/tables.txt", "hmtx | low/src/hmtx.rt\n"), 2, "can't read"),
+    ("a definition that can't be read", at("crates/low/specs/Bytes.antt", "kept n = 1 * n", "kept n = 1 * m"), 2, "can't find `m`"),
+]
+
+
+def outcome(root, change, *options):
+    """The status and what is printed for a changed repository."""
+    shutil.rmtree(root, ignore_errors=True)
+    contracts_test.built(root, both(*(add(f".ci/conventions/{name}", text) for name, text in LISTS.items())))
+    change(root)
+    return asked(root, *options)
+
+
+def asked(root, *options):
+    printed, status = io.StringIO(), 0
+    with contextlib.redirect_stdout(printed), contextlib.redirect_stderr(printed):
+        sys.argv = ["conventions.py", *options, root]
+        try:
+            status = 0 if conventions.main() else 1
+        except SystemExit as ended:
+            status = ended.code
+    return status, printed.getvalue()
+
+
+def shrinks(root):
+    """Whether --shrink takes out what isn't needed, keeps what is, and adds nothing."""
+    needed = both(READER, excepted("reader crates/high/src/lib.rt of head.unitsPerEm"), excepted("folder crates/low/specs"), FUNCTIONS)
+    outcome(root, needed, "--shrink")
+    status, printed = asked(root)
+    return status == 1 and "function high.two = low.read.one" in printed and printed.count("\n") == 2
+
+
+def main():
+    wrong = 0
+    with tempfile.TemporaryDirectory(prefix="conventions-test-") as room:
+        root = os.path.join(room, "tree")
+        for name, change, status, text in PLANTS:
+            found, printed = outcome(root, change)
+            if found != status or text not in printed:
+                wrong += 1
+                print(f"{name}: status {found} in place of {status}, or without `{text}`:\n{printed}")
+        if not shrinks(root):
+            wrong += 1
+            print("--shrink: it takes out too much or too little")
+    print(f"{len(PLANTS) + 1} changes, {wrong} wrong answers of conventions.py")
+    return not wrong
+
+
+if __name__ == "__main__":
+    sys.exit(0 if main() else 1)
