@@ -715,6 +715,23 @@ mod tests {
 
     #[cfg(feature = "variable-fonts")]
     #[test]
+    fn one_font_is_made_for_one_answer() {
+        use crate::pdf::{glyphs_of, pdf_font, FontOptions, Layout, Shown};
+        let data = include_bytes!("../../rust/tests/data/made.ttf");
+        let shown = [Shown::new(1, "A")];
+        let make = || pdf_font(data, 0, &[], &shown, &FontOptions::new()).unwrap();
+        let font = make();
+        assert_eq!(calls(make), 1);
+        assert_eq!(calls(|| glyphs_of(data, 0, "AB").unwrap()), 1);
+        assert_eq!(calls(|| font.objects(1).unwrap()), 1);
+        assert_eq!(calls(|| font.sheet(&shown, Layout::Line).unwrap()), 1);
+        assert_eq!(calls(|| font.w().unwrap()), 1);
+        assert_eq!(calls(|| font.to_unicode().len()), 0);
+        assert_eq!(calls(|| glyphs_of(b"none", 0, "AB").unwrap_err()), 1);
+    }
+
+    #[cfg(feature = "variable-fonts")]
+    #[test]
     fn a_tag_is_a_number() {
         use super::Coordinate;
         use crate::Tag;

@@ -143,7 +143,13 @@ fn codes_of_all_glyphs_run_out() {
 
 #[test]
 fn errors_have_sources() {
-    surface::errors_have_sources();
+    use std::error::Error as _;
+    let error = FontError::from(Error::CFFError);
+    let source = error.source().and_then(|it| it.downcast_ref::<Error>());
+    assert_eq!(source, Some(&Error::CFFError));
+    assert!(FontError::TextTooLong.source().is_none());
+    let restricted = FontError::NotPermitted(held(MADE, 0));
+    assert!(restricted.source().is_none());
 }
 
 #[test]

@@ -123,3 +123,38 @@ impl std::error::Error for FontError {
         }
     }
 }
+
+#[cfg(test)]
+mod tests {
+    use crate::pdf::{Bounds, Codes, Direction, FontOptions, ProgramChoice, Rights, SubsetTag};
+    use crate::Limits;
+
+    #[test]
+    fn options_are_words() {
+        let new = FontOptions::new();
+        let limits = Limits::new(5, 6).unwrap().with_bytes(7);
+        let tag = SubsetTag::new(b"ABCDEF").unwrap();
+        let plain = [52, 1_000_000, 64, 0, 0, 0, 0, 0, 0, 0, 0, 0, 0];
+        assert_eq!(new.words(), plain);
+        // Each choice, and the words that it changes.
+        let choices: [(FontOptions, &[(usize, u32)]); 10] = [
+            (new.limits(limits), &[(1, 5), (2, 6), (4, 7)]),
+            (new.hinting(false), &[(3, 1)]),
+            (new.program(ProgramChoice::OpenType), &[(5, 1)]),
+            (new.codes(Codes::Source), &[(6, 1)]),
+            (new.codes(Codes::EachText), &[(6, 2)]),
+            (new.direction(Direction::Vertical), &[(7, 1)]),
+            (new.bounds(Bounds::Kept), &[(8, 1)]),
+            (new.cid_set(true), &[(9, 1)]),
+            (new.rights(Rights::Held), &[(10, 1)]),
+            (new.tag(tag), &[(11, 0x41_4243), (12, 0x44_4546)]),
+        ];
+        for (chosen, changed) in choices {
+            let mut words = plain;
+            for (at, word) in changed {
+                words[*at] = *word;
+            }
+            assert_eq!(chosen.words(), words);
+        }
+    }
+}

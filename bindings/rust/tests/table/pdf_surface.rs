@@ -108,16 +108,3 @@ fn values_for_pdf_are_plain() {
         FontError::Subset(_) | FontError::NotPermitted(_) | FontError::TextTooLong => (),
     };
 }
-
-/// An error of a font has the error of the subset as its source. (The crate's have sources with the feature `std`.)
-#[allow(dead_code)]
-pub fn errors_have_sources()
-where
-    FontError: std::error::Error,
-{
-    use std::error::Error as _;
-    let error = FontError::from(Error::CFFError);
-    let source = error.source().and_then(|it| it.downcast_ref::<Error>());
-    assert_eq!(source, Some(&Error::CFFError));
-    assert!(FontError::TextTooLong.source().is_none());
-}
