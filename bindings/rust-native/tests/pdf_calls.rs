@@ -57,7 +57,7 @@ fn each_reason_is_that_of_the_library() {
         // Bits 1, 2, 3, 8 and 9 say something; a few of the others are set too.
         for bits in 0..1 << 7 {
             let said = (bits & 7) << 1 | (bits >> 3 & 3) << 8;
-            let more = (bits >> 5 & 1) | (bits >> 6 & 1) * 0xfc30;
+            let more = (bits >> 5 & 1) | ((bits >> 6 & 1) * 0xfc30);
             let fs_type: u16 = said | more;
             font[at + 8..at + 10].copy_from_slice(&fs_type.to_be_bytes());
             refused += usize::from(reason(&font, 0).1);
