@@ -192,8 +192,10 @@ mod pdf {
         encoding: 10,
     };
 
+    type Call = fn(&PdfFont);
+
     /// The calls by their names, each with a font that was made before.
-    const CALLS: [(&str, fn(&PdfFont)); 8] = [
+    const CALLS: [(&str, Call); 8] = [
         ("pdf_font", |_| drop(font())),
         ("glyphs_of", |_| drop(glyphs_of(MADE, 0, "ABBA").unwrap())),
         ("codes_of", |_| {
