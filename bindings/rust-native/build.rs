@@ -2,7 +2,18 @@
 //! package carries libraries, else in `../c/out`.
 
 use std::env;
+use std::fs;
 use std::path::{Path, PathBuf};
+
+/// One of the calls for PDF, which a library of an older date doesn't have.
+const CALL_FOR_PDF: &[u8] = b"subsetter_make_pdf_font_by_words";
+
+/// Whether a library has the calls for PDF: their names are in its bytes.
+fn has_calls_for_pdf(library: &Path) -> bool {
+    let bytes = fs::read(library).unwrap_or_default();
+    let mut places = bytes.windows(CALL_FOR_PDF.len());
+    places.any(|it| it == CALL_FOR_PDF)
+}
 
 fn main() {
     println!("cargo:rerun-if-env-changed=SUBSETTER_LIBRARY_FOLDER");
@@ -33,6 +44,13 @@ fn main() {
             } else {
                 "`make` in bindings/c builds it".to_string()
             }
+        );
+    }
+    if env::var_os("CARGO_FEATURE_VARIABLE_FONTS").is_some() && !has_calls_for_pdf(&library) {
+        println!(
+            "cargo:warning={} is older than this package: it has no calls for PDF, and a program that uses subsetter::pdf can't \
+             be linked with it",
+            library.display()
         );
     }
     println!("cargo:rustc-link-search=native={}", folder.display());

@@ -12,9 +12,11 @@
 //! The package `subsetter` (`bindings/rust`) has the same calls in plain Rust, for every platform and for `[patch]`; it is
 //! generated from the proved sources.
 //!
-//! The feature `variable-fonts` adds `subset_with_variations`, as in 0.2.6, and `embed_with_variations`. Beyond 0.2.6
-//! [`embed`] also answers the CIDs and the widths that a PDF needs, [`Limits`] bound the work on a hostile font and the size
-//! of the new one, and [`Options`] leave out hinting, font names or glyph names.
+//! The feature `variable-fonts` adds `subset_with_variations`, as in 0.2.6, and `embed_with_variations`; also the module `pdf`,
+//! all that a PDF has of a font from one call. For `pdf` the library has to be one that has the calls for PDF: a program that
+//! uses the module isn't linked with an older one. Beyond 0.2.6 [`embed`] also answers the CIDs and the widths that a PDF needs,
+//! [`Limits`] bound the work on a hostile font and the size of the new one, and [`Options`] leave out hinting, font names or
+//! glyph names.
 //!
 //! ```
 //! use subsetter::{subset, GlyphRemapper};
@@ -39,6 +41,8 @@ extern crate alloc;
 mod error;
 mod library;
 mod options;
+#[cfg(feature = "variable-fonts")]
+pub mod pdf;
 mod remapper;
 mod tag;
 #[cfg(feature = "variable-fonts")]

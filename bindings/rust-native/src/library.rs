@@ -115,7 +115,7 @@ const DROP_GLYPH_NAMES: u32 = 4;
 
 /// The options as the library takes them: their size in bytes, the limits of a charstring, what is left out, and the most
 /// bytes of the font. (Later ones go behind these.)
-fn words(options: &Options) -> [u32; 5] {
+pub(crate) fn words(options: &Options) -> [u32; 5] {
     let drop = [
         (options.hinting, DROP_HINTING),
         (options.names, DROP_NAMES),
@@ -324,6 +324,320 @@ pub(crate) fn embed_at(
     Ok(Made::at(make, data, index, coordinates, glyphs, options)?.embedded())
 }
 
+/// The calls for PDF.
+#[cfg(feature = "variable-fonts")]
+pub(crate) mod pdf {
+    use super::{Coordinate, Made, DONE, OUT_OF_MEMORY};
+    use std::alloc::{handle_alloc_error, Layout};
+    use std::{mem, ptr};
+
+    /// A CID in vertical writing, `subsetter_column`.
+    #[derive(Clone, Copy)]
+    #[repr(C)]
+    pub(crate) struct Column {
+        pub(crate) advance: i32,
+        pub(crate) x: i32,
+        pub(crate) y: i32,
+    }
+
+    /// The numbers with which `subsetter_pdf_font` ends.
+    #[repr(C)]
+    pub(crate) struct Numbers {
+        pub(crate) kind: u32,
+        pub(crate) is_vertical: u32,
+        pub(crate) default_width: u32,
+        pub(crate) default_column: [i32; 2],
+        pub(crate) flags: u32,
+        pub(crate) bounds: [i32; 4],
+        pub(crate) italic_angle: i32,
+        pub(crate) ascent: i32,
+        pub(crate) descent: i32,
+        pub(crate) cap_height: i32,
+        pub(crate) has_x_height: u32,
+        pub(crate) x_height: i32,
+        pub(crate) stem_v: u32,
+        pub(crate) font_weight: u32,
+        pub(crate) usage: u32,
+        pub(crate) may_subset: u32,
+        pub(crate) may_embed_outlines: u32,
+    }
+
+    /// A font for a PDF, `subsetter_pdf_font`, as the library hands it over, until it is given back.
+    #[repr(C)]
+    pub(crate) struct Font {
+        program: *const u8,
+        program_size: usize,
+        cids: *const u16,
+        cid_count: usize,
+        codes: *const u16,
+        code_count: usize,
+        is_said: *const u8,
+        said_count: usize,
+        widths: *const u32,
+        width_count: usize,
+        columns: *const Column,
+        column_count: usize,
+        font_name: *const u8,
+        font_name_size: usize,
+        to_unicode: *const u8,
+        to_unicode_size: usize,
+        encoding: *const u8,
+        encoding_size: usize,
+        encoding_name: *const u8,
+        encoding_name_size: usize,
+        cid_set: *const u8,
+        cid_set_size: usize,
+        pub(crate) numbers: Numbers,
+    }
+
+    /// Objects of a PDF file, `subsetter_pdf_objects`, until they are given back.
+    #[repr(C)]
+    pub(crate) struct Objects {
+        bytes: *const u8,
+        size: usize,
+        offsets: *const usize,
+        offset_count: usize,
+    }
+
+    extern "C" {
+        fn subsetter_glyphs_of(
+            font: *const u8,
+            font_size: usize,
+            index: u32,
+            text: *const u32,
+            text_count: usize,
+            glyphs: *mut u16,
+            glyph_count: usize,
+            length: *mut usize,
+        ) -> u32;
+        fn subsetter_make_pdf_font_by_words(
+            font: *const u8,
+            font_size: usize,
+            index: u32,
+            coordinates: *const Coordinate,
+            coordinate_count: usize,
+            glyphs: *const u16,
+            glyph_count: usize,
+            text: *const u32,
+            text_count: usize,
+            ends: *const usize,
+            end_count: usize,
+            options: *const u32,
+            option_count: usize,
+            made: *mut Font,
+        ) -> u32;
+        fn subsetter_free_pdf_font(made: *mut Font);
+        fn subsetter_make_pdf_objects(font: *const Font, first: u32, made: *mut Objects) -> u32;
+        fn subsetter_make_pdf_sheet(
+            font: *const Font,
+            glyphs: *const u16,
+            glyph_count: usize,
+            text: *const u32,
+            text_count: usize,
+            ends: *const usize,
+            end_count: usize,
+            layout: u32,
+            made: *mut Objects,
+        ) -> u32;
+        fn subsetter_free_pdf_objects(made: *mut Objects);
+    }
+
+    /// Glyphs in use as the library takes them: the text of each begins where that of the one before ends.
+    pub(crate) struct Entries {
+        glyphs: Vec<u16>,
+        text: Vec<u32>,
+        ends: Vec<usize>,
+    }
+
+    impl Entries {
+        pub(crate) fn with_capacity(count: usize) -> Self {
+            Self {
+                glyphs: Vec::with_capacity(count),
+                text: Vec::with_capacity(count),
+                ends: Vec::with_capacity(count),
+            }
+        }
+
+        /// A further glyph, with its text.
+        pub(crate) fn push(&mut self, glyph: u16, text: &str) {
+            self.glyphs.push(glyph);
+            self.text.extend(text.chars().map(u32::from));
+            self.ends.push(self.text.len());
+        }
+    }
+
+    /// What a call of this status answers; the status of one that refuses.
+    fn answered<T>(status: u32, made: T) -> Result<T, u32> {
+        match status {
+            DONE => Ok(made),
+            OUT_OF_MEMORY => handle_alloc_error(Layout::new::<u8>()),
+            _ => Err(status),
+        }
+    }
+
+    #[cfg(test)]
+    fn count() {
+        super::tests::CALLS.with(|calls| calls.set(calls.get() + 1));
+    }
+
+    /// The glyph of each character.
+    pub(crate) fn glyphs_of(data: &[u8], index: u32, text: &[u32]) -> Result<Vec<u16>, u32> {
+        let mut glyphs = vec![0; text.len()];
+        let mut length = 0;
+        #[cfg(test)]
+        count();
+        // SAFETY: each pointer is that of a slice, with its count, or of `glyphs` or `length`, which are borrowed for writing
+        // alone. The library keeps none of them.
+        let status = unsafe {
+            subsetter_glyphs_of(
+                data.as_ptr(),
+                data.len(),
+                index,
+                text.as_ptr(),
+                text.len(),
+                glyphs.as_mut_ptr(),
+                glyphs.len(),
+                &mut length,
+            )
+        };
+        answered(status, glyphs)
+    }
+
+    impl Font {
+        /// What the library makes for glyphs in use, at coordinates.
+        pub(crate) fn of(
+            data: &[u8],
+            index: u32,
+            coordinates: &[Coordinate],
+            shown: &Entries,
+            words: &[u32],
+        ) -> Result<Self, u32> {
+            let mut made = Self::nothing();
+            #[cfg(test)]
+            count();
+            // SAFETY: each pointer is that of a slice, with its count, or of `made`, which is borrowed for writing alone. The
+            // library keeps none of them.
+            let status = unsafe {
+                subsetter_make_pdf_font_by_words(
+                    data.as_ptr(),
+                    data.len(),
+                    index,
+                    coordinates.as_ptr(),
+                    coordinates.len(),
+                    shown.glyphs.as_ptr(),
+                    shown.glyphs.len(),
+                    shown.text.as_ptr(),
+                    shown.text.len(),
+                    shown.ends.as_ptr(),
+                    shown.ends.len(),
+                    words.as_ptr(),
+                    words.len(),
+                    &mut made,
+                )
+            };
+            answered(status, made)
+        }
+
+        fn nothing() -> Self {
+            // SAFETY: the type has pointers and numbers alone, of which each may be 0.
+            unsafe { mem::zeroed() }
+        }
+
+        /// The objects with numbers from one on.
+        pub(crate) fn objects(&self, first: u32) -> Result<Objects, u32> {
+            let mut made = Objects::nothing();
+            #[cfg(test)]
+            count();
+            // SAFETY: the library handed `self` over, and it is unchanged; `made` is borrowed for writing alone.
+            let status = unsafe { subsetter_make_pdf_objects(self, first, &mut made) };
+            answered(status, made)
+        }
+
+        /// A file that shows glyphs.
+        pub(crate) fn sheet(&self, shown: &Entries, layout: u32) -> Result<Objects, u32> {
+            let mut made = Objects::nothing();
+            #[cfg(test)]
+            count();
+            // SAFETY: as of `objects`; each further pointer is that of a slice, with its count. The library keeps none of them.
+            let status = unsafe {
+                subsetter_make_pdf_sheet(
+                    self,
+                    shown.glyphs.as_ptr(),
+                    shown.glyphs.len(),
+                    shown.text.as_ptr(),
+                    shown.text.len(),
+                    shown.ends.as_ptr(),
+                    shown.ends.len(),
+                    layout,
+                    &mut made,
+                )
+            };
+            answered(status, made)
+        }
+    }
+
+    /// Functions that answer the lists which the library handed over.
+    macro_rules! lists {
+        ($($name:ident: [$item:ty], $count:ident;)*) => {$(
+            pub(crate) fn $name(&self) -> &[$item] {
+                // SAFETY: the library handed the list over with its count, and it stands until `self` is dropped.
+                unsafe { Made::list(self.$name, self.$count) }
+            }
+        )*};
+    }
+
+    impl Font {
+        lists! {
+            program: [u8], program_size;
+            cids: [u16], cid_count;
+            codes: [u16], code_count;
+            is_said: [u8], said_count;
+            widths: [u32], width_count;
+            columns: [Column], column_count;
+            font_name: [u8], font_name_size;
+            to_unicode: [u8], to_unicode_size;
+            encoding: [u8], encoding_size;
+            encoding_name: [u8], encoding_name_size;
+            cid_set: [u8], cid_set_size;
+        }
+    }
+
+    impl Objects {
+        lists! {
+            bytes: [u8], size;
+            offsets: [usize], offset_count;
+        }
+
+        fn nothing() -> Self {
+            Self {
+                bytes: ptr::null(),
+                size: 0,
+                offsets: ptr::null(),
+                offset_count: 0,
+            }
+        }
+    }
+
+    // SAFETY: the lists are read alone, and given back once, in whatever thread; the library has nothing of a thread.
+    unsafe impl Send for Font {}
+    // SAFETY: as of `Send`.
+    unsafe impl Sync for Font {}
+
+    impl Drop for Font {
+        fn drop(&mut self) {
+            // SAFETY: a call of the library wrote `self`, or all is 0; and it is given back once.
+            unsafe { subsetter_free_pdf_font(self) }
+        }
+    }
+
+    impl Drop for Objects {
+        fn drop(&mut self) {
+            // SAFETY: as of `Font`.
+            unsafe { subsetter_free_pdf_objects(self) }
+        }
+    }
+}
+
 #[cfg(test)]
 mod tests {
     use crate::{embed, embed_with_limits, embed_with_options};
@@ -397,6 +711,23 @@ mod tests {
         assert_eq!(version, env!("CARGO_PKG_VERSION"));
         let whole = include_str!(concat!(env!("CARGO_MANIFEST_DIR"), "/../../VERSION"));
         assert_eq!(version, whole.trim());
+    }
+
+    #[cfg(feature = "variable-fonts")]
+    #[test]
+    fn one_font_is_made_for_one_answer() {
+        use crate::pdf::{glyphs_of, pdf_font, FontOptions, Layout, Shown};
+        let data = include_bytes!("../../rust/tests/data/made.ttf");
+        let shown = [Shown::new(1, "A")];
+        let make = || pdf_font(data, 0, &[], &shown, &FontOptions::new()).unwrap();
+        let font = make();
+        assert_eq!(calls(make), 1);
+        assert_eq!(calls(|| glyphs_of(data, 0, "AB").unwrap()), 1);
+        assert_eq!(calls(|| font.objects(1).unwrap()), 1);
+        assert_eq!(calls(|| font.sheet(&shown, Layout::Line).unwrap()), 1);
+        assert_eq!(calls(|| font.w().unwrap()), 1);
+        assert_eq!(calls(|| font.to_unicode().len()), 0);
+        assert_eq!(calls(|| glyphs_of(b"none", 0, "AB").unwrap_err()), 1);
     }
 
     #[cfg(feature = "variable-fonts")]

@@ -42,7 +42,10 @@ fn cargo(word: &str, target: &Path) -> Command {
 
 /// What the dependent program makes of a font, with the library of a folder or of the usual one.
 fn run(target: &Path, library: Option<&Path>, font: &[u8]) -> Vec<u8> {
-    let mut cargo = cargo("run", target);
+    made(cargo("run", target), library, font)
+}
+
+fn made(mut cargo: Command, library: Option<&Path>, font: &[u8]) -> Vec<u8> {
     if let Some(folder) = library {
         cargo.env("SUBSETTER_LIBRARY_FOLDER", folder);
     }
@@ -71,17 +74,10 @@ fn library() -> PathBuf {
         .join("libsubsetter.a")
 }
 
-#[test]
-fn a_program_that_names_this_package_gets_its_library() {
-    let table = table();
-    let row = table.rows.iter().find(|row| row.name == "simple").unwrap();
-    let target = folder("dependent");
-    assert_eq!(run(&target, None, &row.font), row.wanted.font);
-
-    // The library of another folder is linked, and a changed one is linked anew.
-    let other = folder("other");
-    let (source, object) = (other.join("refusing.c"), other.join("refusing.o"));
-    let archive = other.join("libsubsetter.a");
+/// A library that refuses all, in a folder.
+fn refusing(folder: &Path) -> PathBuf {
+    let (source, object) = (folder.join("refusing.c"), folder.join("refusing.o"));
+    let archive = folder.join("libsubsetter.a");
     fs::write(&source, REFUSING).unwrap();
     let compiler = env::var("CC").unwrap_or_else(|_| "cc".into());
     done(
@@ -92,10 +88,48 @@ fn a_program_that_names_this_package_gets_its_library() {
             .arg(&object),
     );
     done(Command::new("ar").arg("rcs").arg(&archive).arg(&object));
+    archive
+}
+
+#[test]
+fn a_program_that_names_this_package_gets_its_library() {
+    let table = table();
+    let row = table.rows.iter().find(|row| row.name == "simple").unwrap();
+    let target = folder("dependent");
+    assert_eq!(run(&target, None, &row.font), row.wanted.font);
+
+    // The library of another folder is linked, and a changed one is linked anew.
+    let other = folder("other");
+    let archive = refusing(&other);
     let said = run(&target, Some(&other), &row.font);
     assert_eq!(String::from_utf8(said).unwrap(), table.texts[&3]);
     fs::copy(library(), &archive).unwrap();
     assert_eq!(run(&target, Some(&other), &row.font), row.wanted.font);
+}
+
+#[test]
+fn an_older_library_has_no_calls_for_pdf() {
+    let font = include_bytes!("../../rust/tests/data/made.ttf");
+    let target = folder("dependent_pdf");
+    let mut whole = cargo("run", &target);
+    whole.args(["--features", "pdf"]);
+    assert!(made(whole, None, font).starts_with(b"%PDF-1.7"));
+    let older = folder("older");
+    refusing(&older);
+    // (-q would keep the warning back)
+    let words = ["build", "--offline", "--features", "pdf", "--target-dir"];
+    let output = Command::new(env!("CARGO"))
+        .args(words)
+        .arg(&target)
+        .current_dir(concat!(env!("CARGO_MANIFEST_DIR"), "/tests/dependent"))
+        .env("SUBSETTER_LIBRARY_FOLDER", &older)
+        .output()
+        .unwrap();
+    let said = String::from_utf8(output.stderr).unwrap();
+    assert!(!output.status.success(), "{said}");
+    let wanted = "libsubsetter.a is older than this package: it has no calls for PDF";
+    assert!(said.contains(wanted), "{said}");
+    assert!(said.contains("subsetter_make_pdf_font_by_words"), "{said}");
 }
 
 /// What Cargo says of a folder that can't be taken.

@@ -21,16 +21,20 @@
 //! # }
 //! ```
 
+mod calls;
 mod error;
 mod font;
 mod objects;
 mod options;
+mod shown;
 mod values;
+mod written;
 
 pub use error::FontError;
 pub use font::PdfFont;
 pub use objects::{Dictionaries, Layout, Objects, References};
 pub use options::{Bounds, Codes, Direction, FontOptions, ProgramChoice, Rights, SubsetTag};
+pub use shown::Shown;
 pub use values::{Cmap, Column, Columns, Descriptor, Permission, ProgramKind, Usage};
 
 use crate::proved::cmap::find_subtable;
@@ -40,22 +44,6 @@ use crate::proved::subsetter_sfnt::parse::parse;
 use crate::rattle::alloc::Global;
 use crate::{library, Error, Tag};
 use alloc::vec::Vec;
-
-/// A glyph in use, and its text.
-#[derive(Debug, Copy, Clone, Eq, PartialEq, Hash)]
-pub struct Shown<'a> {
-    /// The number of the glyph in the font.
-    pub glyph: u16,
-    /// Its text: none, a character, or several (a ligature).
-    pub text: &'a str,
-}
-
-impl<'a> Shown<'a> {
-    /// A glyph with its text.
-    pub fn new(glyph: u16, text: &'a str) -> Self {
-        Self { glyph, text }
-    }
-}
 
 /// A list with room for so many.
 pub(crate) fn with_room<T>(count: usize) -> Result<Vec<T>, Error> {

@@ -7,7 +7,7 @@ mod table;
 use std::fs;
 use subsetter::pdf::{
     codes_of, glyphs_of, pdf_font, Bounds, Codes, Direction, FontError, FontOptions, Layout,
-    PdfFont, Permission, ProgramChoice, ProgramKind, Rights, Shown, SubsetTag, Usage,
+    PdfFont, Permission, ProgramChoice, ProgramKind, References, Rights, Shown, SubsetTag, Usage,
 };
 use subsetter::{embed_with_variations_and_options, Error, Limits, Options, Tag};
 use table::data;
@@ -25,7 +25,7 @@ fn without(font: &[u8], tag: &[u8; 4]) -> Vec<u8> {
 }
 
 /// A collection of fonts.
-fn collection(fonts: &[Vec<u8>]) -> Vec<u8> {
+pub fn collection(fonts: &[Vec<u8>]) -> Vec<u8> {
     let mut made = b"ttcf\0\x01\0\0".to_vec();
     made.extend((fonts.len() as u32).to_be_bytes());
     let mut at = 12 + 4 * fonts.len();
@@ -302,6 +302,81 @@ fn objects_have_numbers_of_32_bits() {
     }
 }
 
+/// The dictionaries with numbers of their own, as texts: font, CIDFont and descriptor.
+fn numbered(font: &PdfFont) -> [String; 3] {
+    let references = References {
+        cid_font: u32::MAX,
+        descriptor: 2,
+        program: 3,
+        to_unicode: 70,
+        cid_set: 4,
+        encoding: 0,
+    };
+    let made = font.dictionaries(&references).unwrap();
+    [made.font, made.cid_font, made.descriptor].map(|it| String::from_utf8(it).unwrap())
+}
+
+#[test]
+fn dictionaries_have_the_numbers_of_the_writer() {
+    let [font, cid_font, descriptor] = numbered(&plain(&FontOptions::new()));
+    assert!(font.contains(" /Encoding /Identity-H "), "{font}");
+    let last = " /DescendantFonts [4294967295 0 R] /ToUnicode 70 0 R >>";
+    assert!(font.ends_with(last), "{font}");
+    assert!(
+        cid_font.contains(" /FontDescriptor 2 0 R /CIDToGIDMap "),
+        "{cid_font}"
+    );
+    assert!(descriptor.ends_with(" /FontFile2 3 0 R >>"), "{descriptor}");
+    let options = FontOptions::new().cid_set(true).codes(Codes::Source);
+    let [font, _, descriptor] = numbered(&plain(&options));
+    assert!(font.contains(" /Encoding 0 0 R /Desc"), "{font}");
+    let last = " /FontFile2 3 0 R /CIDSet 4 0 R >>";
+    assert!(descriptor.ends_with(last), "{descriptor}");
+    let font = made("made_version_1.otf");
+    let font = pdf_font(&font, 0, &[], &SHOWN, &FontOptions::new()).unwrap();
+    let [_, _, descriptor] = numbered(&font);
+    assert!(descriptor.ends_with(" /FontFile3 3 0 R >>"), "{descriptor}");
+}
+
+#[test]
+fn nothing_is_shown() {
+    let font = made("made.ttf");
+    for direction in [Direction::Horizontal, Direction::Vertical] {
+        let options = FontOptions::new().direction(direction);
+        let font = pdf_font(&font, 0, &[], &[], &options).unwrap();
+        assert!(font.codes().is_empty() && font.cids().is_empty() && font.is_said().is_empty());
+        // Glyph 0 alone has a width and, in vertical writing, a column.
+        assert_eq!((font.glyph_count(), font.widths()), (1, &[500][..]));
+        assert_eq!(font.default_width(), 500);
+        assert_eq!(font.w().unwrap(), b"[]");
+        let columns = font.columns().map(|it| it.each.len());
+        assert_eq!(columns.is_some(), direction == Direction::Vertical);
+        assert_eq!(columns.unwrap_or(1), 1);
+        let w2 = font.w2().unwrap();
+        assert_eq!(w2.as_deref(), columns.map(|_| &b"[]"[..]));
+        let sheet = font.sheet(&[], Layout::Grid).unwrap();
+        assert!(sheet.ends_with(b"%%EOF\n"));
+        assert_eq!(font.objects(1).unwrap().offsets.len(), 5);
+    }
+    for codes in [Codes::Consecutive, Codes::Source, Codes::EachText] {
+        assert_eq!(codes_of(&[], codes), Ok(vec![]));
+    }
+}
+
+#[test]
+fn texts_are_said_by_their_codes_or_not() {
+    let font = made("made.ttf");
+    let said = |codes: Codes| {
+        let options = FontOptions::new().codes(codes);
+        let font = pdf_font(&font, 0, &[], &SHOWN, &options).unwrap();
+        font.is_said().to_vec()
+    };
+    // The second text of glyph 1 is said by a code of its own alone.
+    assert_eq!(said(Codes::Consecutive), [true, true, false, true]);
+    assert_eq!(said(Codes::Source), [true, true, false, true]);
+    assert_eq!(said(Codes::EachText), [true; 4]);
+}
+
 /// The objects of a file by its cross-reference table, which has to lead to each.
 fn objects_in(file: &[u8]) -> Vec<&[u8]> {
     let text = String::from_utf8_lossy(file);
@@ -462,16 +537,6 @@ fn errors_have_texts() {
     let refused = pdf_font(&made("made.otf"), 0, &[], &SHOWN, &FontOptions::new());
     let text = refused.unwrap_err().to_string();
     assert_eq!(text, "embedding not permitted");
-}
-
-#[cfg(feature = "std")]
-#[test]
-fn errors_have_sources() {
-    use std::error::Error as _;
-    let error = FontError::from(Error::CFFError);
-    let source = error.source().and_then(|it| it.downcast_ref::<Error>());
-    assert_eq!(source, Some(&Error::CFFError));
-    assert!(FontError::TextTooLong.source().is_none());
 }
 
 #[test]

@@ -202,7 +202,11 @@ fn each_row_is_answered() {
             let made = String::from_utf8_lossy(&made);
             wrong.push(format!("{}: other objects: {made}", row.name));
         }
-        for (field, value) in said(&font) {
+        let fields = said(&font);
+        let is_answered = |name: &str| name == "object" || fields.iter().any(|it| it.0 == name);
+        let lacking = row.fields.iter().filter(|it| !is_answered(&it.0));
+        wrong.extend(lacking.map(|(field, _)| format!("{} has no {field}", row.name)));
+        for (field, value) in fields {
             checked += 1;
             if row.wanted(field) != Some(&value) {
                 wrong.push(format!(

@@ -1,7 +1,7 @@
 //! What a caller chooses.
 
-use crate::proved::pdf_font as proved;
-use crate::{library, Limits};
+use super::calls::capitals;
+use crate::Limits;
 use core::{fmt, str};
 
 /// What the font program of a font with outlines in `CFF ` is.
@@ -22,16 +22,6 @@ pub enum Codes {
     Source,
     /// Each pair of a glyph and a text has a code: from 1 on, in order of use. So one glyph can say "B" and "b".
     EachText,
-}
-
-impl Codes {
-    pub(super) fn chosen(self) -> proved::Codes {
-        match self {
-            Self::Consecutive => proved::Codes::Consecutive,
-            Self::Source => proved::Codes::Source,
-            Self::EachText => proved::Codes::EachText,
-        }
-    }
 }
 
 /// How text runs.
@@ -75,7 +65,7 @@ pub struct SubsetTag([u8; 6]);
 impl SubsetTag {
     /// None but for six capitals of ASCII.
     pub fn new(letters: &[u8; 6]) -> Option<Self> {
-        proved::SubsetTag::new(letters).map(|tag| Self(tag.letters()))
+        capitals(letters).map(Self)
     }
 
     /// The six capitals.
@@ -107,15 +97,15 @@ impl fmt::Debug for SubsetTag {
 /// ```
 #[derive(Debug, Copy, Clone, Eq, PartialEq, Hash)]
 pub struct FontOptions {
-    limits: Limits,
-    hinting: bool,
-    program: ProgramChoice,
-    codes: Codes,
-    direction: Direction,
-    bounds: Bounds,
-    cid_set: bool,
-    tag: Option<SubsetTag>,
-    rights: Rights,
+    pub(super) limits: Limits,
+    pub(super) hinting: bool,
+    pub(super) program: ProgramChoice,
+    pub(super) codes: Codes,
+    pub(super) direction: Direction,
+    pub(super) bounds: Bounds,
+    pub(super) cid_set: bool,
+    pub(super) tag: Option<SubsetTag>,
+    pub(super) rights: Rights,
 }
 
 impl FontOptions {
@@ -188,33 +178,6 @@ impl FontOptions {
     #[must_use]
     pub fn rights(self, rights: Rights) -> Self {
         Self { rights, ..self }
-    }
-
-    /// The options as the proved calls take them.
-    pub(super) fn chosen(&self) -> proved::FontOptions {
-        proved::FontOptions {
-            limits: library::within(&self.limits),
-            hinting: self.hinting,
-            program: match self.program {
-                ProgramChoice::Smallest => proved::ProgramChoice::Smallest,
-                ProgramChoice::OpenType => proved::ProgramChoice::OpenType,
-            },
-            codes: self.codes.chosen(),
-            direction: match self.direction {
-                Direction::Horizontal => proved::Direction::Horizontal,
-                Direction::Vertical => proved::Direction::Vertical,
-            },
-            bounds: match self.bounds {
-                Bounds::Font => proved::Bounds::Font,
-                Bounds::Kept => proved::Bounds::Kept,
-            },
-            cid_set: self.cid_set,
-            tag: self.tag.and_then(|tag| proved::SubsetTag::new(&tag.0)),
-            rights: match self.rights {
-                Rights::AsSaid => proved::Rights::AsSaid,
-                Rights::Held => proved::Rights::Held,
-            },
-        }
     }
 }
 

@@ -1,7 +1,5 @@
 //! What a PDF says of a font.
 
-use crate::proved::pdf_font as proved;
-
 /// What the font program is (9.9).
 #[derive(Debug, Copy, Clone, Eq, PartialEq, Hash)]
 pub enum ProgramKind {
@@ -11,16 +9,6 @@ pub enum ProgramKind {
     BareCff,
     /// An OpenType file with outlines in `CFF ` (PDF 1.6): `FontFile3` of the subtype `OpenType`.
     OpenType,
-}
-
-impl ProgramKind {
-    pub(super) fn of(kind: proved::ProgramKind) -> Self {
-        match kind {
-            proved::ProgramKind::TrueType => Self::TrueType,
-            proved::ProgramKind::BareCff => Self::BareCff,
-            proved::ProgramKind::OpenType => Self::OpenType,
-        }
-    }
 }
 
 /// The values of the font descriptor (Table 122). Lengths are in thousandths of the em.
@@ -57,22 +45,6 @@ pub struct Permission {
     pub subsetting: bool,
     /// Whether outlines may be embedded, and not bitmaps alone.
     pub outlines: bool,
-}
-
-impl Permission {
-    pub(super) fn of(permission: proved::Permission) -> Self {
-        Self {
-            usage: match permission.usage {
-                proved::Usage::Unsaid => Usage::Unsaid,
-                proved::Usage::Installable => Usage::Installable,
-                proved::Usage::Editable => Usage::Editable,
-                proved::Usage::PreviewAndPrint => Usage::PreviewAndPrint,
-                proved::Usage::Restricted => Usage::Restricted,
-            },
-            subsetting: permission.subsetting,
-            outlines: permission.outlines,
-        }
-    }
 }
 
 /// What a document may do with a font.

@@ -26,8 +26,8 @@ impl PdfRow {
 }
 
 pub fn data(name: &str) -> PathBuf {
-    let here = Path::new(env!("CARGO_MANIFEST_DIR"));
-    here.join("tests/data").join(name)
+    let tests = concat!(env!("CARGO_MANIFEST_DIR"), "/../rust/tests/data");
+    Path::new(tests).join(name)
 }
 
 fn character(word: &str) -> char {

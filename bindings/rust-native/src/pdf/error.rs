@@ -1,0 +1,32 @@
+//! Why there is no font.
+
+use super::Permission;
+use crate::Error;
+use core::fmt;
+
+/// Why a PDF gets nothing of a font.
+#[derive(Debug, Copy, Clone, Eq, PartialEq)]
+pub enum FontError {
+    /// The error of a call that subsets a font.
+    Subset(Error),
+    /// The font's maker doesn't permit it (`fsType` of the table `OS/2`).
+    NotPermitted(Permission),
+    /// A text has more than 256 UTF-16 units.
+    TextTooLong,
+}
+
+impl From<Error> for FontError {
+    fn from(error: Error) -> Self {
+        Self::Subset(error)
+    }
+}
+
+impl fmt::Display for FontError {
+    fn fmt(&self, f: &mut fmt::Formatter<'_>) -> fmt::Result {
+        match self {
+            Self::Subset(error) => error.fmt(f),
+            Self::NotPermitted(_) => f.write_str("embedding not permitted"),
+            Self::TextTooLong => f.write_str("text too long"),
+        }
+    }
+}
