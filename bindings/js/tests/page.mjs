@@ -260,6 +260,7 @@ async function byKeyboard() {
 /** One start behind another: only the last shows that all is done, and a file that is read late isn't shown. */
 async function oneBehindAnother() {
     const page = await opened(), example = exampleFont(), late = exampleFont({ prep: [0x4f] });
+    await set(page, "text", "");
     await after(page, () => page.drop("#drop", [file("dots.ttf", example)]));
     // Just as a run has said that it is done, before the page is drawn, another begins.
     await page.value(`(() => {

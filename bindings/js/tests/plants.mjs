@@ -137,6 +137,8 @@ const PLANTS = [
     [PACKAGE, "subsetter.mjs", "whole.protocol === \"file:\"", "String(url).startsWith(\"file:\")"],
     [PACKAGE, "subsetter.mjs", "await readFile(file)", "await readFile(file.pathname)"],
     [BOTH, "subsetter.mjs", "} catch (error) {\n            this.#isSpoilt = true;\n            throw error;", "} catch (error) {\n            this.#isSpoilt = error instanceof WebAssembly.RuntimeError;\n            throw error;"],
+    [PAGE, "page/page.mjs", "if (run === last) document.body.dataset.done = run;", "document.body.dataset.done = run;"],
+    [PAGE, "page/page.mjs", "        if (file !== lastFile) return;\n        let faces", "        let faces"],
     [READER, "page/outlines.mjs", "flags & 8 ? 1 : flags & 0x40 ? 2", "flags & 0x40 ? 2"],
     [READER, "page/outlines.mjs", "const bias = routines.length < 1240 ? 107", "const bias = routines.length < 1240 ? 108"],
     [READER, "page/outlines.mjs", "s.length % 2 ? s.shift() : 0;\n                for (let i = 0; i + 3 < s.length; i += 4, dy", "0;\n                for (let i = 0; i + 3 < s.length; i += 4, dy"],
