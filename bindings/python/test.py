@@ -193,14 +193,15 @@ def check_other_threads(fonts):
 
     thread = threading.Thread(target=stamp)
     thread.start()
-    goes_on = False
-    for _ in range(50):
+    # (Python itself lets no thread go on for another meanwhile, however slow the machine is: a call alone does)
+    interval, goes_on, end = sys.getswitchinterval(), False, time.monotonic() + 20
+    sys.setswitchinterval(1000)
+    while not goes_on and time.monotonic() < end:
         start = time.monotonic()
         subsetter.subset(font, [])
         took = time.monotonic() - start
         goes_on = any(start + took / 4 < stamp < start + took * 3 / 4 for stamp in stamps[-10000:])
-        if goes_on:
-            break
+    sys.setswitchinterval(interval)
     ends.set()
     thread.join()
     check(goes_on, "other threads go on while a call runs")
