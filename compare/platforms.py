@@ -1,11 +1,12 @@
 #!/usr/bin/env python3
-"""Whether the crate answers alike on other processors and systems: compare/platforms.py [--count N] [--tools FOLDER] [--jobs J] [PLATFORM..]
+"""Whether the crate answers alike on other processors and systems: compare/platforms.py [--count N] [--tools FOLDER] [--jobs J] [--kept FOLDER] [PLATFORM..]
 
 The platforms are those of bindings/platforms/test: x86-64, aarch64, i686 and s390x (its first byte is the highest) by qemu, Windows
 by wine, WebAssembly in Node. The fonts and the compilers are Debian 12's, which bindings/targets unpacks into FOLDER (out/targets).
 N (10,095) numbers are made on each, each of many answers (bindings/platforms/src/numbers.rs): first of every face as it is, then of
-its damaged copies. Each platform has to give the numbers of x86-64, with overflow checks. The last line counts, and the status is
-1 where a number differs.
+its damaged copies. Each platform has to give the numbers of x86-64, with overflow checks. With --kept each piece of numbers is a
+file of FOLDER, which isn't made again as long as neither sources, fonts nor tools have changed: a run that was cut off goes on. The
+last line counts, and the status is 1 where a number differs.
 """
 import argparse
 import concurrent.futures
@@ -43,16 +44,41 @@ def faces(folder):
     return found
 
 
-def numbers(command, listed, count, jobs):
-    """The numbers on a platform, in pieces that run beside each other."""
-    def piece(first):
-        words = [*command, "numbers", listed, first, min(PIECE, count - first)]
-        ran = subprocess.run([str(it) for it in words], stdin=subprocess.DEVNULL, stdout=subprocess.PIPE, stderr=subprocess.PIPE)
-        if ran.returncode:
-            sys.exit(f"platforms.py: {' '.join(map(str, words))} ends with {ran.returncode}: {ran.stderr.decode(errors='replace')[-900:]}")
-        return ran.stdout.decode().splitlines()
+def piece(command, listed, first, count, kept):
+    """So many numbers from one on, and the seconds that they took. They are read from a file where that has them."""
+    if kept and kept.is_file():
+        seconds, *lines = kept.read_text(encoding="utf-8").splitlines()
+        return lines, float(seconds)
+    start, words = time.monotonic(), [*command, "numbers", listed, first, count]
+    ran = subprocess.run([str(it) for it in words], stdin=subprocess.DEVNULL, stdout=subprocess.PIPE, stderr=subprocess.PIPE)
+    if ran.returncode:
+        sys.exit(f"platforms.py: {' '.join(map(str, words))} ends with {ran.returncode}: {ran.stderr.decode(errors='replace')[-900:]}")
+    lines, seconds = ran.stdout.decode().splitlines(), time.monotonic() - start
+    if kept:
+        kept.parent.mkdir(parents=True, exist_ok=True)
+        new = kept.with_name(f"{kept.name}.new")
+        new.write_text("".join(f"{it}\n" for it in [f"{seconds:.1f}", *lines]), encoding="utf-8")
+        new.replace(kept)
+    return lines, seconds
+
+
+def numbers(command, listed, count, jobs, kept):
+    """The numbers on a platform, in pieces that run beside each other, and the seconds of all pieces."""
+    def made(first):
+        size = min(PIECE, count - first)
+        return piece(command, listed, first, size, kept and kept / f"{first}-{size}")
     with concurrent.futures.ThreadPoolExecutor(jobs) as pool:
-        return [line for lines in pool.map(piece, range(0, count, PIECE)) for line in lines]
+        found = list(pool.map(made, range(0, count, PIECE)))
+    return [line for lines, _ in found for line in lines], sum(seconds for _, seconds in found)
+
+
+def kept_of(folder, total, listed, tools, name):
+    """Where the pieces of a platform are kept: by its sources, faces, and the packages of its tools."""
+    if folder:
+        packages = (tools / "packages").read_text(encoding="utf-8")
+        of = hashlib.sha256("\0".join([total, listed.read_text(encoding="utf-8"), packages]).encode()).hexdigest()[:16]
+        return folder.resolve() / f"{name}-{of}"
+    return None
 
 
 def main():
@@ -60,6 +86,7 @@ def main():
     words.add_argument("--count", type=int, default=COUNT)
     words.add_argument("--tools", type=Path, default=ROOT / "out/targets")
     words.add_argument("--jobs", type=int, default=os.cpu_count())
+    words.add_argument("--kept", type=Path)
     words.add_argument("names", nargs="*", metavar="PLATFORM")
     given = words.parse_args()
     test = gate()
@@ -76,8 +103,8 @@ def main():
     for name in names:
         one = test.Platform(tools, name)
         one.build(total)
-        start = time.monotonic()
-        made = numbers(one.program(one.folder, "platforms"), listed, given.count, given.jobs)
+        kept = kept_of(given.kept, total, listed, tools, name)
+        made, seconds = numbers(one.program(one.folder, "platforms"), listed, given.count, given.jobs, kept)
         wanted = wanted or made
         wrong = [it for it in zip(made, wanted) if it[0] != it[1]]
         if len(made) != given.count or len(wanted) != given.count:
@@ -86,7 +113,7 @@ def main():
             print(f"{name}: {it}, on x86-64 {other}")
         differ += len(wrong)
         distinct = len({it.split()[1] for it in made})
-        print(f"{name} ({test.MACHINES[name]}): {len(made)} numbers, {distinct} of them distinct, {len(wrong)} differ, in {time.monotonic() - start:.0f} s", flush=True)
+        print(f"{name} ({test.MACHINES[name]}): {len(made)} numbers, {distinct} of them distinct, {len(wrong)} differ; its pieces took {seconds:.0f} s", flush=True)
     print(f"sum of the numbers: {hashlib.sha256(chr(10).join(wanted).encode()).hexdigest()[:16]}")
     print(f"{len(names)} platforms, {given.count} numbers of {len(found)} faces on each, {differ} differ")
     return differ > 0

@@ -63,8 +63,15 @@ static void check_names()
     }
 }
 
+/* The preprocessor knows the version, each of its numbers in its eight bits. */
+#if SUBSETTER_VERSION >> 24 != SUBSETTER_VERSION_MAJOR || (SUBSETTER_VERSION >> 16 & 255) != SUBSETTER_VERSION_MINOR        \
+    || (SUBSETTER_VERSION >> 8 & 255) != SUBSETTER_VERSION_PATCH || (SUBSETTER_VERSION & 255) != SUBSETTER_VERSION_N
+#error "the version in #if"
+#endif
+
 static void check_version()
 {
+    static_assert(sizeof(SUBSETTER_VERSION) == 4 && SUBSETTER_VERSION - SUBSETTER_VERSION - 1 > 0, "the version is unsigned");
     char text[32];
     std::snprintf(text, sizeof text, "%d.%d.%d+%d", SUBSETTER_VERSION_MAJOR, SUBSETTER_VERSION_MINOR,
         SUBSETTER_VERSION_PATCH, SUBSETTER_VERSION_N);

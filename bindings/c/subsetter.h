@@ -36,10 +36,10 @@ extern "C" {
 #define SUBSETTER_VERSION_PATCH 6
 #define SUBSETTER_VERSION_N 1
 #define SUBSETTER_VERSION_TEXT "0.2.6+1"
-/* The four in one number, eight bits each. */
+/* The four in one number, eight bits each; `#if` may ask for it. */
 #define SUBSETTER_VERSION                                                                    \
-    (((uint32_t)SUBSETTER_VERSION_MAJOR << 24) | ((uint32_t)SUBSETTER_VERSION_MINOR << 16)   \
-     | ((uint32_t)SUBSETTER_VERSION_PATCH << 8) | (uint32_t)SUBSETTER_VERSION_N)
+    (SUBSETTER_VERSION_MAJOR * 0x1000000u + SUBSETTER_VERSION_MINOR * 0x10000u               \
+     + SUBSETTER_VERSION_PATCH * 0x100u + SUBSETTER_VERSION_N)
 
 /* What a call answers. (The library that Cargo builds, bindings/capi, answers 4294967295, of unknown status, where its own code
  * fails; no font is known to cause that.) */

@@ -617,11 +617,22 @@ async function moduleOf(source) {
         throw new TypeError("a module is a WebAssembly.Module, bytes, a Response or an address");
     }
     // (Node's fetch reads no file)
-    if (String(url).startsWith("file:") && typeof process !== "undefined") {
+    const file = typeof process !== "undefined" && fileOf(url);
+    if (file) {
         const { readFile } = await import("node:fs/promises");
-        return WebAssembly.compile(await readFile(new URL(url)));
+        return WebAssembly.compile(await readFile(file));
     }
     return compiled(await fetch(url));
+}
+
+/** The address of a file, if it is one; else null. (`fetch` may also take a part of an address, which is none by itself.) */
+function fileOf(url) {
+    try {
+        const whole = new URL(url);
+        return whole.protocol === "file:" ? whole : null;
+    } catch {
+        return null;
+    }
 }
 
 async function compiled(response) {

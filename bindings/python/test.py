@@ -193,14 +193,15 @@ def check_other_threads(fonts):
 
     thread = threading.Thread(target=stamp)
     thread.start()
-    goes_on = False
-    for _ in range(50):
+    # (Python itself lets no thread go on for another meanwhile, however slow the machine is: a call alone does)
+    interval, goes_on, end = sys.getswitchinterval(), False, time.monotonic() + 20
+    sys.setswitchinterval(1000)
+    while not goes_on and time.monotonic() < end:
         start = time.monotonic()
         subsetter.subset(font, [])
         took = time.monotonic() - start
         goes_on = any(start + took / 4 < stamp < start + took * 3 / 4 for stamp in stamps[-10000:])
-        if goes_on:
-            break
+    sys.setswitchinterval(interval)
     ends.set()
     thread.join()
     check(goes_on, "other threads go on while a call runs")
@@ -274,8 +275,9 @@ def check_refusals(font):
         for index in (None, "0", 0.0, b"0", [0]):
             check(type(raised(call, font, [2], index)) is TypeError, f"index {index!r}")
         for name, most in (("tokens", 4294967295), ("depth", 255), ("most_bytes", 4294967295)):
-            for number in (0, -1, most + 1, most + 2, 1 << 70):
-                check(type(raised(call, font, [2], **{name: number})) is ValueError, f"{name} {number}")
+            for number in (0, -1, most + 1, most + 2, 1 << 70, 10 ** 5000, -10 ** 5000):
+                error = raised(call, font, [2], **{name: number})
+                check(type(error) is ValueError and str(error).startswith(f"{name} is "), f"{name}: {error!r:.200}")
             for number in ("1", 1.0, b"1", [1]):
                 check(type(raised(call, font, [2], **{name: number})) is TypeError, f"{name} {number!r}")
         for name in ("hinting", "names", "glyph_names"):
@@ -293,10 +295,31 @@ def check_wrong_coordinates(call, font):
         check(type(raised(call, font, [2], coordinates={tag: 1})) is TypeError, f"the tag {tag!r}")
     for value in (float("nan"), float("inf"), -float("inf"), decimal.Decimal("nan"), decimal.Decimal("-inf")):
         check(type(raised(call, font, [2], coordinates={"wght": value})) is ValueError, f"the value {value!r}")
+    check_wide_coordinates(call, font)
     for value in (None, "650", b"650", [650], (650,), 650j, {}):
         check(type(raised(call, font, [2], coordinates={"wght": value})) is TypeError, f"the value {value!r}")
     for coordinates in (5, "wght", [("wght", 650)], (("wght", 650),), {"wght"}, iter([]), [], True):
         check(type(raised(call, font, [2], coordinates=coordinates)) is TypeError, f"coordinates {coordinates!r}")
+
+
+def check_wide_coordinates(call, font):
+    """Values that no number of 64 bits holds: each is refused in the words of its axis, in a short message."""
+    class Wide:
+        def __init__(self, error):
+            self.error = error
+
+        def __float__(self):
+            raise self.error
+
+        def __repr__(self):
+            return "9" * 5000
+
+    errors = OverflowError("too large"), decimal.Overflow("above Emax"), ValueError("no number"), ZeroDivisionError("of 0")
+    texts = "1E+400", "1E+1000000", "-1E+1000000", "9" * 6000, "sNaN", "-sNaN123", "NaN123", "Infinity"
+    for value in (*map(decimal.Decimal, texts), *map(Wide, errors)):
+        error = raised(call, font, [2], coordinates={"wdth": value})
+        says = type(error) is ValueError and str(error).startswith("the value of the axis wdth ") and len(str(error)) < 100
+        check(says and (error.__context__ is None or error.__suppress_context__), f"the value {value!r:.40}: {error!r:.200}")
 
 
 def check_values():

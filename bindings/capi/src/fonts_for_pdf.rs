@@ -47,6 +47,16 @@ impl PdfMade {
         self.program_size
     }
 
+    /// The bytes of the font program.
+    ///
+    /// # Safety
+    ///
+    /// As of `parts`.
+    #[cfg(test)]
+    pub unsafe fn program<'a>(&self) -> &'a [u8] {
+        unsafe { self.parts() }.program
+    }
+
     /// Nothing.
     pub fn nothing() -> Self {
         Self {

@@ -196,6 +196,54 @@ fn lists_for_pdf_of_no_items_may_be_anywhere() {
     assert_eq!(anywhere, found);
 }
 
+/// A variable font whose axis ends one 65536th above its default.
+fn narrow() -> (Vec<u8>, u32) {
+    let mut font = include_bytes!("../../rust/tests/data/made_variable.ttf").to_vec();
+    let number = |font: &[u8], at: usize| u32::from_be_bytes(font[at..at + 4].try_into().unwrap());
+    let row = font.windows(4).position(|it| it == b"fvar").unwrap();
+    let table = number(&font, row + 8) as usize;
+    let axis = table + (number(&font, table + 4) >> 16) as usize;
+    let ends = [0x4000_0000u32, 0x4000_0000, 0x4000_0001].map(u32::to_be_bytes);
+    font[axis + 4..axis + 16].copy_from_slice(&ends.concat());
+    let tag = number(&font, axis);
+    (font, tag)
+}
+
+/// The words of `subsetter_options` without names.
+const WITHOUT_NAMES: &[u32] = &[20, 0, 0, 6, 0];
+
+/// The font program for a PDF at a value of that axis, and the subset there, of the same glyph.
+fn at_value(font: &[u8], tag: u32, value: i32) -> (Vec<u8>, Vec<u8>) {
+    let (data, size) = (font.as_ptr(), font.len());
+    let (at, glyph, text, end) = (&Coordinate { tag, value }, &1, &65, &1);
+    let (none, words) = (null(), WITHOUT_NAMES.as_ptr());
+    let (mut made, mut alone) = (PdfMade::nothing(), Made::NOTHING);
+    // SAFETY: each list has one item, but the options, and what is given back was made by the library.
+    unsafe {
+        let status = subsetter_make_pdf_font_by_words(
+            data, size, 0, at, 1, glyph, 1, text, 1, end, 1, none, 0, &mut made,
+        );
+        let other =
+            subsetter_make_subset_at_by_words(data, size, 0, at, 1, glyph, 1, words, 5, &mut alone);
+        assert_eq!((status, other), (DONE, DONE));
+        let found = made.program().to_vec();
+        let wanted = std::slice::from_raw_parts(alone.font, alone.font_size).to_vec();
+        subsetter_free_pdf_font(&mut made);
+        subsetter_free(&mut alone);
+        (found, wanted)
+    }
+}
+
+#[test]
+fn coordinates_of_a_font_for_a_pdf_have_32_bits() {
+    let (font, tag) = narrow();
+    let (most, same) = at_value(&font, tag, 0x4000_0001);
+    assert_eq!(most, same);
+    let (least, same) = at_value(&font, tag, 0x4000_0000);
+    assert_eq!(least, same);
+    assert_ne!(least, most);
+}
+
 /// The font has no metrics, so the calls that embed answer 2.
 fn check(calls: &Calls) {
     for (call, left) in calls.in_buffers(164).iter().enumerate() {

@@ -176,13 +176,21 @@ function showGlyphs(subset, glyphs, made, characters) {
         (all.length > cards.length ? ` The first ${cards.length} of ${all.length} are drawn.` : "");
 }
 
-/** Which of the runs is the last: an earlier one that still waits shows nothing. */
+/** Which of the runs is the last: an earlier one that still waits shows nothing, and doesn't say that all is done. */
 let last = 0;
+
+function begun() {
+    document.body.dataset.done = "";
+    return ++last;
+}
+
+function ended(run) {
+    if (run === last) document.body.dataset.done = run;
+}
 
 async function show(subsetter) {
     if (!taken) return;
-    const run = ++last;
-    document.body.dataset.done = "";
+    const run = begun();
     await say(`Subsetting ${taken.name} …`);
     if (run !== last) return;
     try {
@@ -211,14 +219,18 @@ async function show(subsetter) {
         trouble(error.name in ADVICE ? error.name : "These glyphs can't be read", why, what);
         await say(error.name in ADVICE ? `${taken.name} can't be subset: ${error.message}.` : "Nothing was subset.");
     }
-    document.body.dataset.done = run;
+    ended(run);
 }
 
+/** Which file was taken last: an earlier one that is read later isn't shown. */
+let lastFile = 0;
+
 async function take(subsetter, name, reading) {
-    document.body.dataset.done = "";
+    const run = begun(), file = ++lastFile;
     await say(`Reading ${name} …`);
     try {
         const data = new Uint8Array(await reading());
+        if (file !== lastFile) return;
         let faces = 1;
         try {
             faces = faceCount(data);
@@ -230,8 +242,10 @@ async function take(subsetter, name, reading) {
         at("face").max = faces - 1;
         at("face").value = 0;
     } catch (error) {
+        if (file !== lastFile) return;
         trouble("The file can't be read", String(error.message ?? error), "Choose it again.");
-        return say("Nothing was read.");
+        await say("Nothing was read.");
+        return ended(run);
     }
     return show(subsetter);
 }

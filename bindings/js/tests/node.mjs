@@ -65,13 +65,13 @@ async function packed() {
     ok(readdirSync(here("../out")).includes(file), `there is no ${file}`);
     const names = execFileSync("tar", ["tzf", here(`../out/${file}`)], { encoding: "utf8" }).trim().split("\n").sort();
     equal(names.join(), ["LICENSE", "NOTICE", "README.md", "package.json", "subsetter.d.mts", "subsetter.mjs", "subsetter.wasm"].map((it) => `package/${it}`).sort().join(), "what is packed");
-    const folder = mkdtempSync(join(tmpdir(), "subsetter-package-"));
+    const folder = mkdtempSync(join(tmpdir(), "subsetter package é %20-"));
     try {
         writeFileSync(join(folder, "package.json"), '{"name": "user", "private": true}');
         execFileSync("npm", ["install", "--silent", "--offline", "--no-audit", "--no-fund", here(`../out/${file}`)], { cwd: folder });
         const program = `import { load, UnknownKind } from "subsetter-proved";
             const subsetter = await load(), url = new URL("./node_modules/subsetter-proved/subsetter.wasm", import.meta.url);
-            for (const it of [url, url.href]) (await load(it)).open(new Uint8Array());
+            for (const it of [url, url.href, url.href.replace("file:", "FILE:"), " " + url.href]) (await load(it)).open(new Uint8Array());
             try { subsetter.subset(new Uint8Array(), []) } catch (error) { console.log(error instanceof UnknownKind, subsetter.version) }`;
         writeFileSync(join(folder, "program.mjs"), program);
         const said = execFileSync(process.execPath, ["program.mjs"], { cwd: folder, encoding: "utf8" });

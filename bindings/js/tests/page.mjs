@@ -32,8 +32,9 @@ const file = (name, data) => {
     return join(folder, name);
 };
 
-/** Does something, and waits until the page has done what follows from it. */
+/** Does something, and waits until the page has done what follows from it. (What it has begun before is waited for first.) */
 async function after(page, act) {
+    await page.until("document.body.dataset.done !== ''");
     const before = await page.value("document.body.dataset.done");
     await act();
     await page.until(`document.body.dataset.done && document.body.dataset.done !== ${JSON.stringify(before)}`);
@@ -239,7 +240,8 @@ async function byKeyboard() {
     await page.key("a", 2);
     await page.key("Backspace");
     await page.type("CAB");
-    await page.until('document.getElementById("said").textContent.startsWith("Done")');
+    await page.until("document.body.dataset.done");
+    ok((await text(page, "said")).startsWith("Done"), "what was typed is subset");
     await to("names");
     await after(page, () => page.key(" "));
     const reading = new Font(example), glyphs = [..."CAB"].map((it) => reading.glyphOf(it.charCodeAt(0)));
@@ -252,6 +254,48 @@ async function byKeyboard() {
     const nameless = nodes.filter(({ ignored, role, name }) => !ignored && roles.includes(role?.value) && !name?.value);
     equal(nameless.map(({ role }) => role.value).join(), "", "fields without a name");
     equal(await page.value('document.getElementById("said").getAttribute("aria-live")'), "polite", "aria-live");
+    quiet(page);
+}
+
+/** One start behind another: only the last shows that all is done, and a file that is read late isn't shown. */
+async function oneBehindAnother() {
+    const page = await opened(), example = exampleFont(), late = exampleFont({ prep: [0x4f] });
+    await set(page, "text", "");
+    await after(page, () => page.drop("#drop", [file("dots.ttf", example)]));
+    // Just as a run has said that it is done, before the page is drawn, another begins.
+    await page.value(`(() => {
+        const said = document.getElementById("said"), numbers = document.getElementById("numbers");
+        window.ends = [];
+        new MutationObserver(() => document.body.dataset.done && window.ends.push(said.textContent.split(" ")[0])).observe(document.body, { attributes: true, attributeFilter: ["data-done"] });
+        const first = new MutationObserver(() => {
+            if (!said.textContent.startsWith("Done")) return;
+            first.disconnect();
+            numbers.value = "2";
+            numbers.dispatchEvent(new Event("input"));
+        });
+        first.observe(said, { childList: true, characterData: true, subtree: true });
+        numbers.value = "1";
+        numbers.dispatchEvent(new Event("input"));
+    })()`);
+    await page.until("window.ends.length > 0 && document.body.dataset.done");
+    equal((await page.value("window.ends")).join(), "Done:", "what was said whenever all was done");
+    await check(page, example, [2], {}, "the last of two runs");
+    // Two files at once, of which the first is read behind the second.
+    const drop = (name, data, ready) => `{
+        const file = new File([Uint8Array.from(atob("${Buffer.from(data).toString("base64")}"), (it) => it.charCodeAt(0))], "${name}"), data = file.arrayBuffer();
+        Object.defineProperty(file, "arrayBuffer", { value: () => ${ready}.then(() => data) });
+        const event = new Event("drop", { bubbles: true, cancelable: true });
+        dispatchEvent(Object.defineProperty(event, "dataTransfer", { value: { files: [file] } }));
+    }`;
+    await page.value(`(() => {
+        const read = new Promise((done) => (window.readLate = done));
+        ${drop("late.ttf", late, "read")}
+        ${drop("soon.ttf", example, "Promise.resolve()")}
+    })()`);
+    await page.until("document.body.dataset.done");
+    await page.value("window.readLate()");
+    await after(page, () => set(page, "numbers", "3"));
+    equal((await check(page, example, [3], {}, "the file that was taken last")).name, "subset-soon.ttf", "its name");
     quiet(page);
 }
 
@@ -294,6 +338,8 @@ try {
         console.log("page: dropped fonts, text, numbers, choices, faces, saved files, damaged fonts");
         await byKeyboard();
         console.log("page: the same by the keyboard alone");
+        await oneBehindAnother();
+        console.log("page: one start behind another");
         await overALie();
         console.log("page: what differs is told");
     }

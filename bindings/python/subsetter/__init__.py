@@ -350,10 +350,19 @@ def _glyph_numbers(glyphs: Iterable[SupportsIndex]) -> array[int]:
         raise ValueError("the number of a glyph is none from 0 to 65535") from None
 
 
+def _shown(value: object) -> str:
+    """A value as a message has it: of a long one the front. (Python writes no int of more than 4300 digits.)"""
+    try:
+        text = str(value)
+    except ValueError:
+        return "a number of too many digits"
+    return text if len(text) <= 40 else f"{text[:40]}.."
+
+
 def _number(what: str, value: SupportsIndex, least: int, most: int) -> int:
     number = operator.index(value)
     if not least <= number <= most:
-        raise ValueError(f"{what} is {number}, and none from {least} to {most}")
+        raise ValueError(f"{what} is {_shown(number)}, and none from {least} to {most}")
     return number
 
 
@@ -365,16 +374,29 @@ def _tag(tag: str) -> int:
     return int.from_bytes(tag.encode("ascii"), "big")
 
 
+def _infinity(value: Any) -> float:
+    """The infinity with the sign of a value; NaN for one that can't be compared."""
+    try:
+        return math.inf if value > 0 else -math.inf
+    except (ArithmeticError, TypeError, ValueError):
+        return math.nan
+
+
 def _fixed(tag: str, value: Value) -> int:
     """A value as the nearest number of 65536ths, a half rounded up; one past 32 bits is the nearest one within."""
     try:
         scaled = math.ldexp(value, 16)
-    except builtins.OverflowError:
-        return 0x7FFFFFFF if value > 0 else -0x80000000  # type: ignore[operator]
     except TypeError:
         raise TypeError(f"the value of the axis {tag} is a number, and no {type(value).__name__}") from None
+    except builtins.OverflowError:
+        # (an int is past all floats, or the product is)
+        scaled = _infinity(value)
+        if not math.isnan(scaled):
+            return 0x7FFFFFFF if scaled > 0 else -0x80000000
+    except (ArithmeticError, ValueError):
+        scaled = math.nan
     if not math.isfinite(scaled):
-        raise ValueError(f"the value of the axis {tag} is {value}")
+        raise ValueError(f"the value of the axis {tag} is {_shown(value)}")
     below = math.floor(scaled)
     return max(-0x80000000, min(below + (scaled - below >= 0.5), 0x7FFFFFFF))
 
