@@ -68,8 +68,13 @@ def put(stack, text, where):
 
 def joined(path, shown):
     """The lines of a file, each with where it begins; a line that ends with ` \\` goes on in the next one."""
-    with open(path, encoding="ascii") as file:
-        texts, begun = file.read().split("\n"), None
+    try:
+        with open(path, encoding="ascii") as file:
+            texts, begun = file.read().split("\n"), None
+    except FileNotFoundError:
+        raise Trouble(f"{shown} isn't there") from None
+    except UnicodeDecodeError as error:
+        raise Trouble(f"{shown}: byte {error.start} isn't ASCII") from None
     if texts.pop():
         raise Trouble(f"{shown}: its last line isn't ended")
     for number, text in enumerate(texts, 1):
