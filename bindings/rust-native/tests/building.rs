@@ -111,22 +111,27 @@ fn a_program_that_names_this_package_gets_its_library() {
 fn an_older_library_has_no_calls_for_pdf() {
     let font = include_bytes!("../../rust/tests/data/made.ttf");
     let target = folder("dependent_pdf");
+    // (-q would keep a warning back)
+    let build = |folder: &Path| {
+        let output = Command::new(env!("CARGO"))
+            .args(["build", "--offline", "--features", "pdf", "--target-dir"])
+            .arg(&target)
+            .current_dir(concat!(env!("CARGO_MANIFEST_DIR"), "/tests/dependent"))
+            .env("SUBSETTER_LIBRARY_FOLDER", folder)
+            .output()
+            .unwrap();
+        let said = String::from_utf8(output.stderr).unwrap();
+        (output.status.success(), said)
+    };
+    let (succeeds, said) = build(library().parent().unwrap());
+    assert!(succeeds && !said.contains("is older"), "{said}");
     let mut whole = cargo("run", &target);
     whole.args(["--features", "pdf"]);
-    assert!(made(whole, None, font).starts_with(b"%PDF-1.7"));
+    assert!(made(whole, library().parent(), font).starts_with(b"%PDF-1.7"));
     let older = folder("older");
     refusing(&older);
-    // (-q would keep the warning back)
-    let words = ["build", "--offline", "--features", "pdf", "--target-dir"];
-    let output = Command::new(env!("CARGO"))
-        .args(words)
-        .arg(&target)
-        .current_dir(concat!(env!("CARGO_MANIFEST_DIR"), "/tests/dependent"))
-        .env("SUBSETTER_LIBRARY_FOLDER", &older)
-        .output()
-        .unwrap();
-    let said = String::from_utf8(output.stderr).unwrap();
-    assert!(!output.status.success(), "{said}");
+    let (succeeds, said) = build(&older);
+    assert!(!succeeds, "{said}");
     let wanted = "libsubsetter.a is older than this package: it has no calls for PDF";
     assert!(said.contains(wanted), "{said}");
     assert!(said.contains("subsetter_make_pdf_font_by_words"), "{said}");
