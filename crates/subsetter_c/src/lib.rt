@@ -11,8 +11,14 @@
 
 mod calls;
 mod handing;
+mod kept;
 mod making;
 mod options;
+mod pdf_calls;
+mod pdf_fonts;
+mod pdf_glyphs;
+mod pdf_objects;
+mod pdf_options;
 mod settings;
 mod status;
 mod variations;
