@@ -3,9 +3,10 @@
 ghost use Rattle.std.specs.Prelude.{◌≡◌, ◌⊎◌, ◌<◌, length, false, true};
 ghost use Rattle.subsetter_sfnt.specs.Extras.{all_extras};
 ghost use Rattle.subsetter_sfnt.specs.FontAt.{font_at};
+ghost use Rattle.pdf_font.specs.PdfFont.{IsPdfFont, font_of};
 ghost use Rattle.subsetter_pdf_c.specs.Entries.{are_scalars, are_texts, texts_from, uses_in};
 ghost use Rattle.subsetter_c.specs.Handed.{IsHandedOver, IsNothingHanded};
-ghost use Rattle.subsetter_c.specs.PdfFonts.{IsFontMade, IsNoFontMade};
+ghost use Rattle.subsetter_c.specs.PdfFonts.{IsFontMade, IsFontRefused, IsHandedBy, IsNoFontMade};
 ghost use Rattle.subsetter_c.specs.PdfGlyphs.{AreGlyphsOf, IsGlyphRefusal};
 ghost use Rattle.subsetter_c.specs.PdfObjects.{AreObjectsWritten, IsNoneWritten, IsSheetWritten, layout_of};
 ghost use Rattle.subsetter_c.specs.PdfOptions.{AreFontWordsKnown};
@@ -19,6 +20,7 @@ use crate::pdf_objects::{ObjectsMade, hand_file, hand_objects, nothing};
 use crate::pdf_options::font_options_of;
 use crate::settings::Coordinate;
 use crate::status::{INVALID_TEXT, UNKNOWN_OPTION};
+use pdf_font::FontOptions;
 use pdf_sheet::Layout;
 use std::alloc::Global;
 use subsetter_pdf_c::{PdfMade, are_scalars, are_texts, sheet_of, write_objects};
@@ -46,6 +48,29 @@ pub extern "C" fn subsetter_glyphs_of(
     hand_glyphs(glyphs_for(alloc, font, index, text), glyphs, length)
 }
 
+/// Makes a font with these options: the status.
+fn make_font(
+    alloc: Global,
+    font: &[u8],
+    index: u32,
+    coordinates: &[Coordinate],
+    glyphs: &[u16],
+    text: &[u32],
+    ends: &[usize],
+    options: &FontOptions,
+    made: &mut PdfMade,
+) -> u32
+    ensures no_texts { are_texts (length glyphs.now) text.now ends.now ≡ false → IsNoFontMade invalid_text made.new result }
+    ensures made { are_texts (length glyphs.now) text.now ends.now ≡ true → IsHandedBy (IsPdfFont (font_of font.now index options.now) (settings_of coordinates.now) options.now (uses_in glyphs.now text.now ends.now)) (IsFontRefused (font_of font.now index options.now) (settings_of coordinates.now) options.now (uses_in glyphs.now text.now ends.now)) made.new result }
+{
+    if !are_texts(glyphs.len(), text, ends) {
+        *made = no_font();
+        return INVALID_TEXT;
+    }
+    let answer = font_for(alloc, font, index, coordinates, glyphs, text, ends, options);
+    hand_font(alloc, answer, made)
+}
+
 /// All that a PDF has of a font for glyphs with their texts, in memory of the library; the words are those of
 /// `subsetter_pdf_options`.
 ///
@@ -67,16 +92,23 @@ pub extern "C" fn subsetter_make_pdf_font_by_words(
     ensures no_texts { AreFontWordsKnown options.now → are_texts (length glyphs.now) text.now ends.now ≡ false → IsNoFontMade invalid_text made.new result }
     ensures made { AreFontWordsKnown options.now → are_texts (length glyphs.now) text.now ends.now ≡ true → IsFontMade font.now index (settings_of coordinates.now) (uses_in glyphs.now text.now ends.now) options.now made.new result }
 {
-    let Some(options) = font_options_of(options) else {
-        *made = no_font();
-        return UNKNOWN_OPTION;
-    };
-    if !are_texts(glyphs.len(), text, ends) {
-        *made = no_font();
-        return INVALID_TEXT;
+    match font_options_of(options) {
+        Some(options) => make_font(
+            alloc,
+            font,
+            index,
+            coordinates,
+            glyphs,
+            text,
+            ends,
+            &options,
+            made,
+        ),
+        None => {
+            *made = no_font();
+            UNKNOWN_OPTION
+        }
     }
-    let answer = font_for(alloc, font, index, coordinates, glyphs, text, ends, &options);
-    hand_font(alloc, answer, made)
 }
 
 /// The objects of a font, with numbers from `first` on, and where each begins, in memory of the library.
@@ -92,6 +124,16 @@ pub extern "C" fn subsetter_make_pdf_objects(
     ensures { AreObjectsWritten font.now first made.new result }
 {
     hand_objects(write_objects(alloc, font, first), made)
+}
+
+/// The layout of a number.
+fn layout_of(layout: u32) -> Layout
+    ensures { result ≡ layout_of layout }
+{
+    if layout == 0 {
+        return Layout::Line;
+    }
+    Layout::Grid
 }
 
 /// A whole PDF file that shows glyphs with their texts, in memory of the library: those that the font was made of, in a line
@@ -121,10 +163,6 @@ pub extern "C" fn subsetter_make_pdf_sheet(
         *made = nothing();
         return INVALID_TEXT;
     }
-    let chosen = if layout == 0 {
-        Layout::Line
-    } else {
-        Layout::Grid
-    };
+    let chosen = layout_of(layout);
     hand_file(sheet_of(alloc, font, glyphs, text, ends, chosen), made)
 }
