@@ -9,7 +9,7 @@ ghost use Rattle.pdf_codes.specs.declared.shown.Shown.{Shown as SpecShown};
 ghost use Rattle.pdf_font.specs.PdfFont.{IsPdfFont, font_of};
 ghost use Rattle.pdf_font.specs.declared.error.FontError.TheVariants.{Subset};
 ghost use Rattle.pdf_font.specs.declared.font.PdfFont.{PdfFont as SpecPdfFont};
-ghost use Rattle.subsetter_pdf_c.specs.Entries.{are_ascending, are_scalars, are_texts, texts_from, texts_of, uses_in};
+ghost use Rattle.subsetter_pdf_c.specs.Entries.{AreTexts, are_ascending, are_scalars, texts_from, texts_of, uses_in};
 ghost use Rattle.subsetter_c.specs.PdfFonts.{AreNumbersOf, IsEmpty, IsFontRefused, IsHandedBy, IsLaidOut, bytes_of, c_column, cmap_name, cmap_text, columns_of, default_column, is_there, kind_number, no_numbers, number_of, or_zero, refusal_status, usage_number, vertical_number};
 ghost use Rattle.subsetter_c.specs.Settings.{settings_of};
 
@@ -355,7 +355,7 @@ pub fn font_for(
     ends: &[usize],
     options: &FontOptions,
 ) -> Result<PdfFont, FontError>
-    requires { are_texts (length glyphs.now) text.now ends.now ≡ true }
+    requires { AreTexts (length glyphs.now) text.now ends.now }
     ensures ok { IfOk result (λ f. IsPdfFont (font_of font.now index options.now) (settings_of coordinates.now) options.now (uses_in glyphs.now text.now ends.now) f) }
     ensures err { IfErr result (λ e. IsFontRefused (font_of font.now index options.now) (settings_of coordinates.now) options.now (uses_in glyphs.now text.now ends.now) e) }
 {

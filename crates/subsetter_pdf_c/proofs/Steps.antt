@@ -1,5 +1,5 @@
 -- Texts, columns and glyphs one by one, and what is answered.
-use Rattle.std.proofs.Common.{◌≡◌, ◌<◌, ℕ, zero, suc, ◌+◌, true, List, [], ◌∷◌, ◌++◌, length, get_or, map, take, drop, refl, sym, ap, subst, ◌∙◌, ◌⊎◌, inl, inr, arith, Vec, Global}
+use Rattle.std.proofs.Common.{◌≡◌, ◌<◌, ◌≤◌, ℕ, zero, suc, ◌+◌, true, List, [], ◌∷◌, ◌++◌, length, get_or, map, take, drop, refl, sym, ap, subst, ◌∙◌, ◌⊎◌, inl, inr, add-one, arith, Vec, Global}
 use Rattle.std.specs.Prelude.{Result, Ok, Err, IfOk, IfErr}
 use Rattle.std.proofs.lemmas.List.{map-append, take_more}
 use Rattle.subsetter_base.specs.declared.error.Error.{Error}
@@ -7,14 +7,13 @@ use Rattle.subsetter_base.specs.declared.error.Error.TheVariants.{OutOfMemory, O
 use Rattle.pdf_codes.specs.Codes.{Used}
 use Rattle.pdf_codes.specs.Shown.{use_of, uses_of}
 use Rattle.pdf_codes.specs.declared.shown.Shown.{Shown}
-use Rattle.pdf_text.specs.Columns.{no_column}
 use Rattle.pdf_text.specs.declared.columns.Column.{Column}
 use Rattle.pdf_text.specs.declared.values.FontValues.{FontValues}
 use Rattle.pdf_sheet.specs.File.{AreInTable, body_of, file_of}
 use Rattle.pdf_sheet.specs.Pages.{IsTooLarge, sheet_values}
 use Rattle.pdf_sheet.specs.declared.frame.Layout.{Layout}
 use Rattle.pdf_sheet.specs.declared.glyphs.SheetGlyph.{SheetGlyph}
-use Rattle.subsetter_pdf_c.specs.Entries.{AreTexts, are_scalars, are_texts, is_scalar, texts_of, uses_with}
+use Rattle.subsetter_pdf_c.specs.Entries.{AreTexts, are_ascending, are_scalars, are_texts, is_scalar, text_between, texts_from, texts_of, uses_with}
 use Rattle.subsetter_pdf_c.specs.Made.{AreValuesOf, column_of}
 use Rattle.subsetter_pdf_c.specs.Written.{AreGlyphsOf, HasManyColumns, IsSheetOf, IsTooLargeFor}
 use Rattle.subsetter_pdf_c.specs.declared.made.PdfColumn.{PdfColumn}
@@ -25,6 +24,39 @@ pub scalar_at : (text : List ℕ) (i : ℕ) → are_scalars text ≡ true → i 
 scalar_at [] i all lt = absurd (omega arith)
 scalar_at (n ∷ text) zero all lt = grind arith
 scalar_at (n ∷ text) (suc i) all lt = let rest : are_scalars text ≡ true = grind arith in scalar_at text i rest (omega arith)
+
+-- ends in their order: the next is between the one before and the bound, and the others go on from there
+pub last_within : (last : ℕ) (ends : List ℕ) (bound : ℕ) → are_ascending last ends bound ≡ true → last ≤ bound
+last_within last [] bound h = grind arith
+last_within last (end ∷ ends) bound h =
+    let here : last ≤ end = grind arith in
+    let rest : are_ascending end ends bound ≡ true = grind arith in
+    let further : end ≤ bound = last_within end ends bound rest in
+    omega arith
+
+pub next_above : (start : ℕ) (ends : List ℕ) (i bound : ℕ) → are_ascending start (drop i ends) bound ≡ true → i < length ends → start ≤ get_or ends i 0
+next_above start [] i bound h lt = absurd (omega arith)
+next_above start (end ∷ ends) zero bound h lt = grind arith
+next_above start (end ∷ ends) (suc i) bound h lt = next_above start ends i bound h (omega arith)
+
+on_suc : (start : ℕ) (ends : List ℕ) (i bound : ℕ) → are_ascending start (drop i ends) bound ≡ true → i < length ends → are_ascending (get_or ends i 0) (drop (suc i) ends) bound ≡ true
+on_suc start [] i bound h lt = absurd (omega arith)
+on_suc start (end ∷ ends) zero bound h lt = grind arith
+on_suc start (end ∷ ends) (suc i) bound h lt = on_suc start ends i bound h (omega arith)
+
+pub next_on : (start : ℕ) (ends : List ℕ) (i bound : ℕ) → are_ascending start (drop i ends) bound ≡ true → i < length ends → are_ascending (get_or ends i 0) (drop (i + 1) ends) bound ≡ true
+next_on start ends i bound h lt = rw add-one (on_suc start ends i bound h lt)
+
+pub next_within : (start : ℕ) (ends : List ℕ) (i bound : ℕ) → are_ascending start (drop i ends) bound ≡ true → i < length ends → get_or ends i 0 ≤ bound
+next_within start ends i bound h lt = last_within (get_or ends i 0) (drop (i + 1) ends) bound (next_on start ends i bound h lt)
+
+here_suc : (text : List ℕ) (start : ℕ) (ends : List ℕ) (i : ℕ) → i < length ends → texts_from text start (drop i ends) ≡ text_between text start (get_or ends i 0) ∷ texts_from text (get_or ends i 0) (drop (suc i) ends)
+here_suc text start [] i lt = absurd (omega arith)
+here_suc text start (end ∷ ends) zero lt = refl
+here_suc text start (end ∷ ends) (suc i) lt = here_suc text start ends i (omega arith)
+
+pub text_here : (text : List ℕ) (start : ℕ) (ends : List ℕ) (i : ℕ) → i < length ends → texts_from text start (drop i ends) ≡ text_between text start (get_or ends i 0) ∷ texts_from text (get_or ends i 0) (drop (i + 1) ends)
+text_here text start ends i lt = rw add-one (here_suc text start ends i lt)
 
 -- as many glyphs have texts
 pub texts_fit : (count : ℕ) (text ends : List ℕ) → are_texts count text ends ≡ true → AreTexts count text ends
@@ -39,11 +71,6 @@ uses_split (s ∷ shown) = ap (λ (us : List Used). use_of s ∷ us) (uses_split
 pub mapped_length : (cs : List PdfColumn) → length (map column_of cs) ≡ length cs
 mapped_length [] = refl
 mapped_length (c ∷ cs) = ap suc (mapped_length cs)
-
-pub column_at : (cs : List PdfColumn) (i : ℕ) (d : PdfColumn) → i < length cs → get_or (map column_of cs) i no_column ≡ column_of (get_or cs i d)
-column_at [] i d l = absurd (omega arith)
-column_at (c ∷ cs) zero d l = refl
-column_at (c ∷ cs) (suc i) d l = column_at cs i d (omega arith)
 
 -- ---- glyphs
 

@@ -1,5 +1,5 @@
 -- What the objects of a PDF say of a font that C holds (ISO 32000-1, 9.7 to 9.9).
-use Rattle.std.specs.Prelude.{◌≡◌, ℕ, ◌==◌, ◌&&◌, not, min, if◌then◌else◌, Bool, true, false, List, [], ◌∷◌, length, get_or, map, codes, Option, Some, None, ℤ, pos, neg_ℤ}
+use Rattle.std.specs.Prelude.{◌≡◌, ℕ, ◌==◌, ◌&&◌, not, min, if◌then◌else◌, Bool, List, [], ◌∷◌, length, get_or, map, codes, Option, Some, None, ℤ, pos, neg_ℤ}
 use Rattle.std.specs.Option.{option_copied, option_map}
 use Rattle.std.specs.Ordering.{int_eq}
 use Rattle.pdf_text.specs.Arrays.{entries, array_text}
@@ -25,16 +25,15 @@ abbrev pub is_yes : ℕ → Bool
 is_yes n = not (n == 0)
 
 abbrev pub x_height_of : PdfNumbers → Option ℤ
-x_height_of n = if is_yes n.has_x_height then Some n.x_height else None
+x_height_of n = if n.has_x_height == 0 then None else Some n.x_height
 
 -- no weight is above 1000
 abbrev pub weight_of : ℕ → ℕ
 weight_of n = min n 1000
 
--- DW2, if it isn't PDF's own
-abbrev pub default_column : Bool → ℤ → ℤ → Option (List ℤ)
-default_column false y advance = None
-default_column true y advance = if int_eq y (pos 880) && int_eq advance (neg_ℤ (pos 1000)) then None else Some (y ∷ advance ∷ [])
+-- DW2, if text runs from top to bottom and it isn't PDF's own
+abbrev pub default_column : ℕ → ℤ → ℤ → Option (List ℤ)
+default_column vertical y advance = if vertical == 0 then None else if int_eq y (pos 880) && int_eq advance (neg_ℤ (pos 1000)) then None else Some (y ∷ advance ∷ [])
 
 -- y of DW2, and its advance
 abbrev pub default_y : PdfNumbers → ℤ
@@ -45,6 +44,9 @@ default_advance n = get_or n.default_column 1 (pos 0)
 
 -- ---- arrays
 
+abbrev pub no_column : PdfColumn
+no_column = record { advance = pos 0; x = pos 0; y = pos 0 }
+
 abbrev pub column_of : PdfColumn → Column
 column_of c = record { advance = c.advance; x = c.x; y = c.y }
 
@@ -52,12 +54,11 @@ abbrev pub w_text : PdfMade → List ℕ
 w_text made = array_text (entries made.widths.now made.numbers.default_width)
 
 -- of horizontal writing there is none
-abbrev pub columns_text_of : Bool → DefaultColumn → List PdfColumn → List ℕ
-columns_text_of false default columns = codes "[]"
-columns_text_of true default columns = columns_text (spans default (map column_of columns))
+abbrev pub columns_text_of : ℕ → DefaultColumn → List PdfColumn → List ℕ
+columns_text_of vertical default columns = if vertical == 0 then codes "[]" else columns_text (spans default (map column_of columns))
 
 abbrev pub w2_text : PdfMade → List ℕ
-w2_text made = columns_text_of (is_yes made.numbers.is_vertical) (record { y = default_y made.numbers; advance = default_advance made.numbers }) made.columns.now
+w2_text made = columns_text_of made.numbers.is_vertical (record { y = default_y made.numbers; advance = default_advance made.numbers }) made.columns.now
 
 -- ---- values
 
@@ -75,8 +76,7 @@ pub record IsDescriptorOf (made : PdfMade) (d : Descriptor) : Type 0 where
 
 -- an empty list stands for none
 abbrev pub unless_empty : {A : Type 0} → List ℕ → A → Option A
-unless_empty [] value = None
-unless_empty (b ∷ bytes) value = Some value
+unless_empty bytes value = if length bytes == 0 then None else Some value
 
 abbrev pub name_of : OwnCmap → List ℕ
 name_of cmap = cmap.name.now
@@ -91,7 +91,7 @@ pub record AreValuesOf (made : PdfMade) (v : FontValues) : Type 0 where
   pub vertical : v.vertical ≡ is_yes made.numbers.is_vertical
   pub default_width : v.default_width ≡ made.numbers.default_width
   pub widths : v.widths.now ≡ w_text made
-  pub default_column : v.default_column ≡ default_column (is_yes made.numbers.is_vertical) (default_y made.numbers) (default_advance made.numbers)
+  pub default_column : v.default_column ≡ default_column made.numbers.is_vertical (default_y made.numbers) (default_advance made.numbers)
   pub columns : v.columns.now ≡ w2_text made
   pub program : v.program.now ≡ made.program.now
   pub to_unicode : v.to_unicode.now ≡ made.to_unicode.now

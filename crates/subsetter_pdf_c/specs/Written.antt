@@ -1,20 +1,19 @@
 -- What is written of a font that C holds: its objects, and a sheet.
-use Rattle.std.specs.Prelude.{◌≡◌, ◌<◌, ◌≤◌, ◌⊎◌, ◌+◌, ◌^◌, ℕ, true, List, map, length, take, get_or, min, Bool, false, unsigned_abs}
+use Rattle.std.specs.Prelude.{◌≡◌, ◌<◌, ◌≤◌, ◌⊎◌, ◌+◌, ◌^◌, ℕ, ◌==◌, if◌then◌else◌, List, map, length, take, get_or, min, unsigned_abs}
 use Rattle.std.specs.List.{concat}
 use Rattle.pdf_text.specs.Objects.{font_objects, offsets_from, AreFontObjectsAt}
-use Rattle.pdf_text.specs.Columns.{no_column}
 use Rattle.pdf_text.specs.declared.values.FontValues.{FontValues}
 use Rattle.pdf_sheet.specs.File.{AreInTable, body_of, file_of}
 use Rattle.pdf_sheet.specs.Pages.{sheet_values, IsTooLarge}
 use Rattle.pdf_sheet.specs.declared.frame.Layout.{Layout}
 use Rattle.pdf_sheet.specs.declared.glyphs.SheetGlyph.{SheetGlyph}
-use Rattle.subsetter_pdf_c.specs.Made.{AreValuesOf, column_of, is_yes}
+use Rattle.subsetter_pdf_c.specs.Made.{AreValuesOf, no_column}
 use Rattle.subsetter_pdf_c.specs.declared.made.PdfColumn.{PdfColumn}
 use Rattle.subsetter_pdf_c.specs.declared.made.PdfMade.{PdfMade}
 
 -- CIDs have 16 bits
 pub record HasManyColumns (made : PdfMade) : Type 0 where
-  pub vertical : is_yes made.numbers.is_vertical ≡ true
+  pub vertical : 0 < made.numbers.is_vertical
   pub many : 65536 < length made.columns.now
 
 -- the objects of the font, with numbers from the first on, and where each begins
@@ -32,12 +31,11 @@ HaveNoNumbers made first = (2 ^ 32 ≤ first + 7) ⊎ HasManyColumns made
 -- ---- a sheet
 
 -- how far a line goes on with a CID: its width, or in vertical writing its advance
-abbrev pub advance_by : Bool → List PdfColumn → List ℕ → ℕ → ℕ
-advance_by false columns widths cid = get_or widths cid 0
-advance_by true columns widths cid = unsigned_abs (get_or (map column_of columns) cid no_column).advance
+abbrev pub advance_by : ℕ → List PdfColumn → List ℕ → ℕ → ℕ
+advance_by vertical columns widths cid = if vertical == 0 then get_or widths cid 0 else unsigned_abs (get_or columns cid no_column).advance
 
 abbrev pub advance_of : PdfMade → ℕ → ℕ
-advance_of made cid = advance_by (is_yes made.numbers.is_vertical) made.columns.now made.widths.now cid
+advance_of made cid = advance_by made.numbers.is_vertical made.columns.now made.widths.now cid
 
 -- as many as have a code, a CID, a text, and whether it is said
 abbrev pub size_of : PdfMade → List (List ℕ) → ℕ

@@ -97,6 +97,7 @@ fn entry_of<'a>(glyph: u16, characters: &'a [char], start: usize, end: usize) ->
 /// # Errors
 ///
 /// `OutOfMemory` alone.
+#[tactic(auto, using(crate::proofs::Steps::next_above, crate::proofs::Steps::next_within, crate::proofs::Steps::next_on, crate::proofs::Steps::text_here))]
 pub fn shown_of<'a>(
     alloc: Global,
     glyphs: &[u16],

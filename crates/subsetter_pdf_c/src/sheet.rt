@@ -1,10 +1,9 @@
 //! A sheet of a font that C holds.
 
-ghost use Rattle.std.specs.Prelude.{◌≡◌, ◌<◌, ◌⊎◌, [], false, true, length, get_or, map, min, unsigned_abs, IfOk, IfErr};
+ghost use Rattle.std.specs.Prelude.{◌≡◌, ◌<◌, ◌⊎◌, [], false, length, get_or, min, unsigned_abs, IfOk, IfErr};
 ghost use Rattle.subsetter_base.specs.declared.error.Error.TheVariants.{OutOfMemory, OverflowError};
-ghost use Rattle.pdf_text.specs.Columns.{no_column};
-ghost use Rattle.subsetter_pdf_c.specs.Entries.{are_texts, texts_from, texts_of};
-ghost use Rattle.subsetter_pdf_c.specs.Made.{column_of};
+ghost use Rattle.subsetter_pdf_c.specs.Entries.{AreTexts, texts_from, texts_of};
+ghost use Rattle.subsetter_pdf_c.specs.Made.{no_column};
 ghost use Rattle.subsetter_pdf_c.specs.Written.{AreGlyphsOf, HasManyColumns, IsSheetOf, IsTooLargeFor, advance_of, size_of};
 
 use crate::entries::{characters_of, shown_of};
@@ -16,9 +15,8 @@ use std::alloc::Global;
 use subsetter_base::Error;
 
 /// The advance of a CID in vertical writing.
-#[tactic(auto, using(crate::proofs::Steps::column_at))]
 fn column_advance(columns: &[PdfColumn], cid: u16) -> u32
-    ensures { result ≡ unsigned_abs (get_or (map column_of columns.now) cid no_column).advance }
+    ensures { result ≡ unsigned_abs (get_or columns.now cid no_column).advance }
 {
     let place = cid as usize;
     if place < columns.len() {
@@ -58,7 +56,7 @@ fn size_of(made: &PdfMade, shown: &[Shown<'_>]) -> usize
 }
 
 /// An entry as a glyph of a sheet.
-#[tactic(auto, using(crate::proofs::Steps::text_at))]
+#[tactic(auto, using(crate::proofs::Steps::text_at, crate::proofs::Steps::length_texts))]
 fn glyph_at<'a>(made: &PdfMade, shown: &[Shown<'a>], place: usize) -> SheetGlyph<'a>
     requires { place < size_of made.now (texts_of shown.now) }
     ensures code { result.code ≡ get_or made.now.codes.now place 0 }
@@ -125,7 +123,7 @@ pub fn sheet_of(
     ends: &[usize],
     layout: Layout,
 ) -> Result<Vec<u8>, Error>
-    requires { are_texts (length glyphs.now) text.now ends.now ≡ true }
+    requires { AreTexts (length glyphs.now) text.now ends.now }
     ensures ok { IfOk result (λ file. IsSheetOf made.now (texts_from text.now 0 ends.now) layout file.items) }
     ensures err { IfErr result (λ e. (e ≡ OutOfMemory) ⊎ ((e ≡ OverflowError) × (IsTooLargeFor made.now (texts_from text.now 0 ends.now) layout ⊎ HasManyColumns made.now))) }
 {

@@ -4,7 +4,7 @@ ghost use Rattle.std.specs.Prelude.{◌≡◌, ◌<◌, ◌≤◌, ◌⊎◌, le
 ghost use Rattle.std.specs.Option.{option_copied, option_map};
 ghost use Rattle.subsetter_base.specs.declared.error.Error.TheVariants.{OutOfMemory, OverflowError};
 ghost use Rattle.pdf_text.specs.Columns.{spans, columns_text};
-ghost use Rattle.subsetter_pdf_c.specs.Made.{AreValuesOf, IsDescriptorOf, column_of, columns_text_of, default_advance, default_column, default_y, is_yes, kind_of, name_of, text_of, unless_empty, w2_text, w_text, weight_of, x_height_of};
+ghost use Rattle.subsetter_pdf_c.specs.Made.{AreValuesOf, IsDescriptorOf, column_of, default_advance, default_column, default_y, is_yes, kind_of, name_of, text_of, unless_empty, w2_text, w_text, weight_of, x_height_of};
 ghost use Rattle.subsetter_pdf_c.specs.Written.{HasManyColumns};
 
 use crate::made::{PdfColumn, PdfMade, PdfNumbers};
@@ -153,10 +153,13 @@ fn descriptor_of(made: &PdfMade) -> Descriptor<'_>
 }
 
 /// DW2, if it isn't PDF's own.
-fn default_column(is_vertical: bool, y: i32, advance: i32) -> Option<[i32; 2]>
-    ensures { result ≡ default_column is_vertical y advance }
+fn default_column(vertical: u32, y: i32, advance: i32) -> Option<[i32; 2]>
+    ensures { result ≡ default_column vertical y advance }
 {
-    if !is_vertical || (y == 880 && advance == -1000) {
+    if vertical == 0 {
+        return None;
+    }
+    if y == 880 && advance == -1000 {
         return None;
     }
     Some([y, advance])
@@ -190,15 +193,14 @@ pub fn values_of<'a>(made: &'a PdfMade, arrays: &'a Arrays) -> FontValues<'a>
     ensures { AreValuesOf made.now result }
 {
     let numbers = &made.numbers;
-    let is_vertical = numbers.is_vertical != 0;
     FontValues {
         kind: kind_of(numbers.kind),
         descriptor: descriptor_of(made),
-        vertical: is_vertical,
+        vertical: numbers.is_vertical != 0,
         default_width: numbers.default_width,
         widths: &arrays.w,
         default_column: default_column(
-            is_vertical,
+            numbers.is_vertical,
             numbers.default_column[0],
             numbers.default_column[1],
         ),
