@@ -6,11 +6,13 @@ use Rattle.subsetter_base.specs.declared.error.Error.{Error}
 use Rattle.subsetter_base.specs.declared.error.Error.TheVariants.{OutOfMemory, MalformedFont}
 use Rattle.subsetter_sfnt.specs.Fault.{HasOpeningFault}
 use Rattle.subsetter_sfnt.specs.Plain.{opened}
-use Rattle.subsetter_sfnt.specs.Read.{Font, stored}
+use Rattle.subsetter_sfnt.specs.Read.{Font, stored, table_in}
 use Rattle.subsetter_sfnt.specs.declared.face.Face.{Face}
 use Rattle.subsetter_sfnt.proofs.Laws.Fault.{opened_refused}
 use Rattle.subsetter_variable.proofs.Stands.{find_is}
 use Rattle.cmap.specs.Subtable.{Mapping, glyph_of, mapping}
+use Rattle.cmap.specs.View.{mapping_view}
+use Rattle.cmap.specs.declared.mapping.Subtable.{Subtable}
 use Rattle.pdf_font.specs.Opened.{IsOpened}
 use Rattle.subsetter_c.specs.PdfGlyphs.{AreGlyphsOf, HasNoMapping, IsGlyphRefusal, mapping_in}
 
@@ -21,6 +23,10 @@ opened_ok font clean (Err e) h = tt
 pub opened_err : (font : Font) (r : Result Face Error) → IfErr r (λ e. opened font ≡ Err e) → IfErr r (λ e. HasOpeningFault font e)
 opened_err font (Ok face) h = tt
 opened_err font (Err e) h = opened_refused font e h
+
+-- what an opened face finds is what its font has
+pub found : (font : Font) (face : Face) → IsOpened font face → (r : Option Subtable) → option_map mapping_view r ≡ option_and_then mapping (table_in face.«data».now face.records.now (codes "cmap")) → mapping_in font ≡ option_map mapping_view r
+found font face o r h = sym (h ∙ ap (λ (find : List ℕ → Option (List ℕ)). option_and_then mapping (find (codes "cmap"))) o.find)
 
 module _ (font : Font) (clean : (e : Error) → HasOpeningFault font e → ⊥) where
   pub none : mapping_in font ≡ None → HasNoMapping font MalformedFont

@@ -1,10 +1,13 @@
 //! The glyphs of characters.
 
-ghost use Rattle.std.specs.Prelude.{◌≡◌, ◌⊎◌, ◌<◌, ◌≤◌, IfOk, IfErr, Some, Ok, Err, length, true};
+ghost use Rattle.std.specs.Prelude.{◌≡◌, ◌⊎◌, IfOk, IfErr, Some, codes, true};
+ghost use Rattle.std.specs.Option.{option_and_then, option_map};
 ghost use Rattle.subsetter_base.specs.declared.error.Error.{Error as SpecError};
 ghost use Rattle.subsetter_sfnt.specs.Extras.{all_extras};
 ghost use Rattle.subsetter_sfnt.specs.Fault.{HasOpeningFault};
 ghost use Rattle.subsetter_sfnt.specs.FontAt.{font_at};
+ghost use Rattle.subsetter_sfnt.specs.Read.{table_in};
+ghost use Rattle.cmap.specs.Subtable.{mapping};
 ghost use Rattle.cmap.specs.View.{mapping_view};
 ghost use Rattle.pdf_font.specs.Opened.{IsOpened};
 ghost use Rattle.subsetter_pdf_c.specs.Entries.{are_scalars};
@@ -26,17 +29,22 @@ fn opened_face(font: &[u8], index: u32) -> Result<Face<'_>, Error>
     parse(font, index, Extras::ALL)
 }
 
-/// The table by which the glyphs of Unicode characters are found.
+/// The table of a face by which the glyphs of Unicode characters are found.
+fn mapping_by<'a>(face: &Face<'a>) -> Option<Subtable<'a>>
+    ensures { option_map mapping_view result ≡ option_and_then mapping (table_in face.now.«data».now face.now.records.now (codes "cmap")) }
+{
+    let cmap = face.stored(Tag::new(b"cmap"))?;
+    find_subtable(cmap)
+}
+
+/// The table of a font by which the glyphs of Unicode characters are found.
 fn mapping_for(font: &[u8], index: u32) -> Result<Subtable<'_>, Error>
     ensures ok { IfOk result (λ table. mapping_in (font_at font.now index all_extras) ≡ Some (mapping_view table)) }
     ensures opens { IfOk result (λ table. (e : SpecError) → ¬ (HasOpeningFault (font_at font.now index all_extras) e)) }
     ensures err { IfErr result (λ e. HasOpeningFault (font_at font.now index all_extras) e ⊎ HasNoMapping (font_at font.now index all_extras) e) }
 {
     let face = opened_face(font, index)?;
-    let Some(cmap) = face.stored(Tag::new(b"cmap")) else {
-        return Err(Error::MalformedFont);
-    };
-    match find_subtable(cmap) {
+    match mapping_by(&face) {
         Some(table) => Ok(table),
         None => Err(Error::MalformedFont),
     }
