@@ -12,6 +12,22 @@ use std::alloc::Global;
 use subsetter_base::Error;
 
 /// The glyph of each character: 0 where the table doesn't have it.
+fn each_glyph(
+    alloc: Global,
+    table: Subtable<'_>,
+    characters: &[char],
+) -> Result<Vec<u16>, Error>
+    ensures ok { IfOk result (λ glyphs. glyphs.items ≡ map (glyph_of (mapping_view table.entry)) characters.now) }
+    ensures err { IfErr result (λ e. e ≡ OutOfMemory) }
+{
+    let mut glyphs = Vec::with_capacity(alloc, characters.len())?;
+    for character in characters {
+        glyphs.push(table.glyph_of(*character))?;
+    }
+    Ok(glyphs)
+}
+
+/// The glyph of each character of a text: 0 where the table doesn't have it.
 ///
 /// # Errors
 ///
@@ -22,9 +38,5 @@ pub fn glyphs_by(alloc: Global, table: Subtable<'_>, text: &[u32]) -> Result<Vec
     ensures err { IfErr result (λ e. e ≡ OutOfMemory) }
 {
     let characters = characters_of(alloc, text)?;
-    let mut glyphs = Vec::with_capacity(alloc, characters.len())?;
-    for character in &characters {
-        glyphs.push(table.glyph_of(*character))?;
-    }
-    Ok(glyphs)
+    each_glyph(alloc, table, &characters)
 }
