@@ -5,6 +5,9 @@ use Rattle.subsetter_base.specs.declared.error.Error.{Error}
 use Rattle.subsetter_base.specs.declared.error.Error.TheVariants.{OutOfMemory}
 use Rattle.subsetter_base.specs.declared.tag.Tag.{Tag}
 use Rattle.subsetter_sfnt.specs.Fault.{HasOpeningFault}
+use Rattle.subsetter_sfnt.specs.FontAt.{font_at}
+use Rattle.subsetter_sfnt.specs.declared.extras.Extras.{Extras}
+use Rattle.pdf_source.specs.Chosen.{extras_of}
 use Rattle.subsetter_sfnt.specs.Read.{Font}
 use Rattle.cid_embed_at.proofs.AtPlace.{opening_fault, opening_final}
 use Rattle.pdf_codes.specs.Codes.{Used, glyphs_of}
@@ -12,7 +15,7 @@ use Rattle.pdf_codes.specs.Shown.{uses_of}
 use Rattle.pdf_codes.specs.declared.shown.Shown.{Shown}
 use Rattle.pdf_source.specs.declared.choice.FontOptions.{FontOptions}
 use Rattle.pdf_font.specs.First.{IsFoundFirst}
-use Rattle.pdf_font.specs.PdfFont.{HasFontFault, HasNoPdfFont, IsPdfFont, in_embedding}
+use Rattle.pdf_font.specs.PdfFont.{HasFontFault, HasNoPdfFont, IsPdfFont, font_of, in_embedding}
 use Rattle.pdf_font.specs.declared.error.FontError.{FontError}
 use Rattle.pdf_font.specs.declared.error.FontError.TheVariants.{Subset}
 use Rattle.pdf_font.specs.declared.font.PdfFont.{PdfFont}
@@ -68,6 +71,13 @@ module _ (font : Font) (settings : List (Tag × ℤ)) (options : FontOptions) (u
       why = inr ((fault.0, there (λ s l. HasFontFault font s options l fault.0 e) fault.1), there (λ s l. HasNoPdfFont font s options l) none);
       unopened = first e found;
     }
+
+-- the same for extras that are those of the options
+pub unopened_at : {X : Type 0} (bytes : List ℕ) (index : ℕ) (settings : List (Tag × ℤ)) (options : FontOptions) (us : List Used) (extras : Extras) → extras ≡ extras_of options → (e : Error) → (e ≡ OutOfMemory) ⊎ HasOpeningFault (font_at bytes index extras) e → ((why : Error) → HasOpeningFault (font_at bytes index extras) why → failed {X = X} e ≡ Err OutOfMemory → ⊥) → IsFontRefused (font_of bytes index options) settings options us (Subset e)
+unopened_at {X} bytes index settings options us extras is e err before =
+    unopened (font_of bytes index options) settings options us {X = X} e
+    (subst (λ (x : Extras). (e ≡ OutOfMemory) ⊎ HasOpeningFault (font_at bytes index x) e) is err)
+    (subst (λ (x : Extras). (why : Error) → HasOpeningFault (font_at bytes index x) why → failed {X = X} e ≡ Err OutOfMemory → ⊥) is before)
 
 -- ---- handing over
 

@@ -8,8 +8,8 @@ use Rattle.subsetter_c.specs.Settings.{settings_of}
 use Rattle.subsetter_c.proofs.PdfFonts.{font_handed, without_memory}
 use Rattle.subsetter_c.proofs.pdf_calls.make_font.Goals as goal
 
-pub font_for-requires : goal.font_for-requires
-font_for-requires c =
+pub font_for-answer-requires : goal.font_for-answer-requires
+font_for-answer-requires c =
     let h : are_texts (length c.args.glyphs.now) c.args.text.now c.args.ends.now ≡ true = cc in
     texts_fit (length c.args.glyphs.now) c.args.text.now c.args.ends.now h
 
