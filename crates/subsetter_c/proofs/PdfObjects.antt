@@ -6,7 +6,7 @@ use Rattle.subsetter_base.specs.declared.error.Error.TheVariants.{OutOfMemory, O
 use Rattle.pdf_text.specs.declared.objects.FontObjects.{FontObjects}
 use Rattle.subsetter_c.specs.Handed.{IsAnswered}
 use Rattle.subsetter_c.specs.PdfObjects.{IsWritten, whole, refused}
-use Rattle.subsetter_c.specs.declared.pdf_objects.ObjectsMade.{ObjectsMade}
+use Rattle.subsetter_c.specs.declared.pdf_files.ObjectsMade.{ObjectsMade}
 
 module _ (Why : Error → Type 0) (made : ObjectsMade) (status : ℕ) where
   pub objects_written : (Is : List ℕ → List ℕ → Type 0) (answer : Result FontObjects Error) → IfOk answer (λ o. Is o.text.items o.offsets.items) → IfErr answer Why → IsWritten (λ bytes offsets. (o : FontObjects) × (answer ≡ Ok o) × (bytes ≡ o.text.items) × (offsets ≡ o.offsets.items)) (λ e. answer ≡ Err e) made status → IsWritten Is Why made status

@@ -7,7 +7,7 @@ use Rattle.pdf_sheet.specs.declared.frame.Layout.TheVariants.{Line, Grid}
 use Rattle.subsetter_pdf_c.specs.Written.{AreObjectsOf, HasManyColumns, HaveNoNumbers, IsSheetOf, IsTooLargeFor}
 use Rattle.subsetter_pdf_c.specs.declared.made.PdfMade.{PdfMade}
 use Rattle.subsetter_c.specs.Status.{status_of}
-use Rattle.subsetter_c.specs.declared.pdf_objects.ObjectsMade.{ObjectsMade}
+use Rattle.subsetter_c.specs.declared.pdf_files.ObjectsMade.{ObjectsMade}
 
 -- nothing is there
 pub record IsNothing (made : ObjectsMade) : Type 0 where

@@ -10,14 +10,14 @@
 #![tactic(auto)]
 
 mod calls;
+mod characters;
 mod handing;
 mod kept;
 mod making;
 mod options;
 mod pdf_calls;
+mod pdf_files;
 mod pdf_fonts;
-mod pdf_glyphs;
-mod pdf_objects;
 mod pdf_options;
 mod settings;
 mod status;

@@ -15,8 +15,8 @@ ghost use Rattle.subsetter_c.specs.Status.{invalid_text, unknown_option};
 
 use crate::handing::hand_glyphs;
 use crate::pdf_fonts::{font_for, hand_font, no_font};
-use crate::pdf_glyphs::glyphs_for;
-use crate::pdf_objects::{ObjectsMade, hand_file, hand_objects, nothing};
+use crate::characters::glyphs_for;
+use crate::pdf_files::{ObjectsMade, hand_file, hand_objects, nothing};
 use crate::pdf_options::font_options_of;
 use crate::settings::Coordinate;
 use crate::status::{INVALID_TEXT, UNKNOWN_OPTION};
