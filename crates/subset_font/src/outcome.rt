@@ -1,15 +1,18 @@
 //! What a plan makes of the font that is read: a subset, and what is printed behind its numbers.
 
-ghost use Rattle.std.specs.Prelude.{◌≡◌, ◌⊎◌, IfOk, IfErr, Some, None, length};
+ghost use Rattle.std.specs.Prelude.{◌≡◌, ◌⊎◌, IfOk, IfErr, Some, None, length, map};
 ghost use Rattle.std.specs.Option.{option_copied, option_map};
 ghost use Rattle.subset_lines.specs.Sizes.{sizes_text};
 ghost use Rattle.subsetter_sfnt.specs.Extras.{all_extras};
 ghost use Rattle.subset_font.specs.Made.{face_of, IsMade, IsUnmade};
 ghost use Rattle.subset_font.specs.Named.{face_settings};
-ghost use Rattle.subset_font.specs.Outcome.{sizes_of, sizes_if, members_of, more_text, IsOutcome, IsNoOutcome};
+ghost use Rattle.subsetter_sfnt.specs.Read.{stored};
+ghost use Rattle.subset_font.specs.Outcome.{sizes_of, sizes_if, members_of, more_text, names_of, names_for, IsOutcome, IsNoOutcome};
+ghost use Rattle.subset_font.specs.Tables.{bytes_or_none};
 ghost use Rattle.subset_font.specs.declared.failure.Failure.TheVariants.{Error as Refused};
 ghost use Rattle.subsetter_base.specs.declared.error.Error.TheVariants.{OutOfMemory};
 
+use crate::face::table;
 use crate::failure::Failure;
 use crate::missing::missing;
 use crate::named::face_settings;
@@ -17,6 +20,7 @@ use crate::notes::{known_axes, notes_for};
 use crate::subset::{Made, make_of};
 use crate::tables::{directory_of, table_sizes};
 use crate::task::{Form, Plan, Task};
+use glyph_names::glyph_names;
 use std::alloc::{AllocError, Global};
 use subset_lines::{TableSize, json_members, size_lines};
 use subsetter::{Error, Tag};
@@ -28,6 +32,8 @@ pub struct Outcome {
     pub made: Made,
     /// What is printed behind the numbers: further lines, or further members of the JSON object.
     pub more: Vec<u8>,
+    /// The names of the requested glyphs, as far as they are printed; an empty one is none.
+    pub names: Vec<Vec<u8>>,
 }
 
 /// The tables of the font that is read and of the new one, with their sizes.
@@ -117,14 +123,58 @@ fn more_of(alloc: Global, font: &[u8], plan: &Plan<'_>, made: &Made) -> Result<V
     }
 }
 
+/// The bytes of a table, none where the face hasn't got it.
+fn bytes_of(font: &[u8], index: u32, tag: Tag) -> &[u8]
+    ensures { result.now ≡ bytes_or_none (stored (record { bytes = font.now; index = index; extras = all_extras }) tag.0) }
+{
+    match table(font, index, tag) {
+        Some(bytes) => bytes,
+        None => &[],
+    }
+}
+
+/// The names of glyphs in a face.
+fn names_of(
+    alloc: Global,
+    font: &[u8],
+    index: u32,
+    glyphs: &[u16],
+) -> Result<Vec<Vec<u8>>, AllocError>
+    ensures { IfOk result (λ v. map (λ name. name.items) v.items ≡ names_of (record { bytes = font.now; index = index; extras = all_extras }) glyphs.now) }
+{
+    let post = bytes_of(font, index, Tag::POST);
+    let cff = bytes_of(font, index, Tag::CFF);
+    glyph_names(alloc, post, cff, glyphs)
+}
+
+/// The names of glyphs, if they are printed.
+fn names_for(
+    alloc: Global,
+    font: &[u8],
+    plan: &Plan<'_>,
+    glyphs: &[u16],
+) -> Result<Vec<Vec<u8>>, AllocError>
+    ensures { IfOk result (λ v. map (λ name. name.items) v.items ≡ names_for plan.now font.now glyphs.now) }
+{
+    match plan.task.form {
+        Form::Json => names_of(alloc, font, plan.task.index, glyphs),
+        Form::Lines => Ok(Vec::new(alloc)),
+        Form::Silence => Ok(Vec::new(alloc)),
+    }
+}
+
 /// The same for what was made, which is kept.
 fn with_more(alloc: Global, font: &[u8], plan: &Plan<'_>, made: Made) -> Result<Outcome, Failure>
     ensures made { IfOk result (λ o. o.made ≡ made) }
     ensures more { IfOk result (λ o. o.more.items ≡ more_text plan.now font.now made) }
+    ensures names { IfOk result (λ o. map (λ name. name.items) o.names.items ≡ names_for plan.now font.now made.picked.glyphs.items) }
     ensures err { IfErr result (λ e. e ≡ Refused OutOfMemory) }
 {
-    match more_of(alloc, font, plan, &made) {
-        Ok(more) => Ok(Outcome { made, more }),
+    let Ok(more) = more_of(alloc, font, plan, &made) else {
+        return Err(Failure::Error(Error::OutOfMemory));
+    };
+    match names_for(alloc, font, plan, &made.picked.glyphs) {
+        Ok(names) => Ok(Outcome { made, more, names }),
         Err(_) => Err(Failure::Error(Error::OutOfMemory)),
     }
 }

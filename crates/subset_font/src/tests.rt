@@ -152,6 +152,7 @@ fn outcome(alloc: Global, more: &[u8]) -> Result<Outcome, Fail> {
     Ok(Outcome {
         made,
         more: Vec::from_slice(alloc, more)?,
+        names: Vec::new(alloc),
     })
 }
 

@@ -7,6 +7,7 @@
     clippy::len_zero,
     clippy::manual_find,
     clippy::manual_map,
+    clippy::manual_ok_err,
     clippy::manual_range_contains,
     clippy::manual_unwrap_or,
     clippy::manual_unwrap_or_default,
@@ -27,6 +28,8 @@ pub mod cid_embed;
 pub mod cid_embed_at;
 #[cfg(feature = "variable-fonts")]
 pub mod cmap;
+#[cfg(feature = "program")]
+pub mod glyph_names;
 #[cfg(feature = "program")]
 pub mod late_file;
 #[cfg(feature = "variable-fonts")]
