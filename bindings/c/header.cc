@@ -44,11 +44,8 @@ static void check_names()
         {SUBSETTER_SUBSET_ERROR, "subsetting of font failed"}, {SUBSETTER_OVERFLOW_ERROR, "overflow occurred"},
         {SUBSETTER_CFF_ERROR, "processing CFF table failed"}, {SUBSETTER_OUT_OF_MEMORY, "out of memory"},
         {SUBSETTER_BUFFER_TOO_SMALL, "a buffer is too small"}, {SUBSETTER_NO_DEPTH, "the limit of the depth is 0"},
-        {SUBSETTER_UNKNOWN_OPTION, "unknown option"},
-#ifndef SUBSETTER_WITHOUT_PDF
-        {SUBSETTER_NOT_PERMITTED, "embedding not permitted"}, {SUBSETTER_INVALID_TEXT, "invalid text"},
-#endif
-    };
+        {SUBSETTER_UNKNOWN_OPTION, "unknown option"}, {SUBSETTER_NOT_PERMITTED, "embedding not permitted"},
+        {SUBSETTER_INVALID_TEXT, "invalid text"}};
     for (uint32_t i = 0; i < sizeof names / sizeof *names; i++) {
         uint8_t text[64];
         size_t length = 0;
@@ -127,7 +124,6 @@ static void check_calls()
     check(subsetter_make_subset(font, 55, 0, NULL, 0, &options, &made) == SUBSETTER_UNKNOWN_OPTION && made.font_size == 0, "an unknown bit");
 }
 
-#ifndef SUBSETTER_WITHOUT_PDF
 /* The calls for PDF. The font has no metrics, no characters and no `OS/2`. */
 static void check_pdf()
 {
@@ -145,7 +141,7 @@ static void check_pdf()
     check(SUBSETTER_LETTERS('A', 'B', 'C') == 0x414243u, "letters");
     check(subsetter_glyphs_of(font, 55, 0, text, 1, glyphs, 1, &length) == SUBSETTER_MALFORMED_FONT && length == 0, "glyphs of a text");
     check(subsetter_make_pdf_font(font, 55, 0, NULL, 0, NULL, 0, NULL, 0, NULL, 0, NULL, &made) == SUBSETTER_MALFORMED_FONT
-        && made.program == NULL && made.program_size == 0, "a font for PDF");
+        && made.program_size == 0 && made.kind == 0, "a font for PDF");
     check(subsetter_make_pdf_font(font, 55, 0, NULL, 0, glyphs, 1, text, 1, ends, 0, &options, &made) == SUBSETTER_INVALID_TEXT, "a text without an end");
     subsetter_free_pdf_font(&made);
     check(subsetter_make_pdf_objects(&made, 1, &objects) == SUBSETTER_DONE && objects.offset_count == 5, "objects of nothing");
@@ -161,7 +157,6 @@ static void check_pdf()
     check(SUBSETTER_USAGE_UNSAID == 0 && SUBSETTER_USAGE_INSTALLABLE == 1 && SUBSETTER_USAGE_EDITABLE == 2
         && SUBSETTER_USAGE_PREVIEW_AND_PRINT == 3 && SUBSETTER_USAGE_RESTRICTED == 4, "the usages");
 }
-#endif
 
 int main()
 {
@@ -169,9 +164,7 @@ int main()
     check_names();
     check_version();
     check_calls();
-#ifndef SUBSETTER_WITHOUT_PDF
     check_pdf();
-#endif
     if (failures == 0)
         std::printf("header: C++ reads it, and the library answers as it says\n");
     return failures != 0;
