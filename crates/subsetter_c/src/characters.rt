@@ -51,12 +51,7 @@ fn mapping_for(font: &[u8], index: u32) -> Result<Subtable<'_>, Error>
 }
 
 /// The glyph of each character of a text.
-pub fn glyphs_for(
-    alloc: Global,
-    font: &[u8],
-    index: u32,
-    text: &[u32],
-) -> Result<Vec<u16>, Error>
+pub fn glyphs_for(alloc: Global, font: &[u8], index: u32, text: &[u32]) -> Result<Vec<u16>, Error>
     requires { are_scalars text.now ≡ true }
     ensures ok { IfOk result (λ glyphs. AreGlyphsOf (font_at font.now index all_extras) text.now glyphs.items) }
     ensures err { IfErr result (λ e. IsGlyphRefusal (font_at font.now index all_extras) e) }

@@ -13,10 +13,10 @@ ghost use Rattle.subsetter_c.specs.PdfOptions.{AreFontWordsKnown};
 ghost use Rattle.subsetter_c.specs.Settings.{settings_of};
 ghost use Rattle.subsetter_c.specs.Status.{invalid_text, unknown_option};
 
-use crate::handing::hand_glyphs;
-use crate::pdf_fonts::{font_for, hand_font, no_font};
 use crate::characters::glyphs_for;
+use crate::handing::hand_glyphs;
 use crate::pdf_files::{ObjectsMade, hand_file, hand_objects, nothing};
+use crate::pdf_fonts::{font_for, hand_font, no_font};
 use crate::pdf_options::font_options_of;
 use crate::settings::Coordinate;
 use crate::status::{INVALID_TEXT, UNKNOWN_OPTION};

@@ -12,11 +12,7 @@ use std::alloc::Global;
 use subsetter_base::Error;
 
 /// The glyph of each character: 0 where the table doesn't have it.
-fn each_glyph(
-    alloc: Global,
-    table: Subtable<'_>,
-    characters: &[char],
-) -> Result<Vec<u16>, Error>
+fn each_glyph(alloc: Global, table: Subtable<'_>, characters: &[char]) -> Result<Vec<u16>, Error>
     ensures ok { IfOk result (λ glyphs. glyphs.items ≡ map (glyph_of (mapping_view table.entry)) characters.now) }
     ensures err { IfErr result (λ e. e ≡ OutOfMemory) }
 {
