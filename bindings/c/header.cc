@@ -20,20 +20,15 @@ static void check(bool holds, const char *what)
 static const uint8_t font[55] = {79, 84, 84, 79, 0, 1, 0, 16, 0, 0, 0, 0, 67, 70, 70, 32, 0, 0, 0, 0, 0, 0, 0, 28, 0, 0, 0, 27,
     1, 0, 4, 1, 0, 1, 1, 1, 2, 65, 0, 1, 1, 1, 3, 160, 17, 0, 0, 0, 0, 0, 1, 1, 1, 2, 14};
 
-/* The inline texts are the library's, but for statuses that it doesn't answer. */
+/* The inline texts are the library's. */
 static void check_texts()
 {
     for (uint32_t status = 0; status < 300; status++) {
         uint8_t text[64];
         size_t length = 0;
-        const char *wanted = subsetter_status_text(status);
-#ifdef SUBSETTER_WITHOUT_PDF
-        /* A library without the calls for PDF answers neither of their statuses. */
-        if (status == SUBSETTER_NOT_PERMITTED || status == SUBSETTER_INVALID_TEXT)
-            wanted = "unknown status";
-#endif
+        const char *inline_text = subsetter_status_text(status);
         check(subsetter_error_text(status, text, sizeof text, &length) == SUBSETTER_DONE, "a text");
-        check(length == std::strlen(wanted) && std::memcmp(text, wanted, length) == 0, wanted);
+        check(length == std::strlen(inline_text) && std::memcmp(text, inline_text, length) == 0, inline_text);
     }
     check(std::strcmp(subsetter_status_text(4294967295u), "unknown status") == 0, "the greatest status");
 }
