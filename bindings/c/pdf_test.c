@@ -400,12 +400,29 @@ static uint32_t make(const struct row *row, const subsetter_pdf_options *options
                                    row->glyph_count, row->text, row->text_count, row->ends, row->glyph_count, options, font);
 }
 
-static int is_nothing(const subsetter_pdf_font *font)
+/* Whether a font was given back: all of it is 0. */
+static int is_given_back(const subsetter_pdf_font *font)
 {
     subsetter_pdf_font nothing;
     memset(&nothing, 0, sizeof nothing);
     /* (there may be room behind the last number) */
     return memcmp(font, &nothing, offsetof(subsetter_pdf_font, may_embed_outlines) + 4) == 0;
+}
+
+/* Whether all sizes, counts and numbers of a font are 0. The pointer to an empty list says nothing. */
+static int is_nothing(const subsetter_pdf_font *font)
+{
+    subsetter_pdf_font sizes = *font;
+    sizes.program = sizes.font_name = sizes.to_unicode = sizes.encoding = sizes.encoding_name = sizes.cid_set = sizes.is_said = NULL;
+    sizes.cids = sizes.codes = NULL;
+    sizes.widths = NULL;
+    sizes.columns = NULL;
+    return is_given_back(&sizes);
+}
+
+static int are_no_objects(const subsetter_pdf_objects *made)
+{
+    return made->size == 0 && made->offset_count == 0;
 }
 
 static void answer(const struct row *row)
@@ -427,7 +444,7 @@ static void answer(const struct row *row)
     compare_objects(row, &font);
     compare_sheets(row, &font);
     subsetter_free_pdf_font(&font);
-    check(is_nothing(&font), name, "what is left of a font");
+    check(is_given_back(&font), name, "what is left of a font");
     subsetter_free_pdf_font(&font);
 }
 
@@ -449,8 +466,8 @@ static void refuse(const struct row *row)
         refused = 0;
         check(!was_refused || status == 7 || then == 7 || last == 7 || (status == 0 && then == 0 && last == 0), name, "a refused request");
         check(status == 0 || is_nothing(&font), name, "what is left without memory");
-        check(then == 0 || (objects.bytes == NULL && objects.offsets == NULL), name, "objects without memory");
-        check(last == 0 || page.bytes == NULL, name, "a sheet without memory");
+        check(then == 0 || are_no_objects(&objects), name, "objects without memory");
+        check(last == 0 || are_no_objects(&page), name, "a sheet without memory");
         subsetter_free_pdf_font(&font);
         subsetter_free_pdf_objects(&objects);
         subsetter_free_pdf_objects(&page);
@@ -607,13 +624,13 @@ static void try_sheets(const struct row *row)
     subsetter_pdf_font font;
     subsetter_pdf_objects made;
     check(make(row, NULL, &font) == 0, "a font", "status");
-    check(sheet(row, &font, 2, &made) == SUBSETTER_UNKNOWN_OPTION && made.bytes == NULL, "another layout", "status");
+    check(sheet(row, &font, 2, &made) == SUBSETTER_UNKNOWN_OPTION && are_no_objects(&made), "another layout", "status");
     const uint32_t wrong[] = {0xd800};
     const size_t ends[] = {1};
-    check(subsetter_make_pdf_sheet(&font, row->glyphs, 1, wrong, 1, ends, 1, 0, &made) == 12 && made.bytes == NULL, "no character", "status");
+    check(subsetter_make_pdf_sheet(&font, row->glyphs, 1, wrong, 1, ends, 1, 0, &made) == 12 && are_no_objects(&made), "no character", "status");
     check(subsetter_make_pdf_objects(&font, UINT32_MAX - 7, &made) == 0, "the last number", "status");
     subsetter_free_pdf_objects(&made);
-    check(subsetter_make_pdf_objects(&font, UINT32_MAX - 6, &made) == 5 && made.bytes == NULL, "no number", "status");
+    check(subsetter_make_pdf_objects(&font, UINT32_MAX - 6, &made) == 5 && are_no_objects(&made), "no number", "status");
     subsetter_free_pdf_font(&font);
     subsetter_free_pdf_font(NULL);
     subsetter_free_pdf_objects(NULL);

@@ -531,7 +531,7 @@ def _library_for_pdf() -> ctypes.CDLL:
     library = _library()
     if not hasattr(library, "subsetter_glyphs_of"):
         raise NotImplementedError(
-            f"{library._name} has no calls for PDF: the library that is proved as it is built doesn't have them yet. "
+            f"{library._name} has no calls for PDF: it is of an older version. "
             "`pip install ./bindings/python` in a clone builds one that has them."
         )
     return library

@@ -1,5 +1,9 @@
 mod Asked
 mod AtCoordinates
 mod Bytes
+mod Letters
 mod Lists
 mod Made
+mod PdfFonts
+mod PdfGlyphs
+mod PdfObjects
