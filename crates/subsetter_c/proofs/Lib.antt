@@ -6,4 +6,5 @@ mod Lists
 mod Made
 mod PdfFonts
 mod PdfGlyphs
+mod PdfLaws
 mod PdfObjects

@@ -1,6 +1,6 @@
 -- What is said of a font for a PDF that is handed over, in other words.
-use Rattle.std.proofs.Common.{◌≡◌, ℕ, List, [], ◌∷◌, refl, sym, ap, subst, ◌∙◌, ◌⊎◌, inl, inr, Result, Ok, Err, ℤ, map, true}
-use Rattle.std.specs.Prelude.{IfOk, IfErr}
+use Rattle.std.proofs.Common.{◌≡◌, ℕ, List, [], ◌∷◌, refl, sym, ap, subst, ◌∙◌, ◌⊎◌, inl, inr, Result, Ok, Err, ℤ, map, true, false}
+use Rattle.std.specs.Prelude.{IfOk, IfErr, codes}
 use Rattle.subsetter_base.specs.declared.error.Error.{Error}
 use Rattle.subsetter_base.specs.declared.error.Error.TheVariants.{OutOfMemory}
 use Rattle.subsetter_base.specs.declared.tag.Tag.{Tag}
@@ -8,16 +8,17 @@ use Rattle.subsetter_sfnt.specs.Fault.{HasOpeningFault}
 use Rattle.subsetter_sfnt.specs.FontAt.{font_at}
 use Rattle.subsetter_sfnt.specs.declared.extras.Extras.{Extras}
 use Rattle.pdf_source.specs.Chosen.{extras_of}
-use Rattle.subsetter_sfnt.specs.Read.{Font}
+use Rattle.subsetter_sfnt.specs.Read.{Font, stored}
 use Rattle.cid_embed_at.proofs.AtPlace.{opening_fault, opening_final}
 use Rattle.pdf_codes.specs.Codes.{Used, glyphs_of}
-use Rattle.pdf_codes.specs.Shown.{uses_of}
+use Rattle.pdf_codes.specs.Shown.{has_long_text, uses_of}
 use Rattle.pdf_codes.specs.declared.shown.Shown.{Shown}
+use Rattle.pdf_values.specs.Permission.{is_permitted, permission}
 use Rattle.pdf_source.specs.declared.choice.FontOptions.{FontOptions}
-use Rattle.pdf_font.specs.First.{IsFoundFirst}
+use Rattle.pdf_font.specs.First.{CanBeOpened, IsFoundFirst}
 use Rattle.pdf_font.specs.PdfFont.{HasFontFault, HasNoPdfFont, IsPdfFont, font_of, in_embedding}
 use Rattle.pdf_font.specs.declared.error.FontError.{FontError}
-use Rattle.pdf_font.specs.declared.error.FontError.TheVariants.{Subset}
+use Rattle.pdf_font.specs.declared.error.FontError.TheVariants.{Subset, NotPermitted, TextTooLong}
 use Rattle.pdf_font.specs.declared.font.PdfFont.{PdfFont}
 use Rattle.subsetter_pdf_c.specs.Entries.{texts_from, texts_of, uses_in, uses_with}
 use Rattle.subsetter_pdf_c.specs.declared.made.PdfMade.{PdfMade}
@@ -39,18 +40,25 @@ module _ (font : Font) (settings : List (Tag × ℤ)) (options : FontOptions) (u
 
   -- before the call: memory ran out, and the font can be opened, or it can't
   pub unopened : {X : Type 0} (e : Error) → (e ≡ OutOfMemory) ⊎ HasOpeningFault font e → ((why : Error) → HasOpeningFault font why → failed {X = X} e ≡ Err OutOfMemory → ⊥) → IsFontRefused font settings options us (Subset e)
-  unopened {X} e (inl memory) before = record { why = inl (ap Subset memory); unopened = λ fault h. absurd (before fault h (ap (failed {X = X}) memory)) }
+  unopened {X} e (inl memory) before = record {
+    why = inl (ap Subset memory);
+    unopened = λ fault h. absurd (before fault h (ap (failed {X = X}) memory));
+    forbidden = λ opens no. inl (ap Subset memory);
+    long = λ opens yes h. inl (ap Subset memory);
+  }
   unopened e (inr fault) before = record {
     why = inr (([], in_embedding (opening_fault options.limits.bytes options.limits.tokens options.limits.depth font settings (glyphs_of us) e fault)), unopened_final e fault);
     unopened = λ why h. (e, refl, fault);
+    forbidden = λ opens no. absurd (opens e fault);
+    long = λ opens yes h. absurd (opens e fault);
   }
 
-  same_error : (e : FontError) (d : Error) → failed_font e ≡ failed_font (Subset d) → e ≡ Subset d
+  same_error : (e d : FontError) → failed_font e ≡ failed_font d → e ≡ d
   same_error e d h = cc
 
   -- a font that is answered can be opened
   pub without_memory : (f : PdfFont) → IsPdfFont font settings options us f → IsFontRefused font settings options us (Subset OutOfMemory)
-  without_memory f is = record { why = inl refl; unopened = λ fault h. absurd (unopened_final fault h f is) }
+  without_memory f is = record { why = inl refl; unopened = λ fault h. absurd (unopened_final fault h f is); forbidden = λ opens no. inl refl; long = λ opens yes h. inl refl }
 
   module _ (given : List (Tag × ℤ)) (used : List Used) (g : given ≡ settings) (u : used ≡ us) where
     there : (P : List (Tag × ℤ) → List Used → Type 0) → P given used → P settings us
@@ -61,15 +69,23 @@ module _ (font : Font) (settings : List (Tag × ℤ)) (options : FontOptions) (u
     answered (Err e) ok = tt
 
     first : (e : FontError) → IsFoundFirst font options used (Err e) → (fault : Error) → HasOpeningFault font fault → (d : Error) × (e ≡ Subset d) × HasOpeningFault font d
-    first e found fault h = let d = found.unopened fault h in (d.0, same_error e d.0 d.1, d.2)
+    first e found fault h = let d = found.unopened fault h in (d.0, same_error e (Subset d.0) d.1, d.2)
+
+    forbidden_by : (e : FontError) → IsFoundFirst font options used (Err e) → CanBeOpened font → is_permitted (permission (stored font (codes "OS/2"))) options.rights ≡ false → (e ≡ Subset OutOfMemory) ⊎ (e ≡ NotPermitted (permission (stored font (codes "OS/2"))))
+    forbidden_by e found opens no = inr (same_error e (NotPermitted (permission (stored font (codes "OS/2")))) (found.forbidden opens no))
+
+    long_by : (e : FontError) → IsFoundFirst font options used (Err e) → CanBeOpened font → is_permitted (permission (stored font (codes "OS/2"))) options.rights ≡ true → has_long_text us ≡ true → (e ≡ Subset OutOfMemory) ⊎ (e ≡ TextTooLong)
+    long_by e found opens yes h = inr (same_error e TextTooLong (found.long opens yes (ap has_long_text u ∙ h)))
 
     pub refused_by : (r : Result PdfFont FontError) → IfErr r (λ e. (e ≡ Subset OutOfMemory) ⊎ ((order : List ℕ) × HasFontFault font given options used order e)) → IfErr r (λ e. (e ≡ Subset OutOfMemory) ⊎ HasNoPdfFont font given options used) → IsFoundFirst font options used r → IfErr r (IsFontRefused font settings options us)
     refused_by (Ok f) err none found = tt
-    refused_by (Err e) (inl memory) none found = record { why = inl memory; unopened = first e found }
-    refused_by (Err e) (inr fault) (inl memory) found = record { why = inl memory; unopened = first e found }
+    refused_by (Err e) (inl memory) none found = record { why = inl memory; unopened = first e found; forbidden = forbidden_by e found; long = long_by e found }
+    refused_by (Err e) (inr fault) (inl memory) found = record { why = inl memory; unopened = first e found; forbidden = forbidden_by e found; long = long_by e found }
     refused_by (Err e) (inr fault) (inr none) found = record {
       why = inr ((fault.0, there (λ s l. HasFontFault font s options l fault.0 e) fault.1), there (λ s l. HasNoPdfFont font s options l) none);
       unopened = first e found;
+      forbidden = forbidden_by e found;
+      long = long_by e found;
     }
 
 -- the same for extras that are those of the options

@@ -4,6 +4,7 @@ pub mod Made
 pub mod Options
 pub mod PdfFonts
 pub mod PdfGlyphs
+pub mod PdfLaws
 pub mod PdfObjects
 pub mod PdfOptions
 pub mod Settings

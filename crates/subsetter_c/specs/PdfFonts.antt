@@ -1,20 +1,23 @@
 -- How a font for a PDF is handed to C: by its lists, its numbers and a status.
-use Rattle.std.specs.Prelude.{◌≡◌, ◌≢◌, ◌⊎◌, ℕ, Bool, true, false, if◌then◌else◌, List, [], ◌∷◌, map, Option, Some, None, ℤ, pos, Vec}
+use Rattle.std.specs.Prelude.{◌≡◌, ◌≢◌, ◌⊎◌, ℕ, Bool, true, false, if◌then◌else◌, List, [], ◌∷◌, map, codes, Option, Some, None, ℤ, pos, Vec}
 use Rattle.std.specs.Global.{Global}
 use Rattle.subsetter_base.specs.declared.error.Error.{Error}
 use Rattle.subsetter_base.specs.declared.error.Error.TheVariants.{OutOfMemory}
 use Rattle.subsetter_base.specs.declared.tag.Tag.{Tag}
 use Rattle.subsetter_sfnt.specs.Fault.{HasOpeningFault}
-use Rattle.subsetter_sfnt.specs.Read.{Font}
+use Rattle.subsetter_sfnt.specs.Read.{Font, stored}
 use Rattle.pdf_text.specs.declared.columns.Column.{Column}
 use Rattle.pdf_text.specs.declared.named.NamedCmap.{NamedCmap}
 use Rattle.pdf_text.specs.declared.values.ProgramKind.{ProgramKind}
 use Rattle.pdf_text.specs.declared.values.ProgramKind.TheVariants.{TrueType, BareCff, OpenType}
 use Rattle.pdf_codes.specs.Codes.{Used}
+use Rattle.pdf_codes.specs.Shown.{has_long_text}
 use Rattle.pdf_glyphs.specs.declared.columns.Columns.{Columns}
+use Rattle.pdf_values.specs.Permission.{is_permitted, permission}
 use Rattle.pdf_values.specs.declared.permission.Usage.{Usage}
 use Rattle.pdf_values.specs.declared.permission.Usage.TheVariants.{Unsaid, Installable, Editable, PreviewAndPrint, Restricted}
 use Rattle.pdf_source.specs.declared.choice.FontOptions.{FontOptions}
+use Rattle.pdf_font.specs.First.{CanBeOpened}
 use Rattle.pdf_font.specs.PdfFont.{HasFontFault, HasNoPdfFont, IsPdfFont, font_of}
 use Rattle.pdf_font.specs.declared.error.FontError.{FontError}
 use Rattle.pdf_font.specs.declared.error.FontError.TheVariants.{Subset, NotPermitted, TextTooLong}
@@ -147,6 +150,10 @@ pub record IsFontRefused (font : Font) (settings : List (Tag × ℤ)) (options :
   pub why : (e ≡ Subset OutOfMemory) ⊎ (((order : List ℕ) × HasFontFault font settings options us order e) × HasNoPdfFont font settings options us)
   -- a font that can't be opened is refused for that, also without memory
   pub unopened : (fault : Error) → HasOpeningFault font fault → (d : Error) × (e ≡ Subset d) × HasOpeningFault font d
+  -- then one that `fsType` forbids, unless memory ran out
+  pub forbidden : CanBeOpened font → is_permitted (permission (stored font (codes "OS/2"))) options.rights ≡ false → (e ≡ Subset OutOfMemory) ⊎ (e ≡ NotPermitted (permission (stored font (codes "OS/2"))))
+  -- then one with a text that is too long
+  pub long : CanBeOpened font → is_permitted (permission (stored font (codes "OS/2"))) options.rights ≡ true → has_long_text us ≡ true → (e ≡ Subset OutOfMemory) ⊎ (e ≡ TextTooLong)
 
 -- a font is handed over, or an error: the lists and numbers, and the status
 pub data IsHandedBy (Is : PdfFont → Type 0) (Why : FontError → Type 0) (made : PdfMade) (status : ℕ) : Type 0 where

@@ -13,6 +13,7 @@ mod calls;
 mod characters;
 mod handing;
 mod kept;
+mod laws;
 mod making;
 mod options;
 mod pdf_calls;
