@@ -20,7 +20,7 @@ INSTANCE = sources("subsetter_instance", "subsetter_points", "subsetter_variatio
 CFF2 = sources("subsetter_cff_at", "subsetter_cff2", "subsetter_blend", "subsetter_variation", "subsetter_cff", "subsetter_type2", "subsetter_cffdata", "subsetter_base")
 BENCH = sources("subset_bench")
 PROGRAM = sources("subset_font", "subset_args", "subset_lines", "glyph_names", "cid_embed", "cmap", "late_file")
-C = sources("subsetter_c", "cid_embed", "cid_embed_at") + ("bindings/c/*",)
+C = sources("subsetter_c", "subsetter_pdf_c", "cid_embed", "cid_embed_at") + ("bindings/c/*",)
 BINDINGS = C + ("bindings/python/**", "bindings/rust-native/**", "bindings/plants", "bindings/test")
 PORTABLE = SUBSET + INSTANCE + C + ("bindings/rust/src/**",)
 # The harness has the crate alone, with its module `pdf`.

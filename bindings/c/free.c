@@ -21,3 +21,32 @@ void subsetter_free(subsetter_made *made)
     give_back(made->widths, made->width_count);
     *made = nothing;
 }
+
+void subsetter_free_pdf_font(subsetter_pdf_font *made)
+{
+    static const subsetter_pdf_font nothing;
+    if (made == NULL)
+        return;
+    give_back(made->program, made->program_size);
+    give_back(made->cids, made->cid_count);
+    give_back(made->codes, made->code_count);
+    give_back(made->is_said, made->said_count);
+    give_back(made->widths, made->width_count);
+    give_back(made->columns, made->column_count);
+    give_back(made->font_name, made->font_name_size);
+    give_back(made->to_unicode, made->to_unicode_size);
+    give_back(made->encoding, made->encoding_size);
+    give_back(made->encoding_name, made->encoding_name_size);
+    give_back(made->cid_set, made->cid_set_size);
+    *made = nothing;
+}
+
+void subsetter_free_pdf_objects(subsetter_pdf_objects *made)
+{
+    static const subsetter_pdf_objects nothing = {NULL, 0, NULL, 0};
+    if (made == NULL)
+        return;
+    give_back(made->bytes, made->size);
+    give_back(made->offsets, made->offset_count);
+    *made = nothing;
+}

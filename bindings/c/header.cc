@@ -20,20 +20,15 @@ static void check(bool holds, const char *what)
 static const uint8_t font[55] = {79, 84, 84, 79, 0, 1, 0, 16, 0, 0, 0, 0, 67, 70, 70, 32, 0, 0, 0, 0, 0, 0, 0, 28, 0, 0, 0, 27,
     1, 0, 4, 1, 0, 1, 1, 1, 2, 65, 0, 1, 1, 1, 3, 160, 17, 0, 0, 0, 0, 0, 1, 1, 1, 2, 14};
 
-/* The inline texts are the library's, but for statuses that it doesn't answer. */
+/* The inline texts are the library's. */
 static void check_texts()
 {
     for (uint32_t status = 0; status < 300; status++) {
         uint8_t text[64];
         size_t length = 0;
-        const char *wanted = subsetter_status_text(status);
-#ifdef SUBSETTER_WITHOUT_PDF
-        /* A library without the calls for PDF answers neither of their statuses. */
-        if (status == SUBSETTER_NOT_PERMITTED || status == SUBSETTER_INVALID_TEXT)
-            wanted = "unknown status";
-#endif
+        const char *inline_text = subsetter_status_text(status);
         check(subsetter_error_text(status, text, sizeof text, &length) == SUBSETTER_DONE, "a text");
-        check(length == std::strlen(wanted) && std::memcmp(text, wanted, length) == 0, wanted);
+        check(length == std::strlen(inline_text) && std::memcmp(text, inline_text, length) == 0, inline_text);
     }
     check(std::strcmp(subsetter_status_text(4294967295u), "unknown status") == 0, "the greatest status");
 }
@@ -49,11 +44,8 @@ static void check_names()
         {SUBSETTER_SUBSET_ERROR, "subsetting of font failed"}, {SUBSETTER_OVERFLOW_ERROR, "overflow occurred"},
         {SUBSETTER_CFF_ERROR, "processing CFF table failed"}, {SUBSETTER_OUT_OF_MEMORY, "out of memory"},
         {SUBSETTER_BUFFER_TOO_SMALL, "a buffer is too small"}, {SUBSETTER_NO_DEPTH, "the limit of the depth is 0"},
-        {SUBSETTER_UNKNOWN_OPTION, "unknown option"},
-#ifndef SUBSETTER_WITHOUT_PDF
-        {SUBSETTER_NOT_PERMITTED, "embedding not permitted"}, {SUBSETTER_INVALID_TEXT, "invalid text"},
-#endif
-    };
+        {SUBSETTER_UNKNOWN_OPTION, "unknown option"}, {SUBSETTER_NOT_PERMITTED, "embedding not permitted"},
+        {SUBSETTER_INVALID_TEXT, "invalid text"}};
     for (uint32_t i = 0; i < sizeof names / sizeof *names; i++) {
         uint8_t text[64];
         size_t length = 0;
@@ -139,7 +131,6 @@ static void check_calls()
     check(subsetter_make_subset(font, 55, 0, NULL, 0, &options, &made) == SUBSETTER_UNKNOWN_OPTION && made.font_size == 0, "an unknown bit");
 }
 
-#ifndef SUBSETTER_WITHOUT_PDF
 /* The calls for PDF. The font has no metrics, no characters and no `OS/2`. */
 static void check_pdf()
 {
@@ -157,7 +148,7 @@ static void check_pdf()
     check(SUBSETTER_LETTERS('A', 'B', 'C') == 0x414243u, "letters");
     check(subsetter_glyphs_of(font, 55, 0, text, 1, glyphs, 1, &length) == SUBSETTER_MALFORMED_FONT && length == 0, "glyphs of a text");
     check(subsetter_make_pdf_font(font, 55, 0, NULL, 0, NULL, 0, NULL, 0, NULL, 0, NULL, &made) == SUBSETTER_MALFORMED_FONT
-        && made.program == NULL && made.program_size == 0, "a font for PDF");
+        && made.program_size == 0 && made.kind == 0, "a font for PDF");
     check(subsetter_make_pdf_font(font, 55, 0, NULL, 0, glyphs, 1, text, 1, ends, 0, &options, &made) == SUBSETTER_INVALID_TEXT, "a text without an end");
     subsetter_free_pdf_font(&made);
     check(subsetter_make_pdf_objects(&made, 1, &objects) == SUBSETTER_DONE && objects.offset_count == 5, "objects of nothing");
@@ -173,7 +164,6 @@ static void check_pdf()
     check(SUBSETTER_USAGE_UNSAID == 0 && SUBSETTER_USAGE_INSTALLABLE == 1 && SUBSETTER_USAGE_EDITABLE == 2
         && SUBSETTER_USAGE_PREVIEW_AND_PRINT == 3 && SUBSETTER_USAGE_RESTRICTED == 4, "the usages");
 }
-#endif
 
 int main()
 {
@@ -181,9 +171,7 @@ int main()
     check_names();
     check_version();
     check_calls();
-#ifndef SUBSETTER_WITHOUT_PDF
     check_pdf();
-#endif
     if (failures == 0)
         std::printf("header: C++ reads it, and the library answers as it says\n");
     return failures != 0;

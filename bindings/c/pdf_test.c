@@ -3,6 +3,7 @@
  *
  *   pdf_test FOLDER      where pdf_rows.txt and its fonts are
  *
+ *   SUBSETTER_BY_CARGO   for the library of bindings/capi, whose empty lists are null
  *   SUBSETTER_SHARED     over a shared library, whose memory can neither be counted nor refused
  *   SUBSETTER_BRIEF      fewer damaged fonts
  *   SUBSETTER_UNDAMAGED  none */
@@ -346,6 +347,16 @@ static void compare_objects(const struct row *row, const subsetter_pdf_font *fon
     subsetter_free_pdf_objects(&made);
 }
 
+/* Whether a list has no items, and the pointer that its library gives such a list. */
+static int is_empty(const void *items, size_t count)
+{
+#ifdef SUBSETTER_BY_CARGO
+    return count == 0 && items == NULL;
+#else
+    return count == 0 && items != NULL;
+#endif
+}
+
 /* Whether a file ends with an object's text and the rest of a PDF. */
 static int contains(const uint8_t *bytes, size_t size, const char *part)
 {
@@ -369,7 +380,7 @@ static void compare_sheets(const struct row *row, const subsetter_pdf_font *font
     check(sheet(row, font, SUBSETTER_LAYOUT_LINE, &line) == 0 && sheet(row, font, SUBSETTER_LAYOUT_GRID, &grid) == 0, name, "a sheet");
     check(subsetter_make_pdf_objects(font, 5, &own) == 0, name, "objects of a sheet");
     said_size = 0;
-    check(line.offset_count == 0 && grid.offset_count == 0, name, "offsets of a sheet");
+    check(is_empty(line.offsets, line.offset_count) && is_empty(grid.offsets, grid.offset_count), name, "offsets of a sheet");
     check(memcmp(line.bytes, "%PDF-1.7\n", 9) == 0 && memcmp(line.bytes + line.size - 6, "%%EOF\n", 6) == 0, name, "a whole file");
     int is_there = 0;
     for (size_t i = 0; own.size <= line.size && i <= line.size - own.size; i++)
@@ -400,12 +411,29 @@ static uint32_t make(const struct row *row, const subsetter_pdf_options *options
                                    row->glyph_count, row->text, row->text_count, row->ends, row->glyph_count, options, font);
 }
 
-static int is_nothing(const subsetter_pdf_font *font)
+/* Whether a font was given back: all of it is 0. */
+static int is_given_back(const subsetter_pdf_font *font)
 {
     subsetter_pdf_font nothing;
     memset(&nothing, 0, sizeof nothing);
     /* (there may be room behind the last number) */
     return memcmp(font, &nothing, offsetof(subsetter_pdf_font, may_embed_outlines) + 4) == 0;
+}
+
+/* Whether all sizes, counts and numbers of a font are 0. The pointer to an empty list says nothing. */
+static int is_nothing(const subsetter_pdf_font *font)
+{
+    subsetter_pdf_font sizes = *font;
+    sizes.program = sizes.font_name = sizes.to_unicode = sizes.encoding = sizes.encoding_name = sizes.cid_set = sizes.is_said = NULL;
+    sizes.cids = sizes.codes = NULL;
+    sizes.widths = NULL;
+    sizes.columns = NULL;
+    return is_given_back(&sizes);
+}
+
+static int are_no_objects(const subsetter_pdf_objects *made)
+{
+    return is_empty(made->bytes, made->size) && is_empty(made->offsets, made->offset_count);
 }
 
 static void answer(const struct row *row)
@@ -427,7 +455,7 @@ static void answer(const struct row *row)
     compare_objects(row, &font);
     compare_sheets(row, &font);
     subsetter_free_pdf_font(&font);
-    check(is_nothing(&font), name, "what is left of a font");
+    check(is_given_back(&font), name, "what is left of a font");
     subsetter_free_pdf_font(&font);
 }
 
@@ -438,8 +466,10 @@ static void refuse(const struct row *row)
     const char *name = value(row, "row");
     for (unsigned long request = 1;; request++) {
         subsetter_pdf_font font;
-        subsetter_pdf_objects objects = {NULL, 0, NULL, 0}, page = {NULL, 0, NULL, 0};
+        subsetter_pdf_objects objects, page;
         long before = held;
+        memset(&objects, 0xa5, sizeof objects);
+        memset(&page, 0xa5, sizeof page);
         requests = 0;
         refused = request;
         uint32_t status = make(row, &row->options, &font);
@@ -449,11 +479,13 @@ static void refuse(const struct row *row)
         refused = 0;
         check(!was_refused || status == 7 || then == 7 || last == 7 || (status == 0 && then == 0 && last == 0), name, "a refused request");
         check(status == 0 || is_nothing(&font), name, "what is left without memory");
-        check(then == 0 || (objects.bytes == NULL && objects.offsets == NULL), name, "objects without memory");
-        check(last == 0 || page.bytes == NULL, name, "a sheet without memory");
+        check(then == 0 || are_no_objects(&objects), name, "objects without memory");
+        check(last == 0 || are_no_objects(&page), name, "a sheet without memory");
         subsetter_free_pdf_font(&font);
-        subsetter_free_pdf_objects(&objects);
-        subsetter_free_pdf_objects(&page);
+        if (status == 0)
+            subsetter_free_pdf_objects(&objects);
+        if (status == 0 && then == 0)
+            subsetter_free_pdf_objects(&page);
         check(held == before, name, "memory that isn't given back");
         if (!was_refused) {
             check(request > 20 || status != 0, name, "requests of the calls");
@@ -607,16 +639,49 @@ static void try_sheets(const struct row *row)
     subsetter_pdf_font font;
     subsetter_pdf_objects made;
     check(make(row, NULL, &font) == 0, "a font", "status");
-    check(sheet(row, &font, 2, &made) == SUBSETTER_UNKNOWN_OPTION && made.bytes == NULL, "another layout", "status");
+    memset(&made, 0xa5, sizeof made);
+    check(sheet(row, &font, 2, &made) == SUBSETTER_UNKNOWN_OPTION && are_no_objects(&made), "another layout", "status");
+    memset(&made, 0xa5, sizeof made);
     const uint32_t wrong[] = {0xd800};
     const size_t ends[] = {1};
-    check(subsetter_make_pdf_sheet(&font, row->glyphs, 1, wrong, 1, ends, 1, 0, &made) == 12 && made.bytes == NULL, "no character", "status");
+    check(subsetter_make_pdf_sheet(&font, row->glyphs, 1, wrong, 1, ends, 1, 0, &made) == 12 && are_no_objects(&made), "no character", "status");
     check(subsetter_make_pdf_objects(&font, UINT32_MAX - 7, &made) == 0, "the last number", "status");
     subsetter_free_pdf_objects(&made);
-    check(subsetter_make_pdf_objects(&font, UINT32_MAX - 6, &made) == 5 && made.bytes == NULL, "no number", "status");
+    memset(&made, 0xa5, sizeof made);
+    check(subsetter_make_pdf_objects(&font, UINT32_MAX - 6, &made) == 5 && are_no_objects(&made), "no number", "status");
+    subsetter_free_pdf_objects(&made);
     subsetter_free_pdf_font(&font);
     subsetter_free_pdf_font(NULL);
     subsetter_free_pdf_objects(NULL);
+}
+
+/* Any pointer to no items, and null, are the same to each call, and none is given back. */
+static void try_empty(void)
+{
+    static const uint64_t nothing[2];
+    const subsetter_pdf_objects lists = {(const uint8_t *)nothing, 0, (const size_t *)nothing, 0};
+    subsetter_pdf_font fonts[2];
+    subsetter_pdf_objects made[2], sheets[2], none = lists;
+    long before = held;
+    memset(fonts, 0, sizeof fonts);
+    fonts[1].program = fonts[1].font_name = fonts[1].to_unicode = fonts[1].encoding = fonts[1].encoding_name = fonts[1].cid_set = lists.bytes;
+    fonts[1].is_said = lists.bytes;
+    fonts[1].cids = fonts[1].codes = (const uint16_t *)nothing;
+    fonts[1].widths = (const uint32_t *)nothing;
+    fonts[1].columns = (const subsetter_column *)nothing;
+    for (int i = 0; i < 2; i++) {
+        check(subsetter_make_pdf_objects(&fonts[i], 1, &made[i]) == 0 && made[i].offset_count == 5, "empty lists", "objects");
+        check(subsetter_make_pdf_sheet(&fonts[i], NULL, 0, NULL, 0, NULL, 0, SUBSETTER_LAYOUT_GRID, &sheets[i]) == 0, "empty lists", "a sheet");
+    }
+    check(made[0].size == made[1].size && memcmp(made[0].bytes, made[1].bytes, made[0].size) == 0, "empty lists", "other objects");
+    check(sheets[0].size == sheets[1].size && memcmp(sheets[0].bytes, sheets[1].bytes, sheets[0].size) == 0, "empty lists", "another sheet");
+    for (int i = 0; i < 2; i++) {
+        subsetter_free_pdf_objects(&made[i]);
+        subsetter_free_pdf_objects(&sheets[i]);
+    }
+    subsetter_free_pdf_font(&fonts[1]);
+    subsetter_free_pdf_objects(&none);
+    check(is_given_back(&fonts[1]) && none.bytes == NULL && none.offsets == NULL && held == before, "empty lists", "given back");
 }
 
 static void try_glyphs(const struct row *row)
@@ -716,6 +781,7 @@ int main(int count, char **words)
         }
         free(row.font);
     }
+    try_empty();
     try_statuses();
     free(whole);
     printf("%zu rows for PDF, %zu checks, %zu failed\n", rows, checks, failures);

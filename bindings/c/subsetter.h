@@ -8,7 +8,8 @@
  * from malloc and gives all of it back before it returns, but for what the `make` calls hand over (malloc, realloc and
  * free are to come from one allocator); the caller owns all that it passes, and the library keeps none of it.
  *
- * A list is a pointer and a count of items, and is aligned as its items are. For a count of 0 the pointer may be null. A
+ * A list is a pointer and a count of items, and is aligned as its items are. For a count of 0 the pointer may be null. Of an
+ * empty list that the library hands over the pointer says nothing: it may be null or not, and is neither read nor freed. A
  * buffer that is written must not overlap anything else that is passed. A size (`length`, `sizes`) is written by each
  * call and must not be null.
  *
@@ -73,8 +74,7 @@ enum {
     SUBSETTER_INVALID_TEXT = 12
 };
 
-/* What a status says, in English. Of 11 and 12 a library without the calls for PDF says `unknown status` in
- * `subsetter_error_text`: no call of it answers them. */
+/* What a status says, in English. */
 static inline const char *subsetter_status_text(uint32_t status)
 {
     static const char *const texts[] = {
@@ -389,12 +389,7 @@ static inline uint32_t subsetter_make_embedded_at(const uint8_t *font, size_t fo
  * again. Also after a call that failed, or with a null pointer: then it does nothing. */
 void subsetter_free(subsetter_made *made);
 
-/* ---- all that a PDF has of a font (sections in brackets are those of ISO 32000-1)
- *
- * WHICH LIBRARY HAS THESE CALLS: the one that Cargo makes (bindings/capi). The one that is proved as it is built doesn't have
- * them yet, and a program that calls them can't be linked with it. With SUBSETTER_WITHOUT_PDF defined they aren't declared, so
- * that the compiler finds such a call. */
-#ifndef SUBSETTER_WITHOUT_PDF
+/* ---- all that a PDF has of a font (sections in brackets are those of ISO 32000-1) */
 
 /* The glyph of each character of a text, by the font's table `cmap`: 0 where the font has none. `text` are 32-bit characters.
  * The text isn't shaped: there are no ligatures, no kerning and no reordering, which Arabic or Devanagari need.
@@ -583,9 +578,10 @@ typedef struct subsetter_pdf_font {
  * are the 32-bit characters of all entries, and `ends` says for each entry where its characters end there; they begin where
  * those of the entry before end. So `end_count` is `glyph_count`. Where each glyph has one character, `ends` is 1, 2, 3 and so on.
  *   0: `*made` is the font.
- *   1 to 7, 10 to 12: all of `*made` is 0, and nothing is to be freed. First comes 10, then a text that isn't one (12), what is
- *   found in opening the font, 11, a text that is too long (12), and then what `subsetter_embed_at_by_words` answers. 2 also where
- *   outlines in `glyf` have no `maxp`; 5 also for more than 65,535 pairs of a glyph and a text.
+ *   1 to 7, 10 to 12: all sizes, counts and numbers of `*made` are 0, and nothing is to be freed. First comes 10, then a text
+ *   that isn't one (12), what is found in opening the font, 11, a text that is too long (12), and then what
+ *   `subsetter_embed_at_by_words` answers. 2 also where outlines in `glyf` have no `maxp`; 5 also for more than 65,535 pairs of a
+ *   glyph and a text.
  * `made` is written by each call and must not be null; what it held before isn't freed. No value of the font descriptor is a
  * reason to refuse a font: where a table is missing or cut, another source of the value is taken.
  */
@@ -612,7 +608,8 @@ static inline uint32_t subsetter_make_pdf_font(const uint8_t *font, size_t font_
 /* Gives back what `subsetter_make_pdf_font` handed over, and sets all to 0, as `subsetter_free` does. */
 void subsetter_free_pdf_font(subsetter_pdf_font *made);
 
-/* A part of a PDF file, or a whole one, which the caller only reads, and gives back by `subsetter_free_pdf_objects`. */
+/* A part of a PDF file, or a whole one, which the caller only reads, and gives back by `subsetter_free_pdf_objects`. Where the
+ * size or the count is 0, its pointer says nothing. */
 typedef struct subsetter_pdf_objects {
     const uint8_t *bytes;
     size_t size;
@@ -625,7 +622,8 @@ typedef struct subsetter_pdf_objects {
  * descriptor, the font program, ToUnicode, CIDSet if there is one, and the CMap if the file has its own. Streams have no filter,
  * and it is for files that aren't encrypted. `font` is one that `subsetter_make_pdf_font` made, unchanged.
  *   0: `*made` are the objects, one behind the other.
- *   5: seven numbers from `first` on don't fit 32 bits; 7: malloc gave nothing. All of `*made` is 0.
+ *   5: seven numbers from `first` on don't fit 32 bits; 7: malloc gave nothing. The size and the count of `*made` are 0, and
+ *   nothing is to be freed.
  */
 uint32_t subsetter_make_pdf_objects(const subsetter_pdf_font *font, uint32_t first, subsetter_pdf_objects *made);
 
@@ -639,8 +637,8 @@ enum {
 
 /* A whole PDF file that shows glyphs in 36 points. Glyphs, text and ends are those that the font was made of, or the first of
  * them.
- *   0: `made->bytes` is the file.
- *   5, 7, 10 (another layout), 12: all of `*made` is 0.
+ *   0: `made->bytes` is the file, and the count of offsets is 0.
+ *   5, 7, 10 (another layout), 12: the size and the count of `*made` are 0, and nothing is to be freed.
  */
 uint32_t subsetter_make_pdf_sheet(const subsetter_pdf_font *font,
                                   const uint16_t *glyphs, size_t glyph_count,
@@ -650,8 +648,6 @@ uint32_t subsetter_make_pdf_sheet(const subsetter_pdf_font *font,
 
 /* Gives back what these two handed over, and sets all to 0. */
 void subsetter_free_pdf_objects(subsetter_pdf_objects *made);
-
-#endif
 
 #ifdef __cplusplus
 }

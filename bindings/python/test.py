@@ -834,8 +834,8 @@ def check_without_pdf():
         source, named = os.path.join(top, "other.c"), os.path.join(os.path.realpath(top), "other.so")
         with open(source, "w") as file:
             file.write(WITHOUT_PDF)
-        for flag, wanted in (("-DNONE", ["MalformedFont ", f"NotImplementedError {named} has no calls for PDF: the library that is proved",
-                                         f"NotImplementedError {named} has no calls for PDF: the library that is proved", "TypeError a text is a str"]),
+        for flag, wanted in (("-DNONE", ["MalformedFont ", f"NotImplementedError {named} has no calls for PDF: it is of an older version",
+                                         f"NotImplementedError {named} has no calls for PDF: it is of an older version", "TypeError a text is a str"]),
                              ("-DONE", 3 * [f"OSError {named} has no call subsetter_make_pdf_font_by_words: it is of another version"] + ["TypeError"])):
             subprocess.run([os.environ.get("CC", "cc"), "-shared", "-fPIC", flag, source, "-o", named], check=True)
             found = child(CALLS_FOR_PDF, {"SUBSETTER_LIBRARY": named}).splitlines()
@@ -843,10 +843,8 @@ def check_without_pdf():
 
 
 def check_pdf():
-    """What was checked of the calls for PDF. What Cargo builds has them; the proved library doesn't yet."""
+    """What was checked of the calls for PDF."""
     check_without_pdf()
-    if not INSTALLED and not hasattr(subsetter._library(), "subsetter_glyphs_of"):
-        return "this library has no calls for PDF, so their rows aren't tested with it"
     rows = check_pdf_rows()
     check_pdf_texts()
     check_pdf_choices()

@@ -18,3 +18,5 @@ font = subsetter.subset(data, glyphs)
 assert font == made.font
 with open(sys.argv[2], "wb") as file:
     file.write(font)
+page = subsetter.pdf_font(data, subsetter.glyphs_of(data, "AB")).sheet()
+assert page.startswith(b"%PDF-") and page.endswith(b"%%EOF\n")

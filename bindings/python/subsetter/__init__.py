@@ -283,7 +283,7 @@ def _declare(library: ctypes.CDLL) -> ctypes.CDLL:
             ctypes.c_uint32),
         "subsetter_free_pdf_objects": ([ctypes.POINTER(_Objects)], None),
     }
-    # (a library has all of these or, as the one that is proved as it is built, none)
+    # (a library has all of these or, if it is older than they are, none)
     if hasattr(library, "subsetter_glyphs_of"):
         declared.update(for_pdf)
     for name, (arguments, result) in declared.items():
@@ -553,7 +553,7 @@ def _library_for_pdf() -> ctypes.CDLL:
     library = _library()
     if not hasattr(library, "subsetter_glyphs_of"):
         raise NotImplementedError(
-            f"{library._name} has no calls for PDF: the library that is proved as it is built doesn't have them yet. "
+            f"{library._name} has no calls for PDF: it is of an older version. "
             "`pip install ./bindings/python` in a clone builds one that has them."
         )
     return library
@@ -620,8 +620,8 @@ def glyphs_of(data: Buffer, text: str, index: SupportsIndex = 0) -> List[Tuple[i
     that the font doesn't have gets glyph 0. `data` and `index` are as for `subset`.
 
     Raises an `Error` by its name: what comes of opening the font, `MalformedFont` also where it has no Unicode table of the
-    formats 4 and 12, and `InvalidText` for a surrogate that stands alone. `NotImplementedError` is raised where the library has
-    no calls for PDF, as the one that is proved as it is built.
+    formats 4 and 12, and `InvalidText` for a surrogate that stands alone. `NotImplementedError` is raised where the library is
+    of an older version, which has no calls for PDF.
     """
     characters, face = _characters(text), _number("index", index, 0, 0xFFFFFFFF)
     library, length = _library_for_pdf(), ctypes.c_size_t()

@@ -1,5 +1,10 @@
 mod Asked
 mod AtCoordinates
 mod Bytes
+mod Letters
 mod Lists
 mod Made
+mod PdfFonts
+mod PdfGlyphs
+mod PdfLaws
+mod PdfObjects

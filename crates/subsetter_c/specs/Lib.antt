@@ -2,6 +2,11 @@ pub mod Embedding
 pub mod Handed
 pub mod Made
 pub mod Options
+pub mod PdfFonts
+pub mod PdfGlyphs
+pub mod PdfLaws
+pub mod PdfObjects
+pub mod PdfOptions
 pub mod Settings
 pub mod Status
 pub mod Version

@@ -26,6 +26,14 @@ no_depth = 9
 abbrev pub unknown_option : ℕ
 unknown_option = 10
 
+-- the font's maker doesn't permit that it is embedded
+abbrev pub not_permitted : ℕ
+not_permitted = 11
+
+-- a text isn't one, or is too long
+abbrev pub invalid_text : ℕ
+invalid_text = 12
+
 -- what a status says
 unfoldable pub status_text : ℕ → List ℕ
 status_text status =
@@ -40,4 +48,6 @@ status_text status =
     else if status == too_small then codes "a buffer is too small"
     else if status == no_depth then codes "the limit of the depth is 0"
     else if status == unknown_option then codes "unknown option"
+    else if status == not_permitted then codes "embedding not permitted"
+    else if status == invalid_text then codes "invalid text"
     else codes "unknown status"

@@ -65,6 +65,33 @@ pub fn hand_answer(answer: Result<Vec<u8>, Error>, buffer: &mut [u8], told: &mut
     }
 }
 
+/// Hands glyphs over: the status. Their count is returned also where the buffer is too small.
+fn hand_numbers(numbers: &[u16], buffer: &mut [u16], told: &mut usize) -> u32
+    ensures size { told.new ≡ length numbers.now }
+    ensures whole { length numbers.now ≤ length buffer.old → (buffer.new ≡ begun_with numbers.now buffer.old) × (result ≡ 0) }
+    ensures short { length buffer.old < length numbers.now → (buffer.new ≡ buffer.old) × (result ≡ too_small) }
+{
+    *told = numbers.len();
+    if numbers.len() > buffer.len() {
+        return TOO_SMALL;
+    }
+    begin_with(buffer, numbers);
+    DONE
+}
+
+/// Hands glyphs over, or the error: the status.
+pub fn hand_glyphs(answer: Result<Vec<u16>, Error>, buffer: &mut [u16], told: &mut usize) -> u32
+    ensures { IsHandedOver (IsAnswered answer) (λ e. answer ≡ Err e) buffer.old buffer.new told.new result }
+{
+    match answer {
+        Ok(glyphs) => hand_numbers(&glyphs, buffer, told),
+        Err(error) => {
+            *told = 0;
+            status_of(error)
+        }
+    }
+}
+
 /// The sizes of what is handed over.
 fn sizes_of(embedded: &Embedded) -> Sizes
     ensures { result ≡ sizes_of embedded.now }

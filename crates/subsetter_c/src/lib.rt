@@ -10,9 +10,16 @@
 #![tactic(auto)]
 
 mod calls;
+mod characters;
 mod handing;
+mod kept;
+mod laws;
 mod making;
 mod options;
+mod pdf_calls;
+mod pdf_files;
+mod pdf_fonts;
+mod pdf_options;
 mod settings;
 mod status;
 mod variations;

@@ -6,6 +6,7 @@ ghost use Rattle.subsetter_c.specs.Embedding.{lists_of};
 ghost use Rattle.subsetter_c.specs.Handed.{IsAnswered};
 ghost use Rattle.subsetter_c.specs.Made.{IsMade, lists_in, only_font};
 
+use crate::kept::{kept_bytes, kept_shorts, kept_words};
 use crate::status::{DONE, status_of};
 use cid_embed::Embedded;
 use subsetter::Error;
@@ -20,36 +21,6 @@ pub struct Made {
     pub cids: &'static [u16],
     /// The width of each CID.
     pub widths: &'static [u32],
-}
-
-/// Bytes that stay until the caller gives them back.
-fn kept_bytes(bytes: Vec<u8>) -> &'static [u8]
-    ensures { result.now ≡ bytes.items }
-{
-    if bytes.is_empty() {
-        return &[];
-    }
-    bytes.leak()
-}
-
-/// CIDs that stay until the caller gives them back.
-fn kept_cids(cids: Vec<u16>) -> &'static [u16]
-    ensures { result.now ≡ cids.items }
-{
-    if cids.is_empty() {
-        return &[];
-    }
-    cids.leak()
-}
-
-/// Widths that stay until the caller gives them back.
-fn kept_widths(widths: Vec<u32>) -> &'static [u32]
-    ensures { result.now ≡ widths.items }
-{
-    if widths.is_empty() {
-        return &[];
-    }
-    widths.leak()
 }
 
 /// A font alone.
@@ -95,8 +66,8 @@ pub fn make_embedded(answer: Result<Embedded, Error>, made: &mut Made) -> u32
             let Embedded { font, cids, widths } = embedded;
             *made = Made {
                 font: kept_bytes(font),
-                cids: kept_cids(cids),
-                widths: kept_widths(widths),
+                cids: kept_shorts(cids),
+                widths: kept_words(widths),
             };
             DONE
         }

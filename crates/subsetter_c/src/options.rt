@@ -6,7 +6,7 @@ ghost use Rattle.subsetter_c.specs.Options.{AreAsked, AreKnown, or_default, word
 use subsetter::{Extras, Limits, Options};
 
 /// A word by its place; one past the end is 0.
-fn word(words: &[u32], at: usize) -> u32
+pub fn word(words: &[u32], at: usize) -> u32
     ensures { result ≡ word words.now at }
 {
     words.get(at).copied().unwrap_or(0)

@@ -14,6 +14,10 @@ pub const NO_DEPTH: u32 = 9;
 
 /// The options have a size, a depth or a bit that isn't known.
 pub const UNKNOWN_OPTION: u32 = 10;
+/// The font's maker doesn't permit that it is embedded.
+pub const NOT_PERMITTED: u32 = 11;
+/// A text isn't one, or is too long.
+pub const INVALID_TEXT: u32 = 12;
 
 /// The number of an error: from 1 on, in the order of the names in `Error`.
 pub fn status_of(error: Error) -> u32
@@ -47,6 +51,8 @@ pub fn status_text(status: u32) -> &'static [u8]
         8 => b"a buffer is too small",
         9 => b"the limit of the depth is 0",
         10 => b"unknown option",
+        11 => b"embedding not permitted",
+        12 => b"invalid text",
         _ => b"unknown status",
     }
 }

@@ -1,0 +1,5 @@
+use Rattle.subsetter_c.proofs.PdfLaws.{glyphs_are_of_the_font}
+use Rattle.subsetter_c.proofs.laws.glyphs_are_of_the_font.Goals as goal
+
+pub returns : goal.returns
+returns c = glyphs_are_of_the_font

@@ -1,0 +1,65 @@
+//! Lists that stay until the caller gives them back. An empty one takes no memory.
+
+ghost use Rattle.std.specs.Prelude.{◌≡◌};
+
+use subsetter_pdf_c::PdfColumn;
+
+/// Bytes.
+pub fn kept_bytes(bytes: Vec<u8>) -> &'static [u8]
+    ensures { result.now ≡ bytes.items }
+{
+    if bytes.is_empty() {
+        return &[];
+    }
+    bytes.leak()
+}
+
+/// Numbers of 16 bits.
+pub fn kept_shorts(numbers: Vec<u16>) -> &'static [u16]
+    ensures { result.now ≡ numbers.items }
+{
+    if numbers.is_empty() {
+        return &[];
+    }
+    numbers.leak()
+}
+
+/// Numbers of 32 bits.
+pub fn kept_words(numbers: Vec<u32>) -> &'static [u32]
+    ensures { result.now ≡ numbers.items }
+{
+    if numbers.is_empty() {
+        return &[];
+    }
+    numbers.leak()
+}
+
+/// Sizes.
+pub fn kept_sizes(sizes: Vec<usize>) -> &'static [usize]
+    ensures { result.now ≡ sizes.items }
+{
+    if sizes.is_empty() {
+        return &[];
+    }
+    sizes.leak()
+}
+
+/// Flags.
+pub fn kept_flags(flags: Vec<bool>) -> &'static [bool]
+    ensures { result.now ≡ flags.items }
+{
+    if flags.is_empty() {
+        return &[];
+    }
+    flags.leak()
+}
+
+/// Columns.
+pub fn kept_columns(columns: Vec<PdfColumn>) -> &'static [PdfColumn]
+    ensures { result.now ≡ columns.items }
+{
+    if columns.is_empty() {
+        return &[];
+    }
+    columns.leak()
+}
