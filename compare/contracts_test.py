@@ -260,6 +260,7 @@ PLANTS = [
     ("attributes for the prover", at(SHAPES, "    pub fn width", "    #[tactic(auto, unfolding(crate::specs::Read::head))]\n    #[inline]\n    pub fn width"), "", 0, "0 differences"),
     ("a derive", at("crates/low/src/lib.rt", "#[derive(Clone, Copy)]", "#[derive(Clone)]"), "", 1, "low.Fault: `attributes`"),
     ("a twin that says the same", TWIN, "", 1, "two counterparts"),
+    ("a definition made another that says the same", both(at(BYTES, "kept", "same"), at("crates/high/specs/Own.antt", "kept", "same")), "low.specs.Bytes.kept => low.specs.Bytes.same", 0, "0 differences"),
     ("a definition made another, without a law", SAME, "low.specs.Bytes.kept => low.specs.Bytes.same", 1, "low.specs.Bytes.kept"),
     ("a definition made another, by a law", SAME, "low.specs.Bytes.kept == low.specs.Bytes.same by kept_is", 0, "by kept_is"),
     ("a law that isn't there", SAME, "low.specs.Bytes.kept == low.specs.Bytes.same by kept_was", 2, "no proof of the old checkout"),
