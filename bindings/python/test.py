@@ -10,6 +10,7 @@ import fractions
 import inspect
 import mmap
 import os
+import re
 import resource
 import shutil
 import subprocess
@@ -805,6 +806,34 @@ def check_pdf_threads():
     check(found == [wanted] * 200, "threads write of one font")
 
 
+TYPES = {"uint8_t": ctypes.c_uint8, "uint16_t": ctypes.c_uint16, "uint32_t": ctypes.c_uint32, "int32_t": ctypes.c_int32,
+         "size_t": ctypes.c_size_t, "subsetter_column": subsetter._Column}
+
+
+def fields_of(header, struct):
+    """The fields of a struct of the header: each name, and its type in Python. (What is read as bytes may be any pointer.)"""
+    body = re.search(rf"typedef struct {struct} {{(.*?)\n}} {struct};", header, re.S)[1]
+    found = []
+    for kind, star, name, count in re.findall(r"^\s*(?:const )?(\w+) (\*?)(\w+)(?:\[(\d+)\])?;", re.sub(r"/\*.*?\*/", "", body, flags=re.S), re.M):
+        it = TYPES[kind] * int(count) if count else TYPES[kind]
+        found.append((name, ctypes.POINTER(it) if star else it))
+    return found
+
+
+def check_structs():
+    """The structs of the module are those of the header, field by field: a sign, a width or an order that differs reads other
+    numbers."""
+    with open(os.path.join(HERE, "../c/subsetter.h"), encoding="utf-8") as file:
+        header = file.read()
+    for struct, own in (("subsetter_coordinate", subsetter._Coordinate), ("subsetter_made", subsetter._Made), ("subsetter_column", subsetter._Column),
+                        ("subsetter_pdf_font", subsetter._PdfFont), ("subsetter_pdf_objects", subsetter._Objects)):
+        wanted, found = fields_of(header, struct), own._fields_
+        check(len(wanted) > 1 and [it for it, _ in found] == [it for it, _ in wanted], f"the fields of {struct}: {found}")
+        for (name, kind), (_, other) in zip(wanted, found):
+            is_bytes = other is ctypes.c_void_p and kind is ctypes.POINTER(ctypes.c_uint8)
+            check(is_bytes or other is kind, f"the field {name} of {struct} is {other} and not {kind}")
+
+
 # A library with the calls that each has, and with one for PDF, or with none.
 WITHOUT_PDF = """
 int subsetter_make_subset_by_words(void) { return 2; }
@@ -866,6 +895,7 @@ def main():
     check_refusals(fonts["three_glyphs"])
     check_iterables(fonts["three_glyphs"], simple)
     check_values()
+    check_structs()
     check_limits(fonts)
     check_names(texts)
     check_work(fonts)
