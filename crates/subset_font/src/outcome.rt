@@ -7,6 +7,7 @@ ghost use Rattle.subsetter_sfnt.specs.Extras.{all_extras};
 ghost use Rattle.subset_font.specs.Made.{face_of, IsMade, IsUnmade};
 ghost use Rattle.subset_font.specs.Named.{face_settings};
 ghost use Rattle.subset_font.specs.Outcome.{sizes_of, sizes_if, members_of, more_text, IsOutcome, IsNoOutcome};
+ghost use Rattle.subset_font.specs.Sheet.{IsSheetIf, IsUnshownIf};
 ghost use Rattle.subset_font.specs.declared.failure.Failure.TheVariants.{Error as Refused};
 ghost use Rattle.subsetter_base.specs.declared.error.Error.TheVariants.{OutOfMemory};
 
@@ -14,11 +15,13 @@ use crate::failure::Failure;
 use crate::missing::missing;
 use crate::named::face_settings;
 use crate::notes::{known_axes, notes_for};
+use crate::sheet::{sheet_if, with_pdf};
 use crate::subset::{Made, make_of};
 use crate::tables::{directory_of, table_sizes};
 use crate::task::{Form, Plan, Task};
 use std::alloc::{AllocError, Global};
 use subset_lines::{TableSize, json_members, size_lines};
+use subset_pdf::Sheet;
 use subsetter::{Error, Tag};
 
 /// What a plan makes of a font.
@@ -28,6 +31,8 @@ pub struct Outcome {
     pub made: Made,
     /// What is printed behind the numbers: further lines, or further members of the JSON object.
     pub more: Vec<u8>,
+    /// The PDF, if one is requested.
+    pub sheet: Option<Sheet>,
 }
 
 /// The tables of the font that is read and of the new one, with their sizes.
@@ -105,26 +110,43 @@ fn members_of(
 }
 
 /// What is printed behind the numbers.
-fn more_of(alloc: Global, font: &[u8], plan: &Plan<'_>, made: &Made) -> Result<Vec<u8>, AllocError>
-    ensures { IfOk result (λ v. v.items ≡ more_text plan.now font.now made.now) }
+fn more_of(
+    alloc: Global,
+    font: &[u8],
+    plan: &Plan<'_>,
+    made: &Made,
+    sheet: &Option<Sheet>,
+) -> Result<Vec<u8>, AllocError>
+    ensures { IfOk result (λ v. v.items ≡ more_text plan.now font.now made.now sheet.now) }
 {
     let index = plan.task.index;
     match plan.task.form {
         Form::Lines if plan.verbose => lines_of_sizes(alloc, font, index, &made.font),
-        Form::Json => members_of(alloc, font, index, plan.verbose, plan.task.at, made),
+        Form::Json => {
+            let members = members_of(alloc, font, index, plan.verbose, plan.task.at, made)?;
+            with_pdf(alloc, members, sheet)
+        }
         Form::Lines => Ok(Vec::new(alloc)),
         Form::Silence => Ok(Vec::new(alloc)),
     }
 }
 
-/// The same for what was made, which is kept.
-fn with_more(alloc: Global, font: &[u8], plan: &Plan<'_>, made: Made) -> Result<Outcome, Failure>
+/// The same for what was made by a task, which is kept, with the PDF, if one is requested.
+fn with_more(
+    alloc: Global,
+    font: &[u8],
+    plan: &Plan<'_>,
+    task: &Task<'_>,
+    made: Made,
+) -> Result<Outcome, Failure>
     ensures made { IfOk result (λ o. o.made ≡ made) }
-    ensures more { IfOk result (λ o. o.more.items ≡ more_text plan.now font.now made) }
-    ensures err { IfErr result (λ e. e ≡ Refused OutOfMemory) }
+    ensures sheet { IfOk result (λ o. IsSheetIf plan.now.pdf task.now font.now made o.sheet) }
+    ensures more { IfOk result (λ o. o.more.items ≡ more_text plan.now font.now made o.sheet) }
+    ensures err { IfErr result (λ e. (e ≡ Refused OutOfMemory) ⊎ IsUnshownIf plan.now.pdf task.now font.now made e) }
 {
-    match more_of(alloc, font, plan, &made) {
-        Ok(more) => Ok(Outcome { made, more }),
+    let sheet = sheet_if(alloc, font, plan.pdf, task, &made)?;
+    match more_of(alloc, font, plan, &made, &sheet) {
+        Ok(more) => Ok(Outcome { made, more, sheet }),
         Err(_) => Err(Failure::Error(Error::OutOfMemory)),
     }
 }
@@ -158,7 +180,7 @@ fn make_placed(
 {
     let task = placed(&plan.task, at);
     match make_of(alloc, font, &task) {
-        Ok(made) => with_more(alloc, font, plan, made),
+        Ok(made) => with_more(alloc, font, plan, &task, made),
         Err(failure) => Err(failure),
     }
 }
@@ -187,7 +209,7 @@ fn make_as_given(alloc: Global, font: &[u8], plan: &Plan<'_>) -> Result<Outcome,
     ensures err { IfErr result (IsNoOutcome plan.now font.now) }
 {
     match make_of(alloc, font, &plan.task) {
-        Ok(made) => with_more(alloc, font, plan, made),
+        Ok(made) => with_more(alloc, font, plan, &plan.task, made),
         Err(failure) => Err(failure),
     }
 }
