@@ -15,6 +15,8 @@ the file VERSION. The last line is `program: N rows, M differ`, and the status 1
 """
 import argparse
 import errno
+import hashlib
+import json
 import os
 import re
 import shutil
@@ -83,6 +85,28 @@ NAMED = [("name", made.THREE_RECORDS), ("post", made.u32s(0x00020000) + bytes(28
 
 SIMPLE = made.WORKED["simple glyphs"][0]
 SID_KEYED = made.WORKED["a SID-keyed font"][0]
+
+
+# ---- fonts with names of glyphs
+
+def post(version, *indexes, strings=(), more=b""):
+    """A table `post`, of version 2.0 with indexes and Pascal strings."""
+    body = made.u16s(len(indexes), *indexes) + b"".join(bytes([len(it)]) + it for it in strings) if indexes else b""
+    return [("post", made.u32s(version) + bytes(28) + body + more)]
+
+
+def charset_font(charset=None, strings=(), further=(), offset=None, count=6):
+    """A CFF font with a charset behind all else, or at an offset."""
+    def table(at):
+        return made.cff([b"\x0e"] * count, top=b"" if at is None else made.offset(at) + b"\x0f", strings=strings)
+    at = len(table(0)) if offset is None and charset is not None else offset
+    return made.cff_font(table(at) + (charset or b""), further)
+
+
+OWN = [b'a"b\\', b"", b"\x1f\x7f\xe9~ "]
+# The names of the Macintosh and the standard strings, one for each glyph.
+MACINTOSH_NAMES = made.truetype([b""] * 259, [*post(0x00010000), ("maxp", made.u32s(0x00010000) + made.u16s(259) + bytes(26))])
+STANDARD_STRINGS = charset_font(b"\2" + made.u16s(1, 390), count=392, further=[("maxp", made.u32s(0x00005000) + made.u16s(392))])
 
 
 def moved(font, by):
@@ -163,6 +187,16 @@ INSTANCE_NAMES = names(
     (3, 1, 0x0409, 262, "a\nb\x7f\x9f\ud801~\xa0", 0), (3, 1, 0x0409, 263, "Cut", 100))
 
 
+def tables_of(font):
+    count = int.from_bytes(font[4:6], "big")
+    found = {}
+    for k in range(count):
+        record = font[12 + 16 * k:28 + 16 * k]
+        at, length = int.from_bytes(record[8:12], "big"), int.from_bytes(record[12:16], "big")
+        found[record[:4].decode()] = font[at:at + length]
+    return found
+
+
 TWO_AXES = [(b"wght", -32768, 389.344249, 32767.99999), (b"w\nt\xe9", 0, 0.5, 1 / 65536)]
 
 FONTS = {
@@ -184,6 +218,7 @@ FONTS = {
     "both": six(("cmap", cmap((0, 3, BY_SEGMENTS), (3, 10, BY_GROUPS)))),
     "small": six(("cmap", cmap((1, 0, BY_SEGMENTS), (3, 1, BY_SEGMENTS)))),
     "mac": six(("cmap", cmap((1, 0, BY_SEGMENTS), (3, 0, BY_SEGMENTS)))),
+    "named_small": six(("cmap", cmap((3, 1, BY_SEGMENTS))), *NAMED),
     "named": six(*NAMED, outlines=[b"", HINTED + b"\0", b"", b"", b"", b""]),
     "faces": TWO_FACES,
     "mixed": MIXED,
@@ -200,19 +235,31 @@ FONTS = {
     "descends_short": six(("loca", made.u16s(0, 0, 6, 12, 9, 24, 30)), ("head", HEAD[:50] + bytes(4)), without=("loca", "head")),
     "outside_short": six(("loca", made.u16s(0, 0, 6, 12, 18, 24, 31)), ("head", HEAD[:50] + bytes(4)), without=("loca", "head")),
     "cff2": b"OTTO" + made.font([("CFF2", bytes(8)), ("maxp", MAXP)])[4:],
+    "post_1": six(*post(0x00010000)),
+    "post_2": six(*post(0x00020000, 0, 257, 258, 259, 260, 261, strings=OWN)),
+    # three indexes alone, and the string ends outside
+    "post_few": six(*post(0x00020000, 36, 258, 259, strings=[b"A"], more=b"\2B")),
+    "post_3": six(*post(0x00030000)),
+    "post_4": six(*post(0x00040000, 36, 36, 36, 36, 36, 36)),
+    "post_faces": b"ttcf" + made.u32s(0x00010000, 2, 20, 20 + len(six(*NAMED))) + moved(six(*NAMED), 20) + moved(six(*post(0x00010000)), 20 + len(six(*NAMED))),
+    "post_variable": made.font(sorted([*tables_of(VARIABLE).items(), *post(0x00010000)])),
+    "charset_0": charset_font(b"\0" + made.u16s(34, 391, 390, 392, 393), [b"one", b't"o']),
+    "charset_1": charset_font(b"\1" + made.u16s(34) + b"\1" + made.u16s(391) + b"\0" + made.u16s(1) + b"\5", [b"one"]),
+    "charset_2": charset_font(b"\2" + made.u16s(34, 2, 391, 0, 17, 0), [b"one"]),
+    "charset_3": charset_font(b"\3" + made.u16s(34, 2, 391, 0, 17, 0), [b"one"]),
+    "charset_cut": charset_font(b"\0" + made.u16s(34) + b"\0"),
+    "charset_cut_1": charset_font(b"\1" + made.u16s(34) + b"\0" + made.u16s(35)),
+    "charset_adobe": charset_font(),
+    "charset_adobe_0": charset_font(offset=0),
+    "charset_adobe_all": charset_font(count=230),
+    "charset_expert": charset_font(offset=1),
+    "charset_subset": charset_font(offset=2),
+    "charset_outside": charset_font(offset=1000000),
+    "charset_post": charset_font(b"\0" + made.u16s(34, 35, 36, 37, 38), further=post(0x00020000, 36, 258, 259, 260, 36, 37, strings=[b"", b"own"])),
+    "charset_keyed": made.WORKED["a CID-keyed font"][0],
+    "macintosh": MACINTOSH_NAMES,
+    "strings": STANDARD_STRINGS,
 }
-
-
-# ---- what a subset holds, read afresh
-
-def tables_of(font):
-    count = int.from_bytes(font[4:6], "big")
-    found = {}
-    for k in range(count):
-        record = font[12 + 16 * k:28 + 16 * k]
-        at, length = int.from_bytes(record[8:12], "big"), int.from_bytes(record[12:16], "big")
-        found[record[:4].decode()] = font[at:at + length]
-    return found
 
 
 # `variable` with two named instances.
@@ -497,6 +544,44 @@ def usage(*rows):
     return [Row(words, 2, err=err, after=USED) for words, err in rows]
 
 
+def named(*glyphs):
+    """The JSON object of glyphs in this order, with these names (None: none) as JSON has them. Glyph 0 has the new number 0."""
+    order = [0, *sorted({glyph for glyph, _ in glyphs} - {0}, key=[glyph for glyph, _ in glyphs].index)]
+    names = ('{"old":%d,"new":%d%s}' % (glyph, order.index(glyph), "" if name is None else ',"name":"%s"' % name) for glyph, name in glyphs)
+    return ('{"glyphs":[%s],"sizes":{"old":@old@,"new":@new@},"notes":[]}\n' % ",".join(names)).encode()
+
+
+SIX = range(6)
+ADOBE = [".notdef", "space", "exclam", "quotedbl", "numbersign", "dollar"]
+# The font, further words, glyphs, and their names by OpenType and Technical Note 5176.
+NAMES_OF = [
+    ("named", [], SIX, ["A", "B", *[".notdef"] * 4]),
+    ("post_1", [], SIX, [".notdef", ".null", "nonmarkingreturn", "space", "exclam", "quotedbl"]),
+    ("post_1", ["--no-glyph-names"], [5, 1], ["quotedbl", ".null"]),
+    ("post_2", [], [5, 4, 3, 2, 1, 0], [None, "???~ ", None, 'a\\"b\\\\', "dcroat", ".notdef"]),
+    ("post_few", ["--no-glyph-names"], SIX, ["A", "A", None, None, None, None]),
+    ("post_3", [], [1], [None]),
+    ("post_4", [], [1], [None]),
+    ("post_faces", [], [1], ["B"]),
+    ("post_faces", ["--face-index", "1"], [1], [".null"]),
+    ("post_variable", ["--at", "wght=650"], [1, 2], [".null", "nonmarkingreturn"]),
+    ("charset_0", [], SIX, [".notdef", "A", "one", "Semibold", 't\\"o', None]),
+    ("charset_1", [], SIX, [".notdef", "A", "B", "one", "space", "exclam"]),
+    ("charset_2", [], SIX, [".notdef", "A", "B", "C", "one", "zero"]),
+    ("charset_3", [], SIX, [None] * 6),
+    ("charset_cut", [], SIX, [".notdef", "A", *[None] * 4]),
+    ("charset_cut_1", [], SIX, [".notdef", "A", *[None] * 4]),
+    ("charset_adobe", [], SIX, ADOBE),
+    ("charset_adobe_0", [], SIX, ADOBE),
+    ("charset_adobe_all", [], [227, 228, 229], ["ydieresis", "zcaron", None]),
+    ("charset_expert", [], SIX, [None] * 6),
+    ("charset_subset", [], SIX, [None] * 6),
+    ("charset_outside", [], SIX, [None] * 6),
+    ("charset_post", [], SIX, ["A", "A", "own", "C", "A", "B"]),
+    ("charset_keyed", [], [0, 5, 6], [None] * 3),
+]
+
+
 ROWS = [
     # the four words, as ever
     Row("simple out 0 2", out=lines((2, 1)), same="simple 2"),
@@ -714,6 +799,11 @@ ROWS = [
         ("\n", "U+000A"), ("\u2603", "U+2603"), ("\U0001F600", "U+1F600"))),
     Row("--quiet --unicodes 41,D800,2603 small out 0", err=no_glyph_for("U+2603"), same="six 1"),
     Row("--quiet --gids 1,0 small out 0", same="six 1"),
+    # the names of glyphs
+    *(Row(["--json", *more, font, "-o", "out", "--gids", ",".join(map(str, glyphs))], out=named(*zip(glyphs, names)), same=f"names of {font} {more}", source=font)
+      for font, more, glyphs, names in NAMES_OF),
+    Row("--json --text A named_small out 0", out=b'{"glyphs":[{"character":65,"old":1,"new":1,"name":"B"}],"sizes":{"old":@old@,"new":@new@},"notes":[]}\n', same="the named A", source="named_small"),
+    Row("--json --widths named out 0 1", out=b'{"glyphs":[{"old":1,"new":1,"name":"B"}],"widths":[0,100],"sizes":{"old":@old@,"new":@new@},"notes":[]}\n', same="all of the three", source="named"),
     Row("--verbose six out 0 2,1", out=lines((2, 1), (1, 2)) + SIX_TABLES, same="six 2,1"),
     Row("--verbose --widths six out 0 2,1", out=lines((2, 1), (1, 2)) + b"[0 [0 200 100]]\n" + SIX_TABLES, same="six 2,1"),
     Row("--verbose --json six out 0 2,1", out=b'{"glyphs":[{"old":2,"new":1},{"old":1,"new":2}],"sizes":{"old":@old@,"new":@new@},"tables":[%s],"notes":[]}\n' % b",".join(
@@ -1049,6 +1139,21 @@ def check_contents(table):
             ("head", found["head"][12:] == all_of_it["head"][12:]),
         ):
             table.demand(holds, name, f"the table {what}: {found.get(what)!r}")
+
+
+# The SHA-256 of the 258 names of the Macintosh and of the 391 standard strings of CFF, with a blank between each two, by fontTools.
+MACINTOSH_SUM = "7d5ce664c91b4af71cab530e6f88cccde1b61fa48a601ba7f2c5ef03c8b7a824"
+STRINGS_SUM = "7dc84e7e04ff3cfdd2e8d323dfea6683fba9746851458447d63f66943e327562"
+
+
+def check_names(table, room):
+    """All standard names."""
+    for font, count, wanted in (("macintosh", 258, MACINTOSH_SUM), ("strings", 391, STRINGS_SUM)):
+        with open(os.path.join(room, "in"), "wb") as file:
+            file.write(FONTS[font])
+        got = table.start(["--json", "in", "-o", "out", "--gids", "*"], room)
+        names = [it.get("name") for it in json.loads(got.stdout or b'{"glyphs":[]}')["glyphs"]]
+        table.demand(names[count:] == [None] and hashlib.sha256(" ".join(names[:count]).encode()).hexdigest() == wanted, f"the names of {font}", names)
 
 
 STATUSES = b"""
@@ -1581,7 +1686,7 @@ def main():
     for words in OTHERWISE.get(given.system, {}):
         table.demand(words in [str(row.words) for row in ROWS], words, f"listed for {given.system}, and no row")
     unchecked = UNCHECKED.get(given.system, {})
-    for check in (check_words, check_places, check_links, check_device, check_rights, check_streams, check_closed, check_number_of_output, check_many, check_memory,
+    for check in (check_words, check_names, check_places, check_links, check_device, check_rights, check_streams, check_closed, check_number_of_output, check_many, check_memory,
                   check_refused_memory, check_refused_names, check_little_room, check_kept_room, check_failed_calls):
         if check.__name__ in unchecked:
             print(f"program: {check.__name__} isn't run on {given.system}: {unchecked[check.__name__]}")

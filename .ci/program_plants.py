@@ -88,6 +88,11 @@ PLANTS = [
     ("a table that is gone not listed", "proved/subset_font/tables.rs", "rows.push(old_row(bytes, new))?;", "if old_row(bytes, new).new.is_some() {\n            rows.push(old_row(bytes, new))?;\n        }"),
     ("the sizes of the files swapped", "proved/subset_font/outcome.rs", "size_lines(alloc, &tables, font.len() as u64, new.len() as u64)", "size_lines(alloc, &tables, new.len() as u64, font.len() as u64)"),
     ("a quotation mark not escaped", "proved/subset_lines/quoted.rs", "if byte == b'\"' || byte == b'\\\\' {", "if byte == b'\\\\' {"),
+    ("a name of CFF before one of post", "proved/glyph_names/names.rs", "if name.is_empty() {", "if !other.is_empty() {"),
+    ("one name more of the Macintosh", "proved/glyph_names/post.rs", "if index < 258 {", "if index <= 258 {"),
+    ("a range of SIDs that repeats its first", "proved/glyph_names/charset.rs", "u32::from(run.first) + run.taken;", "u32::from(run.first);"),
+    ("any byte in a name", "proved/subset_lines/quoted.rs", "write_escaped_byte(shown(*byte), out)?;", "write_escaped_byte(*byte, out)?;"),
+    ("the names of the first face", "proved/subset_font/outcome.rs", "let post = bytes_of(font, index, Tag::POST);", "let post = bytes_of(font, 0, Tag::POST);"),
     ("why a subset is refused not given", "proved/subset_font/info.rs", 'Some(hint) => Ok(Some(format!(in alloc; "{hint}")?)),', "Some(_) => Ok(None),"),
     # what misled a reader: files that are cut or no fonts, limits, characters without a glyph, and words that are near to options
     ("a character without a glyph not noted", "proved/subset_font/missing.rs", "if glyph == 0 && found.len() < 4", "if glyph == 1 && found.len() < 4"),

@@ -1,11 +1,11 @@
 -- What a plan makes of the bytes of a font.
-use Rattle.std.proofs.Common.{◌≡◌, ◌⊎◌, inl, inr, ℕ, List, Some, None, Result, Ok, Err, sym, ap, subst, ◌∙◌}
+use Rattle.std.proofs.Common.{◌≡◌, ◌⊎◌, inl, inr, ℕ, List, map, Some, None, Result, Ok, Err, sym, ap, subst, ◌∙◌}
 use Rattle.std.specs.Prelude.{IfOk, IfErr}
 use Rattle.std.specs.Option.{option_copied}
 use Rattle.subsetter_base.specs.declared.error.Error.TheVariants.{OutOfMemory, UnknownKind, MalformedFont}
 use Rattle.subset_font.specs.Made.{face_of, IsMade, IsUnmade}
 use Rattle.subset_font.specs.Named.{face_settings}
-use Rattle.subset_font.specs.Outcome.{more_text, IsPlaced, IsOutcome, IsNoOutcome}
+use Rattle.subset_font.specs.Outcome.{more_text, names_for, IsPlaced, IsOutcome, IsNoOutcome}
 use Rattle.subset_font.specs.Sheet.{IsSheetIf, IsUnshownIf}
 use Rattle.subset_font.specs.declared.task.Task.{Task}
 use Rattle.subset_font.specs.declared.task.Plan.{Plan}
@@ -15,15 +15,16 @@ use Rattle.subset_font.specs.declared.failure.Failure.{Failure}
 use Rattle.subset_font.specs.declared.failure.Failure.TheVariants.{Error, NoInstance}
 
 module _ (plan : Plan) (bytes : List ℕ) where
-  pub outcome_of : (task : Task) → IsPlaced plan bytes task → (made : Made) → IsMade task bytes made → (r : Result Outcome Failure) → IfOk r (λ o. o.made ≡ made) → IfOk r (λ o. IsSheetIf plan.pdf task bytes made o.sheet) → IfOk r (λ o. o.more.items ≡ more_text plan bytes made o.sheet) → IfOk r (IsOutcome plan bytes)
-  outcome_of task placed made is (Ok o) kept sheet more = record {
+  pub outcome_of : (task : Task) → IsPlaced plan bytes task → (made : Made) → IsMade task bytes made → (r : Result Outcome Failure) → IfOk r (λ o. o.made ≡ made) → IfOk r (λ o. IsSheetIf plan.pdf task bytes made o.sheet) → IfOk r (λ o. o.more.items ≡ more_text plan bytes made o.sheet) → IfOk r (λ o. map (λ name. name.items) o.names.items ≡ names_for plan bytes made.picked.glyphs.items) → IfOk r (IsOutcome plan bytes)
+  outcome_of task placed made is (Ok o) kept sheet more names = record {
     task = task;
     is_placed = placed;
     is_made = subst (IsMade task bytes) (sym kept) is;
     sheet_is = subst (λ (m : Made). IsSheetIf plan.pdf task bytes m o.sheet) (sym kept) sheet;
     more_is = more ∙ ap (λ (m : Made). more_text plan bytes m o.sheet) (sym kept);
+    names_are = names ∙ ap (λ (m : Made). names_for plan bytes m.picked.glyphs.items) (sym kept);
   }
-  outcome_of task placed made is (Err e) kept sheet more = tt
+  outcome_of task placed made is (Err e) kept sheet more names = tt
 
   no_sheet : (task : Task) → IsPlaced plan bytes task → (made : Made) → IsMade task bytes made → (failure : Failure) → (failure ≡ Error OutOfMemory) ⊎ IsUnshownIf plan.pdf task bytes made failure → IsNoOutcome plan bytes failure
   no_sheet task placed made is failure (inl memory) = inl memory

@@ -1,10 +1,11 @@
 -- What a plan makes of a font that is read, and why it doesn't.
-use Rattle.std.specs.Prelude.{◌≡◌, ◌⊎◌, ℕ, ℤ, Bool, if◌then◌else◌, List, [], length, Option, Some, None}
+use Rattle.std.specs.Prelude.{◌≡◌, ◌⊎◌, ℕ, ℤ, Bool, if◌then◌else◌, List, [], map, length, Option, Some, None, codes}
 use Rattle.std.specs.Borrow.{Bor}
 use Rattle.std.specs.Option.{option_copied}
 use Rattle.subsetter_base.specs.declared.error.Error.TheVariants.{OutOfMemory, UnknownKind, MalformedFont}
 use Rattle.subsetter_base.specs.declared.tag.Tag.{Tag}
-use Rattle.subsetter_sfnt.specs.Read.{Font, as_font, records}
+use Rattle.subsetter_sfnt.specs.Read.{Font, as_font, records, stored}
+use Rattle.glyph_names.specs.Names.{glyph_name}
 use Rattle.subset_lines.specs.Members.{members}
 use Rattle.subset_lines.specs.Sizes.{sizes_text}
 use Rattle.subset_lines.specs.declared.sizes.TableSize.{TableSize}
@@ -46,6 +47,20 @@ more_by Silence verbose at font made sheet = []
 abbrev pub more_text : Plan → List ℕ → Made → Option Sheet → List ℕ
 more_text plan bytes made sheet = more_by plan.task.form plan.verbose (option_copied plan.task.at) (face_of plan.task bytes) made sheet
 
+-- ---- the names of the glyphs, which a JSON object has
+
+-- by the tables `post` and `CFF ` of a face
+abbrev pub names_of : Font → List ℕ → List (List ℕ)
+names_of font glyphs = map (glyph_name (bytes_or_none (stored font (codes "post"))) (bytes_or_none (stored font (codes "CFF ")))) glyphs
+
+abbrev pub names_by : Form → Font → List ℕ → List (List ℕ)
+names_by Lines font glyphs = []
+names_by Json font glyphs = names_of font glyphs
+names_by Silence font glyphs = []
+
+abbrev pub names_for : Plan → List ℕ → List ℕ → List (List ℕ)
+names_for plan bytes glyphs = names_by plan.task.form (face_of plan.task bytes) glyphs
+
 -- ---- what is made
 
 -- the task of a plan: as it is given, or at the coordinates of the named instance
@@ -60,6 +75,7 @@ pub record IsOutcome (plan : Plan) (bytes : List ℕ) (outcome : Outcome) : Type
   -- with the PDF, if one is requested
   pub sheet_is : IsSheetIf plan.pdf task bytes outcome.made outcome.sheet
   pub more_is : outcome.more.items ≡ more_text plan bytes outcome.made outcome.sheet
+  pub names_are : map (λ name. name.items) outcome.names.items ≡ names_for plan bytes outcome.made.picked.glyphs.items
 
 -- the font has no such instance, or its `fvar` can't be read
 pub record IsUnplaced (plan : Plan) (bytes : List ℕ) (failure : Failure) : Type 0 where

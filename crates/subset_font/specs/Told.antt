@@ -1,16 +1,15 @@
 -- How the new numbers are printed.
-use Rattle.std.specs.Prelude.{ℕ, Bool, false, List, []}
+use Rattle.std.specs.Prelude.{ℕ, Bool, false, List, [], map}
 use Rattle.subset_lines.specs.Text.{Numbers}
 use Rattle.subset_lines.specs.Lines.{lines_of}
 use Rattle.subset_lines.specs.Json.{json_of}
 use Rattle.subset_font.specs.declared.task.Form.{Form}
 use Rattle.subset_font.specs.declared.task.Form.TheVariants.{Lines, Json, Silence}
-use Rattle.subset_font.specs.declared.subset.Made.{Made}
 use Rattle.subset_font.specs.declared.outcome.Outcome.{Outcome}
 
--- the numbers of what was made
-abbrev pub numbers_of : Made → Numbers
-numbers_of made = record { characters = made.picked.characters.items; glyphs = made.picked.glyphs.items; order = made.mapper }
+-- the numbers of what was made, with the names of the glyphs
+abbrev pub numbers_of : Outcome → Numbers
+numbers_of o = record { characters = o.made.picked.characters.items; names = map (λ name. name.items) o.names.items; glyphs = o.made.picked.glyphs.items; order = o.made.mapper }
 
 -- whether standard error gets a JSON object, in which the notes are: it does where the font goes to standard output
 abbrev pub has_notes : Form → Bool → Bool
@@ -20,6 +19,6 @@ has_notes Silence is_font_there = false
 
 -- what is printed of it
 abbrev pub told_of : Form → Outcome → List ℕ
-told_of Lines o = lines_of (numbers_of o.made) o.made.text.items o.more.items
-told_of Json o = json_of (numbers_of o.made) o.made.text.items o.more.items
+told_of Lines o = lines_of (numbers_of o) o.made.text.items o.more.items
+told_of Json o = json_of (numbers_of o) o.made.text.items o.more.items
 told_of Silence o = []

@@ -1,16 +1,19 @@
 //! What a plan makes of the font that is read: a subset, and what is printed behind its numbers.
 
-ghost use Rattle.std.specs.Prelude.{◌≡◌, ◌⊎◌, IfOk, IfErr, Some, None, length};
+ghost use Rattle.std.specs.Prelude.{◌≡◌, ◌⊎◌, IfOk, IfErr, Some, None, length, map};
 ghost use Rattle.std.specs.Option.{option_copied, option_map};
 ghost use Rattle.subset_lines.specs.Sizes.{sizes_text};
 ghost use Rattle.subsetter_sfnt.specs.Extras.{all_extras};
 ghost use Rattle.subset_font.specs.Made.{face_of, IsMade, IsUnmade};
 ghost use Rattle.subset_font.specs.Named.{face_settings};
-ghost use Rattle.subset_font.specs.Outcome.{sizes_of, sizes_if, members_of, more_text, IsOutcome, IsNoOutcome};
+ghost use Rattle.subsetter_sfnt.specs.Read.{stored};
+ghost use Rattle.subset_font.specs.Outcome.{sizes_of, sizes_if, members_of, more_text, names_of, names_for, IsOutcome, IsNoOutcome};
 ghost use Rattle.subset_font.specs.Sheet.{IsSheetIf, IsUnshownIf};
+ghost use Rattle.subset_font.specs.Tables.{bytes_or_none};
 ghost use Rattle.subset_font.specs.declared.failure.Failure.TheVariants.{Error as Refused};
 ghost use Rattle.subsetter_base.specs.declared.error.Error.TheVariants.{OutOfMemory};
 
+use crate::face::table;
 use crate::failure::Failure;
 use crate::missing::missing;
 use crate::named::face_settings;
@@ -19,6 +22,7 @@ use crate::sheet::{sheet_if, with_pdf};
 use crate::subset::{Made, make_of};
 use crate::tables::{directory_of, table_sizes};
 use crate::task::{Form, Plan, Task};
+use glyph_names::glyph_names;
 use std::alloc::{AllocError, Global};
 use subset_lines::{TableSize, json_members, size_lines};
 use subset_pdf::Sheet;
@@ -31,6 +35,8 @@ pub struct Outcome {
     pub made: Made,
     /// What is printed behind the numbers: further lines, or further members of the JSON object.
     pub more: Vec<u8>,
+    /// The names of the requested glyphs, as far as they are printed; an empty one is none.
+    pub names: Vec<Vec<u8>>,
     /// The PDF, if one is requested.
     pub sheet: Option<Sheet>,
 }
@@ -131,7 +137,47 @@ fn more_of(
     }
 }
 
-/// The same for what was made by a task, which is kept, with the PDF, if one is requested.
+/// The bytes of a table, none where the face hasn't got it.
+fn bytes_of(font: &[u8], index: u32, tag: Tag) -> &[u8]
+    ensures { result.now ≡ bytes_or_none (stored (record { bytes = font.now; index = index; extras = all_extras }) tag.0) }
+{
+    match table(font, index, tag) {
+        Some(bytes) => bytes,
+        None => &[],
+    }
+}
+
+/// The names of glyphs in a face.
+fn names_of(
+    alloc: Global,
+    font: &[u8],
+    index: u32,
+    glyphs: &[u16],
+) -> Result<Vec<Vec<u8>>, AllocError>
+    ensures { IfOk result (λ v. map (λ name. name.items) v.items ≡ names_of (record { bytes = font.now; index = index; extras = all_extras }) glyphs.now) }
+{
+    let post = bytes_of(font, index, Tag::POST);
+    let cff = bytes_of(font, index, Tag::CFF);
+    glyph_names(alloc, post, cff, glyphs)
+}
+
+/// The names of glyphs, if they are printed.
+fn names_for(
+    alloc: Global,
+    font: &[u8],
+    plan: &Plan<'_>,
+    glyphs: &[u16],
+) -> Result<Vec<Vec<u8>>, AllocError>
+    ensures { IfOk result (λ v. map (λ name. name.items) v.items ≡ names_for plan.now font.now glyphs.now) }
+{
+    match plan.task.form {
+        Form::Json => names_of(alloc, font, plan.task.index, glyphs),
+        Form::Lines => Ok(Vec::new(alloc)),
+        Form::Silence => Ok(Vec::new(alloc)),
+    }
+}
+
+/// The same for what was made by a task, which is kept, with the names of its glyphs, and the PDF, if one is requested.
 fn with_more(
     alloc: Global,
     font: &[u8],
@@ -142,11 +188,20 @@ fn with_more(
     ensures made { IfOk result (λ o. o.made ≡ made) }
     ensures sheet { IfOk result (λ o. IsSheetIf plan.now.pdf task.now font.now made o.sheet) }
     ensures more { IfOk result (λ o. o.more.items ≡ more_text plan.now font.now made o.sheet) }
+    ensures names { IfOk result (λ o. map (λ name. name.items) o.names.items ≡ names_for plan.now font.now made.picked.glyphs.items) }
     ensures err { IfErr result (λ e. (e ≡ Refused OutOfMemory) ⊎ IsUnshownIf plan.now.pdf task.now font.now made e) }
 {
     let sheet = sheet_if(alloc, font, plan.pdf, task, &made)?;
-    match more_of(alloc, font, plan, &made, &sheet) {
-        Ok(more) => Ok(Outcome { made, more, sheet }),
+    let Ok(more) = more_of(alloc, font, plan, &made, &sheet) else {
+        return Err(Failure::Error(Error::OutOfMemory));
+    };
+    match names_for(alloc, font, plan, &made.picked.glyphs) {
+        Ok(names) => Ok(Outcome {
+            made,
+            more,
+            names,
+            sheet,
+        }),
         Err(_) => Err(Failure::Error(Error::OutOfMemory)),
     }
 }

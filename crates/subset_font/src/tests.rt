@@ -155,6 +155,7 @@ fn outcome(alloc: Global, more: &[u8]) -> Result<Outcome, Fail> {
     Ok(Outcome {
         made,
         more: Vec::from_slice(alloc, more)?,
+        names: Vec::new(alloc),
         sheet: None,
     })
 }

@@ -2,9 +2,10 @@
 use Rattle.std.specs.Prelude.{ℕ, false, true, ◌^◌, ◌-◌, List, [], ◌∷◌, Option, Some, None}
 use Rattle.std.specs.Fmt.{digits, padded_integral, format_spec}
 
--- the glyphs that are told, with the characters that they stand for, as far as there are any, and the old numbers in the order of the new ones
+-- the glyphs whose new numbers are printed, with the characters that they stand for and their names, as far as there are any, and the old numbers in the order of the new ones
 pub record Numbers : Type 0 where
   pub characters : List ℕ
+  pub names : List (List ℕ)
   pub glyphs : List ℕ
   pub order : List ℕ
 
@@ -12,6 +13,11 @@ pub record Numbers : Type 0 where
 abbrev pub first : List ℕ → Option ℕ
 first [] = None
 first (x ∷ xs) = Some x
+
+-- the first name, an empty one where there is none
+abbrev pub first_name : List (List ℕ) → List ℕ
+first_name [] = []
+first_name (name ∷ names) = name
 
 -- at least four hexadecimal digits
 abbrev pub four_digits : ℕ → List ℕ

@@ -119,8 +119,8 @@ pub fn read_axes<'a>(alloc: Global, fvar: &'a [u8], names: &'a [u8]) -> Result<F
 
 // ---- writing
 
-/// A byte of a tag: a printable one of ASCII, and `?` for another.
-fn shown(byte: u8) -> u8
+/// A byte as it is shown: a printable one of ASCII, and `?` for another.
+pub fn shown(byte: u8) -> u8
     ensures { result ≡ shown byte }
 {
     if byte >= 32 && byte < 127 { byte } else { b'?' }

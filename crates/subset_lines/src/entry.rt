@@ -1,7 +1,7 @@
 //! What is printed.
 
-ghost use Rattle.std.specs.Prelude.{◌≡◌, drop};
-ghost use Rattle.subset_lines.specs.Text.{first};
+ghost use Rattle.std.specs.Prelude.{◌≡◌, drop, map};
+ghost use Rattle.subset_lines.specs.Text.{first, first_name};
 
 use subsetter_base::GlyphRemapper;
 
@@ -10,6 +10,8 @@ use subsetter_base::GlyphRemapper;
 pub struct Numbering<'a> {
     /// The characters that the glyphs stand for, as far as there are any.
     pub characters: &'a [char],
+    /// The names of the glyphs, as far as there are any; an empty one is none.
+    pub names: &'a [Vec<u8>],
     /// The old numbers.
     pub glyphs: &'a [u16],
     /// What knows the new numbers.
@@ -28,5 +30,16 @@ pub fn take_first(characters: &[char]) -> (Option<char>, &[char])
     match characters {
         [] => (None, characters),
         [character, others @ ..] => (Some(*character), others),
+    }
+}
+
+/// The first name, an empty one where there is none, and the others.
+pub fn take_name(names: &[Vec<u8>]) -> (&[u8], &[Vec<u8>])
+    ensures first { result.0.now ≡ first_name (map (λ name. name.items) names.now) }
+    ensures others { map (λ name. name.items) result.1.now ≡ drop 1 (map (λ name. name.items) names.now) }
+{
+    match names {
+        [] => (&[], names),
+        [name, others @ ..] => (name.as_slice(), others),
     }
 }

@@ -1,12 +1,13 @@
 //! The new numbers as JSON.
 
-ghost use Rattle.std.specs.Prelude.{◌≡◌, ◌++◌, [], OnOk, IfOk, codes, decimal};
+ghost use Rattle.std.specs.Prelude.{◌≡◌, ◌++◌, [], map, OnOk, IfOk, codes, decimal};
 ghost use Rattle.std.specs.Io.KnownBytes.{Appends};
-ghost use Rattle.subset_lines.specs.Json.{character_member, number_or_null, object_of, objects, widths_member, glyphs_member, json_of, numbers_from, array_of};
+ghost use Rattle.subset_lines.specs.Json.{character_member, number_or_null, name_member, object_of, objects, widths_member, glyphs_member, json_of, numbers_from, array_of};
 ghost use Rattle.subset_lines.specs.View.{numbers_view};
 
-use crate::entry::{Numbering, Unwritten, take_first};
+use crate::entry::{Numbering, Unwritten, take_first, take_name};
 use crate::plain::flush;
+use crate::quoted::write_shown;
 use crate::text::write_text;
 use std::alloc::Global;
 use std::io::Write;
@@ -49,36 +50,53 @@ fn write_old<W: Write>(old: u16, new: Option<u16>, out: &mut W) -> Result<(), Un
     write_new(new, out)
 }
 
+/// Writes the member that has a glyph's name, unless it is empty.
+#[tactic(auto, using(crate::proofs::Written::both))]
+fn write_name<W: Write>(name: &[u8], out: &mut W) -> Result<(), Unwritten>
+    ensures { OnOk result (Appends (W.contents out.old) (W.contents out.new) (name_member name.now)) }
+{
+    if name.is_empty() {
+        return Ok(());
+    }
+    write_text(b",\"name\":", out)?;
+    write_shown(name, out)
+}
+
 /// Writes the object of a glyph, behind a text.
 #[tactic(auto, using(crate::proofs::Written::both))]
 fn write_object<W: Write>(
     before: &[u8],
     character: Option<char>,
+    name: &[u8],
     old: u16,
     new: Option<u16>,
     out: &mut W,
 ) -> Result<(), Unwritten>
-    ensures { OnOk result (Appends (W.contents out.old) (W.contents out.new) (before.now ++ object_of character old new)) }
+    ensures { OnOk result (Appends (W.contents out.old) (W.contents out.new) (before.now ++ object_of character name.now old new)) }
 {
     write_text(before, out)?;
     write_text(b"{", out)?;
     write_character(character, out)?;
     write_old(old, new, out)?;
+    write_name(name, out)?;
     write_text(b"}", out)
 }
 
 /// Writes the objects of the glyphs.
 #[tactic(auto, using(crate::proofs::Written::at_first, crate::proofs::Written::after_part, crate::proofs::Written::at_last))]
 fn write_entries<W: Write>(numbering: &Numbering<'_>, out: &mut W) -> Result<(), Unwritten>
-    ensures { OnOk result (Appends (W.contents out.old) (W.contents out.new) (objects [] numbering.now.mapper.now numbering.now.characters.now numbering.now.glyphs.now)) }
+    ensures { OnOk result (Appends (W.contents out.old) (W.contents out.new) (objects [] numbering.now.mapper.now numbering.now.characters.now (map (λ name. name.items) numbering.now.names.now) numbering.now.glyphs.now)) }
 {
     let mapper = numbering.mapper;
     let mut characters = numbering.characters;
+    let mut names = numbering.names;
     let mut before = b"".as_slice();
     for glyph in numbering.glyphs {
         let (character, others) = take_first(characters);
-        write_object(before, character, *glyph, mapper.get(*glyph), out)?;
+        let (name, more) = take_name(names);
+        write_object(before, character, name, *glyph, mapper.get(*glyph), out)?;
         characters = others;
+        names = more;
         before = b",".as_slice();
     }
     Ok(())
@@ -104,7 +122,7 @@ fn write_between<W: Write>(
     behind: &[u8],
     out: &mut W,
 ) -> Result<(), Unwritten>
-    ensures { OnOk result (Appends (W.contents out.old) (W.contents out.new) (front.now ++ objects [] numbering.now.mapper.now numbering.now.characters.now numbering.now.glyphs.now ++ behind.now)) }
+    ensures { OnOk result (Appends (W.contents out.old) (W.contents out.new) (front.now ++ objects [] numbering.now.mapper.now numbering.now.characters.now (map (λ name. name.items) numbering.now.names.now) numbering.now.glyphs.now ++ behind.now)) }
 {
     write_text(front, out)?;
     write_entries(numbering, out)?;

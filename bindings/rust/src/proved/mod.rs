@@ -28,6 +28,8 @@ pub mod cid_embed_at;
 #[cfg(feature = "variable-fonts")]
 pub mod cmap;
 #[cfg(feature = "program")]
+pub mod glyph_names;
+#[cfg(feature = "program")]
 pub mod late_file;
 #[cfg(feature = "variable-fonts")]
 pub mod pdf_cff;

@@ -3,6 +3,8 @@
 
 use crate::rattle::prelude::Vec;
 
+use crate::proved::glyph_names::glyph_names;
+use crate::proved::subset_font::face::table;
 use crate::proved::subset_font::failure::Failure;
 use crate::proved::subset_font::missing::missing;
 use crate::proved::subset_font::named::face_settings;
@@ -20,6 +22,8 @@ pub struct Outcome {
     pub made: Made,
     /// What is printed behind the numbers: further lines, or further members of the JSON object.
     pub more: Vec<u8>,
+    /// The names of the requested glyphs, as far as they are printed; an empty one is none.
+    pub names: Vec<Vec<u8>>,
 }
 
 /// The tables of the font that is read and of the new one, with their sizes.
@@ -107,10 +111,50 @@ fn more_of(
     }
 }
 
+/// The bytes of a table, none where the face hasn't got it.
+fn bytes_of(font: &[u8], index: u32, tag: Tag) -> &[u8] {
+    match table(font, index, tag) {
+        Some(bytes) => bytes,
+        None => &[],
+    }
+}
+
+/// The names of glyphs in a face.
+fn names_of(
+    alloc: Global,
+    font: &[u8],
+    index: u32,
+    glyphs: &[u16],
+) -> Result<Vec<Vec<u8>>, AllocError> {
+    let post = bytes_of(font, index, Tag::POST);
+    let cff = bytes_of(font, index, Tag::CFF);
+    glyph_names(alloc, post, cff, glyphs)
+}
+
+/// The names of glyphs, if they are printed.
+fn names_for(
+    alloc: Global,
+    font: &[u8],
+    plan: &Plan<'_>,
+    glyphs: &[u16],
+) -> Result<Vec<Vec<u8>>, AllocError> {
+    match plan.task.form {
+        Form::Json => names_of(alloc, font, plan.task.index, glyphs),
+        Form::Lines => Ok(Vec::new(alloc)),
+        Form::Silence => Ok(Vec::new(alloc)),
+    }
+}
+
 /// The same for what was made, which is kept.
 fn with_more(alloc: Global, font: &[u8], plan: &Plan<'_>, made: Made) -> Result<Outcome, Failure> {
-    match more_of(alloc, font, plan, &made) {
-        Ok(more) => Ok(Outcome { made, more }),
+    let more = match more_of(alloc, font, plan, &made) {
+        Ok(more) => more,
+        _ => {
+            return Err(Failure::Error(Error::OutOfMemory));
+        }
+    };
+    match names_for(alloc, font, plan, &made.picked.glyphs) {
+        Ok(names) => Ok(Outcome { made, more, names }),
         Err(_) => Err(Failure::Error(Error::OutOfMemory)),
     }
 }

@@ -33,6 +33,7 @@ fn write_numbers<L: Write>(outcome: &Outcome, form: Form, lines: &mut L) -> Resu
     let made = &outcome.made;
     let numbering = Numbering {
         characters: &made.picked.characters,
+        names: &outcome.names,
         glyphs: &made.picked.glyphs,
         mapper: &made.mapper,
     };

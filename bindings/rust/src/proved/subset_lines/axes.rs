@@ -99,8 +99,8 @@ pub fn read_axes<'a>(
 
 // ---- writing
 
-/// A byte of a tag: a printable one of ASCII, and `?` for another.
-fn shown(byte: u8) -> u8 {
+/// A byte as it is shown: a printable one of ASCII, and `?` for another.
+pub fn shown(byte: u8) -> u8 {
     if byte >= 32 && byte < 127 {
         byte
     } else {

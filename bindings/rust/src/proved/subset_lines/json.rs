@@ -3,8 +3,9 @@
 
 use crate::rattle::prelude::Vec;
 
-use crate::proved::subset_lines::entry::{take_first, Numbering, Unwritten};
+use crate::proved::subset_lines::entry::{take_first, take_name, Numbering, Unwritten};
 use crate::proved::subset_lines::plain::flush;
+use crate::proved::subset_lines::quoted::write_shown;
 use crate::proved::subset_lines::text::write_text;
 use crate::rattle::alloc::Global;
 use crate::rattle::io::Write;
@@ -46,10 +47,20 @@ fn write_old<W: Write>(old: u16, new: Option<u16>, out: &mut W) -> Result<(), Un
     write_new(new, out)
 }
 
+/// Writes the member that has a glyph's name, unless it is empty.
+fn write_name<W: Write>(name: &[u8], out: &mut W) -> Result<(), Unwritten> {
+    if name.is_empty() {
+        return Ok(());
+    }
+    write_text(b",\"name\":", out)?;
+    write_shown(name, out)
+}
+
 /// Writes the object of a glyph, behind a text.
 fn write_object<W: Write>(
     before: &[u8],
     character: Option<char>,
+    name: &[u8],
     old: u16,
     new: Option<u16>,
     out: &mut W,
@@ -58,6 +69,7 @@ fn write_object<W: Write>(
     write_text(b"{", out)?;
     write_character(character, out)?;
     write_old(old, new, out)?;
+    write_name(name, out)?;
     write_text(b"}", out)
 }
 
@@ -65,11 +77,14 @@ fn write_object<W: Write>(
 fn write_entries<W: Write>(numbering: &Numbering<'_>, out: &mut W) -> Result<(), Unwritten> {
     let mapper = numbering.mapper;
     let mut characters = numbering.characters;
+    let mut names = numbering.names;
     let mut before = b"".as_slice();
     for glyph in numbering.glyphs {
         let (character, others) = take_first(characters);
-        write_object(before, character, *glyph, mapper.get(*glyph), out)?;
+        let (name, more) = take_name(names);
+        write_object(before, character, name, *glyph, mapper.get(*glyph), out)?;
         characters = others;
+        names = more;
         before = b",".as_slice();
     }
     Ok(())

@@ -5,7 +5,7 @@
 //! [`write_json`] one object. [`write_axes`] writes a line for each axis of a variable font and each named instance.
 //!
 //! ```text
-//! let numbering = Numbering { characters: &[], glyphs: &[36, 68], mapper: &mapper };
+//! let numbering = Numbering { characters: &[], names: &[], glyphs: &[36, 68], mapper: &mapper };
 //! write_lines(&numbering, b"", &mut lines)?;         // 36 -> 1, 68 -> 2
 //! ```
 

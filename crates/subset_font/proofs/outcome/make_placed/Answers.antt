@@ -6,7 +6,7 @@ use Rattle.subset_font.proofs.outcome.make_placed.Goals as goal
 pub returns-in-Ok-clause-ok : goal.returns-in-Ok-clause-ok
 returns-in-Ok-clause-ok c =
     let is_placed = subst (IsPlaced c.args.plan.now c.args.font.now) (sym c.placed-task.ensures) (at_instance c.args.name.now c.args.at c.requires.name c.requires.at) in
-    outcome_of c.args.plan.now c.args.font.now c.placed-task.result is_placed c.in-Ok.made c.in-Ok.ensures.ok c.with_more.result c.with_more.ensures.made c.with_more.ensures.sheet c.with_more.ensures.more
+    outcome_of c.args.plan.now c.args.font.now c.placed-task.result is_placed c.in-Ok.made c.in-Ok.ensures.ok c.with_more.result c.with_more.ensures.made c.with_more.ensures.sheet c.with_more.ensures.more c.with_more.ensures.names
 
 pub returns-in-Ok-clause-err : goal.returns-in-Ok-clause-err
 returns-in-Ok-clause-err c =
