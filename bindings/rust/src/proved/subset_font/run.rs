@@ -352,9 +352,22 @@ fn report_names<R: Eprint + AllocGlobal>(rt: &R, font: &[u8], index: u32) {
     }
 }
 
+/// The task of a plan with the widths, where they are printed, or a PDF has them.
+fn task_with_widths<'a>(plan: &Plan<'a>) -> Task<'a> {
+    let task = plan.task;
+    Task {
+        asked: task.asked,
+        index: task.index,
+        options: task.options,
+        widths: task.widths || plan.pdf.is_some(),
+        form: task.form,
+        at: task.at,
+    }
+}
+
 /// Reports more of a run that failed, as far as it can be seen in the font.
 fn report_more<R: Eprint + AllocGlobal>(rt: &R, failure: &Failure, font: &[u8], plan: &Plan<'_>) {
-    match find_hint(failure, font, &plan.task) {
+    match find_hint(failure, font, &task_with_widths(plan)) {
         Some(hint) => tell_hint(rt, Some(hint)),
         None => tell_hint(rt, find_limit_hint(rt.alloc(), failure, font, plan)),
     }
