@@ -52,6 +52,7 @@ fn request_of<'a>(task: &Task<'a>, choice: PdfChoice) -> PdfRequest<'a>
 }
 
 /// The PDF of what a task made, by a choice.
+#[tactic(auto, using(crate::proofs::Sheets::shown_of, crate::proofs::Sheets::unshown_by))]
 fn make_shown(
     alloc: Global,
     font: &[u8],
@@ -101,6 +102,7 @@ fn member_of(alloc: Global, sheet: &Sheet) -> Result<Vec<u8>, AllocError>
 }
 
 /// Members of a JSON object, and behind them that of a PDF, if there is one.
+#[tactic(auto, using(crate::proofs::Sheets::nothing_more))]
 pub fn with_pdf(
     alloc: Global,
     members: Vec<u8>,

@@ -33,6 +33,7 @@ pub enum SheetError {
 }
 
 /// What the PDF has of the font for glyphs in use, of which no text is too long.
+#[tactic(auto, using(crate::proofs::Sheets::font_made, crate::proofs::Sheets::font_refused, crate::proofs::Sheets::font_forbidden, crate::proofs::Sheets::font_never_long))]
 fn font_for(
     alloc: Global,
     data: &[u8],
@@ -54,6 +55,7 @@ fn font_for(
 }
 
 /// The PDF of a font.
+#[tactic(auto, using(crate::proofs::Sheets::too_large_as))]
 fn drawn(
     alloc: Global,
     request: &PdfRequest<'_>,
@@ -71,6 +73,7 @@ fn drawn(
 }
 
 /// The PDF that shows glyphs in use.
+#[tactic(auto, using(crate::proofs::Sheets::sheet_by, crate::proofs::Sheets::no_sheet_by, crate::proofs::Sheets::no_font_by))]
 fn sheet_of(
     alloc: Global,
     data: &[u8],
@@ -95,6 +98,7 @@ fn sheet_of(
 /// - `NotPermitted`: `fsType` forbids it, and the user holds no rights.
 /// - `Font`: what `pdf_font` answers; the PDF would have 10,000,000,000 bytes or more (`OverflowError`); a request for memory was
 ///   refused (`OutOfMemory`).
+#[tactic(auto, using(crate::proofs::Short::short, crate::proofs::Sheets::sheet_for, crate::proofs::Sheets::no_sheet_for))]
 pub fn make_sheet(
     alloc: Global,
     data: &[u8],
