@@ -116,10 +116,10 @@ impl fmt::Display for Hint {
                 write!(f, "the new font has more than the {most} bytes of --limits")
             }
             Hint::Forbidden(bit) => {
-                let said = said_by(bit);
+                let meaning = meaning_of(bit);
                 write!(
                     f,
-                    "fsType bit {bit} is set ({said}): if you hold the rights, --rights held"
+                    "fsType bit {bit} is set ({meaning}): if you hold the rights, --rights held"
                 )
             }
             Hint::LittleLimits(tokens, depth) => {
@@ -133,7 +133,7 @@ impl fmt::Display for Hint {
 }
 
 /// What a bit of `fsType` says that forbids to embed a subset.
-fn said_by(bit: u8) -> &'static str {
+fn meaning_of(bit: u8) -> &'static str {
     match bit {
         1 => "restricted",
         8 => "no subsetting",
