@@ -143,7 +143,6 @@ PLANTS = [
     ("the coordinates not handed on", "proved/subset_font/sheet.rs", "at: settings_of(task.at),", "at: settings_of(None),"),
     ("the first face", "proved/subset_font/sheet.rs", "        index: task.index,", "        index: 0,"),
     ("hinting kept", "proved/subset_font/sheet.rs", "hinting: task.options.extras.hinting,", "hinting: true,"),
-    ("the limits not handed on", "proved/subset_font/sheet.rs", "limits: task.options.limits,", "limits: crate::proved::subsetter::Limits::default(),"),
     ("the character of the glyph before", "proved/subset_pdf/shown.rs", "        rest = others;", "        rest = if others.len() > 1 { others } else { rest };"),
     ("one file for both", "proved/subset_args/jobs.rs", "|| is_same(output, chosen.pdf)", "|| is_same(output, None)"),
     ("an option without a PDF", "proved/subset_args/jobs.rs", "chosen.coding.is_some() || chosen.is_held", "chosen.is_held"),
