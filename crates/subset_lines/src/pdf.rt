@@ -3,7 +3,7 @@
 ghost use Rattle.std.specs.Prelude.{◌≡◌, ◌++◌, [], OnOk, IfOk, codes, decimal};
 ghost use Rattle.std.specs.Io.KnownBytes.{Appends};
 ghost use Rattle.subset_lines.specs.Json.{array_of, numbers_from};
-ghost use Rattle.subset_lines.specs.Pdf.{pdf_member, pdf_open};
+ghost use Rattle.subset_lines.specs.Pdf.{name_member, pdf_member, pdf_open};
 
 use crate::entry::Unwritten;
 use crate::quoted::write_quoted;
@@ -34,14 +34,22 @@ fn write_array<W: Write>(numbers: &[u16], out: &mut W) -> Result<(), Unwritten>
     write_text(b"]", out)
 }
 
+/// Writes the name of the font.
+#[tactic(auto, using(crate::proofs::Written::both))]
+fn write_name<W: Write>(name: &[u8], out: &mut W) -> Result<(), Unwritten>
+    ensures { OnOk result (Appends (W.contents out.old) (W.contents out.new) (name_member name.now)) }
+{
+    write_text(b",\"font\":", out)?;
+    write_quoted(name, out)
+}
+
 /// Writes what opens the member: the bytes of the PDF, and the name of its font.
 #[tactic(auto, using(crate::proofs::Written::both))]
 fn write_open<W: Write>(size: u64, name: &[u8], out: &mut W) -> Result<(), Unwritten>
     ensures { OnOk result (Appends (W.contents out.old) (W.contents out.new) (pdf_open size name.now)) }
 {
     write_count(b",\"pdf\":{\"size\":", size, out)?;
-    write_text(b",\"font\":", out)?;
-    write_quoted(name, out)
+    write_name(name, out)
 }
 
 /// Writes the member.

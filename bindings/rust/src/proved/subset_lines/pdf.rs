@@ -26,11 +26,16 @@ fn write_array<W: Write>(numbers: &[u16], out: &mut W) -> Result<(), Unwritten> 
     write_text(b"]", out)
 }
 
+/// Writes the name of the font.
+fn write_name<W: Write>(name: &[u8], out: &mut W) -> Result<(), Unwritten> {
+    write_text(b",\"font\":", out)?;
+    write_quoted(name, out)
+}
+
 /// Writes what opens the member: the bytes of the PDF, and the name of its font.
 fn write_open<W: Write>(size: u64, name: &[u8], out: &mut W) -> Result<(), Unwritten> {
     write_count(b",\"pdf\":{\"size\":", size, out)?;
-    write_text(b",\"font\":", out)?;
-    write_quoted(name, out)
+    write_name(name, out)
 }
 
 /// Writes the member.
