@@ -162,7 +162,7 @@ def try_logs(folder):
 def main():
     with planted.copy() as folder:
         found = [try_plants(folder, [".ci/evidence.py"], PLANTS, sys.argv[1:]), try_plants(folder, [".ci/examples.py", "rust"], EXAMPLES, sys.argv[1:]),
-                 try_plants(folder, [".ci/pdf_examples.py"], PDF_EXAMPLES, sys.argv[1:])]
+                 try_plants(folder, [".ci/pdf_examples.py", "rust"], PDF_EXAMPLES, sys.argv[1:])]
         found += [] if sys.argv[1:] else [try_logs(folder)]
     tried, wrong = map(sum, zip(*found))
     print(f"readme_test: {tried} bugs and logs, {wrong} results are wrong")

@@ -23,6 +23,8 @@ PROGRAM = sources("subset_font", "subset_args", "subset_lines", "subset_pdf", "p
 C = sources("subsetter_c", "cid_embed", "cid_embed_at") + ("bindings/c/*",)
 BINDINGS = C + ("bindings/python/**", "bindings/rust-native/**", "bindings/plants", "bindings/test")
 PORTABLE = SUBSET + INSTANCE + C + ("bindings/rust/src/**",)
+# The harness has the crate alone, with its module `pdf`.
+PDF = ("bindings/rust/src/**",)
 JAVASCRIPT = C + ("bindings/rust/src/**", "bindings/js/*.mjs", "bindings/js/Makefile", "bindings/js/module/**")
 
 
@@ -115,6 +117,13 @@ COMPARISONS = [
     drawn("--faces 60 --bare", short="--faces 15 --bare", name="pdf, bare", asks="The same, without hinting and names?", paths=SUBSET + PROGRAM),
     drawn("--variable", VARIABLE, short=f"--variable {VARIABLE} --places 3", name="pdf, variable",
           asks="Do three PDF readers draw a variable font's subset as FreeType does?", paths=SUBSET + INSTANCE + PROGRAM),
+    Comparison("pdf font", "Is what a PDF has of a font as rules say that are written a second time, and do readers take it?",
+               f"{DEBIAN} compare/pdf_font.py", lines_like(r"\d+ of \d+ fonts compared, \d+ differences|^\d+ files were read.*"), PDF,
+               f"{DEBIAN} compare/pdf_font.py --faces 40 --copies 40"),
+    Comparison("pdf font, readers", "Which PDF reader reads what of a font that one call makes?", f"{DEBIAN} compare/pdf_font_readers.py",
+               lines_like(r"^\d+ rows, of which.*"), PDF),
+    Comparison("pdf font, times", "What does all that a PDF has of a font take beside its subset?", f"{DEBIAN} compare/pdf_font_times.py",
+               lines_like(r"^ToUnicode of \d+ codes: [\d.]+ ms|\d+ rows, \d+ past a bound"), PDF, timed=True),
     Comparison("options", "Does each option leave out what it names, and nothing else?", f"{DEBIAN} compare/options.py",
                lines_like(r"^\d+ faces(?= \()|\d+ glyphs drawn as their sources|\d+ faces failed"), SUBSET + PROGRAM, f"{DEBIAN} compare/options.py --faces 40"),
     Comparison("options, before", "Did options change an answer, a time or the memory of a call without them?", f"{DEBIAN} compare/options.py --same OLD --faces 2000",

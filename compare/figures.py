@@ -233,6 +233,25 @@ def cost_of_any_processor():
             f"CFF outlines, {100 * mean_ratio('truetype'):.0f} % for those with TrueType outlines")
 
 
+def readers_of_font():
+    """The rows that all readers read, and a table of the others."""
+    rows = results_of.result("pdf font, readers").tables[0]
+    others = [it for it in rows if set(list(it.values())[1:]) - {"read", "text"}]
+    head = "| " + " | ".join(rows[0]) + " |\n|" + "---|" * len(rows[0])
+    read = "; ".join(it["Shown"] for it in rows if it not in others)
+    return "\n".join([f"All read: {read}.", "", head, *("| " + " | ".join(it.values()) + " |" for it in others)])
+
+
+def fonts_compared():
+    """What pdf_font.py compared."""
+    said = " ".join(results_of.result("pdf font").body)
+    done = re.search(r"(\d+) fonts \((\d+) TrueType.*?, (\d+) refused", said)
+    read = re.search(r"(\d+) files were read by qpdf, (\d+) texts were read, (\d+) pictures compared, (\d+) pages", said)
+    wrong = re.search(r"fonts compared, (\d+) differences", said)
+    return (f"{int(done[1]):,} fonts and {done[3]} refusals, {int(read[1]):,} files, {read[2]} texts, {int(read[3]):,} pictures, {read[4]} pages as PDF/A-1b: "
+            f"{wrong[1]} differences.")
+
+
 BLOCKS = {
     "cost of any processor": (cost_of_any_processor, ["processors", "times"]),
     "source of processors": (source_of("processors"), ["processors"]),
@@ -253,6 +272,10 @@ BLOCKS = {
     "source of instances, times": (source_of("instances, times"), ["instances, times"]),
     "sizes": (as_table("sizes"), ["sizes"]),
     "source of sizes": (source_of("sizes"), ["sizes"]),
+    "readers of a font": (readers_of_font, ["pdf font, readers"]),
+    "source of pdf font, readers": (source_of("pdf font, readers"), ["pdf font, readers"]),
+    "fonts compared": (fonts_compared, ["pdf font"]),
+    "source of pdf font": (source_of("pdf font"), ["pdf font"]),
     "javascript, times": (as_table("javascript, times"), ["javascript, times"]),
     "source of javascript, times": (lambda: results_of.source("javascript, times", is_linked=False) + ".", ["javascript, times"]),
 }

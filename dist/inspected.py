@@ -284,7 +284,7 @@ class Looker:
             self.demand(needed == {"libc.so.6"}, f"{name}: it needs {sorted(needed)}")
             said = subprocess.run(["readelf", "-W", "--dyn-syms", paths[0]], capture_output=True, text=True).stdout
             shown = {it.split()[7] for it in said.split("\n") if re.search(r"\b(GLOBAL|WEAK)\b.*DEFAULT\s+\d+ ", it)}
-            wanted = self.calls()
+            wanted = self.calls(has_pdf=target in self.by_cargo)
             self.demand(shown == wanted and wanted, f"{name}: the shared library shows {sorted(shown)}")
             said = subprocess.run(["readelf", "-Ws", paths[1]], capture_output=True, text=True).stdout
             shown = {it.split()[7] for it in said.split("\n") if re.search(r"\b(GLOBAL|WEAK)\b.*DEFAULT\s+\d+ ", it)}
@@ -346,10 +346,12 @@ class Looker:
         shown = {*re.findall(r"^\s*\[\s*\d+\]\s+(?:\+base\[\s*\d+\]\s+)?(?:[0-9a-f]{4}\s+)?(\S+)$", table, re.M)}
         self.demand(shown == self.calls() and shown, f"{name}: its DLL shows {sorted(shown ^ self.calls())}")
 
-    def calls(self):
-        """The calls of the header."""
+    def calls(self, has_pdf=True):
+        """The calls of the header; those for PDF are in what is built from the crate alone."""
         with open(os.path.join(ROOT, "bindings", "c", "subsetter.h"), encoding="utf-8") as file:
             text = re.sub(r"static inline[^{;]*|/\*.*?\*/", "", file.read(), flags=re.S)
+        if not has_pdf:
+            text = re.sub(r"^#ifndef SUBSETTER_WITHOUT_PDF$.*?^#endif$", "", text, flags=re.S | re.M)
         return {*re.findall(r"^(?:uint32_t|void) (subsetter_\w+)\(", text, re.M)}
 
     def wheel(self, target, shared, library="libsubsetter.so"):

@@ -2,6 +2,7 @@
 #include "subsetter.h"
 #include "subsetter.h"
 
+#include <cstddef>
 #include <cstdio>
 #include <cstring>
 
@@ -43,7 +44,11 @@ static void check_names()
         {SUBSETTER_SUBSET_ERROR, "subsetting of font failed"}, {SUBSETTER_OVERFLOW_ERROR, "overflow occurred"},
         {SUBSETTER_CFF_ERROR, "processing CFF table failed"}, {SUBSETTER_OUT_OF_MEMORY, "out of memory"},
         {SUBSETTER_BUFFER_TOO_SMALL, "a buffer is too small"}, {SUBSETTER_NO_DEPTH, "the limit of the depth is 0"},
-        {SUBSETTER_UNKNOWN_OPTION, "unknown option"}};
+        {SUBSETTER_UNKNOWN_OPTION, "unknown option"},
+#ifndef SUBSETTER_WITHOUT_PDF
+        {SUBSETTER_NOT_PERMITTED, "embedding not permitted"}, {SUBSETTER_INVALID_TEXT, "invalid text"},
+#endif
+    };
     for (uint32_t i = 0; i < sizeof names / sizeof *names; i++) {
         uint8_t text[64];
         size_t length = 0;
@@ -122,12 +127,51 @@ static void check_calls()
     check(subsetter_make_subset(font, 55, 0, NULL, 0, &options, &made) == SUBSETTER_UNKNOWN_OPTION && made.font_size == 0, "an unknown bit");
 }
 
+#ifndef SUBSETTER_WITHOUT_PDF
+/* The calls for PDF. The font has no metrics, no characters and no `OS/2`. */
+static void check_pdf()
+{
+    uint16_t glyphs[1] = {7};
+    size_t length = 7;
+    const uint32_t text[1] = {'A'};
+    const size_t ends[1] = {1};
+    subsetter_pdf_options options = SUBSETTER_DEFAULT_PDF_OPTIONS;
+    subsetter_pdf_font made;
+    subsetter_pdf_objects objects;
+    check(options.size == sizeof options && sizeof options == 52 && offsetof(subsetter_pdf_options, tag) == 44, "the size of the options for PDF");
+    check(offsetof(subsetter_pdf_options, bytes) == offsetof(subsetter_options, bytes), "options for PDF begin with the options");
+    check(options.tokens == 0 && options.bytes == 0 && options.program == 0 && options.rights == 0 && options.tag[1] == 0, "the default options for PDF");
+    check(sizeof made.columns[0] == 12 && offsetof(subsetter_pdf_font, kind) == 22 * sizeof(size_t), "the fonts for PDF");
+    check(SUBSETTER_LETTERS('A', 'B', 'C') == 0x414243u, "letters");
+    check(subsetter_glyphs_of(font, 55, 0, text, 1, glyphs, 1, &length) == SUBSETTER_MALFORMED_FONT && length == 0, "glyphs of a text");
+    check(subsetter_make_pdf_font(font, 55, 0, NULL, 0, NULL, 0, NULL, 0, NULL, 0, NULL, &made) == SUBSETTER_MALFORMED_FONT
+        && made.program == NULL && made.program_size == 0, "a font for PDF");
+    check(subsetter_make_pdf_font(font, 55, 0, NULL, 0, glyphs, 1, text, 1, ends, 0, &options, &made) == SUBSETTER_INVALID_TEXT, "a text without an end");
+    subsetter_free_pdf_font(&made);
+    check(subsetter_make_pdf_objects(&made, 1, &objects) == SUBSETTER_DONE && objects.offset_count == 5, "objects of nothing");
+    subsetter_free_pdf_objects(&objects);
+    check(subsetter_make_pdf_sheet(&made, NULL, 0, NULL, 0, NULL, 0, SUBSETTER_LAYOUT_GRID, &objects) == SUBSETTER_DONE, "a sheet of nothing");
+    subsetter_free_pdf_objects(&objects);
+    check(subsetter_make_pdf_sheet(&made, NULL, 0, NULL, 0, NULL, 0, 2, &objects) == SUBSETTER_UNKNOWN_OPTION && objects.size == 0, "another layout");
+    check(SUBSETTER_PROGRAM_OPENTYPE == 1 && SUBSETTER_CODES_SOURCE == 1 && SUBSETTER_CODES_EACH_TEXT == 2 && SUBSETTER_VERTICAL == 1
+        && SUBSETTER_BOUNDS_KEPT == 1 && SUBSETTER_RIGHTS_HELD == 1, "the choices for PDF");
+    check(SUBSETTER_PROGRAM_SMALLEST == 0 && SUBSETTER_CODES_CONSECUTIVE == 0 && SUBSETTER_HORIZONTAL == 0 && SUBSETTER_BOUNDS_FONT == 0
+        && SUBSETTER_RIGHTS_AS_SAID == 0 && SUBSETTER_LAYOUT_LINE == 0 && SUBSETTER_LAYOUT_GRID == 1, "the first choices for PDF");
+    check(SUBSETTER_KIND_TRUETYPE == 0 && SUBSETTER_KIND_BARE_CFF == 1 && SUBSETTER_KIND_OPENTYPE == 2, "the kinds of programs");
+    check(SUBSETTER_USAGE_UNSAID == 0 && SUBSETTER_USAGE_INSTALLABLE == 1 && SUBSETTER_USAGE_EDITABLE == 2
+        && SUBSETTER_USAGE_PREVIEW_AND_PRINT == 3 && SUBSETTER_USAGE_RESTRICTED == 4, "the usages");
+}
+#endif
+
 int main()
 {
     check_texts();
     check_names();
     check_version();
     check_calls();
+#ifndef SUBSETTER_WITHOUT_PDF
+    check_pdf();
+#endif
     if (failures == 0)
         std::printf("header: C++ reads it, and the library answers as it says\n");
     return failures != 0;

@@ -65,16 +65,22 @@ enum {
     /* The limit of the depth is 0. */
     SUBSETTER_NO_DEPTH = 9,
     /* The options have a size, a depth or a bit that this library doesn't know. */
-    SUBSETTER_UNKNOWN_OPTION = 10
+    SUBSETTER_UNKNOWN_OPTION = 10,
+    /* The font's maker doesn't permit that it is embedded (`fsType` of the table `OS/2`); of the calls for PDF alone. */
+    SUBSETTER_NOT_PERMITTED = 11,
+    /* A text has a number that is no character, an end that isn't in its order, or more than 256 UTF-16 units; of the calls for
+     * PDF alone. */
+    SUBSETTER_INVALID_TEXT = 12
 };
 
-/* What a status says, in English. */
+/* What a status says, in English. Of 11 and 12 a library without the calls for PDF says `unknown status` in
+ * `subsetter_error_text`: no call of it answers them. */
 static inline const char *subsetter_status_text(uint32_t status)
 {
     static const char *const texts[] = {
         "all done", "unknown font kind", "malformed font", "unsupported feature in font", "subsetting of font failed",
         "overflow occurred", "processing CFF table failed", "out of memory", "a buffer is too small",
-        "the limit of the depth is 0", "unknown option"
+        "the limit of the depth is 0", "unknown option", "embedding not permitted", "invalid text"
     };
     return status < sizeof texts / sizeof *texts ? texts[status] : "unknown status";
 }
@@ -382,6 +388,270 @@ static inline uint32_t subsetter_make_embedded_at(const uint8_t *font, size_t fo
 /* Gives back what a `make` call handed over, and sets the pointers to null and the sizes to 0, so that it may be called
  * again. Also after a call that failed, or with a null pointer: then it does nothing. */
 void subsetter_free(subsetter_made *made);
+
+/* ---- all that a PDF has of a font (sections in brackets are those of ISO 32000-1)
+ *
+ * WHICH LIBRARY HAS THESE CALLS: the one that Cargo makes (bindings/capi). The one that is proved as it is built doesn't have
+ * them yet, and a program that calls them can't be linked with it. With SUBSETTER_WITHOUT_PDF defined they aren't declared, so
+ * that the compiler finds such a call. */
+#ifndef SUBSETTER_WITHOUT_PDF
+
+/* The glyph of each character of a text, by the font's table `cmap`: 0 where the font has none. `text` are 32-bit characters.
+ * The text isn't shaped: there are no ligatures, no kerning and no reordering, which Arabic or Devanagari need.
+ *   0: `glyphs` begins with the glyphs, and `*length` is `text_count`.
+ *   8: there is room for less than `text_count` glyphs; `glyphs` is as it was, and `*length` is `text_count`.
+ *   1, 2, 7, 12: `glyphs` is as it was, and `*length` is 0. 2 also where the font has no Unicode table of the formats 4 and 12.
+ */
+uint32_t subsetter_glyphs_of(const uint8_t *font, size_t font_size, uint32_t index,
+                             const uint32_t *text, size_t text_count,
+                             uint16_t *glyphs, size_t glyph_count, size_t *length);
+
+/* What the font program of a font with outlines in `CFF ` is (`program`). */
+enum {
+    /* The bytes of `CFF ` alone. */
+    SUBSETTER_PROGRAM_SMALLEST = 0,
+    /* The whole file (PDF 1.6). PDF/A-1 forbids it. */
+    SUBSETTER_PROGRAM_OPENTYPE = 1
+};
+
+/* How the glyphs in use get codes (`codes`). Code 0 is that of glyph 0 in each. */
+enum {
+    /* The codes are the CIDs: from 1 on, in order of use. */
+    SUBSETTER_CODES_CONSECUTIVE = 0,
+    /* The code of a glyph is its number in the font, so that a page can be written before the font. */
+    SUBSETTER_CODES_SOURCE = 1,
+    /* Each pair of a glyph and a text has a code: from 1 on, in order of use. So one glyph can say "B" and "b". */
+    SUBSETTER_CODES_EACH_TEXT = 2
+};
+
+/* How text runs (`direction`). */
+enum {
+    SUBSETTER_HORIZONTAL = 0,
+    /* From top to bottom. */
+    SUBSETTER_VERTICAL = 1
+};
+
+/* Which glyphs FontBBox holds (`bounds`). */
+enum {
+    /* All glyphs of the font. */
+    SUBSETTER_BOUNDS_FONT = 0,
+    /* Those of the font program. Of outlines in `CFF ` it is as SUBSETTER_BOUNDS_FONT. */
+    SUBSETTER_BOUNDS_KEPT = 1
+};
+
+/* Whose permission counts (`rights`). */
+enum {
+    /* That of the font's maker, as `fsType` of the table `OS/2` says it. */
+    SUBSETTER_RIGHTS_AS_SAID = 0,
+    /* The caller's, who may embed the font, whatever `fsType` says. */
+    SUBSETTER_RIGHTS_HELD = 1
+};
+
+/* Three letters of a tag in a number. */
+#define SUBSETTER_LETTERS(a, b, c) (((uint32_t)(uint8_t)(a) << 16) | ((uint32_t)(uint8_t)(b) << 8) | (uint32_t)(uint8_t)(c))
+
+/* All choices of a font for a PDF. It begins with the fields of `subsetter_options`, and what is said there of `size`, of later
+ * versions and of 0 counts here too. A value that isn't among those above is status 10.
+ *
+ *     subsetter_pdf_options options = SUBSETTER_DEFAULT_PDF_OPTIONS;
+ *     options.codes = SUBSETTER_CODES_SOURCE;
+ */
+typedef struct subsetter_pdf_options {
+    /* sizeof (subsetter_pdf_options). */
+    uint32_t size;
+    /* As in `subsetter_options`. Names and glyph names are always dropped. */
+    uint32_t tokens;
+    uint32_t depth;
+    uint32_t drop;
+    uint32_t bytes;
+    uint32_t program;
+    uint32_t codes;
+    uint32_t direction;
+    uint32_t bounds;
+    /* 1: there is a CIDSet (9.8.3), which PDF/A-1 demands. PDF 2.0 has none. */
+    uint32_t cid_set;
+    uint32_t rights;
+    /* The tag in front of the font's name, six capitals, as SUBSETTER_LETTERS('A', 'B', 'C') and the like; 0, 0: it is computed
+     * of the font program, so that equal programs have equal tags. */
+    uint32_t tag[2];
+} subsetter_pdf_options;
+
+#define SUBSETTER_DEFAULT_PDF_OPTIONS { sizeof(subsetter_pdf_options), 0, 0, 0, 0, 0, 0, 0, 0, 0, 0, { 0, 0 } }
+
+static inline const uint32_t *subsetter_pdf_option_words(const subsetter_pdf_options *options)
+{
+    return options == NULL ? NULL : &options->size;
+}
+
+static inline size_t subsetter_pdf_option_count(const subsetter_pdf_options *options)
+{
+    return options == NULL ? 0 : options->size < 4 ? 1 : options->size / 4;
+}
+
+/* A CID in vertical writing (9.7.4.3), in thousandths of the em. */
+typedef struct subsetter_column {
+    /* From one glyph to the next, mostly below 0: downwards. */
+    int32_t advance;
+    /* The origin of vertical writing, to the right of that of horizontal writing, and above it. */
+    int32_t x;
+    int32_t y;
+} subsetter_column;
+
+/* What the font program is (`kind`; 9.9). */
+enum {
+    /* A TrueType file: FontFile2. */
+    SUBSETTER_KIND_TRUETYPE = 0,
+    /* The bytes of `CFF `: FontFile3 of the subtype CIDFontType0C. */
+    SUBSETTER_KIND_BARE_CFF = 1,
+    /* An OpenType file with outlines in `CFF `: FontFile3 of the subtype OpenType. */
+    SUBSETTER_KIND_OPENTYPE = 2
+};
+
+/* What a document may do with the font, as its maker says (`usage`). */
+enum {
+    SUBSETTER_USAGE_UNSAID = 0,
+    SUBSETTER_USAGE_INSTALLABLE = 1,
+    SUBSETTER_USAGE_EDITABLE = 2,
+    SUBSETTER_USAGE_PREVIEW_AND_PRINT = 3,
+    SUBSETTER_USAGE_RESTRICTED = 4
+};
+
+/* All that a PDF has of a font: lists that the caller only reads, and gives back by `subsetter_free_pdf_font`, and numbers. Where
+ * a size or a count is 0, its pointer says nothing. An entry is a glyph in use with its text, as the call was given them. Lengths
+ * are in thousandths of the em. No later version changes this struct. */
+typedef struct subsetter_pdf_font {
+    /* The font program, in bytes. */
+    const uint8_t *program;
+    size_t program_size;
+    /* The CID of each entry. */
+    const uint16_t *cids;
+    size_t cid_count;
+    /* The code of each entry, which strings hold in two bytes, the higher first. */
+    const uint16_t *codes;
+    size_t code_count;
+    /* Of each entry 1 where readers find its text by its code; where it is 0, ActualText says it (14.9.4). */
+    const uint8_t *is_said;
+    size_t said_count;
+    /* The width of each CID of the font program. */
+    const uint32_t *widths;
+    size_t width_count;
+    /* In vertical writing of each CID from 0 on that a string can show. */
+    const subsetter_column *columns;
+    size_t column_count;
+    /* FontName, in ASCII without a zero behind it. */
+    const uint8_t *font_name;
+    size_t font_name_size;
+    /* The ToUnicode CMap (9.10.3). */
+    const uint8_t *to_unicode;
+    size_t to_unicode_size;
+    /* The CMap from codes to CIDs, and its name; nothing where each code is its CID (`Identity-H`, `Identity-V`). */
+    const uint8_t *encoding;
+    size_t encoding_size;
+    const uint8_t *encoding_name;
+    size_t encoding_name_size;
+    /* The bytes of CIDSet, if it was chosen. */
+    const uint8_t *cid_set;
+    size_t cid_set_size;
+    /* SUBSETTER_KIND_TRUETYPE, .._BARE_CFF or .._OPENTYPE. */
+    uint32_t kind;
+    /* 1: text runs from top to bottom. */
+    uint32_t is_vertical;
+    /* DW, and DW2 (y and advance; 0, 0 in horizontal writing). */
+    uint32_t default_width;
+    int32_t default_column[2];
+    /* The font descriptor (Table 122). ItalicAngle is in thousandths of a degree, counterclockwise. */
+    uint32_t flags;
+    int32_t bounds[4];
+    int32_t italic_angle;
+    int32_t ascent;
+    int32_t descent;
+    int32_t cap_height;
+    /* 0: there is no XHeight. */
+    uint32_t has_x_height;
+    int32_t x_height;
+    uint32_t stem_v;
+    uint32_t font_weight;
+    /* One of SUBSETTER_USAGE_.., and 1 where subsets and outlines may be embedded. */
+    uint32_t usage;
+    uint32_t may_subset;
+    uint32_t may_embed_outlines;
+} subsetter_pdf_font;
+
+/* All that a PDF has of a font for the glyphs in use, at coordinates (none: the font's default).
+ *
+ * `glyphs` are in order of use, with repeats if need be. The text of each is none, a character, or several (a ligature): `text`
+ * are the 32-bit characters of all entries, and `ends` says for each entry where its characters end there; they begin where
+ * those of the entry before end. So `end_count` is `glyph_count`. Where each glyph has one character, `ends` is 1, 2, 3 and so on.
+ *   0: `*made` is the font.
+ *   1 to 7, 10 to 12: all of `*made` is 0, and nothing is to be freed. First comes 10, then a text that isn't one (12), what is
+ *   found in opening the font, 11, a text that is too long (12), and then what `subsetter_embed_at_by_words` answers. 2 also where
+ *   outlines in `glyf` have no `maxp`; 5 also for more than 65,535 pairs of a glyph and a text.
+ * `made` is written by each call and must not be null; what it held before isn't freed. No value of the font descriptor is a
+ * reason to refuse a font: where a table is missing or cut, another source of the value is taken.
+ */
+uint32_t subsetter_make_pdf_font_by_words(const uint8_t *font, size_t font_size, uint32_t index,
+                                          const subsetter_coordinate *coordinates, size_t coordinate_count,
+                                          const uint16_t *glyphs, size_t glyph_count,
+                                          const uint32_t *text, size_t text_count,
+                                          const size_t *ends, size_t end_count,
+                                          const uint32_t *options, size_t option_count,
+                                          subsetter_pdf_font *made);
+
+static inline uint32_t subsetter_make_pdf_font(const uint8_t *font, size_t font_size, uint32_t index,
+                                               const subsetter_coordinate *coordinates, size_t coordinate_count,
+                                               const uint16_t *glyphs, size_t glyph_count,
+                                               const uint32_t *text, size_t text_count,
+                                               const size_t *ends, size_t end_count,
+                                               const subsetter_pdf_options *options, subsetter_pdf_font *made)
+{
+    return subsetter_make_pdf_font_by_words(font, font_size, index, coordinates, coordinate_count, glyphs, glyph_count, text,
+                                            text_count, ends, end_count, subsetter_pdf_option_words(options),
+                                            subsetter_pdf_option_count(options), made);
+}
+
+/* Gives back what `subsetter_make_pdf_font` handed over, and sets all to 0, as `subsetter_free` does. */
+void subsetter_free_pdf_font(subsetter_pdf_font *made);
+
+/* A part of a PDF file, or a whole one, which the caller only reads, and gives back by `subsetter_free_pdf_objects`. */
+typedef struct subsetter_pdf_objects {
+    const uint8_t *bytes;
+    size_t size;
+    /* Where each object begins in the bytes; of a whole file nothing. */
+    const size_t *offsets;
+    size_t offset_count;
+} subsetter_pdf_objects;
+
+/* The objects of a font, whole, with numbers from `first` on: the Type 0 font, which pages name, its CIDFont, the font
+ * descriptor, the font program, ToUnicode, CIDSet if there is one, and the CMap if the file has its own. Streams have no filter,
+ * and it is for files that aren't encrypted. `font` is one that `subsetter_make_pdf_font` made, unchanged.
+ *   0: `*made` are the objects, one behind the other.
+ *   5: seven numbers from `first` on don't fit 32 bits; 7: malloc gave nothing. All of `*made` is 0.
+ */
+uint32_t subsetter_make_pdf_objects(const subsetter_pdf_font *font, uint32_t first, subsetter_pdf_objects *made);
+
+/* How a sheet shows glyphs. */
+enum {
+    /* In one line, or in vertical writing in one column, on a page that is as long. */
+    SUBSETTER_LAYOUT_LINE = 0,
+    /* Each in a cell of its own, 12 by 16 a page. */
+    SUBSETTER_LAYOUT_GRID = 1
+};
+
+/* A whole PDF file that shows glyphs in 36 points. Glyphs, text and ends are those that the font was made of, or the first of
+ * them.
+ *   0: `made->bytes` is the file.
+ *   5, 7, 10 (another layout), 12: all of `*made` is 0.
+ */
+uint32_t subsetter_make_pdf_sheet(const subsetter_pdf_font *font,
+                                  const uint16_t *glyphs, size_t glyph_count,
+                                  const uint32_t *text, size_t text_count,
+                                  const size_t *ends, size_t end_count,
+                                  uint32_t layout, subsetter_pdf_objects *made);
+
+/* Gives back what these two handed over, and sets all to 0. */
+void subsetter_free_pdf_objects(subsetter_pdf_objects *made);
+
+#endif
 
 #ifdef __cplusplus
 }

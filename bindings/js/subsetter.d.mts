@@ -18,6 +18,11 @@ export class CFFError extends SubsetterError {}
 /** Memory ran out. The next call is as good as any. */
 export class OutOfMemory extends SubsetterError {}
 
+/** The font's maker doesn't permit that it is embedded (`fsType` of the table `OS/2`). */
+export class NotPermitted extends SubsetterError {}
+/** A text has a surrogate that stands alone, or more than 256 UTF-16 units. */
+export class InvalidText extends SubsetterError {}
+
 /** The bytes of a whole file, OpenType or a collection. They are copied, and never written. */
 export type FontData = ArrayBufferLike | ArrayBufferView;
 
@@ -75,6 +80,132 @@ export interface Embedded {
     widths: number[];
 }
 
+/** A glyph in use, and its text. */
+export interface Shown {
+    /** The number of the glyph in the font, from 0 to 65535. */
+    readonly glyph: number;
+    /** Its text: none, a character, or several (a ligature). */
+    readonly text: string;
+}
+
+/** What a caller chooses of a font for a PDF. Names of the font and of its glyphs are never kept. */
+export interface PdfChoices {
+    readonly limits?: Limits;
+    /** As of `Choices`. */
+    readonly hinting?: boolean;
+    /** Of a font with outlines in `CFF ` the bytes of `CFF ` alone, the smallest, or the whole file (PDF 1.6). */
+    readonly program?: "smallest" | "opentype";
+    /**
+     * How glyphs get codes: consecutive, the CIDs, from 1 on; source, the glyph's number in the font; or one for each pair of a
+     * glyph and a text, so that one glyph can say "B" and "b". Without it consecutive.
+     */
+    readonly codes?: "consecutive" | "source" | "eachText";
+    /** True: text runs from top to bottom. */
+    readonly vertical?: boolean;
+    /** Whether FontBBox holds all glyphs of the font, or those kept. Without it those of the font. */
+    readonly bounds?: "font" | "kept";
+    /** True: there is a CIDSet, which PDF/A-1 demands. */
+    readonly cidSet?: boolean;
+    /** The six capitals in front of the font's name. Without them they are computed of the font program. */
+    readonly tag?: string;
+    /** Whether `fsType` of the table `OS/2` counts, or the caller holds the rights to embed the font. Without it `fsType`. */
+    readonly rights?: "asSaid" | "held";
+}
+
+/** A CID in vertical writing (ISO 32000-1, 9.7.4.3), in thousandths of the em. */
+export interface Column {
+    /** From one glyph to the next, mostly below 0: downwards. */
+    advance: number;
+    /** The origin of vertical writing, to the right of that of horizontal writing. */
+    x: number;
+    /** And above it. */
+    y: number;
+}
+
+/** The values of the font descriptor (Table 122). Lengths are in thousandths of the em. */
+export interface Descriptor {
+    /** FontName: six capitals, `+` and the PostScript name, in characters that need no escape. */
+    fontName: string;
+    /** Flags (Table 123). */
+    flags: number;
+    /** FontBBox: the left, lower, right and upper edges. */
+    bounds: [number, number, number, number];
+    /** ItalicAngle, in degrees with at most three decimals, counterclockwise. */
+    italicAngle: number;
+    ascent: number;
+    /** Not above 0. */
+    descent: number;
+    capHeight: number;
+    /** Where the font has it. */
+    xHeight?: number;
+    stemV: number;
+    /** 100, 200 and so on up to 900. */
+    fontWeight: number;
+}
+
+/** What the font's maker permits (`fsType` of the table `OS/2`). */
+export interface Permission {
+    /** What a document may do with the font. */
+    usage: "unsaid" | "installable" | "editable" | "previewAndPrint" | "restricted";
+    /** Whether a subset may stand for the font. */
+    subsetting: boolean;
+    /** Whether outlines may be embedded, and not bitmaps alone. */
+    outlines: boolean;
+}
+
+/** Whole indirect objects of a PDF, one behind the other. */
+export interface Objects {
+    bytes: Uint8Array;
+    /** Where each object begins in them, for the cross-reference table. */
+    offsets: number[];
+}
+
+/** All that a PDF has of a font for the glyphs in use. An entry is a glyph in use with its text. */
+export interface PdfFont {
+    /** The font program. */
+    program: Uint8Array;
+    /** What it is (9.9): a TrueType file, the bytes of `CFF `, or an OpenType file with outlines in `CFF `. */
+    kind: "TrueType" | "CFF" | "OpenType";
+    /** How many glyphs it has: its CIDs are the numbers below. */
+    glyphCount: number;
+    /** The CID of each entry. */
+    cids: number[];
+    /** The code of each entry, which strings hold in two bytes, the higher first. */
+    codes: number[];
+    /** Of each entry whether readers find its text by its code; where they don't, ActualText says it (14.9.4). */
+    isSaid: boolean[];
+    /** The width of each CID, in thousandths of the em. */
+    widths: number[];
+    /** DW. */
+    defaultWidth: number;
+    /** In vertical writing of each CID from 0 on that a string can show. */
+    columns?: Column[];
+    /** DW2 in vertical writing: y and advance. */
+    defaultColumn?: [number, number];
+    descriptor: Descriptor;
+    permission: Permission;
+    /** The ToUnicode CMap (9.10.3). */
+    toUnicode: Uint8Array;
+    /** The CMap from codes to CIDs; none where each code is its CID (`Identity-H` or `Identity-V`). */
+    encoding?: Uint8Array;
+    /** Its name. */
+    encodingName?: string;
+    /** The bytes of CIDSet, if it was chosen. */
+    cidSet?: Uint8Array;
+    /**
+     * The font's objects, whole, with numbers from `first` on: the Type 0 font, which pages name, its CIDFont, the font
+     * descriptor, the font program, ToUnicode, CIDSet if there is one, and the CMap if the file has its own. Streams have no
+     * filter, and it is for files that aren't encrypted. OverflowError is thrown where seven numbers from `first` on don't fit 32
+     * bits. (What is changed in this object isn't written.)
+     */
+    objects(first: number): Objects;
+    /**
+     * A whole PDF file that shows the entries in 36 points: in one line (in vertical writing in one column) on a page that is as
+     * long, or in a grid, 12 by 16 a page. Without a layout a line.
+     */
+    sheet(layout?: "line" | "grid"): Uint8Array;
+}
+
 /**
  * `glyphs` are glyph numbers of the font, from 0 to 65535, in any order, with repeats if need be. The new font has glyph 0,
  * then the given glyphs in order, each once, and then each further glyph that these need as components.
@@ -92,6 +223,17 @@ export interface Subsetter {
      * has no `hmtx` or no `head`, or 0 units per em. With coordinates a width is the advance that its glyph has there.
      */
     embed(data: FontData, glyphs: Iterable<number>, options?: Face & Choices & Place): Embedded;
+    /**
+     * The glyph of each character of a text, by the font's table `cmap`, with the character: what `pdfFont` takes. The text
+     * isn't shaped: there are no ligatures, no kerning and no reordering, which Arabic or Devanagari need. A character that the
+     * font doesn't have gets glyph 0. MalformedFont is thrown where the font has no Unicode table of the formats 4 and 12.
+     */
+    glyphsOf(data: FontData, text: string, options?: Face): Shown[];
+    /**
+     * All that a PDF has of a font for glyphs in order of use, with repeats if need be. Besides, NotPermitted and InvalidText are
+     * thrown. No value of the font descriptor is a reason: where a table is missing or cut, another source of the value is taken.
+     */
+    pdfFont(data: FontData, shown: Iterable<Shown>, options?: Face & PdfChoices & Place): PdfFont;
     /** Copies a font into the module, for any number of calls. What is wrong with it is told by the first of them. */
     open(data: FontData, options?: Face): Font;
 }
@@ -102,7 +244,11 @@ export interface Font {
     subset(glyphs: Iterable<number>, options?: Choices & Place): Uint8Array;
     /** As `Subsetter.embed`. */
     embed(glyphs: Iterable<number>, options?: Choices & Place): Embedded;
-    /** Gives the font's memory back to later calls. `subset` and `embed` throw a TypeError afterwards. */
+    /** As `Subsetter.glyphsOf`. */
+    glyphsOf(text: string): Shown[];
+    /** As `Subsetter.pdfFont`. */
+    pdfFont(shown: Iterable<Shown>, options?: PdfChoices & Place): PdfFont;
+    /** Gives the font's memory back to later calls. Its other calls throw a TypeError afterwards. */
     close(): void;
 }
 

@@ -27,10 +27,15 @@ export class OverflowError extends SubsetterError {}
 export class CFFError extends SubsetterError {}
 /** Memory ran out. */
 export class OutOfMemory extends SubsetterError {}
+/** The font's maker doesn't permit that it is embedded. */
+export class NotPermitted extends SubsetterError {}
+/** A text has a surrogate that stands alone, or more than 256 UTF-16 units. */
+export class InvalidText extends SubsetterError {}
 
 // The names stand in strings, since tools that make scripts smaller rename classes.
 const NAMES = {
-    SubsetterError, UnknownKind, MalformedFont, Unimplemented, SubsetError, OverflowError, CFFError, OutOfMemory,
+    SubsetterError, UnknownKind, MalformedFont, Unimplemented, SubsetError, OverflowError, CFFError, OutOfMemory, NotPermitted,
+    InvalidText,
 };
 for (const [name, error] of Object.entries(NAMES)) {
     Object.defineProperty(error.prototype, "name", { value: name, configurable: true, writable: true });
@@ -38,6 +43,8 @@ for (const [name, error] of Object.entries(NAMES)) {
 
 /** The errors by their status, from 1 on. */
 const ERRORS = [, UnknownKind, MalformedFont, Unimplemented, SubsetError, OverflowError, CFFError, OutOfMemory];
+ERRORS[11] = NotPermitted;
+ERRORS[12] = InvalidText;
 const DONE = 0;
 const PAGE = 65536, ALIGNMENT = 16, MEMORY_AT_MOST = 2 ** 31;
 const WORD_AT_MOST = 2 ** 32 - 1;
@@ -45,6 +52,11 @@ const TOKENS = 1000000, DEPTH = 64;
 
 /** The words of a call that it writes: for the font, the CIDs and the widths where the list lies, and its count. */
 const MADE = [0, 0, 0, 0, 0, 0];
+
+/** The lists of a font for a PDF, by the bytes of an item, and how many numbers there are behind them. */
+const PARTS = { program: 1, cids: 2, codes: 2, isSaid: 1, widths: 4, columns: 12, fontName: 1, toUnicode: 1, encoding: 1, encodingName: 1, cidSet: 1 };
+const NUMBERS = 21;
+const USAGES = ["unsaid", "installable", "editable", "previewAndPrint", "restricted"];
 
 const aligned = (at) => Math.ceil(at / ALIGNMENT) * ALIGNMENT;
 
@@ -98,6 +110,33 @@ function glyphsOf(glyphs) {
         numbers.push(whole(glyph, 0, 65535, "a glyph"));
     }
     return numbers;
+}
+
+/** The characters of a text as numbers; the library refuses a surrogate that stands alone. */
+function charactersOf(text) {
+    if (typeof text !== "string") {
+        throw new TypeError(`a text must be a string, and not ${typeof text}`);
+    }
+    return Array.from(text, (character) => character.codePointAt(0));
+}
+
+/** Glyphs with their texts as the library takes them; else TypeError or RangeError. */
+function entriesOf(shown) {
+    if (typeof shown !== "object" || typeof shown?.[Symbol.iterator] !== "function") {
+        throw new TypeError("glyphs with their texts must be an iterable of objects");
+    }
+    const glyphs = [], text = [], ends = [];
+    for (const entry of shown) {
+        if (typeof entry !== "object" || entry === null) {
+            throw new TypeError(`a glyph with its text must be an object, and not ${typeof entry}`);
+        }
+        glyphs.push(whole(entry.glyph, 0, 65535, "a glyph"));
+        for (const character of charactersOf(entry.text)) {
+            text.push(character);
+        }
+        ends.push(text.length);
+    }
+    return { glyphs, text, ends };
 }
 
 /** Options, if they have no other names than these; else TypeError. */
@@ -164,6 +203,53 @@ function choicesOf({ limits, hinting, names, glyphNames, coordinates }) {
         drop: (kept(hinting, "hinting") ? 0 : 1) | (kept(names, "names") ? 0 : 2) | (kept(glyphNames, "glyphNames") ? 0 : 4),
         coordinates: coordinatesOf(coordinates),
     };
+}
+
+/** The number of a choice among names; else TypeError or RangeError. */
+function oneOf(value, names, what) {
+    if (value === undefined) {
+        return 0;
+    }
+    if (typeof value !== "string") {
+        throw new TypeError(`${what} must be a string, and not ${typeof value}`);
+    }
+    if (!names.includes(value)) {
+        throw new RangeError(`${what} must be one of ${names.join(", ")}, and not ${shown(value)}`);
+    }
+    return names.indexOf(value);
+}
+
+/** The two words of a tag; 0 and 0 for none. Else TypeError or RangeError. */
+function tagOf(tag) {
+    if (tag === undefined) {
+        return [0, 0];
+    }
+    if (typeof tag !== "string") {
+        throw new TypeError(`a tag must be a string, and not ${typeof tag}`);
+    }
+    if (!/^[A-Z]{6}$/.test(tag)) {
+        throw new RangeError(`a tag must have six capitals, and not be ${shown(tag)}`);
+    }
+    return [tag.slice(0, 3), tag.slice(3)].map((three) => [...three].reduce((word, letter) => word * 256 + letter.charCodeAt(0), 0));
+}
+
+/** The choices of a font for a PDF. */
+const PDF_CHOICES = ["limits", "hinting", "coordinates", "program", "codes", "vertical", "bounds", "cidSet", "tag", "rights"];
+
+/** The same, and the further words of the options for a PDF. */
+function pdfChoicesOf(options) {
+    const { limits, hinting, coordinates, program, codes, vertical, bounds, cidSet, tag, rights } = options;
+    const chosen = choicesOf({ limits, hinting, coordinates });
+    const further = [
+        oneOf(program, ["smallest", "opentype"], "program"),
+        oneOf(codes, ["consecutive", "source", "eachText"], "codes"),
+        kept(vertical ?? false, "vertical") ? 1 : 0,
+        oneOf(bounds, ["font", "kept"], "bounds"),
+        kept(cidSet ?? false, "cidSet") ? 1 : 0,
+        oneOf(rights, ["asSaid", "held"], "rights"),
+        ...tagOf(tag),
+    ];
+    return { ...chosen, further };
 }
 
 const indexOf = ({ index = 0 }) => whole(index, 0, WORD_AT_MOST, "index");
@@ -295,6 +381,12 @@ class Library {
         return String.fromCharCode(...new Uint8Array(buffer, at, length));
     }
 
+    #check(status) {
+        if (status !== DONE) {
+            throw new (ERRORS[status] ?? SubsetterError)(this.#texts[status] ?? `status ${status}`);
+        }
+    }
+
     /** What the call `name` makes of a font that is held here: its three lists, as copies. */
     make(name, font, index, glyphs, { tokens, depth, bytes, drop, coordinates = [] }) {
         const lists = [listOf(2, glyphs), listOf(4, coordinates)];
@@ -302,9 +394,7 @@ class Library {
         const given = (glyphsAt, coordinatesAt) =>
             [font.at, font.size, index, glyphsAt, glyphs.length, coordinatesAt, coordinates.length / 2, tokens, depth, bytes, drop];
         const { status, buffer, words } = this.#call(name, lists, (...places) => [...given(...places), ...MADE]);
-        if (status !== DONE) {
-            throw new (ERRORS[status] ?? SubsetterError)(this.#texts[status] ?? `status ${status}`);
-        }
+        this.#check(status);
         const [at, size, cidsAt, cidCount, widthsAt, widthCount] = words.slice(-MADE.length);
         return {
             font: new Uint8Array(buffer.slice(at, at + size)),
@@ -322,7 +412,108 @@ class Library {
         const name = choices.coordinates ? "subsetter_embed_at" : "subsetter_embed";
         return this.make(name, font, index, glyphs, choices);
     }
+
+    /** The glyphs of characters by a font that is held here. */
+    glyphsOf(font, index, text) {
+        const given = (at) => [font.at, font.size, index, at, text.length, 0, 0];
+        const { status, buffer, words } = this.#call("subsetter_glyphs_of", [listOf(4, text)], given);
+        this.#check(status);
+        const [at, count] = words.slice(-2);
+        return numbersOf(2, buffer, at, count);
+    }
+
+    /** A font for a PDF of one that is held here. */
+    pdfFont(font, index, entries, { tokens, depth, bytes, drop, coordinates = [], further }) {
+        const { glyphs, text, ends } = entries;
+        const lists = [listOf(4, coordinates), listOf(2, glyphs), listOf(4, text), listOf(4, ends)];
+        const given = (coordinatesAt, glyphsAt, textAt, endsAt) => [
+            font.at, font.size, index, coordinatesAt, coordinates.length / 2, glyphsAt, glyphs.length, textAt, text.length,
+            endsAt, ends.length, tokens, depth, bytes, drop, ...further,
+        ];
+        const parts = Object.entries(PARTS), room = Array(2 * parts.length + NUMBERS).fill(0);
+        const { status, buffer, words } = this.#call("subsetter_pdf_font", lists, (...places) => [...given(...places), ...room]);
+        this.#check(status);
+        const made = words.slice(-room.length), raw = {};
+        parts.forEach(([name, size], i) => {
+            const [at, count] = made.slice(2 * i);
+            raw[name] = { count, bytes: new Uint8Array(buffer.slice(at, at + size * count)) };
+        });
+        return new PdfFont(this, raw, made.slice(2 * parts.length), entries);
+    }
+
+    /** What the call `name` writes of such a font. */
+    write(name, raw, numbers, number, { glyphs, text, ends }) {
+        const parts = Object.values(raw);
+        const lists = [...parts.map(({ bytes }) => bytes), listOf(2, glyphs), listOf(4, text), listOf(4, ends)];
+        const counts = [...parts.map(({ count }) => count), glyphs.length, text.length, ends.length];
+        const given = (...places) => {
+            const pairs = places.map((at, i) => [at, counts[i]]);
+            return [...pairs.slice(0, parts.length).flat(), ...numbers, number, ...pairs.slice(parts.length).flat(), 0, 0, 0, 0];
+        };
+        const { status, buffer, words } = this.#call(name, lists, given);
+        this.#check(status);
+        const [at, size, offsetsAt, offsetCount] = words.slice(-4);
+        return { bytes: new Uint8Array(buffer.slice(at, at + size)), offsets: numbersOf(4, buffer, offsetsAt, offsetCount) };
+    }
 }
+
+/** All that a PDF has of a font. */
+class PdfFont {
+    #library;
+    #raw;
+    #numbers;
+    #entries;
+
+    constructor(library, raw, numbers, entries) {
+        this.#library = library;
+        this.#raw = raw;
+        this.#numbers = numbers;
+        this.#entries = entries;
+        const text = ({ bytes }) => String.fromCharCode(...bytes);
+        const list = (size, { bytes, count }) => numbersOf(size, bytes.buffer, 0, count);
+        const [kind, isVertical, defaultWidth, y, advance, flags, ...rest] = numbers;
+        const [left, lower, right, upper, angle, ascent, descent, capHeight, hasXHeight, xHeight, stemV, fontWeight, usage, subsetting, outlines] = rest.map((it) => it | 0);
+        this.program = raw.program.bytes.slice();
+        this.kind = ["TrueType", "CFF", "OpenType"][kind];
+        this.glyphCount = raw.widths.count;
+        this.cids = list(2, raw.cids);
+        this.codes = list(2, raw.codes);
+        this.isSaid = Array.from(raw.isSaid.bytes, (it) => it === 1);
+        this.widths = list(4, raw.widths);
+        this.defaultWidth = defaultWidth;
+        if (isVertical) {
+            const words = numbersOf(4, raw.columns.bytes.buffer, 0, 3 * raw.columns.count).map((it) => it | 0);
+            this.columns = Array.from({ length: raw.columns.count }, (_, i) => ({ advance: words[3 * i], x: words[3 * i + 1], y: words[3 * i + 2] }));
+            this.defaultColumn = [y | 0, advance | 0];
+        }
+        this.descriptor = {
+            fontName: text(raw.fontName), flags, bounds: [left, lower, right, upper], italicAngle: angle / 1000, ascent, descent,
+            capHeight, ...(hasXHeight ? { xHeight } : {}), stemV, fontWeight,
+        };
+        this.permission = { usage: USAGES[usage], subsetting: subsetting === 1, outlines: outlines === 1 };
+        this.toUnicode = raw.toUnicode.bytes.slice();
+        if (raw.encoding.count) {
+            this.encoding = raw.encoding.bytes.slice();
+            this.encodingName = text(raw.encodingName);
+        }
+        if (raw.cidSet.count) {
+            this.cidSet = raw.cidSet.bytes.slice();
+        }
+    }
+
+    objects(first) {
+        const number = whole(first, 1, WORD_AT_MOST, "the first number");
+        return this.#library.write("subsetter_pdf_objects", this.#raw, this.#numbers, number, { glyphs: [], text: [], ends: [] });
+    }
+
+    sheet(layout) {
+        const number = oneOf(layout, ["line", "grid"], "layout");
+        return this.#library.write("subsetter_pdf_sheet", this.#raw, this.#numbers, number, this.#entries).bytes;
+    }
+}
+
+/** Each character of a text with its glyph. */
+const withGlyphs = (text, glyphs) => Array.from(text, (character, i) => ({ glyph: glyphs[i], text: character }));
 
 /** A font in the module's memory. */
 class Font {
@@ -338,12 +529,24 @@ class Font {
 
     #made(name, glyphs, options) {
         const choices = choicesOf(named(options, CHOICES, "options"));
-        const numbers = glyphsOf(glyphs);
+        return this.#called(name, glyphsOf(glyphs), choices);
+    }
+
+    #called(name, ...given) {
         // (looked at last, as a caller's iterator may close the font)
         if (!this.#place) {
             throw new TypeError("the font is closed");
         }
-        return this.#library[name](this.#place, this.#index, numbers, choices);
+        return this.#library[name](this.#place, this.#index, ...given);
+    }
+
+    glyphsOf(text) {
+        return withGlyphs(text, this.#called("glyphsOf", charactersOf(text)));
+    }
+
+    pdfFont(shown, options) {
+        const choices = pdfChoicesOf(named(options, PDF_CHOICES, "options"));
+        return this.#called("pdfFont", entriesOf(shown), choices);
     }
 
     subset(glyphs, options) {
@@ -365,21 +568,35 @@ class Font {
 /** The calls of a library, which need no `this`. */
 function callsOf(library) {
     /** One call on a font that is put into the memory for it. */
-    function once(name, data, glyphs, options) {
-        const bytes = bytesOf(data);
-        const given = named(options, ["index", ...CHOICES], "options");
-        const index = indexOf(given), choices = choicesOf(given), numbers = glyphsOf(glyphs);
+    function called(name, bytes, ...given) {
         const place = library.hold(bytes);
         try {
-            return library[name](place, index, numbers, choices);
+            return library[name](place, ...given);
         } finally {
             library.release(place);
         }
+    }
+    function once(name, data, glyphs, options) {
+        const bytes = bytesOf(data);
+        const given = named(options, ["index", ...CHOICES], "options");
+        const index = indexOf(given), choices = choicesOf(given);
+        return called(name, bytes, index, glyphsOf(glyphs), choices);
+    }
+    function glyphs(data, text, options) {
+        const bytes = bytesOf(data), index = indexOf(named(options, ["index"], "options"));
+        return withGlyphs(text, called("glyphsOf", bytes, index, charactersOf(text)));
+    }
+    function pdfFont(data, shown, options) {
+        const bytes = bytesOf(data), given = named(options, ["index", ...PDF_CHOICES], "options");
+        const index = indexOf(given), choices = pdfChoicesOf(given);
+        return called("pdfFont", bytes, index, entriesOf(shown), choices);
     }
     return Object.freeze({
         version: library.version,
         subset: (data, glyphs, options) => once("subset", data, glyphs, options),
         embed: (data, glyphs, options) => once("embed", data, glyphs, options),
+        glyphsOf: (data, text, options) => glyphs(data, text, options),
+        pdfFont: (data, shown, options) => pdfFont(data, shown, options),
         open: (data, options) => new Font(library, bytesOf(data), indexOf(named(options, ["index"], "options"))),
     });
 }

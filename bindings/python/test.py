@@ -363,7 +363,8 @@ def check_names(texts):
     exec("from subsetter import *", names)
     check("OverflowError" not in names, "the builtin isn't shadowed")
     wanted = {"subset", "embed", "Embedded", "Error", "UnknownKind", "MalformedFont", "Unimplemented", "SubsetError",
-              "CFFError", "OutOfMemory"}
+              "CFFError", "OutOfMemory", "glyphs_of", "pdf_font", "PdfFont", "Column", "Descriptor", "Permission", "Objects",
+              "NotPermitted", "InvalidText"}
     check(wanted == set(names) - {"__builtins__"}, "the names of import *")
     with open(os.path.join(HERE, "..", "..", "VERSION")) as file:
         check(subsetter.__version__ == file.read().strip(), "the version")
@@ -559,6 +560,280 @@ def check_systems():
             check(found == beside + "\n", f"the library beside the module on {system}: {found}")
 
 
+# ---- fonts for a PDF
+
+PDF_DATA = os.path.join(HERE, "..", "rust", "tests", "data")
+KINDS_IN_PDF = {"TrueType": "TrueType", "CFF": "CIDFontType0C", "OpenType": "OpenType"}
+PDF_OPTIONS = {"direction=Vertical": {"vertical": True}, "codes=Source": {"codes": "source"}, "codes=EachText": {"codes": "each_text"},
+               "bounds=Kept": {"bounds": "kept"}, "program=OpenType": {"program": "opentype"}, "rights=Held": {"rights": "held"},
+               "cid_set": {"cid_set": True}}
+
+
+def made(name):
+    with open(os.path.join(PDF_DATA, name), "rb") as file:
+        return file.read()
+
+
+def pdf_rows():
+    """The rows as dicts of fields; `object` has a list of them."""
+    with open(os.path.join(PDF_DATA, "pdf_rows.txt"), encoding="ascii") as file:
+        lines = iter(file.read().split("\n"))
+    rows, row = [], {}
+    for line in lines:
+        if line.startswith("#"):
+            continue
+        name, _, value = line.partition(" ")
+        if value == "<<":
+            value = "".join(it + "\n" for it in iter(lines.__next__, ">>"))
+        if not line:
+            rows.extend([row] if row else [])
+            row = {}
+        elif name == "object":
+            row.setdefault("object", []).append(value.partition(" ")[2])
+        else:
+            row[name] = value
+    return rows
+
+
+def shown_in(row):
+    pairs = [it.split(":") for it in row["shown"].split()]
+    return [(int(glyph), "".join(chr(int(it, 16)) for it in text.split(",") if it)) for glyph, text in pairs]
+
+
+def answered(row):
+    choices = {"hinting": False}
+    for word in row["options"].split():
+        choices.update(PDF_OPTIONS[word])
+    if row["coordinates"] != "-":
+        choices["coordinates"] = {it.split("=")[0]: float(it.split("=")[1]) for it in row["coordinates"].split(",")}
+    return subsetter.pdf_font(made(row["font"]), shown_in(row), **choices)
+
+
+def said(font):
+    """The fields of an answer as a row has them; one that isn't there is None."""
+    def words(items):
+        return " ".join(str(it) for it in items)
+
+    values, permission = font.descriptor, font.permission
+    columns = None
+    if font.columns is not None:
+        behind = ["-"] * (font.glyph_count - len(font.columns))
+        columns = words([f"{it.advance},{it.x},{it.y}" for it in font.columns] + behind)
+    return {
+        "kind": KINDS_IN_PDF[font.kind], "program": font.program.hex(), "glyph_count": str(font.glyph_count), "cids": words(font.cids),
+        "codes": words(font.codes), "is_said": words(map(int, font.is_said)), "widths": words(font.widths),
+        "default_width": str(font.default_width), "columns": columns,
+        "dw2": None if font.default_column is None else words(font.default_column), "name": values.font_name,
+        "flags": str(values.flags), "bounds": words(values.bounds), "angle": f"{values.italic_angle:g}",
+        "ascent": str(values.ascent), "descent": str(values.descent), "cap_height": str(values.cap_height),
+        "x_height": "-" if values.x_height is None else str(values.x_height), "stem_v": str(values.stem_v),
+        "font_weight": str(values.font_weight),
+        "permission": f"{permission.usage} subsetting {permission.subsetting:d} outlines {permission.outlines:d}",
+        "to_unicode": font.to_unicode.decode(), "encoding": font.encoding and font.encoding.decode(),
+        "cid_set": "-" if font.cid_set is None else font.cid_set.hex(),
+    }
+
+
+def wanted_objects(row, font):
+    """The objects of a row from number 4 on, with the streams of the font."""
+    streams = [font.program, font.to_unicode, *(it for it in (font.cid_set, font.encoding) if it is not None)]
+    found, offsets = b"", []
+    for place, dictionary in enumerate(row["object"]):
+        offsets.append(len(found))
+        stream = b"stream\n" + streams[place - 3] + b"\nendstream\n" if place >= 3 else b""
+        found += f"{place + 4} 0 obj\n{dictionary}\n".encode() + stream + b"endobj\n"
+    return found, offsets
+
+
+def check_pdf_rows():
+    rows, errors = pdf_rows(), {"NotPermitted": subsetter.NotPermitted, "TextTooLong": subsetter.InvalidText}
+    for row in rows:
+        name = row["row"]
+        if "error" in row:
+            check(type(raised(answered, row)) is errors[row["error"]], f"{name}: {row['error']}")
+            continue
+        font = answered(row)
+        for field, value in said(font).items():
+            check(value == row.get(field), f"{name}: {field} is {value}, and not {row.get(field)}")
+        check(font.objects(4) == wanted_objects(row, font), f"{name}: its objects")
+        check(f"/CMapName /{font.encoding_name} def" in row["encoding"] if "encoding" in row else font.encoding_name is None, f"{name}: its CMap")
+        line, grid = font.sheet(), font.sheet("grid")
+        check(line == font.sheet("line") != grid, f"{name}: its sheets")
+        check(line.startswith(b"%PDF-1.7\n") and line.endswith(b"%%EOF\n") and font.objects(5).bytes in line, f"{name}: a line")
+        check(b"[0 0 595 842]" in grid and b"[0 0 595 842]" not in line, f"{name}: a grid")
+        check((b"/ActualText" in line) == (not all(font.is_said)), f"{name}: texts that codes don't say")
+    return len(rows)
+
+
+def check_pdf_texts():
+    font = made("made.ttf")
+    text = "AH\ufb01\U0001f600\xc1zA"
+    check(subsetter.glyphs_of(font, text) == list(zip([1, 9, 5, 6, 8, 0, 1], text)), "glyphs of a text")
+    check(subsetter.glyphs_of(memoryview(font), "") == [], "glyphs of no text")
+    check(subsetter.pdf_font(font, iter(subsetter.glyphs_of(font, text))).codes == [1, 2, 3, 4, 5, 0, 1], "the codes of a text")
+    nothing = subsetter.pdf_font(font, [])
+    check(nothing.codes == [] and nothing.objects(1).offsets[0] == 0 and b"/Count 1" in nothing.sheet(), "no glyphs")
+    for wrong in ("\ud800", "A\udfff"):
+        check(type(raised(subsetter.glyphs_of, font, wrong)) is subsetter.InvalidText, "glyphs of a surrogate")
+        check(type(raised(subsetter.pdf_font, font, [(1, wrong)])) is subsetter.InvalidText, "a text with a surrogate")
+    check(isinstance(subsetter.InvalidText(), ValueError) and isinstance(subsetter.NotPermitted(), subsetter.Error), "errors for PDF")
+    check(type(raised(subsetter.glyphs_of, font, "A", 2)) is type(None), "a face of a file with one")
+    check(type(raised(subsetter.glyphs_of, font.replace(b"cmap", b"none"), "A")) is subsetter.MalformedFont, "no characters")
+    check(type(raised(subsetter.glyphs_of, b"no", "A")) is subsetter.UnknownKind, "glyphs of no font")
+    check(raised(subsetter.pdf_font, font, [(1, "a" * 256)]) is None, "the longest text")
+    check(type(raised(subsetter.pdf_font, font, [(1, "a" * 257)])) is subsetter.InvalidText, "a longer text")
+
+
+def collection(font):
+    """A collection of a font and of the same without `cmap` and `OS/2`."""
+    front = 12 + 16 * font[5]
+    shift, directories = 20 + 2 * front, []
+    for face in range(2):
+        directory = bytearray(font[:front])
+        for at in range(12, front, 16):
+            if face == 1 and directory[at:at + 4] in (b"cmap", b"OS/2"):
+                directory[at + 3] += 1
+            directory[at + 8:at + 12] = (int.from_bytes(directory[at + 8:at + 12], "big") + shift).to_bytes(4, "big")
+        directories.append(bytes(directory))
+    head = b"ttcf" + b"".join(it.to_bytes(4, "big") for it in (0x10000, 2, 20, 20 + front))
+    return head + b"".join(directories) + font
+
+
+def check_pdf_faces():
+    two = collection(made("made.ttf"))
+    check(subsetter.glyphs_of(two, "A") == subsetter.glyphs_of(two, "A", 0) == [(1, "A")], "glyphs of the first face")
+    check(type(raised(subsetter.glyphs_of, two, "A", 1)) is subsetter.MalformedFont, "glyphs of the second face")
+    usages = [subsetter.pdf_font(two, [(1, "A")], face).permission.usage for face in (0, 1)]
+    check(usages[0] != "unsaid" == usages[1], f"two faces for a PDF: {usages}")
+
+
+def check_pdf_choices():
+    font, shown = made("made.ttf"), [(1, "A"), (5, "fi"), (1, "a")]
+    plain = subsetter.pdf_font(font, shown)
+    tagged = subsetter.pdf_font(font, shown, tag="ZYXWVU")
+    check(tagged.descriptor.font_name == "ZYXWVU+Made-Regular" != plain.descriptor.font_name, "a tag")
+    check(repr(tagged) == "<PdfFont ZYXWVU+Made-Regular, TrueType, 3 glyphs>", "the text of a font")
+    check(subsetter.pdf_font(font, shown, codes="each_text").codes == [1, 2, 3], "a code for each text")
+    check(plain.is_said == [True, True, False] and plain.codes == [1, 2, 1], "a text that its code doesn't say")
+    check(type(raised(subsetter.pdf_font, font, shown, most_bytes=100)) is subsetter.OverflowError, "a bound")
+    check(type(raised(subsetter.pdf_font, made("made_version_1.otf"), shown, tokens=1)) is subsetter.CFFError, "a limit")
+    moved = subsetter.pdf_font(made("made_variable.ttf"), shown, coordinates={"wght": 650})
+    check(moved.program != subsetter.pdf_font(made("made_variable.ttf"), shown).program, "coordinates")
+    check(plain.program == subsetter.embed(font, [1, 5], names=False, glyph_names=False).font, "the program")
+    check(plain.objects(2 ** 32 - 8).bytes.startswith(b"4294967288 0 obj"), "the last number")
+    check(type(raised(plain.objects, 2 ** 32 - 7)) is subsetter.OverflowError, "no number left")
+    wrong = [
+        (ValueError, {"program": "whole"}), (TypeError, {"program": 1}), (ValueError, {"codes": "cids"}), (TypeError, {"vertical": 1}),
+        (ValueError, {"bounds": ""}), (TypeError, {"cid_set": None}), (ValueError, {"rights": "mine"}), (ValueError, {"tag": "ABCDE"}),
+        (ValueError, {"tag": "ABCDEf"}), (ValueError, {"tag": "ABCDE\xc4"}), (TypeError, {"tag": b"ABCDEF"}), (TypeError, {"hinting": 1}),
+        (ValueError, {"index": -1}), (TypeError, {"names": True}), (TypeError, {"coordinates": [("wght", 1)]}),
+    ]
+    for kind, choices in wrong:
+        check(type(raised(subsetter.pdf_font, font, shown, **choices)) is kind, f"wrong: {choices}")
+    for kind, entries in [(TypeError, [(1, b"A")]), (TypeError, [(1, 65)]), (ValueError, [(65536, "A")]), (ValueError, [(-1, "A")]),
+                          (TypeError, [("1", "A")]), (TypeError, 5), (TypeError, [1]), (ValueError, [(1, "A", 2)])]:
+        check(type(raised(subsetter.pdf_font, font, entries)) is kind, f"wrong entries: {entries}")
+    check(type(raised(subsetter.pdf_font, "font", shown)) is TypeError and type(raised(subsetter.glyphs_of, font, 5)) is TypeError, "wrong data")
+    for kind, first in [(ValueError, 0), (ValueError, 2 ** 32), (TypeError, "4")]:
+        check(type(raised(plain.objects, first)) is kind, f"a wrong number: {first}")
+    check(type(raised(plain.sheet, "page")) is ValueError and type(raised(plain.sheet, 1)) is TypeError, "a wrong layout")
+
+
+def check_pdf_work():
+    """What the library hands over is given back once."""
+    library, font = subsetter._library(), made("made.ttf")
+    counts = dict.fromkeys(("subsetter_make_pdf_font_by_words", "subsetter_free_pdf_font", "subsetter_make_pdf_objects",
+                            "subsetter_make_pdf_sheet", "subsetter_free_pdf_objects"), 0)
+
+    def counting(name, real):
+        def call(*arguments):
+            counts[name] += 1
+            return real(*arguments)
+        return call
+
+    real = {name: getattr(library, name) for name in counts}
+    for name in counts:
+        setattr(library, name, counting(name, real[name]))
+    try:
+        one = subsetter.pdf_font(font, [(1, "A")])
+        objects = one.objects(4)
+        raised(one.objects, 2 ** 32 - 1)
+        one.sheet()
+        raised(subsetter.pdf_font, font[:40], [(1, "A")])
+        check(list(counts.values()) == [2, 0, 2, 1, 3], f"calls before a font is dropped: {counts}")
+        again = one.program
+        del one
+        check(list(counts.values()) == [2, 1, 2, 1, 3], f"calls after it is: {counts}")
+        check(len(again) > 100 and objects.bytes.startswith(b"4 0 obj"), "what was read stays")
+    finally:
+        for name in counts:
+            setattr(library, name, real[name])
+
+
+def check_pdf_threads():
+    """Threads write of one font."""
+    font = subsetter.pdf_font(made("made.ttf"), [(1, "A"), (5, "fi")])
+    wanted, found = (font.objects(4), font.sheet()), []
+    threads = [threading.Thread(target=lambda: found.extend((font.objects(4), font.sheet()) for _ in range(50))) for _ in range(4)]
+    for it in threads:
+        it.start()
+    for it in threads:
+        it.join()
+    check(found == [wanted] * 200, "threads write of one font")
+
+
+# A library with the calls that each has, and with one for PDF, or with none.
+WITHOUT_PDF = """
+int subsetter_make_subset_by_words(void) { return 2; }
+int subsetter_make_embedded_by_words(void) { return 2; }
+int subsetter_make_subset_at_by_words(void) { return 2; }
+int subsetter_make_embedded_at_by_words(void) { return 2; }
+int subsetter_error_text(void) { return 0; }
+void subsetter_free(void) {}
+#ifdef ONE
+int subsetter_glyphs_of(void) { return 0; }
+#endif
+"""
+CALLS_FOR_PDF = """
+    import subsetter
+    for call, *arguments in ((subsetter.subset, b"", []), (subsetter.glyphs_of, b"", "A"), (subsetter.pdf_font, b"", [(1, "A")]),
+                             (subsetter.glyphs_of, b"", 5)):
+        try:
+            print(call(*arguments))
+        except Exception as error:
+            print(type(error).__name__, error)
+"""
+
+
+def check_without_pdf():
+    """A library without the calls for PDF has the others; one that lacks some of them is of another version."""
+    with tempfile.TemporaryDirectory() as top:
+        source, named = os.path.join(top, "other.c"), os.path.join(os.path.realpath(top), "other.so")
+        with open(source, "w") as file:
+            file.write(WITHOUT_PDF)
+        for flag, wanted in (("-DNONE", ["MalformedFont ", f"NotImplementedError {named} has no calls for PDF: the library that is proved",
+                                         f"NotImplementedError {named} has no calls for PDF: the library that is proved", "TypeError a text is a str"]),
+                             ("-DONE", 3 * [f"OSError {named} has no call subsetter_make_pdf_font_by_words: it is of another version"] + ["TypeError"])):
+            subprocess.run([os.environ.get("CC", "cc"), "-shared", "-fPIC", flag, source, "-o", named], check=True)
+            found = child(CALLS_FOR_PDF, {"SUBSETTER_LIBRARY": named}).splitlines()
+            check(len(found) == len(wanted) and all(map(str.startswith, found, wanted)), f"a library without the calls for PDF: {found}")
+
+
+def check_pdf():
+    """What was checked of the calls for PDF. What Cargo builds has them; the proved library doesn't yet."""
+    check_without_pdf()
+    if not INSTALLED and not hasattr(subsetter._library(), "subsetter_glyphs_of"):
+        return "this library has no calls for PDF, so their rows aren't tested with it"
+    rows = check_pdf_rows()
+    check_pdf_texts()
+    check_pdf_choices()
+    check_pdf_faces()
+    check_pdf_work()
+    check_pdf_threads()
+    check(rows >= 17, f"{rows} rows for PDF")
+    return f"{rows} rows for PDF"
+
+
 def main():
     fonts, texts = {}, {}
     rows = read_rows(os.path.join(HERE, "../../crates/subset_rows/data/rows.txt"), fonts, texts)
@@ -580,6 +855,7 @@ def main():
     check_memory(fonts)
     check_threads(rows)
     check_other_threads(fonts)
+    print(f"Python: {check_pdf()}")
     print(f"Python: {len(rows)} rows, {checks} checks, {len(failures)} failed")
     return bool(failures) or len(rows) < 80 or checks < 350
 

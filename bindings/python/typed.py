@@ -27,6 +27,36 @@ def accepted(data: bytes, mapped: mmap.mmap) -> None:
     print(error, memory, overflow)
 
 
+def accepted_for_pdf(data: bytes, mapped: mmap.mmap) -> None:
+    shown = subsetter.glyphs_of(data, "Hello", 1)
+    font: subsetter.PdfFont = subsetter.pdf_font(mapped, shown)
+    font = subsetter.pdf_font(data, [(36, "A"), (True, "fi")], 0, tokens=5, coordinates={"wght": 650}, hinting=False, cid_set=True)
+    font = subsetter.pdf_font(data, iter(shown), program="opentype", codes="each_text", vertical=True, bounds="kept", tag="ABCDEF", rights="held")
+    whole: bytes = font.sheet("grid") + font.program + font.to_unicode + font.objects(4).bytes
+    lists: List[List[int]] = [font.cids, font.codes, font.widths, font.objects(first=4).offsets]
+    angle: float = font.descriptor.italic_angle
+    columns: List[subsetter.Column] = font.columns or []
+    kind: str = font.kind
+    value: Type[ValueError] = subsetter.InvalidText
+    if font.permission.usage == "editable" and font.encoding is not None and font.encoding_name is not None:
+        print(font.encoding + font.encoding_name.encode(), font.descriptor.x_height, font.default_column)
+    print(whole, lists, angle, columns, kind, value, subsetter.NotPermitted)
+
+
+def refused_for_pdf(data: bytes) -> None:
+    subsetter.glyphs_of(data, b"Hello")  # type: ignore[arg-type]
+    subsetter.pdf_font(data)  # type: ignore[call-arg]
+    subsetter.pdf_font(data, [36])  # type: ignore[list-item]
+    subsetter.pdf_font(data, [(36, b"A")])  # type: ignore[list-item]
+    subsetter.pdf_font(data, [], codes="cids")  # type: ignore[arg-type]
+    subsetter.pdf_font(data, [], vertical="yes")  # type: ignore[arg-type]
+    subsetter.pdf_font(data, [], names=False)  # type: ignore[call-arg]
+    subsetter.pdf_font(data, []).sheet("page")  # type: ignore[arg-type]
+    subsetter.pdf_font(data, []).objects()  # type: ignore[call-arg]
+    text: str = subsetter.pdf_font(data, []).program  # type: ignore[assignment]
+    print(text)
+
+
 def refused(data: bytes) -> None:
     subsetter.subset("text", [1])  # type: ignore[arg-type]
     subsetter.subset(5, [1])  # type: ignore[arg-type]

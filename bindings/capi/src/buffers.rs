@@ -69,6 +69,11 @@ impl Sizes {
 
 /// Hands bytes over: their size, and the status. They are written only where all have room.
 pub fn hand_bytes(answer: Result<&[u8], u32>, out: Buffer<u8>) -> (usize, u32) {
+    hand_items(answer, out)
+}
+
+/// Hands items over: their count, and the status. They are written only where all have room.
+pub fn hand_items<T: Copy>(answer: Result<&[T], u32>, out: Buffer<T>) -> (usize, u32) {
     let bytes = match answer {
         Ok(bytes) => bytes,
         Err(status) => return (0, status),

@@ -74,7 +74,7 @@ impl<'a> Given<'a> {
 }
 
 /// What runs where a panic could be: it never leaves this call.
-fn guarded<T>(call: impl FnOnce() -> Result<T, u32>) -> Result<T, u32> {
+pub fn guarded<T>(call: impl FnOnce() -> Result<T, u32>) -> Result<T, u32> {
     let call = || {
         #[cfg(test)]
         crate::tests::panic_where_wanted();

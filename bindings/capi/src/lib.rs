@@ -18,6 +18,7 @@ compile_error!("a panic is caught before it reaches C, so the profile has to say
 
 mod buffers;
 mod calls;
+mod fonts_for_pdf;
 mod heap;
 mod making;
 mod options;

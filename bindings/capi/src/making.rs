@@ -48,7 +48,7 @@ impl Made {
 }
 
 /// A list that stays until it is given back, as a pointer and a count.
-fn kept<T>(items: Vec<T>) -> (*const T, usize) {
+pub fn kept<T>(items: Vec<T>) -> (*const T, usize) {
     // (room may be there without items)
     if items.is_empty() {
         return (ptr::null(), 0);

@@ -1,5 +1,6 @@
 //! What the words of `subsetter_options` choose.
 
+use fonts::capi::pdf::FontChoices;
 use fonts::capi::Choices;
 
 /// The numbers of `subsetter_subset`: how many tokens, and how deep.
@@ -39,4 +40,19 @@ pub fn choices(words: &[u32]) -> Option<Choices> {
         bytes => limited.with_bytes(bytes),
     };
     Some(bounded.keeping(drop & 1 == 0, drop & 2 == 0, drop & 4 == 0))
+}
+
+/// How many words `subsetter_pdf_options` has.
+const PDF_WORDS: usize = 13;
+
+/// The choices of the words of `subsetter_pdf_options`: those of `subsetter_options`, and further ones. None where the library
+/// doesn't know them.
+pub fn font_choices(words: &[u32]) -> Option<FontChoices> {
+    if words.len() > PDF_WORDS || word(words, 0) as usize != 4 * words.len() {
+        return None;
+    }
+    let own = [1, 2, 3, 4].map(|at| word(words, at));
+    let [tokens, depth, drop, bytes] = own;
+    let further = [5, 6, 7, 8, 9, 10, 11, 12].map(|at| word(words, at));
+    FontChoices::new(&choices(&[20, tokens, depth, drop, bytes])?, further)
 }

@@ -10,6 +10,10 @@ pub const TOO_SMALL: u32 = 8;
 pub const NO_DEPTH: u32 = 9;
 /// The options have a size, a depth or a bit that isn't known.
 pub const UNKNOWN_OPTION: u32 = 10;
+/// The font's maker doesn't permit that it is embedded.
+pub const NOT_PERMITTED: u32 = 11;
+/// A text isn't one, or is too long.
+pub const INVALID_TEXT: u32 = 12;
 /// A fault of the library itself, which is no status of the proved one: code of Rust panicked. No font is known to cause it.
 pub const PANICKED: u32 = u32::MAX;
 
@@ -40,6 +44,8 @@ pub fn status_text(status: u32) -> &'static [u8] {
         TOO_SMALL => b"a buffer is too small",
         NO_DEPTH => b"the limit of the depth is 0",
         UNKNOWN_OPTION => b"unknown option",
+        NOT_PERMITTED => b"embedding not permitted",
+        INVALID_TEXT => b"invalid text",
         _ => b"unknown status",
     }
 }

@@ -2,6 +2,7 @@
 
 use crate::buffers::Sizes;
 use crate::calls::*;
+use crate::fonts_for_pdf::*;
 use crate::making::{make, Made};
 use crate::status::{status_text, DONE, PANICKED, TOO_SMALL, VERSION};
 use fonts::capi::Coordinate;
@@ -151,6 +152,48 @@ fn no_panic_reaches_the_caller() {
     }
     assert_eq!(in_memory, [(PANICKED, 0); 4]);
     assert_eq!(status_text(PANICKED), b"unknown status");
+}
+
+/// What the calls for PDF answer for no items at any pointers: their statuses, and how much they hand over.
+fn for_pdf(glyphs: *const u16, text: *const u32, ends: *const usize) -> [(u32, usize); 4] {
+    let (font, size, at) = (FONT.as_ptr(), FONT.len(), null());
+    let mut length = 77;
+    let (mut made, mut objects) = (PdfMade::nothing(), ObjectsMade::NOTHING);
+    // SAFETY: the lists have no items but for the font, and what is given back was made by the library, or is nothing.
+    unsafe {
+        let found = subsetter_glyphs_of(font, size, 0, text, 0, null_mut(), 0, &mut length);
+        let status = subsetter_make_pdf_font_by_words(
+            font, size, 0, at, 0, glyphs, 0, text, 0, ends, 0, text, 0, &mut made,
+        );
+        let font = (status, made.size());
+        let status = subsetter_make_pdf_objects(&made, 1, &mut objects);
+        let own = (status, objects.size());
+        subsetter_free_pdf_objects(&mut objects);
+        let status = subsetter_make_pdf_sheet(&made, glyphs, 0, text, 0, ends, 0, 0, &mut objects);
+        let sheet = (status, objects.size());
+        subsetter_free_pdf_objects(&mut objects);
+        subsetter_free_pdf_font(&mut made);
+        assert_eq!((made.size(), objects.size()), (0, 0));
+        [(found, length), font, own, sheet]
+    }
+}
+
+#[test]
+fn no_panic_of_the_calls_for_pdf_reaches_the_caller() {
+    PANICS.with(|it| it.set(true));
+    let found = for_pdf(null(), null(), null());
+    PANICS.with(|it| it.set(false));
+    assert_eq!(found, [(PANICKED, 0); 4]);
+}
+
+#[test]
+fn lists_for_pdf_of_no_items_may_be_anywhere() {
+    let found = for_pdf(null(), null(), null());
+    // (the font has neither characters nor metrics, and nothing has objects)
+    assert_eq!((found[0], found[1]), ((2, 0), (2, 0)));
+    assert!(found[2].0 == DONE && found[2].1 > 500 && found[3].0 == DONE);
+    let anywhere = for_pdf(1 as *const u16, 3 as *const u32, usize::MAX as *const usize);
+    assert_eq!(anywhere, found);
 }
 
 /// The font has no metrics, so the calls that embed answer 2.

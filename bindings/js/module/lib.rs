@@ -12,9 +12,13 @@ mod heap;
 #[path = "../../capi/src/status.rs"]
 mod status;
 
+use fonts::capi::pdf::{self, Column, Entries, FontChoices, FontLists, FontNumbers, FontParts, Refusal};
 use fonts::capi::{self, Choices, Coordinate};
+use fonts::pdf::FontError;
 use fonts::{Embedded, Error};
-use status::{status_of, status_text, DONE, NO_DEPTH, VERSION};
+use status::{
+    status_of, status_text, DONE, INVALID_TEXT, NOT_PERMITTED, NO_DEPTH, UNKNOWN_OPTION, VERSION,
+};
 use std::slice;
 
 /// A list by its address.
@@ -47,6 +51,18 @@ impl<T> List<T> {
     }
 }
 
+/// The limits: how many tokens a charstring has, how deep its calls go, and how many bytes the new font (0: any number); and what
+/// the new font lacks: 1 hinting, 2 names, 4 glyph names.
+fn choices_of(tokens: u32, depth: u32, bytes: u32, drop: u32) -> Result<Choices, u32> {
+    let depth = u8::try_from(depth).unwrap_or(0);
+    let limited = Choices::new(tokens, depth).ok_or(NO_DEPTH)?;
+    let bounded = match bytes {
+        0 => limited,
+        bytes => limited.with_bytes(bytes),
+    };
+    Ok(bounded.keeping(drop & 1 == 0, drop & 2 == 0, drop & 4 == 0))
+}
+
 /// What a call is given, and behind it what it hands over. The loader writes and reads it as words of 32 bits.
 #[repr(C)]
 pub struct Call {
@@ -54,11 +70,9 @@ pub struct Call {
     index: u32,
     glyphs: List<u16>,
     coordinates: List<Coordinate>,
-    /// The limits: how many tokens a charstring has, how deep its calls go, and how many bytes the new font (0: any number).
     tokens: u32,
     depth: u32,
     bytes: u32,
-    /// What the new font lacks: 1 hinting, 2 names, 4 glyph names.
     drop: u32,
     made: List<u8>,
     cids: List<u16>,
@@ -67,13 +81,7 @@ pub struct Call {
 
 impl Call {
     fn choices(&self) -> Result<Choices, u32> {
-        let depth = u8::try_from(self.depth).unwrap_or(0);
-        let limited = Choices::new(self.tokens, depth).ok_or(NO_DEPTH)?;
-        let bounded = match self.bytes {
-            0 => limited,
-            bytes => limited.with_bytes(bytes),
-        };
-        Ok(bounded.keeping(self.drop & 1 == 0, self.drop & 2 == 0, self.drop & 4 == 0))
+        choices_of(self.tokens, self.depth, self.bytes, self.drop)
     }
 
     /// Takes a new font over.
@@ -113,6 +121,186 @@ export!(subsetter_subset, subset(glyphs), subset);
 export!(subsetter_subset_at, subset_at(coordinates, glyphs), subset);
 export!(subsetter_embed, embed(glyphs), embed);
 export!(subsetter_embed_at, embed_at(coordinates, glyphs), embed);
+
+// ---- the fonts for a PDF
+
+/// Glyphs in use with their texts, as `subsetter.h` has them.
+#[repr(C)]
+pub struct EntryLists {
+    glyphs: List<u16>,
+    text: List<u32>,
+    ends: List<usize>,
+}
+
+impl EntryLists {
+    /// # Safety
+    ///
+    /// As of `List::items`, for each.
+    unsafe fn entries(&self) -> Entries<'_> {
+        unsafe {
+            Entries {
+                glyphs: self.glyphs.items(),
+                text: self.text.items(),
+                ends: self.ends.items(),
+            }
+        }
+    }
+}
+
+/// A font for a PDF.
+#[repr(C)]
+pub struct PdfMade {
+    program: List<u8>,
+    cids: List<u16>,
+    codes: List<u16>,
+    is_said: List<bool>,
+    widths: List<u32>,
+    columns: List<Column>,
+    font_name: List<u8>,
+    to_unicode: List<u8>,
+    encoding: List<u8>,
+    encoding_name: List<u8>,
+    cid_set: List<u8>,
+    numbers: FontNumbers,
+}
+
+impl PdfMade {
+    fn of(lists: FontLists, numbers: FontNumbers) -> Self {
+        Self {
+            program: List::of(lists.program),
+            cids: List::of(lists.cids),
+            codes: List::of(lists.codes),
+            is_said: List::of(lists.is_said),
+            widths: List::of(lists.widths),
+            columns: List::of(lists.columns),
+            font_name: List::of(lists.font_name),
+            to_unicode: List::of(lists.to_unicode),
+            encoding: List::of(lists.encoding),
+            encoding_name: List::of(lists.encoding_name),
+            cid_set: List::of(lists.cid_set),
+            numbers,
+        }
+    }
+
+    /// # Safety
+    ///
+    /// As of `List::items`, for each.
+    unsafe fn parts(&self) -> FontParts<'_> {
+        unsafe {
+            FontParts {
+                program: self.program.items(),
+                cids: self.cids.items(),
+                codes: self.codes.items(),
+                is_said: self.is_said.items(),
+                widths: self.widths.items(),
+                columns: self.columns.items(),
+                font_name: self.font_name.items(),
+                to_unicode: self.to_unicode.items(),
+                encoding: self.encoding.items(),
+                encoding_name: self.encoding_name.items(),
+                cid_set: self.cid_set.items(),
+                numbers: self.numbers,
+            }
+        }
+    }
+}
+
+/// A call that makes a font for a PDF.
+#[repr(C)]
+pub struct PdfCall {
+    font: List<u8>,
+    index: u32,
+    coordinates: List<Coordinate>,
+    entries: EntryLists,
+    tokens: u32,
+    depth: u32,
+    bytes: u32,
+    drop: u32,
+    /// The words of `subsetter_pdf_options` behind those.
+    further: [u32; 8],
+    made: PdfMade,
+}
+
+/// A call that writes of such a font: objects from `number` on, or a sheet of that layout.
+#[repr(C)]
+pub struct WriteCall {
+    font: PdfMade,
+    number: u32,
+    entries: EntryLists,
+    bytes: List<u8>,
+    offsets: List<usize>,
+}
+
+/// A call that looks glyphs up.
+#[repr(C)]
+pub struct GlyphCall {
+    font: List<u8>,
+    index: u32,
+    text: List<u32>,
+    glyphs: List<u16>,
+}
+
+fn status_of_refusal(refusal: Refusal) -> u32 {
+    match refusal {
+        Refusal::Text | Refusal::Font(FontError::TextTooLong) => INVALID_TEXT,
+        Refusal::Font(FontError::NotPermitted(_)) => NOT_PERMITTED,
+        Refusal::Font(FontError::Subset(error)) => status_of(error),
+    }
+}
+
+/// A font for a PDF.
+///
+/// # Safety
+///
+/// As of `List::items`.
+unsafe fn pdf_made(call: &PdfCall) -> Result<PdfMade, u32> {
+    let limits = choices_of(call.tokens, call.depth, call.bytes, call.drop)?;
+    let choices = FontChoices::new(&limits, call.further).ok_or(UNKNOWN_OPTION)?;
+    let (font, at) = unsafe { (call.font.items(), call.coordinates.items()) };
+    let made = pdf::pdf_font(font, call.index, at, unsafe { call.entries.entries() }, &choices);
+    let (lists, numbers) = made.map_err(status_of_refusal)?;
+    Ok(PdfMade::of(lists, numbers))
+}
+
+/// # Safety
+///
+/// As of `List::items`.
+#[no_mangle]
+pub unsafe extern "C" fn subsetter_pdf_font(call: &mut PdfCall) -> u32 {
+    status(unsafe { pdf_made(call) }.map(|made| call.made = made))
+}
+
+/// # Safety
+///
+/// As of `List::items`.
+#[no_mangle]
+pub unsafe extern "C" fn subsetter_pdf_objects(call: &mut WriteCall) -> u32 {
+    let made = unsafe { call.font.parts() }.objects(call.number);
+    status(made.map_err(status_of).map(|(bytes, offsets)| {
+        call.bytes = List::of(bytes);
+        call.offsets = List::of(offsets);
+    }))
+}
+
+/// # Safety
+///
+/// As of `List::items`.
+#[no_mangle]
+pub unsafe extern "C" fn subsetter_pdf_sheet(call: &mut WriteCall) -> u32 {
+    let (parts, entries) = unsafe { (call.font.parts(), call.entries.entries()) };
+    let made = parts.sheet(entries, call.number == 1);
+    status(made.map_err(status_of_refusal).map(|bytes| call.bytes = List::of(bytes)))
+}
+
+/// # Safety
+///
+/// As of `List::items`.
+#[no_mangle]
+pub unsafe extern "C" fn subsetter_glyphs_of(call: &mut GlyphCall) -> u32 {
+    let (font, text) = unsafe { (call.font.items(), call.text.items()) };
+    let found = pdf::glyphs_of(font, call.index, text);
+    status(found.map_err(status_of_refusal).map(|glyphs| call.glyphs = List::of(glyphs)))
+}
 
 /// The text of a status.
 #[no_mangle]

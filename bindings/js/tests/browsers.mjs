@@ -7,21 +7,27 @@ import { Firefox } from "./firefox.mjs";
 
 const BROWSERS = { chromium: Chromium, firefox: Firefox };
 const read = (name) => readFileSync(fileURLToPath(new URL(name, import.meta.url)));
-const scripts = ["subsetter.mjs", "page/example.mjs", ...["assert", "rows", "calls", "made"].map((name) => `tests/${name}.mjs`)];
+const scripts = ["subsetter.mjs", "page/example.mjs", ...["assert", "rows", "calls", "made", "pdf"].map((name) => `tests/${name}.mjs`)];
+// The rows for PDF and their fonts.
+const forPdf = ["pdf_rows.txt", "made.ttf", "made.otf", "made_version_1.otf", "made_variable.ttf"];
 const server = await serve({
     "/index.html": () => "<!doctype html><meta charset=utf-8><title>Tests</title>",
     "/rows.txt": () => read("../../../crates/subset_rows/data/rows.txt"),
     "/subsetter.wasm": () => read("../out/subsetter.wasm"),
     ...Object.fromEntries(scripts.map((name) => [`/${name}`, () => read(`../${name}`)])),
+    ...Object.fromEntries(forPdf.map((name) => [`/${name}`, () => read(`../../rust/tests/data/${name}`)])),
 });
 
 /** What runs in the page. */
-async function tests(name, calls) {
+async function tests(name, calls, [rowsForPdf, ...fonts]) {
     const library = await import("/subsetter.mjs"), { runRows } = await import("/tests/rows.mjs"), { runCalls } = await import("/tests/calls.mjs");
     const table = await (await fetch("/rows.txt")).text(), wasm = new Uint8Array(await (await fetch(name)).arrayBuffer());
     const rows = [];
     for (const source of [name, new URL(name, location.href), await fetch(name), undefined]) rows.push(runRows(library, await library.load(source), table));
     const parts = await runCalls(library, wasm, table, calls);
+    const { runPdf } = await import("/tests/pdf.mjs"), files = new Map();
+    for (const font of fonts) files.set(font, new Uint8Array(await (await fetch(`/${font}`)).arrayBuffer()));
+    const pdf = await runPdf(library, wasm, await (await fetch(`/${rowsForPdf}`)).text(), (font) => files.get(font));
     // In a worker it is the same, and a module can be handed there.
     const code = `import { load } from "${location.origin}/subsetter.mjs";
         onmessage = async ({ data }) => { const s = await load(data); try { s.subset(new Uint8Array(), []) } catch (error) { postMessage(error.name) } };
@@ -30,7 +36,7 @@ async function tests(name, calls) {
     const told = () => new Promise((done, fail) => Object.assign(worker, { onmessage: ({ data }) => done(data), onerror: () => fail(new Error("the worker failed")) }));
     await told();
     worker.postMessage(await WebAssembly.compile(wasm));
-    return { rows, parts, worker: await told() };
+    return { rows, parts, pdf, worker: await told() };
 }
 
 async function run(name) {
@@ -38,12 +44,13 @@ async function run(name) {
     try {
         const page = await browser.page();
         await page.go(`${server.url}/index.html`);
-        const { rows, parts, worker } = await page.value(`(${tests})("/subsetter.wasm", 2000)`);
+        const { rows, parts, pdf, worker } = await page.value(`(${tests})("/subsetter.wasm", 2000, ${JSON.stringify(forPdf)})`);
         equal(rows.length, 4, "the ways to load");
         equal(new Set(rows).size, 1, "the rows by each way to load");
+        equal(pdf >= 17, true, `${pdf} rows for PDF`);
         equal(worker, "UnknownKind", "what the worker answers");
         equal(page.errors.filter((it) => !it.includes("404")).join("; "), "", "errors in the page");
-        console.log(`${name}: ${await browser.version()}: ${rows[0]} rows by ${rows.length} ways to load, ${parts.length} parts, a worker`);
+        console.log(`${name}: ${await browser.version()}: ${rows[0]} rows by ${rows.length} ways to load, ${pdf} rows for PDF, ${parts.length} parts, a worker`);
     } catch (error) {
         console.log(`${name}: FAILED: ${error.stack}`);
         process.exitCode = 1;

@@ -1,4 +1,4 @@
-/** The module in Node: node tests/node.mjs PART.., of rows, calls, parts, stale, package, fonts, drawings. After `make`. */
+/** The module in Node: node tests/node.mjs PART.., of rows, calls, pdf, parts, stale, package, fonts, drawings. After `make`. */
 import { execFileSync, spawnSync } from "node:child_process";
 import { mkdtempSync, readFileSync, readdirSync, rmSync, writeFileSync } from "node:fs";
 import { tmpdir } from "node:os";
@@ -12,6 +12,7 @@ import { Font, charstringCommands } from "../page/outlines.mjs";
 import { compare, damagedFonts, realFonts } from "./compare.mjs";
 import { fontFiles, readFont, some } from "./fonts.mjs";
 import { runParts } from "./parts.mjs";
+import { runPdf } from "./pdf.mjs";
 import { runRows } from "./rows.mjs";
 
 const here = (name) => fileURLToPath(new URL(name, import.meta.url));
@@ -32,6 +33,13 @@ async function rows() {
 async function calls() {
     const parts = await runCalls(library, wasm, table, 10000);
     return `${parts.length} parts: ${parts.join(", ")}`;
+}
+
+async function pdf() {
+    const folder = "../../rust/tests/data/";
+    const count = await runPdf(library, wasm, read(`${folder}pdf_rows.txt`).toString(), (name) => new Uint8Array(read(folder + name)));
+    ok(count >= 17, "there are rows for PDF");
+    return `${count} rows`;
 }
 
 async function parts() {
@@ -137,7 +145,7 @@ async function drawings() {
     return `${drawn} glyphs draw alike (${[...kinds].join(" and ")})`;
 }
 
-const all = { rows, calls, parts, stale, package: packed, fonts, drawings };
+const all = { rows, calls, pdf, parts, stale, package: packed, fonts, drawings };
 for (const name of process.argv.slice(2)) {
     try {
         console.log(`node, ${name}: ${await all[name]()}`);

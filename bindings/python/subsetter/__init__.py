@@ -6,6 +6,15 @@
     font = subsetter.subset(data, [36, 68])
     embedded = subsetter.embed(data, [36, 68])  # .font, .cids, .widths
 
+All that a PDF has of a font, and a PDF of one line:
+
+    import subsetter
+    with open("font.ttf", "rb") as file:
+        data = file.read()
+    font = subsetter.pdf_font(data, subsetter.glyphs_of(data, "Hello"))  # .program, .codes, .widths, .descriptor ..
+    with open("hello.pdf", "wb") as file:
+        file.write(font.sheet())
+
 The work is done by the library `libsubsetter.so` (on Windows `subsetter.dll`, on macOS `libsubsetter.dylib`), which the first
 call loads. It is the file that the environment's SUBSETTER_LIBRARY names, else it is looked for beside this file, in
 `bindings/c/out` of the repository that has this file, and by the system's loader, in this order. Calls share nothing, so
@@ -24,11 +33,12 @@ import operator
 import os
 import sys
 import threading
+import weakref
 from array import array
 from contextlib import contextmanager
 from typing import (
-    TYPE_CHECKING, Any, Dict, Iterable, Iterator, List, Mapping, NamedTuple, Optional, SupportsFloat, SupportsIndex, Tuple,
-    Type, Union,
+    TYPE_CHECKING, Any, Dict, Iterable, Iterator, List, Literal, Mapping, NamedTuple, Optional, SupportsFloat,
+    SupportsIndex, Tuple, Type, Union,
 )
 
 Value = Union[SupportsFloat, SupportsIndex]
@@ -41,7 +51,8 @@ else:
 
 __all__ = [
     "subset", "embed", "Embedded", "Error", "UnknownKind", "MalformedFont", "Unimplemented", "SubsetError", "CFFError",
-    "OutOfMemory",
+    "OutOfMemory", "glyphs_of", "pdf_font", "PdfFont", "Column", "Descriptor", "Permission", "Objects", "NotPermitted",
+    "InvalidText",
 ]
 
 __version__ = "0.2.6+1"
@@ -80,6 +91,14 @@ class OutOfMemory(Error, MemoryError):
     """Memory ran out."""
 
 
+class NotPermitted(Error):
+    """The font's maker doesn't permit that it is embedded (`fsType` of the table `OS/2`)."""
+
+
+class InvalidText(Error, ValueError):
+    """A text has a surrogate that stands alone, or more than 256 UTF-16 units."""
+
+
 class Embedded(NamedTuple):
     """A font for a PDF."""
 
@@ -91,11 +110,68 @@ class Embedded(NamedTuple):
     """The width of each CID, from 0 on, in thousandths of the em."""
 
 
+class Column(NamedTuple):
+    """A CID in vertical writing (ISO 32000-1, 9.7.4.3), in thousandths of the em."""
+
+    advance: int
+    """From one glyph to the next, mostly below 0: downwards."""
+    x: int
+    """The origin of vertical writing, to the right of that of horizontal writing."""
+    y: int
+    """And above it."""
+
+
+class Descriptor(NamedTuple):
+    """The values of the font descriptor (ISO 32000-1, Table 122). Lengths are in thousandths of the em."""
+
+    font_name: str
+    """FontName: six capitals, `+` and the PostScript name, in characters that need no escape."""
+    flags: int
+    """Flags (Table 123)."""
+    bounds: Tuple[int, int, int, int]
+    """FontBBox: the left, lower, right and upper edges."""
+    italic_angle: float
+    """ItalicAngle, in degrees with at most three decimals, counterclockwise."""
+    ascent: int
+    """Ascent."""
+    descent: int
+    """Descent, not above 0."""
+    cap_height: int
+    """CapHeight."""
+    x_height: Optional[int]
+    """XHeight, where the font has it."""
+    stem_v: int
+    """StemV."""
+    font_weight: int
+    """FontWeight: 100, 200 and so on up to 900."""
+
+
+class Permission(NamedTuple):
+    """What the font's maker permits (`fsType` of the table `OS/2`)."""
+
+    usage: Literal["unsaid", "installable", "editable", "preview_and_print", "restricted"]
+    """What a document may do with the font."""
+    subsetting: bool
+    """Whether a subset may stand for the font."""
+    outlines: bool
+    """Whether outlines may be embedded, and not bitmaps alone."""
+
+
+class Objects(NamedTuple):
+    """Whole indirect objects of a PDF, one behind the other."""
+
+    bytes: bytes
+    """Their bytes."""
+    offsets: List[int]
+    """Where each object begins in them, for the cross-reference table."""
+
+
 # ---- the library, as bindings/c/subsetter.h declares it
 
 _NAME = {"win32": "subsetter.dll", "darwin": "libsubsetter.dylib"}.get(sys.platform, "libsubsetter.so")
 _ERRORS: Dict[int, Type[Error]] = {
     1: UnknownKind, 2: MalformedFont, 3: Unimplemented, 4: SubsetError, 5: OverflowError, 6: CFFError, 7: OutOfMemory,
+    11: NotPermitted, 12: InvalidText,
 }
 _DROP_HINTING, _DROP_NAMES, _DROP_GLYPH_NAMES = 1, 2, 4
 
@@ -113,6 +189,43 @@ class _Made(ctypes.Structure):
         ("font", ctypes.c_void_p), ("font_size", ctypes.c_size_t),
         ("cids", ctypes.POINTER(ctypes.c_uint16)), ("cid_count", ctypes.c_size_t),
         ("widths", ctypes.POINTER(ctypes.c_uint32)), ("width_count", ctypes.c_size_t),
+    ]
+
+
+class _Column(ctypes.Structure):
+    _fields_ = [("advance", ctypes.c_int32), ("x", ctypes.c_int32), ("y", ctypes.c_int32)]
+
+
+class _PdfFont(ctypes.Structure):
+    """What the library hands over of a font for a PDF."""
+
+    _fields_ = [
+        ("program", ctypes.c_void_p), ("program_size", ctypes.c_size_t),
+        ("cids", ctypes.POINTER(ctypes.c_uint16)), ("cid_count", ctypes.c_size_t),
+        ("codes", ctypes.POINTER(ctypes.c_uint16)), ("code_count", ctypes.c_size_t),
+        ("is_said", ctypes.POINTER(ctypes.c_uint8)), ("said_count", ctypes.c_size_t),
+        ("widths", ctypes.POINTER(ctypes.c_uint32)), ("width_count", ctypes.c_size_t),
+        ("columns", ctypes.POINTER(_Column)), ("column_count", ctypes.c_size_t),
+        ("font_name", ctypes.c_void_p), ("font_name_size", ctypes.c_size_t),
+        ("to_unicode", ctypes.c_void_p), ("to_unicode_size", ctypes.c_size_t),
+        ("encoding", ctypes.c_void_p), ("encoding_size", ctypes.c_size_t),
+        ("encoding_name", ctypes.c_void_p), ("encoding_name_size", ctypes.c_size_t),
+        ("cid_set", ctypes.c_void_p), ("cid_set_size", ctypes.c_size_t),
+        ("kind", ctypes.c_uint32), ("is_vertical", ctypes.c_uint32), ("default_width", ctypes.c_uint32),
+        ("default_column", ctypes.c_int32 * 2), ("flags", ctypes.c_uint32), ("bounds", ctypes.c_int32 * 4),
+        ("italic_angle", ctypes.c_int32), ("ascent", ctypes.c_int32), ("descent", ctypes.c_int32),
+        ("cap_height", ctypes.c_int32), ("has_x_height", ctypes.c_uint32), ("x_height", ctypes.c_int32),
+        ("stem_v", ctypes.c_uint32), ("font_weight", ctypes.c_uint32), ("usage", ctypes.c_uint32),
+        ("may_subset", ctypes.c_uint32), ("may_embed_outlines", ctypes.c_uint32),
+    ]
+
+
+class _Objects(ctypes.Structure):
+    """What the library hands over of objects."""
+
+    _fields_ = [
+        ("bytes", ctypes.c_void_p), ("size", ctypes.c_size_t),
+        ("offsets", ctypes.POINTER(ctypes.c_size_t)), ("offset_count", ctypes.c_size_t),
     ]
 
 
@@ -151,13 +264,28 @@ def _declare(library: ctypes.CDLL) -> ctypes.CDLL:
     make = [pointer, size, ctypes.c_uint32, pointer, size, pointer, size, ctypes.POINTER(_Made)]
     make_at = make[:3] + [ctypes.POINTER(_Coordinate), size] + make[3:]
     declared = {
+        "subsetter_error_text": ([ctypes.c_uint32, pointer, size, ctypes.POINTER(size)], ctypes.c_uint32),
         "subsetter_make_subset_by_words": (make, ctypes.c_uint32),
         "subsetter_make_subset_at_by_words": (make_at, ctypes.c_uint32),
         "subsetter_make_embedded_by_words": (make, ctypes.c_uint32),
         "subsetter_make_embedded_at_by_words": (make_at, ctypes.c_uint32),
         "subsetter_free": ([ctypes.POINTER(_Made)], None),
-        "subsetter_error_text": ([ctypes.c_uint32, pointer, size, ctypes.POINTER(size)], ctypes.c_uint32),
     }
+    for_pdf = {
+        "subsetter_glyphs_of": (make[:3] + [pointer, size, pointer, size, ctypes.POINTER(size)], ctypes.c_uint32),
+        "subsetter_make_pdf_font_by_words": (
+            make_at[:5] + [pointer, size] * 4 + [ctypes.POINTER(_PdfFont)], ctypes.c_uint32),
+        "subsetter_free_pdf_font": ([ctypes.POINTER(_PdfFont)], None),
+        "subsetter_make_pdf_objects": (
+            [ctypes.POINTER(_PdfFont), ctypes.c_uint32, ctypes.POINTER(_Objects)], ctypes.c_uint32),
+        "subsetter_make_pdf_sheet": (
+            [ctypes.POINTER(_PdfFont)] + [pointer, size] * 3 + [ctypes.c_uint32, ctypes.POINTER(_Objects)],
+            ctypes.c_uint32),
+        "subsetter_free_pdf_objects": ([ctypes.POINTER(_Objects)], None),
+    }
+    # (a library has all of these or, as the one that is proved as it is built, none)
+    if hasattr(library, "subsetter_glyphs_of"):
+        declared.update(for_pdf)
     for name, (arguments, result) in declared.items():
         try:
             call = getattr(library, name)
@@ -290,6 +418,13 @@ def _text(library: ctypes.CDLL, status: int) -> str:
     return out.raw[:length.value].decode("ascii")
 
 
+def _check(library: ctypes.CDLL, status: int) -> None:
+    if status in _ERRORS:
+        raise _ERRORS[status](_text(library, status))
+    if status != 0:
+        raise RuntimeError(f"{_NAME} answers status {status}: it is of another version")
+
+
 @contextmanager
 def _made(
     call: str, data: Buffer, glyphs: Iterable[SupportsIndex], index: SupportsIndex, words: array[int],
@@ -305,10 +440,7 @@ def _made(
             ctypes.byref(made),
         )
     try:
-        if status in _ERRORS:
-            raise _ERRORS[status](_text(library, status))
-        if status != 0:
-            raise RuntimeError(f"{_NAME} answers status {status}: it is of another version")
+        _check(library, status)
         yield made
     finally:
         library.subsetter_free(ctypes.byref(made))
@@ -389,3 +521,254 @@ def embed(
         return Embedded(
             ctypes.string_at(made.font, made.font_size), made.cids[:made.cid_count], made.widths[:made.width_count]
         )
+
+
+# ---- all that a PDF has of a font
+
+
+def _library_for_pdf() -> ctypes.CDLL:
+    """The library, if it has the calls for PDF."""
+    library = _library()
+    if not hasattr(library, "subsetter_glyphs_of"):
+        raise NotImplementedError(
+            f"{library._name} has no calls for PDF: the library that is proved as it is built doesn't have them yet. "
+            "`pip install ./bindings/python` in a clone builds one that has them."
+        )
+    return library
+
+
+_KINDS: Tuple[Literal["TrueType", "CFF", "OpenType"], ...] = ("TrueType", "CFF", "OpenType")
+_USAGES: Tuple[Literal["unsaid", "installable", "editable", "preview_and_print", "restricted"], ...] = (
+    "unsaid", "installable", "editable", "preview_and_print", "restricted",
+)
+
+
+def _choice(what: str, value: str, known: Tuple[str, ...]) -> int:
+    if not isinstance(value, str):
+        raise TypeError(f"{what} is a str, and no {type(value).__name__}")
+    if value not in known:
+        raise ValueError(f"{what} is {value!r}, and none of {', '.join(known)}")
+    return known.index(value)
+
+
+def _flag(what: str, value: bool) -> int:
+    if not isinstance(value, bool):
+        raise TypeError(f"{what} is True or False, and no {type(value).__name__}")
+    return int(value)
+
+
+def _letters(tag: Optional[str]) -> Tuple[int, int]:
+    """The words of a tag; 0 and 0 for none."""
+    if tag is None:
+        return 0, 0
+    if not isinstance(tag, str):
+        raise TypeError(f"a tag is a str, and no {type(tag).__name__}")
+    if len(tag) != 6 or not all("A" <= it <= "Z" for it in tag):
+        raise ValueError(f"a tag has six capitals, and {tag!r} hasn't")
+    return int.from_bytes(tag[:3].encode("ascii"), "big"), int.from_bytes(tag[3:].encode("ascii"), "big")
+
+
+def _characters(text: str) -> array[int]:
+    """The characters of a text; the library refuses a surrogate that stands alone."""
+    if not isinstance(text, str):
+        raise TypeError(f"a text is a str, and no {type(text).__name__}")
+    return array("I", map(ord, text))
+
+
+class _Entries:
+    """Glyphs with their texts, as the library takes them."""
+
+    def __init__(self, shown: Iterable[Tuple[SupportsIndex, str]]) -> None:
+        pairs = [(glyph, text) for glyph, text in shown]
+        self.glyphs, self.text = _glyph_numbers([glyph for glyph, _ in pairs]), array("I")
+        self.ends = (ctypes.c_size_t * len(pairs))()
+        for place, (_, text) in enumerate(pairs):
+            self.text.extend(_characters(text))
+            self.ends[place] = len(self.text)
+
+    def arguments(self) -> Tuple[Any, ...]:
+        glyphs, text = self.glyphs, self.text
+        return (glyphs.buffer_info()[0], len(glyphs), text.buffer_info()[0], len(text), self.ends, len(self.ends))
+
+
+def glyphs_of(data: Buffer, text: str, index: SupportsIndex = 0) -> List[Tuple[int, str]]:
+    """The glyph of each character of a text, by the font's table `cmap`, with the character: what `pdf_font` takes.
+
+    The text isn't shaped: there are no ligatures, no kerning and no reordering, which Arabic or Devanagari need. A character
+    that the font doesn't have gets glyph 0. `data` and `index` are as for `subset`.
+
+    Raises an `Error` by its name: what comes of opening the font, `MalformedFont` also where it has no Unicode table of the
+    formats 4 and 12, and `InvalidText` for a surrogate that stands alone. `NotImplementedError` is raised where the library has
+    no calls for PDF, as the one that is proved as it is built.
+    """
+    characters, face = _characters(text), _number("index", index, 0, 0xFFFFFFFF)
+    library, length = _library_for_pdf(), ctypes.c_size_t()
+    glyphs = array("H", bytes(2 * len(characters)))
+    with _bytes_of(data) as (font, size):
+        status = library.subsetter_glyphs_of(
+            font, size, face, characters.buffer_info()[0], len(characters), glyphs.buffer_info()[0], len(glyphs),
+            ctypes.byref(length),
+        )
+    _check(library, status)
+    return list(zip(glyphs, text))
+
+
+class PdfFont:
+    """All that a PDF has of a font for the glyphs in use: what `pdf_font` answers.
+
+    An entry is a glyph in use with its text. Lengths are in thousandths of the em, and sections those of ISO 32000-1.
+    """
+
+    program: bytes
+    """The font program."""
+    kind: Literal["TrueType", "CFF", "OpenType"]
+    """What it is (9.9): a TrueType file, the bytes of `CFF `, or an OpenType file with outlines in `CFF `."""
+    glyph_count: int
+    """How many glyphs it has: its CIDs are the numbers below."""
+    cids: List[int]
+    """The CID of each entry."""
+    codes: List[int]
+    """The code of each entry, which strings hold in two bytes, the higher first."""
+    is_said: List[bool]
+    """Of each entry whether readers find its text by its code; where they don't, ActualText says it (14.9.4)."""
+    widths: List[int]
+    """The width of each CID."""
+    default_width: int
+    """DW."""
+    columns: Optional[List[Column]]
+    """In vertical writing of each CID from 0 on that a string can show; else None."""
+    default_column: Optional[Tuple[int, int]]
+    """DW2 (y and advance) in vertical writing; else None."""
+    descriptor: Descriptor
+    """The values of the font descriptor."""
+    permission: Permission
+    """What the font's maker permits."""
+    to_unicode: bytes
+    """The ToUnicode CMap (9.10.3)."""
+    encoding: Optional[bytes]
+    """The CMap from codes to CIDs; None where each code is its CID (`Identity-H` or `Identity-V`)."""
+    encoding_name: Optional[str]
+    """Its name."""
+    cid_set: Optional[bytes]
+    """The bytes of CIDSet, if it was chosen."""
+
+    def __init__(self, made: _PdfFont, entries: _Entries) -> None:
+        library = _library()
+        self._made, self._entries = made, entries
+        # (the lists are the library's until the last use)
+        self._end = weakref.finalize(self, library.subsetter_free_pdf_font, ctypes.byref(made))
+        self.program = ctypes.string_at(made.program, made.program_size)
+        self.kind = _KINDS[made.kind]
+        self.glyph_count = made.width_count
+        self.cids, self.codes = made.cids[:made.cid_count], made.codes[:made.code_count]
+        self.is_said = [it == 1 for it in made.is_said[:made.said_count]]
+        self.widths, self.default_width = made.widths[:made.width_count], made.default_width
+        self.columns, self.default_column = None, None
+        if made.is_vertical:
+            self.columns = [Column(it.advance, it.x, it.y) for it in made.columns[:made.column_count]]
+            self.default_column = (made.default_column[0], made.default_column[1])
+        self.descriptor = Descriptor(
+            font_name=ctypes.string_at(made.font_name, made.font_name_size).decode("ascii"),
+            flags=made.flags,
+            bounds=(made.bounds[0], made.bounds[1], made.bounds[2], made.bounds[3]),
+            italic_angle=made.italic_angle / 1000,
+            ascent=made.ascent,
+            descent=made.descent,
+            cap_height=made.cap_height,
+            x_height=made.x_height if made.has_x_height else None,
+            stem_v=made.stem_v,
+            font_weight=made.font_weight,
+        )
+        self.permission = Permission(_USAGES[made.usage], made.may_subset == 1, made.may_embed_outlines == 1)
+        self.to_unicode = ctypes.string_at(made.to_unicode, made.to_unicode_size)
+        self.encoding, self.encoding_name, self.cid_set = None, None, None
+        if made.encoding_size:
+            self.encoding = ctypes.string_at(made.encoding, made.encoding_size)
+            self.encoding_name = ctypes.string_at(made.encoding_name, made.encoding_name_size).decode("ascii")
+        if made.cid_set_size:
+            self.cid_set = ctypes.string_at(made.cid_set, made.cid_set_size)
+
+    def __repr__(self) -> str:
+        return f"<PdfFont {self.descriptor.font_name}, {self.kind}, {self.glyph_count} glyphs>"
+
+    def _written(self, call: str, *arguments: Any) -> Objects:
+        library, made = _library(), _Objects()
+        status = getattr(library, call)(ctypes.byref(self._made), *arguments, ctypes.byref(made))
+        try:
+            _check(library, status)
+            return Objects(ctypes.string_at(made.bytes, made.size), made.offsets[:made.offset_count])
+        finally:
+            library.subsetter_free_pdf_objects(ctypes.byref(made))
+
+    def objects(self, first: SupportsIndex) -> Objects:
+        """The font's objects, whole, with numbers from `first` on: the Type 0 font, which pages name, its CIDFont, the font
+        descriptor, the font program, ToUnicode, CIDSet if there is one, and the CMap if the file has its own.
+
+        Streams have no filter, and it is for files that aren't encrypted. Raises `OverflowError` where seven numbers from
+        `first` on don't fit 32 bits.
+        """
+        return self._written("subsetter_make_pdf_objects", _number("first", first, 1, 0xFFFFFFFF))
+
+    def sheet(self, layout: Literal["line", "grid"] = "line") -> bytes:
+        """A whole PDF file that shows the entries in 36 points: in one line (in vertical writing in one column) on a page that
+        is as long, or in a grid, 12 by 16 a page."""
+        number = _choice("layout", layout, ("line", "grid"))
+        return self._written("subsetter_make_pdf_sheet", *self._entries.arguments(), number).bytes
+
+
+def pdf_font(
+    data: Buffer,
+    shown: Iterable[Tuple[SupportsIndex, str]],
+    index: SupportsIndex = 0,
+    *,
+    tokens: Optional[SupportsIndex] = None,
+    depth: Optional[SupportsIndex] = None,
+    most_bytes: Optional[SupportsIndex] = None,
+    hinting: bool = True,
+    coordinates: Optional[Mapping[str, Value]] = None,
+    program: Literal["smallest", "opentype"] = "smallest",
+    codes: Literal["consecutive", "source", "each_text"] = "consecutive",
+    vertical: bool = False,
+    bounds: Literal["font", "kept"] = "font",
+    cid_set: bool = False,
+    tag: Optional[str] = None,
+    rights: Literal["as_said", "held"] = "as_said",
+) -> PdfFont:
+    """All that a PDF has of a font for the glyphs in use.
+
+    `shown` are glyphs in order of use, each with its text: (36, "A"), a ligature (5, "fi"), or (7, "") without a text; repeats
+    if need be. The other arguments are as for `subset`, and names of the font and of its glyphs are never kept. Besides:
+
+    - `program`: of a font with outlines in `CFF ` the "smallest", the bytes of `CFF ` alone, or "opentype", the whole file.
+    - `codes`: "consecutive", the CIDs, from 1 on; "source", the glyph's number in the font; or "each_text", one for each pair
+      of glyph and text, so that one glyph can say "B" and "b".
+    - `vertical`: whether text runs from top to bottom.
+    - `bounds`: whether FontBBox holds all glyphs of the "font", or those "kept".
+    - `cid_set`: whether there is a CIDSet, which PDF/A-1 demands.
+    - `tag`: the six capitals in front of the font's name; without them they are computed of the font program.
+    - `rights`: "as_said" by `fsType` of the table `OS/2`, or "held" by the caller, whatever that says.
+
+    Raises an `Error` by its name: those of `embed`, `NotPermitted`, and `InvalidText` for a text of more than 256 UTF-16 units or
+    with a surrogate that stands alone. No value of the font descriptor is a reason: where a table is missing or cut, another
+    source of the value is taken. `NotImplementedError` is raised as by `glyphs_of`.
+    """
+    words = _words(tokens, depth, most_bytes, hinting, True, True)
+    words[0] = 52
+    words.extend([
+        _choice("program", program, ("smallest", "opentype")),
+        _choice("codes", codes, ("consecutive", "source", "each_text")),
+        _flag("vertical", vertical),
+        _choice("bounds", bounds, ("font", "kept")),
+        _flag("cid_set", cid_set),
+        _choice("rights", rights, ("as_said", "held")),
+        *_letters(tag),
+    ])
+    entries, face = _Entries(shown), _number("index", index, 0, 0xFFFFFFFF)
+    place = _coordinates({} if coordinates is None else coordinates)
+    library, made = _library_for_pdf(), _PdfFont()
+    with _bytes_of(data) as (font, size):
+        status = library.subsetter_make_pdf_font_by_words(
+            font, size, face, place, len(place), *entries.arguments(), words.buffer_info()[0], len(words), ctypes.byref(made),
+        )
+    _check(library, status)
+    return PdfFont(made, entries)

@@ -16,6 +16,7 @@ HEAD = """//! The proved sources, crate by crate, without their contracts.
     clippy::len_zero,
     clippy::manual_find,
     clippy::manual_map,
+    clippy::manual_ok_err,
     clippy::manual_range_contains,
     clippy::manual_unwrap_or,
     clippy::manual_unwrap_or_default,

@@ -2,6 +2,8 @@
 //! place of a mapper, a limit of no tokens, and an answer wherever memory is refused. It is no part of the crate's interface,
 //! and changes with that package.
 
+pub mod pdf;
+
 use crate::library::{lists, refused};
 use crate::proved::cid_embed::{embed_with_options, mapper_for};
 use crate::proved::cid_embed_at::embed_with_variations_and_options;

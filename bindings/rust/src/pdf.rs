@@ -58,11 +58,21 @@ impl<'a> Shown<'a> {
 }
 
 /// A list with room for so many.
-fn with_room<T>(count: usize) -> Result<Vec<T>, Error> {
+pub(crate) fn with_room<T>(count: usize) -> Result<Vec<T>, Error> {
     let mut list = Vec::new();
     list.try_reserve_exact(count)
         .map_err(|_| Error::OutOfMemory)?;
     Ok(list)
+}
+
+/// What gives a character its glyph, by the font's table `cmap`.
+pub(crate) fn glyph_lookup(data: &[u8], index: u32) -> Result<impl Fn(char) -> u16 + '_, Error> {
+    let all = subsetting::Extras::ALL;
+    subsetting::check_opening(data, index, all).map_err(library::refused)?;
+    let face = parse(data, index, all).map_err(library::refused)?;
+    let cmap = face.stored(subsetting::Tag::new(b"cmap"));
+    let table = cmap.and_then(find_subtable).ok_or(Error::MalformedFont)?;
+    Ok(move |character| table.glyph_of(character))
 }
 
 /// The glyph of each character of a text, by the font's table `cmap`, with the character as its text.
@@ -75,15 +85,11 @@ fn with_room<T>(count: usize) -> Result<Vec<T>, Error> {
 ///
 /// Those of [`subset`](crate::subset) that come of opening the font; [`Error::MalformedFont`] where it has no such table.
 pub fn glyphs_of<'a>(data: &[u8], index: u32, text: &'a str) -> Result<Vec<Shown<'a>>, Error> {
-    let all = subsetting::Extras::ALL;
-    subsetting::check_opening(data, index, all).map_err(library::refused)?;
-    let face = parse(data, index, all).map_err(library::refused)?;
-    let cmap = face.stored(subsetting::Tag::new(b"cmap"));
-    let table = cmap.and_then(find_subtable).ok_or(Error::MalformedFont)?;
+    let glyph_of = glyph_lookup(data, index)?;
     let mut shown = with_room(text.chars().count())?;
     for (at, character) in text.char_indices() {
         shown.push(Shown {
-            glyph: table.glyph_of(character),
+            glyph: glyph_of(character),
             text: &text[at..at + character.len_utf8()],
         });
     }

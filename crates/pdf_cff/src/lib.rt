@@ -7,7 +7,5 @@
 
 mod said;
 mod stems;
-#[cfg(test)]
-mod tests;
 
 pub use said::{Said, said_in};

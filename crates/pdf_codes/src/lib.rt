@@ -12,8 +12,6 @@ mod codes;
 mod laws;
 mod leading;
 mod shown;
-#[cfg(test)]
-mod tests;
 mod texts;
 mod units;
 

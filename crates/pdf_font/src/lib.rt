@@ -12,8 +12,6 @@ mod call;
 mod error;
 mod font;
 mod laws;
-#[cfg(test)]
-mod tests;
 
 pub use call::pdf_font;
 pub use error::FontError;

@@ -13,8 +13,6 @@ mod frequent;
 mod heights;
 mod metrics;
 mod origins;
-#[cfg(test)]
-mod tests;
 mod tops;
 
 pub use boxes::{OutlineTables, box_around, glyph_box};

@@ -11,8 +11,6 @@
 
 mod heights;
 mod movement;
-#[cfg(test)]
-mod tests;
 mod values;
 
 pub use movement::{Movement, clamped};

@@ -16,8 +16,6 @@ mod instances;
 mod laws;
 mod letters;
 mod moved_name;
-#[cfg(test)]
-mod tests;
 
 pub use laws::shortest_is_taken;
 pub use moved_name::name_at;

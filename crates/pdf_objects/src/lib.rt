@@ -10,8 +10,6 @@
 mod glyphs;
 mod objects;
 mod sheet;
-#[cfg(test)]
-mod tests;
 mod values;
 
 pub use objects::{write_dictionaries, write_objects};

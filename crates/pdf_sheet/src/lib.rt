@@ -15,8 +15,6 @@ mod glyphs;
 mod hex;
 mod pages;
 mod sheet;
-#[cfg(test)]
-mod tests;
 
 pub use frame::Layout;
 pub use glyphs::SheetGlyph;

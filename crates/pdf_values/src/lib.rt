@@ -21,8 +21,6 @@ mod lean;
 mod naming;
 mod permission;
 mod rounding;
-#[cfg(test)]
-mod tests;
 mod units;
 mod weight;
 

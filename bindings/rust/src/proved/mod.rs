@@ -7,6 +7,7 @@
     clippy::len_zero,
     clippy::manual_find,
     clippy::manual_map,
+    clippy::manual_ok_err,
     clippy::manual_range_contains,
     clippy::manual_unwrap_or,
     clippy::manual_unwrap_or_default,

@@ -23,7 +23,7 @@ mod rounding;
 mod units;
 mod weight;
 
-pub use bounds::{bounds_of, Bounds, GlyphBox};
+pub use bounds::{bounds_of, Bounds, Edges, GlyphBox};
 pub use descriptor::{values_of, Known, Tables, Values};
 pub use flags::flags_of;
 pub use heights::Heights;

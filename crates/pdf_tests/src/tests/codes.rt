@@ -1,49 +1,11 @@
-//! The codes and the texts of eight glyphs in use, against the values of an independent program.
+//! `pdf_codes`: the codes and the texts of eight glyphs in use, against the values of an independent program.
 
-use crate::calls::{codes_and_texts, codes_of, encoding_of};
-use crate::codes::Codes;
-use crate::shown::{Shown, has_long_text};
+use crate::tests::expected::SHOWN;
+use pdf_codes::{Codes, Shown, codes_and_texts, codes_of, encoding_of, has_long_text};
 use std::alloc::Global;
 use std::test::*;
 
 const CIDS: [u16; 8] = [1, 2, 3, 4, 5, 2, 6, 7];
-
-/// Eight glyphs: one with a text above U+FFFF, one of two characters, one of none, and one with a character that is left
-/// out.
-const SHOWN: [Shown<'static>; 8] = [
-    Shown {
-        glyph: 1,
-        text: &['A'],
-    },
-    Shown {
-        glyph: 2,
-        text: &['B'],
-    },
-    Shown {
-        glyph: 5,
-        text: &['f', 'i'],
-    },
-    Shown {
-        glyph: 6,
-        text: &['\u{1F600}'],
-    },
-    Shown {
-        glyph: 8,
-        text: &['\u{C1}'],
-    },
-    Shown {
-        glyph: 2,
-        text: &['b'],
-    },
-    Shown {
-        glyph: 11,
-        text: &[],
-    },
-    Shown {
-        glyph: 10,
-        text: &['\u{FEFF}', 'x'],
-    },
-];
 
 /// Whether a text has a part.
 fn has(text: &[u8], part: &[u8]) -> bool {

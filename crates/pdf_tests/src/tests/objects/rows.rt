@@ -1,37 +1,28 @@
-//! Rows of an independent program: values of three fonts, and the texts of their objects.
+//! What an independent program says of five calls: values of three fonts, and the texts of their objects.
 
-use crate::objects::{write_dictionaries, write_objects};
-use crate::sheet::write_sheet;
-use crate::values::{write_w, write_w2};
-use pdf_font::{
-    Column, Columns, DefaultColumn, Descriptor, Edges, Heights, NamedCmap, PdfFont, Permission,
-    ProgramKind, Shown, Usage, Values,
-};
-use pdf_sheet::Layout;
-use pdf_text::References;
-use std::alloc::Global;
-use std::test::*;
+use crate::tests::expected::{BETWEEN, BOLD, REGULAR};
+use pdf_font::{Column, DefaultColumn, ProgramKind, Values};
 
 /// What a row says. Its program has so many bytes, its ToUnicode nine.
-struct Row {
-    kind: ProgramKind,
-    size: usize,
-    widths: &'static [u32],
-    default_width: u32,
-    columns: Option<(&'static [Column], DefaultColumn)>,
-    name: &'static [u8],
-    values: Values,
+pub struct Row {
+    pub kind: ProgramKind,
+    pub size: usize,
+    pub widths: &'static [u32],
+    pub default_width: u32,
+    pub columns: Option<(&'static [Column], DefaultColumn)>,
+    pub name: &'static [u8],
+    pub values: Values,
     /// The name of the CMap, and its text.
-    encoding: Option<(&'static [u8], &'static [u8])>,
-    cid_set: Option<&'static [u8]>,
-    w: &'static [u8],
-    w2: &'static [u8],
+    pub encoding: Option<(&'static [u8], &'static [u8])>,
+    pub cid_set: Option<&'static [u8]>,
+    pub w: &'static [u8],
+    pub w2: &'static [u8],
     /// The dictionaries of the objects from number 4 on.
-    objects: &'static [&'static [u8]],
+    pub objects: &'static [&'static [u8]],
 }
 
 /// The row `truetype_vertical`.
-const TRUETYPE: Row = Row {
+pub const TRUETYPE: Row = Row {
     kind: ProgramKind::TrueType,
     size: 544,
     widths: &[500, 667, 667, 556, 1000, 667, 0, 500, 333],
@@ -85,24 +76,7 @@ const TRUETYPE: Row = Row {
         },
     )),
     name: b"URGZOP+Made-Regular",
-    values: Values {
-        flags: 70,
-        bounds: Edges {
-            x_min: 0,
-            y_min: -147,
-            x_max: 952,
-            y_max: 928,
-        },
-        italic_angle: -9400,
-        heights: Heights {
-            ascent: 905,
-            descent: -212,
-            cap_height: 688,
-            x_height: Some(488),
-        },
-        stem_v: 64,
-        font_weight: 400,
-    },
+    values: REGULAR,
     encoding: None,
     cid_set: Some(b"\xFF\x80"),
     w: b"[0 [500] 3 [556 1000] 6 [0 500 333]]",
@@ -118,31 +92,14 @@ const TRUETYPE: Row = Row {
 };
 
 /// The row `truetype_source_codes`.
-const SOURCE: Row = Row {
+pub const SOURCE: Row = Row {
     kind: ProgramKind::TrueType,
     size: 544,
     widths: &[500, 667, 667, 556, 1000, 667, 0, 500, 333],
     default_width: 667,
     columns: None,
     name: b"URGZOP+Made-Regular",
-    values: Values {
-        flags: 70,
-        bounds: Edges {
-            x_min: 0,
-            y_min: -147,
-            x_max: 952,
-            y_max: 928,
-        },
-        italic_angle: -9400,
-        heights: Heights {
-            ascent: 905,
-            descent: -212,
-            cap_height: 688,
-            x_height: Some(488),
-        },
-        stem_v: 64,
-        font_weight: 400,
-    },
+    values: REGULAR,
     encoding: Some((b"Chosen-H", b"1 begincidchar")),
     cid_set: None,
     w: b"[0 [500] 3 [556 1000] 6 [0 500 333]]",
@@ -158,7 +115,7 @@ const SOURCE: Row = Row {
 };
 
 /// The row `cff_vertical_held`.
-const CFF: Row = Row {
+pub const CFF: Row = Row {
     kind: ProgramKind::BareCff,
     size: 245,
     widths: &[500, 667, 667, 556, 1000, 667, 0, 500],
@@ -212,24 +169,7 @@ const CFF: Row = Row {
         },
     )),
     name: b"OVQQEL+Made-Bold",
-    values: Values {
-        flags: 5,
-        bounds: Edges {
-            x_min: 0,
-            y_min: -146,
-            x_max: 951,
-            y_max: 928,
-        },
-        italic_angle: 0,
-        heights: Heights {
-            ascent: 800,
-            descent: -200,
-            cap_height: 800,
-            x_height: None,
-        },
-        stem_v: 83,
-        font_weight: 700,
-    },
+    values: BOLD,
     encoding: None,
     cid_set: Some(b"\xFF"),
     w: b"[0 [500] 3 [556 1000] 6 [0 500]]",
@@ -245,31 +185,14 @@ const CFF: Row = Row {
 };
 
 /// The row `cff_as_open_type`.
-const OPENTYPE: Row = Row {
+pub const OPENTYPE: Row = Row {
     kind: ProgramKind::OpenType,
     size: 440,
     widths: &[500, 667, 667],
     default_width: 667,
     columns: None,
     name: b"EGYWKD+Made-Bold",
-    values: Values {
-        flags: 5,
-        bounds: Edges {
-            x_min: 0,
-            y_min: -146,
-            x_max: 951,
-            y_max: 928,
-        },
-        italic_angle: 0,
-        heights: Heights {
-            ascent: 800,
-            descent: -200,
-            cap_height: 800,
-            x_height: None,
-        },
-        stem_v: 83,
-        font_weight: 700,
-    },
+    values: BOLD,
     encoding: None,
     cid_set: Some(b"\xE0"),
     w: b"[0 [500]]",
@@ -285,31 +208,14 @@ const OPENTYPE: Row = Row {
 };
 
 /// The row `variable_moved`.
-const MOVED: Row = Row {
+pub const MOVED: Row = Row {
     kind: ProgramKind::TrueType,
     size: 528,
     widths: &[500, 716, 667, 556, 1000, 667, 0, 500],
     default_width: 500,
     columns: None,
     name: b"GWREPC+Made_650wght_-7.5slnt",
-    values: Values {
-        flags: 70,
-        bounds: Edges {
-            x_min: 0,
-            y_min: -147,
-            x_max: 952,
-            y_max: 928,
-        },
-        italic_angle: -7500,
-        heights: Heights {
-            ascent: 916,
-            descent: -219,
-            cap_height: 703,
-            x_height: Some(488),
-        },
-        stem_v: 111,
-        font_weight: 700,
-    },
+    values: BETWEEN,
     encoding: None,
     cid_set: Some(b"\xFF"),
     w: b"[1 [716 667 556 1000 667 0]]",
@@ -323,137 +229,3 @@ const MOVED: Row = Row {
         b"<< /Length 1 >>",
     ],
 };
-
-/// The columns of a row.
-fn columns_of(alloc: Global, row: &Row) -> Result<Option<Columns>, Fail> {
-    match row.columns {
-        None => Ok(None),
-        Some((each, default)) => Ok(Some(Columns {
-            each: Vec::from_slice(alloc, each)?,
-            default,
-        })),
-    }
-}
-
-/// The CMap of a row.
-fn encoding_of(alloc: Global, row: &Row) -> Result<Option<NamedCmap>, Fail> {
-    match row.encoding {
-        None => Ok(None),
-        Some((name, text)) => Ok(Some(NamedCmap {
-            name: Vec::from_slice(alloc, name)?,
-            text: Vec::from_slice(alloc, text)?,
-        })),
-    }
-}
-
-/// The CIDSet of a row.
-fn cid_set_of(alloc: Global, row: &Row) -> Result<Option<Vec<u8>>, Fail> {
-    match row.cid_set {
-        None => Ok(None),
-        Some(set) => Ok(Some(Vec::from_slice(alloc, set)?)),
-    }
-}
-
-/// The font of a row, for three entries.
-fn font_of(alloc: Global, row: &Row) -> Result<PdfFont, Fail> {
-    Ok(PdfFont {
-        program: vec![in alloc; 0_u8; row.size]?,
-        kind: row.kind,
-        glyph_count: 9,
-        cids: Vec::from_slice(alloc, &[1, 3, 70])?,
-        codes: Vec::from_slice(alloc, &[7, 8, 9])?,
-        is_said: Vec::from_slice(alloc, &[true, false, true])?,
-        widths: Vec::from_slice(alloc, row.widths)?,
-        default_width: row.default_width,
-        columns: columns_of(alloc, row)?,
-        descriptor: Descriptor {
-            font_name: Vec::from_slice(alloc, row.name)?,
-            values: row.values,
-        },
-        permission: Permission {
-            usage: Usage::Unsaid,
-            subsetting: true,
-            outlines: true,
-        },
-        to_unicode: Vec::from_slice(alloc, b"begincmap")?,
-        encoding: encoding_of(alloc, row)?,
-        cid_set: cid_set_of(alloc, row)?,
-    })
-}
-
-/// Whether a text has another at an offset.
-fn has_at(text: &[u8], offset: usize, part: &[u8]) -> bool {
-    offset <= text.len()
-        && part.len() <= text.len() - offset
-        && &text[offset..offset + part.len()] == part
-}
-
-/// Whether W, W2 and the dictionaries of all objects are those of a row.
-fn is_as_said(alloc: Global, row: &Row) -> Result<bool, Fail> {
-    let font = font_of(alloc, row)?;
-    let mut same = write_w(alloc, &font)?.as_slice() == row.w;
-    same = same && write_w2(alloc, &font)?.as_slice() == row.w2;
-    let objects = write_objects(alloc, &font, 4)?;
-    same = same && objects.offsets.len() == row.objects.len();
-    for k in 0..objects.offsets.len().min(row.objects.len()) {
-        let value = objects.offsets[k].saturating_add(8 + k / 6);
-        same = same && has_at(&objects.text, value, row.objects[k]);
-    }
-    Ok(same)
-}
-
-#[test]
-fn objects_are_as_said(rt: HostRuntime) -> Result<(), Fail> {
-    assert!(rt; is_as_said(rt.alloc(), &TRUETYPE)?);
-    assert!(rt; is_as_said(rt.alloc(), &SOURCE)?);
-    assert!(rt; is_as_said(rt.alloc(), &CFF)?);
-    assert!(rt; is_as_said(rt.alloc(), &OPENTYPE)?);
-    assert!(rt; is_as_said(rt.alloc(), &MOVED)?);
-    Ok(())
-}
-
-#[test]
-fn sheets_show_entries(rt: HostRuntime) -> Result<(), Fail> {
-    let font = font_of(rt.alloc(), &TRUETYPE)?;
-    let shown = [
-        Shown {
-            glyph: 1,
-            text: &['A'],
-        },
-        Shown {
-            glyph: 5,
-            text: &['f', 'i'],
-        },
-        Shown {
-            glyph: 6,
-            text: &[],
-        },
-    ];
-    let file = write_sheet(rt.alloc(), &font, &shown, Layout::Line)?;
-    assert!(rt;
-        has_at(
-            &file,
-            64,
-            b"2 0 obj\n<< /Type /Pages /Count 1 /Kids [3 0 R ] /MediaBox [0 0 144 126]"
-        )
-    );
-    assert!(rt;
-        has_at(
-            &file,
-            294,
-            b"1 0 0 1 72 90 Tm\n<0007> Tj\n/Span << /ActualText <FEFF00660069> >> BDC\n<0008> Tj\nEMC\n<0009> Tj\nET"
-        )
-    );
-    let references = References {
-        cid_font: 5,
-        descriptor: 6,
-        program: 7,
-        to_unicode: 8,
-        cid_set: 9,
-        encoding: 0,
-    };
-    let all = write_dictionaries(rt.alloc(), &font, references)?;
-    assert!(rt; all.descriptor.as_slice() == TRUETYPE.objects[2]);
-    assert!(rt; all.program.as_slice() == b"<< /Length1 544 >>".as_slice());
-    Ok(())
-}

@@ -1,26 +1,22 @@
-//! Whole files, written by an independent script.
+//! Whole files, written by an independent script, and what they show.
 
-use crate::frame::Layout;
-use crate::glyphs::SheetGlyph;
-use crate::sheet::write_sheet;
+use pdf_sheet::SheetGlyph;
 use pdf_text::{Descriptor, FontValues, ProgramKind};
-use std::alloc::Global;
-use std::test::*;
 
 /// A line of three glyphs, of which two have an ActualText.
-const LINE: &[u8] =
+pub const LINE: &[u8] =
     b"%PDF-1.7\n%\xE2\xE3\xCF\xD3\n1 0 obj\n<< /Type /Catalog /Pages 2 0 R >>\nendobj\n2 0 obj\n<< /Type /Pages /Count 1 /Kids [3 0 R ] /MediaBox [0 0 118 144] /Resources << /Font << /F0 5 0 R >> >> >>\nendobj\n3 0 obj\n<< /Type /Page /Parent 2 0 R /Contents 4 0 R >>\nendobj\n4 0 obj\n<< /Length 152 >>\nstream\nBT\n/F0 36 Tf\n1 0 0 1 36 54 Tm\n<0001> Tj\n/Span << /ActualText <FEFF0062D83DDE00> >> BDC\n<0002> Tj\nEMC\n/Span << /ActualText <FEFF> >> BDC\n<ABCD> Tj\nEMC\nET\nendstream\nendobj\n5 0 obj\n<< /Type /Font /Subtype /Type0 /BaseFont /URGZOP+Made-Regular /Encoding /Identity-H /DescendantFonts [6 0 R] /ToUnicode 9 0 R >>\nendobj\n6 0 obj\n<< /Type /Font /Subtype /CIDFontType2 /BaseFont /URGZOP+Made-Regular /CIDSystemInfo << /Registry (Adobe) /Ordering (Identity) /Supplement 0 >> /FontDescriptor 7 0 R /CIDToGIDMap /Identity /DW 667 >>\nendobj\n7 0 obj\n<< /Type /FontDescriptor /FontName /URGZOP+Made-Regular /Flags 4 /FontBBox [0 -147 952 928] /ItalicAngle 0 /Ascent 905 /Descent -212 /CapHeight 688 /StemV 64 /FontWeight 400 /FontFile2 8 0 R >>\nendobj\n8 0 obj\n<< /Length1 9 /Length 9 >>\nstream\ntrue font\nendstream\nendobj\n9 0 obj\n<< /Length 9 >>\nstream\nbegincmap\nendstream\nendobj\nxref\n0 10\n0000000000 65535 f \n0000000015 00000 n \n0000000064 00000 n \n0000000185 00000 n \n0000000248 00000 n \n0000000451 00000 n \n0000000595 00000 n \n0000000809 00000 n \n0000001018 00000 n \n0000001087 00000 n \ntrailer\n<< /Size 10 /Root 1 0 R >>\nstartxref\n1145\n%%EOF\n";
 
 /// The same glyphs in a grid, in vertical writing.
-const GRID: &[u8] =
+pub const GRID: &[u8] =
     b"%PDF-1.7\n%\xE2\xE3\xCF\xD3\n1 0 obj\n<< /Type /Catalog /Pages 2 0 R >>\nendobj\n2 0 obj\n<< /Type /Pages /Count 1 /Kids [3 0 R ] /MediaBox [0 0 595 842] /Resources << /Font << /F0 5 0 R >> >> >>\nendobj\n3 0 obj\n<< /Type /Page /Parent 2 0 R /Contents 4 0 R >>\nendobj\n4 0 obj\n<< /Length 190 >>\nstream\nBT\n/F0 36 Tf\n1 0 0 1 52 802 Tm\n<0001> Tj\n1 0 0 1 96 802 Tm\n/Span << /ActualText <FEFF0062D83DDE00> >> BDC\n<0002> Tj\nEMC\n1 0 0 1 140 802 Tm\n/Span << /ActualText <FEFF> >> BDC\n<ABCD> Tj\nEMC\nET\nendstream\nendobj\n5 0 obj\n<< /Type /Font /Subtype /Type0 /BaseFont /URGZOP+Made-Regular /Encoding /Identity-V /DescendantFonts [6 0 R] /ToUnicode 9 0 R >>\nendobj\n6 0 obj\n<< /Type /Font /Subtype /CIDFontType2 /BaseFont /URGZOP+Made-Regular /CIDSystemInfo << /Registry (Adobe) /Ordering (Identity) /Supplement 0 >> /FontDescriptor 7 0 R /CIDToGIDMap /Identity /DW 667 >>\nendobj\n7 0 obj\n<< /Type /FontDescriptor /FontName /URGZOP+Made-Regular /Flags 4 /FontBBox [0 -147 952 928] /ItalicAngle 0 /Ascent 905 /Descent -212 /CapHeight 688 /StemV 64 /FontWeight 400 /FontFile2 8 0 R >>\nendobj\n8 0 obj\n<< /Length1 9 /Length 9 >>\nstream\ntrue font\nendstream\nendobj\n9 0 obj\n<< /Length 9 >>\nstream\nbegincmap\nendstream\nendobj\nxref\n0 10\n0000000000 65535 f \n0000000015 00000 n \n0000000064 00000 n \n0000000185 00000 n \n0000000248 00000 n \n0000000489 00000 n \n0000000633 00000 n \n0000000847 00000 n \n0000001056 00000 n \n0000001125 00000 n \ntrailer\n<< /Size 10 /Root 1 0 R >>\nstartxref\n1183\n%%EOF\n";
 
 /// The table of a grid with two pages.
-const TABLE: &[u8] =
+pub const TABLE: &[u8] =
     b"xref\n0 12\n0000000000 65535 f \n0000000015 00000 n \n0000000064 00000 n \n0000000191 00000 n \n0000000254 00000 n \n0000005833 00000 n \n0000005896 00000 n \n0000005989 00000 n \n0000006134 00000 n \n0000006348 00000 n \n0000006558 00000 n \n0000006628 00000 n \ntrailer\n<< /Size 12 /Root 1 0 R >>\nstartxref\n6687\n%%EOF\n";
 
 /// The values of a small font.
-fn values(vertical: bool) -> FontValues<'static> {
+pub fn values(vertical: bool) -> FontValues<'static> {
     FontValues {
         kind: ProgramKind::TrueType,
         descriptor: Descriptor {
@@ -48,7 +44,7 @@ fn values(vertical: bool) -> FontValues<'static> {
 }
 
 /// Three glyphs: a text that is said, one that isn't, and none.
-fn three() -> [SheetGlyph<'static>; 3] {
+pub fn three() -> [SheetGlyph<'static>; 3] {
     [
         SheetGlyph {
             code: 1,
@@ -69,69 +65,4 @@ fn three() -> [SheetGlyph<'static>; 3] {
             advance: 1,
         },
     ]
-}
-
-/// So many glyphs without a text, with codes from 0 on.
-fn many(alloc: Global, count: u16) -> Result<Vec<SheetGlyph<'static>>, Fail> {
-    let mut glyphs = Vec::new(alloc);
-    for code in 0..count {
-        glyphs.push(SheetGlyph {
-            code,
-            is_said: true,
-            text: &[],
-            advance: 400_000,
-        })?;
-    }
-    Ok(glyphs)
-}
-
-#[test]
-fn files_are_whole(rt: HostRuntime) -> Result<(), Fail> {
-    let line = write_sheet(rt.alloc(), values(false), &three(), Layout::Line)?;
-    assert!(rt; line.as_slice() == LINE);
-    let grid = write_sheet(rt.alloc(), values(true), &three(), Layout::Grid)?;
-    assert!(rt; grid.as_slice() == GRID);
-    Ok(())
-}
-
-/// Whether a text has another at an offset.
-fn has_at(text: &[u8], offset: usize, part: &[u8]) -> bool {
-    offset <= text.len()
-        && part.len() <= text.len() - offset
-        && &text[offset..offset + part.len()] == part
-}
-
-#[test]
-fn grids_have_further_pages(rt: HostRuntime) -> Result<(), Fail> {
-    let glyphs = many(rt.alloc(), 193)?;
-    let grid = write_sheet(rt.alloc(), values(false), &glyphs, Layout::Grid)?;
-    assert!(rt; grid.len() == 6993);
-    assert!(rt; has_at(&grid, 5793, b"518 50 Tm\n<00BF> Tj\nE"));
-    assert!(rt;
-        has_at(
-            &grid,
-            5896,
-            b"6 0 obj\n<< /Length 43 >>\nstream\nBT\n/F0 36 Tf\n1 0 0 1 34 770 Tm\n<00C0> Tj\nET\nendstream\n"
-        )
-    );
-    assert!(rt; has_at(&grid, 6687, TABLE));
-    let few = many(rt.alloc(), 3)?;
-    let line = write_sheet(rt.alloc(), values(true), &few, Layout::Line)?;
-    assert!(rt;
-        has_at(
-            &line,
-            64,
-            b"2 0 obj\n<< /Type /Pages /Count 1 /Kids [3 0 R ] /MediaBox [0 0 144 14400] /Resources << /Font << /F0 5 0"
-        )
-    );
-    assert!(rt;
-        has_at(
-            &line,
-            282,
-            b"BT\n/F0 36 Tf\n1 0 0 1 72 14364 Tm\n<0000> Tj\n<0001> Tj\n<0002> Tj\nET\nen"
-        )
-    );
-    let none = write_sheet(rt.alloc(), values(false), &[], Layout::Grid)?;
-    assert!(rt; none.len() == 1273);
-    Ok(())
 }

@@ -1,0 +1,723 @@
+/* Tests of the calls for PDF: each row of pdf_rows.txt, field by field, with its objects; the sheet; options and texts that are
+ * refused; memory that is refused; and damaged fonts.
+ *
+ *   pdf_test FOLDER      where pdf_rows.txt and its fonts are
+ *
+ *   SUBSETTER_SHARED     over a shared library, whose memory can neither be counted nor refused
+ *   SUBSETTER_BRIEF      fewer damaged fonts
+ *   SUBSETTER_UNDAMAGED  none */
+#include "subsetter.h"
+
+#include <stdarg.h>
+#include <stdio.h>
+#include <stdlib.h>
+#include <string.h>
+
+/* ---- memory that is counted, and refused at one request (the linker's --wrap) */
+
+static long held;
+
+#ifndef SUBSETTER_SHARED
+static unsigned long refused, requests;
+
+void *__real_malloc(size_t size);
+void *__real_realloc(void *block, size_t size);
+void __real_free(void *block);
+
+void *__wrap_malloc(size_t size)
+{
+    if (++requests == refused)
+        return NULL;
+    held++;
+    return __real_malloc(size);
+}
+
+void *__wrap_realloc(void *block, size_t size)
+{
+    if (block == NULL)
+        return __wrap_malloc(size);
+    return ++requests == refused ? NULL : __real_realloc(block, size);
+}
+
+void __wrap_free(void *block)
+{
+    held -= block != NULL;
+    __real_free(block);
+}
+#endif
+
+static size_t checks, failures;
+
+static void check(int holds, const char *row, const char *what)
+{
+    checks++;
+    if (!holds) {
+        failures++;
+        printf("%s: %s\n", row, what);
+    }
+}
+
+/* ---- rows */
+
+#if defined SUBSETTER_UNDAMAGED
+enum { DAMAGED = 0 };
+#elif defined SUBSETTER_BRIEF
+enum { DAMAGED = 100 };
+#else
+enum { DAMAGED = 1000 };
+#endif
+enum { FIELDS = 64, ENTRIES = 512, CHARACTERS = 1024, COORDINATES = 4, TEXT = 1 << 16 };
+
+struct field {
+    const char *name, *value;
+};
+
+struct row {
+    struct field fields[FIELDS];
+    size_t count;
+    uint8_t *font;
+    size_t font_size, glyph_count, text_count, coordinate_count;
+    uint16_t glyphs[ENTRIES];
+    uint32_t text[CHARACTERS];
+    size_t ends[ENTRIES];
+    subsetter_coordinate coordinates[COORDINATES];
+    subsetter_pdf_options options;
+};
+
+/* A file of a folder, with a zero behind it. */
+static uint8_t *content(const char *folder, const char *name, size_t *size)
+{
+    char path[4096];
+    snprintf(path, sizeof path, "%s/%s", folder, name);
+    FILE *file = fopen(path, "rb");
+    if (file == NULL) {
+        printf("%s can't be read\n", path);
+        exit(2);
+    }
+    uint8_t *bytes = calloc(1, 1 << 20);
+    *size = fread(bytes, 1, (1 << 20) - 1, file);
+    fclose(file);
+    return bytes;
+}
+
+static const char *value(const struct row *row, const char *name)
+{
+    for (size_t i = 0; i < row->count; i++)
+        if (strcmp(row->fields[i].name, name) == 0)
+            return row->fields[i].value;
+    return NULL;
+}
+
+static void read_shown(struct row *row, const char *words)
+{
+    while (*words != 0) {
+        char *end;
+        row->glyphs[row->glyph_count] = (uint16_t)strtoul(words, &end, 10);
+        for (end++; *end != 0 && *end != ' '; end += *end == ',')
+            row->text[row->text_count++] = (uint32_t)strtoul(end, &end, 16);
+        row->ends[row->glyph_count++] = row->text_count;
+        words = end + (*end == ' ');
+    }
+}
+
+static void read_coordinates(struct row *row, const char *words)
+{
+    while (*words != 0 && *words != '-') {
+        char *end;
+        subsetter_coordinate *at = &row->coordinates[row->coordinate_count++];
+        at->tag = SUBSETTER_TAG(words[0], words[1], words[2], words[3]);
+        at->value = (int32_t)(strtod(words + 5, &end) * 65536);
+        words = end + (*end == ',');
+    }
+}
+
+static void read_options(struct row *row, const char *words)
+{
+    const subsetter_pdf_options none = SUBSETTER_DEFAULT_PDF_OPTIONS;
+    row->options = none;
+    row->options.drop = SUBSETTER_DROP_HINTING;
+    if (strstr(words, "direction=Vertical"))
+        row->options.direction = SUBSETTER_VERTICAL;
+    if (strstr(words, "codes=Source"))
+        row->options.codes = SUBSETTER_CODES_SOURCE;
+    if (strstr(words, "codes=EachText"))
+        row->options.codes = SUBSETTER_CODES_EACH_TEXT;
+    if (strstr(words, "bounds=Kept"))
+        row->options.bounds = SUBSETTER_BOUNDS_KEPT;
+    if (strstr(words, "program=OpenType"))
+        row->options.program = SUBSETTER_PROGRAM_OPENTYPE;
+    if (strstr(words, "rights=Held"))
+        row->options.rights = SUBSETTER_RIGHTS_HELD;
+    if (strstr(words, "cid_set"))
+        row->options.cid_set = 1;
+}
+
+/* Takes a row of a text, and answers what is behind it; null behind the last one. */
+static char *read_row(struct row *row, const char *folder, char *text)
+{
+    memset(row, 0, sizeof *row);
+    while (*text == '#' || *text == '\n')
+        text = strchr(text, '\n') + 1;
+    if (*text == 0)
+        return NULL;
+    while (*text != 0 && *text != '\n') {
+        char *end = strchr(text, '\n'), *blank = memchr(text, ' ', (size_t)(end - text));
+        struct field *field = &row->fields[row->count++];
+        field->name = text;
+        field->value = blank == NULL ? "" : blank + 1;
+        *(blank == NULL ? end : blank) = 0;
+        *end = 0;
+        if (strcmp(field->value, "<<") == 0) {
+            field->value = end + 1;
+            end = strstr(end + 1, "\n>>\n") + 3;
+            end[-3] = 0;
+        }
+        text = end + 1;
+    }
+    row->font = content(folder, value(row, "font"), &row->font_size);
+    read_shown(row, value(row, "shown"));
+    read_coordinates(row, value(row, "coordinates"));
+    read_options(row, value(row, "options"));
+    return text;
+}
+
+/* ---- answers as text */
+
+static char said[TEXT];
+static size_t said_size;
+
+static void say(const char *format, ...)
+{
+    va_list words;
+    va_start(words, format);
+    said_size += (size_t)vsnprintf(said + said_size, TEXT - said_size, format, words);
+    va_end(words);
+}
+
+/* Compares what was said with a field; what neither has is well. */
+static void compare(const struct row *row, const char *name)
+{
+    const char *wanted = value(row, name);
+    if (wanted != NULL && said_size > 0 && said[said_size - 1] == ' ')
+        said[said_size - 1] = 0;
+    check(strcmp(said, wanted == NULL ? "" : wanted) == 0, value(row, "row"), name);
+    said_size = 0;
+    said[0] = 0;
+}
+
+static void compare_number(const struct row *row, const char *name, long number)
+{
+    say("%ld", number);
+    compare(row, name);
+}
+
+static void compare_bytes(const struct row *row, const char *name, const uint8_t *bytes, size_t size)
+{
+    for (size_t i = 0; i < size; i++)
+        say("%02x", bytes[i]);
+    if (size == 0)
+        say("-");
+    compare(row, name);
+}
+
+/* A text of several lines has no line feed at its end here, as the row's field. */
+static void compare_text(const struct row *row, const char *name, const uint8_t *bytes, size_t size)
+{
+    check(size == 0 || memchr(bytes, 0, size) == NULL, value(row, "row"), "a zero in a text");
+    say("%.*s", (int)size, (const char *)bytes);
+    if (said_size > 0 && said[said_size - 1] == '\n')
+        said[--said_size] = 0;
+    compare(row, name);
+}
+
+static const char *const KINDS[] = {"TrueType", "CIDFontType0C", "OpenType"};
+static const char *const USAGES[] = {"unsaid", "installable", "editable", "preview_and_print", "restricted"};
+
+static void compare_lists(const struct row *row, const subsetter_pdf_font *font)
+{
+    compare_bytes(row, "program", font->program, font->program_size);
+    for (size_t i = 0; i < font->cid_count; i++)
+        say("%u ", font->cids[i]);
+    compare(row, "cids");
+    for (size_t i = 0; i < font->code_count; i++)
+        say("%u ", font->codes[i]);
+    compare(row, "codes");
+    for (size_t i = 0; i < font->said_count; i++)
+        say("%u ", font->is_said[i]);
+    compare(row, "is_said");
+    for (size_t i = 0; i < font->width_count; i++)
+        say("%u ", font->widths[i]);
+    compare(row, "widths");
+    compare_number(row, "glyph_count", (long)font->width_count);
+    for (size_t i = 0; font->is_vertical && i < font->width_count; i++)
+        if (i < font->column_count)
+            say("%d,%d,%d ", font->columns[i].advance, font->columns[i].x, font->columns[i].y);
+        else
+            say("- ");
+    compare(row, "columns");
+    check(font->is_vertical || font->column_count == 0, value(row, "row"), "columns of horizontal writing");
+    compare_bytes(row, "cid_set", font->cid_set, font->cid_set_size);
+    compare_text(row, "name", font->font_name, font->font_name_size);
+    compare_text(row, "to_unicode", font->to_unicode, font->to_unicode_size);
+    compare_text(row, "encoding", font->encoding, font->encoding_size);
+    say("/CMapName /%.*s def", (int)font->encoding_name_size, (const char *)font->encoding_name);
+    check((font->encoding_size == 0 && font->encoding_name_size == 0) || strstr(value(row, "encoding"), said) != NULL,
+          value(row, "row"), "the name of the CMap");
+    said_size = 0;
+}
+
+static void compare_numbers(const struct row *row, const subsetter_pdf_font *font)
+{
+    say("%s", KINDS[font->kind]);
+    compare(row, "kind");
+    compare_number(row, "default_width", font->default_width);
+    if (font->is_vertical)
+        say("%d %d", font->default_column[0], font->default_column[1]);
+    compare(row, "dw2");
+    compare_number(row, "flags", font->flags);
+    say("%d %d %d %d", font->bounds[0], font->bounds[1], font->bounds[2], font->bounds[3]);
+    compare(row, "bounds");
+    say("%g", font->italic_angle / 1000.0);
+    compare(row, "angle");
+    compare_number(row, "ascent", font->ascent);
+    compare_number(row, "descent", font->descent);
+    compare_number(row, "cap_height", font->cap_height);
+    if (font->has_x_height)
+        say("%d", font->x_height);
+    else
+        say("-");
+    compare(row, "x_height");
+    compare_number(row, "stem_v", font->stem_v);
+    compare_number(row, "font_weight", font->font_weight);
+    say("%s subsetting %u outlines %u", USAGES[font->usage], font->may_subset, font->may_embed_outlines);
+    compare(row, "permission");
+}
+
+/* ---- objects */
+
+static uint8_t wanted[TEXT * 4];
+static size_t wanted_size;
+
+static void want(const void *bytes, size_t size)
+{
+    memcpy(wanted + wanted_size, bytes, size);
+    wanted_size += size;
+}
+
+/* Objects of a row from number 4 on, with the streams of the font. */
+static void compare_objects(const struct row *row, const subsetter_pdf_font *font)
+{
+    struct {
+        const uint8_t *bytes;
+        size_t size;
+    } streams[4] = {{font->program, font->program_size}, {font->to_unicode, font->to_unicode_size}};
+    size_t stream = 2, count = 0, offsets[8];
+    if (font->cid_set_size > 0) {
+        streams[stream].bytes = font->cid_set;
+        streams[stream++].size = font->cid_set_size;
+    }
+    streams[stream].bytes = font->encoding;
+    streams[stream].size = font->encoding_size;
+    wanted_size = 0;
+    for (size_t i = 0; i < row->count; i++) {
+        if (strcmp(row->fields[i].name, "object") != 0)
+            continue;
+        const char *dictionary = strchr(row->fields[i].value, ' ') + 1;
+        char front[32];
+        offsets[count] = wanted_size;
+        want(front, (size_t)snprintf(front, sizeof front, "%d 0 obj\n", (int)count + 4));
+        want(dictionary, strlen(dictionary));
+        if (count >= 3) {
+            want("\nstream\n", 8);
+            want(streams[count - 3].bytes, streams[count - 3].size);
+            want("\nendstream", 10);
+        }
+        want("\nendobj\n", 8);
+        count++;
+    }
+    const char *name = value(row, "row");
+    subsetter_pdf_objects made;
+    check(subsetter_make_pdf_objects(font, 4, &made) == 0, name, "no objects");
+    check(made.offset_count == count, name, "as many objects");
+    check(made.size == wanted_size && memcmp(made.bytes, wanted, wanted_size) == 0, name, "the objects");
+    check(made.offset_count == count && memcmp(made.offsets, offsets, count * sizeof *offsets) == 0, name, "the offsets");
+    subsetter_free_pdf_objects(&made);
+    check(made.bytes == NULL && made.size == 0 && made.offsets == NULL && made.offset_count == 0, name, "what is left of objects");
+    subsetter_free_pdf_objects(&made);
+}
+
+/* Whether a file ends with an object's text and the rest of a PDF. */
+static int contains(const uint8_t *bytes, size_t size, const char *part)
+{
+    size_t length = strlen(part);
+    for (size_t i = 0; i + length <= size; i++)
+        if (memcmp(bytes + i, part, length) == 0)
+            return 1;
+    return 0;
+}
+
+static uint32_t sheet(const struct row *row, const subsetter_pdf_font *font, uint32_t layout, subsetter_pdf_objects *made)
+{
+    return subsetter_make_pdf_sheet(font, row->glyphs, row->glyph_count, row->text, row->text_count, row->ends, row->glyph_count,
+                                    layout, made);
+}
+
+static void compare_sheets(const struct row *row, const subsetter_pdf_font *font)
+{
+    const char *name = value(row, "row");
+    subsetter_pdf_objects line, grid, own;
+    check(sheet(row, font, SUBSETTER_LAYOUT_LINE, &line) == 0 && sheet(row, font, SUBSETTER_LAYOUT_GRID, &grid) == 0, name, "a sheet");
+    check(subsetter_make_pdf_objects(font, 5, &own) == 0, name, "objects of a sheet");
+    said_size = 0;
+    check(line.offset_count == 0 && grid.offset_count == 0, name, "offsets of a sheet");
+    check(memcmp(line.bytes, "%PDF-1.7\n", 9) == 0 && memcmp(line.bytes + line.size - 6, "%%EOF\n", 6) == 0, name, "a whole file");
+    int is_there = 0;
+    for (size_t i = 0; own.size <= line.size && i <= line.size - own.size; i++)
+        is_there |= memcmp(line.bytes + i, own.bytes, own.size) == 0;
+    check(is_there, name, "the objects in the sheet");
+    size_t points = 0;
+    for (size_t i = 0; i < font->cid_count; i++)
+        points += font->is_vertical ? (size_t)-font->columns[font->cids[i]].advance : font->widths[font->cids[i]];
+    points = 72 + (36 * points + 999) / 1000;
+    char page[64];
+    snprintf(page, sizeof page, font->is_vertical ? "[0 0 144 %zu]" : "[0 0 %zu 144]", points);
+    check(contains(line.bytes, line.size, page), name, "the length of a line");
+    check(!contains(line.bytes, line.size, "[0 0 595 842]") && contains(grid.bytes, grid.size, "[0 0 595 842]"), name, "the pages");
+    size_t silent = 0;
+    for (size_t i = 0; i < font->said_count; i++)
+        silent += !font->is_said[i];
+    check(contains(line.bytes, line.size, "/ActualText") == (silent > 0), name, "texts that codes don't say");
+    subsetter_free_pdf_objects(&line);
+    subsetter_free_pdf_objects(&grid);
+    subsetter_free_pdf_objects(&own);
+}
+
+/* ---- calls */
+
+static uint32_t make(const struct row *row, const subsetter_pdf_options *options, subsetter_pdf_font *font)
+{
+    return subsetter_make_pdf_font(row->font, row->font_size, 0, row->coordinates, row->coordinate_count, row->glyphs,
+                                   row->glyph_count, row->text, row->text_count, row->ends, row->glyph_count, options, font);
+}
+
+static int is_nothing(const subsetter_pdf_font *font)
+{
+    subsetter_pdf_font nothing;
+    memset(&nothing, 0, sizeof nothing);
+    /* (there may be room behind the last number) */
+    return memcmp(font, &nothing, offsetof(subsetter_pdf_font, may_embed_outlines) + 4) == 0;
+}
+
+static void answer(const struct row *row)
+{
+    const char *name = value(row, "row"), *error = value(row, "error");
+    subsetter_pdf_font font;
+    memset(&font, 0xa5, sizeof font);
+    uint32_t status = make(row, &row->options, &font);
+    if (error != NULL) {
+        check(status == (strcmp(error, "NotPermitted") == 0 ? SUBSETTER_NOT_PERMITTED : SUBSETTER_INVALID_TEXT), name, error);
+        check(is_nothing(&font), name, "what is left of no font");
+        return;
+    }
+    check(status == 0, name, "the status");
+    if (status != 0)
+        return;
+    compare_lists(row, &font);
+    compare_numbers(row, &font);
+    compare_objects(row, &font);
+    compare_sheets(row, &font);
+    subsetter_free_pdf_font(&font);
+    check(is_nothing(&font), name, "what is left of a font");
+    subsetter_free_pdf_font(&font);
+}
+
+/* Refuses each request in turn. */
+static void refuse(const struct row *row)
+{
+#ifndef SUBSETTER_SHARED
+    const char *name = value(row, "row");
+    for (unsigned long request = 1;; request++) {
+        subsetter_pdf_font font;
+        subsetter_pdf_objects objects = {NULL, 0, NULL, 0}, page = {NULL, 0, NULL, 0};
+        long before = held;
+        requests = 0;
+        refused = request;
+        uint32_t status = make(row, &row->options, &font);
+        uint32_t then = status == 0 ? subsetter_make_pdf_objects(&font, 4, &objects) : 0;
+        uint32_t last = status == 0 && then == 0 ? sheet(row, &font, 0, &page) : 0;
+        int was_refused = requests >= request;
+        refused = 0;
+        check(!was_refused || status == 7 || then == 7 || last == 7 || (status == 0 && then == 0 && last == 0), name, "a refused request");
+        check(status == 0 || is_nothing(&font), name, "what is left without memory");
+        check(then == 0 || (objects.bytes == NULL && objects.offsets == NULL), name, "objects without memory");
+        check(last == 0 || page.bytes == NULL, name, "a sheet without memory");
+        subsetter_free_pdf_font(&font);
+        subsetter_free_pdf_objects(&objects);
+        subsetter_free_pdf_objects(&page);
+        check(held == before, name, "memory that isn't given back");
+        if (!was_refused) {
+            check(request > 20 || status != 0, name, "requests of the calls");
+            return;
+        }
+    }
+#else
+    (void)row;
+#endif
+}
+
+/* ---- damaged fonts */
+
+static uint32_t state = 1;
+
+static uint32_t random_number(void)
+{
+    state ^= state << 13;
+    state ^= state >> 17;
+    return state ^= state << 5;
+}
+
+/* Fonts with some other bytes, or an end that is cut off: a call answers a known status, and all memory comes back. */
+static void damage(const struct row *row, int times)
+{
+    static struct row other;
+    for (int i = 0; i < times; i++) {
+        subsetter_pdf_font font;
+        subsetter_pdf_objects objects;
+        uint16_t glyphs[CHARACTERS];
+        size_t length;
+        long before = held;
+        other = *row;
+        /* (a block of the damaged font's own size, so that a byte past its end is found) */
+        other.font_size = random_number() % 4 == 0 ? random_number() % (row->font_size + 1) : row->font_size;
+        other.font = malloc(other.font_size + (other.font_size == 0));
+        memcpy(other.font, row->font, other.font_size);
+        for (uint32_t bytes = random_number() % 8; bytes > 0 && other.font_size > 0; bytes--)
+            other.font[random_number() % other.font_size] = (uint8_t)random_number();
+        uint32_t found = subsetter_glyphs_of(other.font, other.font_size, 0, row->text, row->text_count, glyphs, CHARACTERS, &length);
+        check(found < 8 && (found == 0 ? length == row->text_count : length == 0), "a damaged font", "its glyphs");
+        uint32_t status = make(&other, &other.options, &font);
+        check(status < 8 || status == 11 || status == 12, "a damaged font", "its status");
+        check(status == 0 || is_nothing(&font), "a damaged font", "what is left");
+        if (status == 0) {
+            check(subsetter_make_pdf_objects(&font, 4, &objects) == 0 && objects.offset_count >= 5, "a damaged font", "its objects");
+            subsetter_free_pdf_objects(&objects);
+            check(sheet(&other, &font, SUBSETTER_LAYOUT_LINE, &objects) == 0 && objects.size > 500, "a damaged font", "its sheet");
+            subsetter_free_pdf_objects(&objects);
+        }
+        subsetter_free_pdf_font(&font);
+        free(other.font);
+        check(held == before, "a damaged font", "memory that isn't given back");
+    }
+}
+
+/* ---- what rows don't say */
+
+static void try_options(struct row *row)
+{
+    subsetter_pdf_font font;
+    subsetter_pdf_options options = SUBSETTER_DEFAULT_PDF_OPTIONS;
+    check(make(row, NULL, &font) == 0, "no options", "status");
+    subsetter_free_pdf_font(&font);
+    uint32_t *words = &options.size;
+    const uint32_t most[] = {52, 9, 255, 7, 1 << 20, 1, 2, 1, 1, 1, 1};
+    for (size_t word = 1; word < 11; word++) {
+        words[word] = word == 1 || word == 4 ? most[word] : most[word] + 1;
+        int is_known = word == 1 || word == 4;
+        check((make(row, &options, &font) == 0) == is_known && (is_known || is_nothing(&font)), "an option", "one more than is known");
+        subsetter_free_pdf_font(&font);
+        words[word] = most[word];
+        check(make(row, &options, &font) == 0, "an option", "the greatest");
+        subsetter_free_pdf_font(&font);
+        words[word] = 0;
+    }
+    /* Of a shorter struct the rest is 0, and a size that isn't known is refused. */
+    options.cid_set = 1;
+    for (uint32_t size = 0; size <= 60; size++) {
+        options.size = size;
+        uint32_t status = size > 52 ? 10 : make(row, &options, &font);
+        check(status == (size % 4 == 0 && size >= 4 && size <= 52 ? 0 : 10), "a size of options", "status");
+        if (status == 0)
+            check((font.cid_set_size > 0) == (size >= 40), "a size of options", "fields past it");
+        if (size <= 52)
+            subsetter_free_pdf_font(&font);
+    }
+    const uint32_t many[14] = {56};
+    check(subsetter_make_pdf_font_by_words(row->font, row->font_size, 0, NULL, 0, NULL, 0, NULL, 0, NULL, 0, many, 14, &font) == 10,
+          "too many words", "status");
+    options.size = sizeof options;
+    options.tag[0] = SUBSETTER_LETTERS('Z', 'Y', 'X');
+    check(make(row, &options, &font) == 10, "half a tag", "status");
+    options.tag[1] = SUBSETTER_LETTERS('W', 'V', 'u');
+    check(make(row, &options, &font) == 10, "a small letter", "status");
+    options.tag[1] = SUBSETTER_LETTERS('W', 'V', 'U') | 1u << 24;
+    check(make(row, &options, &font) == 10, "a fourth letter", "status");
+    options.tag[1] = SUBSETTER_LETTERS('W', 'V', 'U');
+    check(make(row, &options, &font) == 0 && memcmp(font.font_name, "ZYXWVU+Made-Regular", 19) == 0, "a tag", "the name");
+    subsetter_free_pdf_font(&font);
+    options.bytes = 100;
+    check(make(row, &options, &font) == 5, "a bound", "status");
+}
+
+static uint32_t make_text(const struct row *row, const uint32_t *text, size_t text_count, const size_t *ends, size_t end_count)
+{
+    subsetter_pdf_font font;
+    uint32_t status = subsetter_make_pdf_font(row->font, row->font_size, 0, NULL, 0, row->glyphs, 2, text, text_count, ends,
+                                              end_count, NULL, &font);
+    check(status == 0 || is_nothing(&font), "a text", "what is left");
+    subsetter_free_pdf_font(&font);
+    return status;
+}
+
+static void try_texts(const struct row *row)
+{
+    uint32_t text[600] = {'A', 'B', 'C'};
+    const size_t ends[] = {1, 2}, whole[] = {0, 3}, falling[] = {2, 1}, beyond[] = {1, 4}, three[] = {1, 2, 3}, longest[] = {256, 512},
+                 longer[] = {257, 512};
+    check(make_text(row, text, 2, ends, 2) == 0 && make_text(row, text, 3, whole, 2) == 0, "a text", "status");
+    check(make_text(row, text, 3, ends, 2) == 0, "a text with more behind it", "status");
+    check(make_text(row, text, 3, falling, 2) == 12, "ends that fall", "status");
+    check(make_text(row, text, 3, beyond, 2) == 12, "an end beyond the text", "status");
+    check(make_text(row, text, 3, ends, 1) == 12 && make_text(row, text, 3, three, 3) == 12, "ends of other entries", "status");
+    for (int i = 0; i < 600; i++)
+        text[i] = 'a';
+    check(make_text(row, text, 600, longest, 2) == 0, "the longest text", "status");
+    check(make_text(row, text, 600, longer, 2) == 12, "a longer text", "status");
+    const uint32_t wrong[] = {0xd800, 0xdfff, 0x110000, 0xffffffff}, right[] = {0, 0xd7ff, 0xe000, 0x10ffff};
+    for (int i = 0; i < 4; i++) {
+        text[1] = wrong[i];
+        check(make_text(row, text, 2, ends, 2) == 12, "no character", "status");
+        text[1] = right[i];
+        check(make_text(row, text, 2, ends, 2) == 0, "a character", "status");
+    }
+    /* What comes first: options, texts, opening, permission. */
+    subsetter_pdf_font font;
+    const subsetter_pdf_options unknown = {52, 0, 0, 0, 0, 9, 0, 0, 0, 0, 0, {0, 0}};
+    text[1] = 0xd800;
+    check(subsetter_make_pdf_font((const uint8_t *)"no", 2, 0, NULL, 0, row->glyphs, 2, text, 2, ends, 2, &unknown, &font) == 10,
+          "options before texts", "status");
+    check(subsetter_make_pdf_font((const uint8_t *)"no", 2, 0, NULL, 0, row->glyphs, 2, text, 2, ends, 2, NULL, &font) == 12,
+          "texts before opening", "status");
+    check(subsetter_make_pdf_font((const uint8_t *)"no", 2, 0, NULL, 0, row->glyphs, 2, text, 1, ends, 0, NULL, &font) == 12
+              && subsetter_make_pdf_font((const uint8_t *)"no", 2, 0, NULL, 0, NULL, 0, NULL, 0, NULL, 0, NULL, &font) == 1,
+          "opening", "status");
+}
+
+static void try_sheets(const struct row *row)
+{
+    subsetter_pdf_font font;
+    subsetter_pdf_objects made;
+    check(make(row, NULL, &font) == 0, "a font", "status");
+    check(sheet(row, &font, 2, &made) == SUBSETTER_UNKNOWN_OPTION && made.bytes == NULL, "another layout", "status");
+    const uint32_t wrong[] = {0xd800};
+    const size_t ends[] = {1};
+    check(subsetter_make_pdf_sheet(&font, row->glyphs, 1, wrong, 1, ends, 1, 0, &made) == 12 && made.bytes == NULL, "no character", "status");
+    check(subsetter_make_pdf_objects(&font, UINT32_MAX - 7, &made) == 0, "the last number", "status");
+    subsetter_free_pdf_objects(&made);
+    check(subsetter_make_pdf_objects(&font, UINT32_MAX - 6, &made) == 5 && made.bytes == NULL, "no number", "status");
+    subsetter_free_pdf_font(&font);
+    subsetter_free_pdf_font(NULL);
+    subsetter_free_pdf_objects(NULL);
+}
+
+static void try_glyphs(const struct row *row)
+{
+    const uint32_t text[] = {'A', 'H', 0x1f600, 'z'};
+    uint16_t glyphs[5] = {7, 7, 7, 7, 7};
+    size_t length = 9;
+    check(subsetter_glyphs_of(row->font, row->font_size, 0, text, 4, glyphs, 3, &length) == 8 && length == 4 && glyphs[0] == 7,
+          "glyphs without room", "status");
+    check(subsetter_glyphs_of(row->font, row->font_size, 0, text, 4, glyphs, 5, &length) == 0 && length == 4, "glyphs", "status");
+    check(glyphs[0] == 1 && glyphs[1] == 9 && glyphs[2] == 6 && glyphs[3] == 0 && glyphs[4] == 7, "glyphs", "numbers");
+    check(subsetter_glyphs_of(row->font, row->font_size, 0, NULL, 0, NULL, 0, &length) == 0 && length == 0, "no text", "status");
+    const uint32_t wrong[] = {'A', 0xdfff};
+    check(subsetter_glyphs_of(row->font, row->font_size, 0, wrong, 2, glyphs, 5, &length) == 12 && length == 0, "no character", "status");
+    check(subsetter_glyphs_of(row->font, 40, 0, text, 4, glyphs, 5, &length) == 2 && length == 0, "a cut font", "status");
+    check(subsetter_glyphs_of((const uint8_t *)"no", 2, 0, text, 4, glyphs, 5, &length) == 1 && length == 0, "no font", "status");
+#ifndef SUBSETTER_SHARED
+    refused = 1;
+    requests = 0;
+    check(subsetter_glyphs_of(row->font, row->font_size, 0, text, 4, glyphs, 5, &length) == 7 && length == 0, "no memory", "status");
+    refused = 0;
+#endif
+}
+
+static void put_number(uint8_t *at, uint32_t number, int bytes)
+{
+    while (bytes-- > 0) {
+        at[bytes] = (uint8_t)number;
+        number >>= 8;
+    }
+}
+
+/* A collection of a font and of the same without `cmap` and `OS/2`: each call takes the face that it is given. */
+static void try_faces(const struct row *row)
+{
+    size_t count = row->font[5], front = 12 + 16 * count, shift = 20 + front, size = shift + row->font_size, length;
+    uint8_t *bytes = calloc(1, size);
+    put_number(bytes, 0x74746366, 4);
+    put_number(bytes + 4, 0x10000, 4);
+    put_number(bytes + 8, 2, 4);
+    memcpy(bytes + shift, row->font, row->font_size);
+    for (size_t face = 0; face < 2; face++) {
+        uint8_t *directory = bytes + 20 + face * front;
+        put_number(bytes + 12 + 4 * face, (uint32_t)(20 + face * front), 4);
+        memcpy(directory, row->font, front);
+        for (uint8_t *record = directory + 12; record < directory + front; record += 16) {
+            put_number(record + 8, (uint32_t)(shift + ((uint32_t)record[8] << 24 | record[9] << 16 | record[10] << 8 | record[11])), 4);
+            if (face == 1 && (memcmp(record, "cmap", 4) == 0 || memcmp(record, "OS/2", 4) == 0))
+                record[3]++;
+        }
+    }
+    const uint32_t text[] = {'A'};
+    const size_t ends[] = {1};
+    uint16_t glyph[] = {7};
+    subsetter_pdf_font fonts[2];
+    check(subsetter_glyphs_of(bytes, size, 1, text, 1, glyph, 1, &length) == 2 && glyph[0] == 7, "the second face", "glyphs");
+    check(subsetter_glyphs_of(bytes, size, 0, text, 1, glyph, 1, &length) == 0 && glyph[0] == 1, "the first face", "glyphs");
+    check(subsetter_glyphs_of(bytes, size, 2, text, 1, glyph, 1, &length) == 2, "a third face", "glyphs");
+    for (uint32_t face = 0; face < 2; face++)
+        check(subsetter_make_pdf_font(bytes, size, face, NULL, 0, glyph, 1, text, 1, ends, 1, NULL, &fonts[face]) == 0, "a face", "status");
+    check(fonts[0].usage != SUBSETTER_USAGE_UNSAID && fonts[1].usage == SUBSETTER_USAGE_UNSAID, "two faces", "what they permit");
+    subsetter_free_pdf_font(&fonts[0]);
+    subsetter_free_pdf_font(&fonts[1]);
+    free(bytes);
+}
+
+static void try_statuses(void)
+{
+    for (uint32_t status = 0; status < 14; status++) {
+        uint8_t text[64];
+        size_t length;
+        check(subsetter_error_text(status, text, sizeof text, &length) == 0, "the text of a status", "status");
+        check(length == strlen(subsetter_status_text(status)) && memcmp(text, subsetter_status_text(status), length) == 0,
+              "the text of a status", "other in the header");
+    }
+    check(strcmp(subsetter_status_text(11), "embedding not permitted") == 0 && strcmp(subsetter_status_text(12), "invalid text") == 0,
+          "the text of a status", "another");
+}
+
+int main(int count, char **words)
+{
+    size_t size, rows = 0;
+    if (count != 2)
+        return 2;
+    char *const whole = (char *)content(words[1], "pdf_rows.txt", &size), *text = whole;
+    static struct row row;
+    while ((text = read_row(&row, words[1], text)) != NULL) {
+        answer(&row);
+        refuse(&row);
+        damage(&row, DAMAGED);
+        if (rows++ == 0) {
+            try_options(&row);
+            try_texts(&row);
+            try_sheets(&row);
+            try_glyphs(&row);
+            try_faces(&row);
+        }
+        free(row.font);
+    }
+    try_statuses();
+    free(whole);
+    printf("%zu rows for PDF, %zu checks, %zu failed\n", rows, checks, failures);
+    return failures != 0 || rows < 17;
+}

@@ -1,0 +1,7 @@
+//! What an independent program gives for calls with fonts made for this.
+
+pub mod blocks;
+pub mod cff;
+pub mod texts;
+pub mod truetype;
+pub mod variable;

@@ -1,0 +1,88 @@
+//! Rows of `Made Bold`.
+
+use crate::tests::expected::BOLD;
+use crate::tests::font::wanted::{NO_SUBSETS, Wanted};
+use pdf_font::ProgramKind;
+
+/// A bare `CFF `, in vertical writing.
+pub const BARE: Wanted<'static> = Wanted {
+    kind: ProgramKind::BareCff,
+    program: &[
+        1, 0, 4, 4, 0, 1, 1, 1, 10, 77, 97, 100, 101, 45, 66, 111, 108, 100, 0, 1, 1, 1, 63, 248,
+        27, 248, 28, 139, 12, 30, 30, 10, 0, 31, 139, 139, 30, 10, 0, 31, 139, 139, 12, 7, 139,
+        251, 38, 250, 75, 250, 52, 5, 29, 0, 0, 0, 106, 15, 29, 0, 0, 0, 145, 17, 29, 0, 0, 255,
+        255, 12, 34, 29, 0, 0, 0, 121, 12, 36, 29, 0, 0, 0, 113, 12, 37, 0, 2, 1, 1, 6, 14, 65,
+        100, 111, 98, 101, 73, 100, 101, 110, 116, 105, 116, 121, 0, 0, 2, 0, 1, 0, 6, 222, 11, 3,
+        0, 1, 0, 0, 0, 0, 8, 0, 1, 1, 1, 20, 140, 139, 139, 140, 139, 139, 12, 7, 29, 0, 0, 0, 2,
+        29, 0, 0, 0, 111, 18, 0, 8, 1, 1, 13, 25, 37, 49, 63, 75, 77, 89, 248, 136, 188, 22, 249,
+        64, 248, 26, 253, 64, 7, 14, 249, 47, 139, 22, 249, 68, 249, 47, 253, 68, 7, 14, 249, 47,
+        212, 22, 249, 68, 248, 149, 253, 68, 7, 14, 248, 192, 149, 22, 249, 73, 248, 153, 253, 73,
+        7, 14, 250, 124, 188, 251, 38, 21, 250, 51, 250, 26, 254, 51, 7, 14, 249, 47, 139, 22, 249,
+        68, 249, 47, 253, 68, 7, 14, 139, 14, 248, 136, 144, 22, 248, 124, 248, 124, 252, 124, 7,
+        14,
+    ],
+    glyph_count: 8,
+    cids: &[1, 2, 3, 4, 5, 2, 6, 7],
+    codes: &[1, 2, 3, 4, 5, 2, 6, 7],
+    is_said: &[true, true, true, true, true, false, false, true],
+    widths: &[500, 667, 667, 556, 1000, 667, 0, 500],
+    default_width: 667,
+    columns: &[
+        (-1000, 250, 880),
+        (-1000, 334, 880),
+        (-1000, 334, 880),
+        (-500, 278, 700),
+        (-1000, 500, 880),
+        (-1000, 334, 880),
+        (-1000, 0, 880),
+        (-1000, 250, 880),
+    ],
+    default_column: (880, -1000),
+    name: b"OVQQEL+Made-Bold",
+    values: BOLD,
+    permission: NO_SUBSETS,
+    cid_set: &[0xFF],
+    to_unicode: b"/CIDInit /ProcSet findresource begin\n12 dict begin\nbegincmap\n/CIDSystemInfo << /Registry (Adobe) /Ordering (UCS) /Supplement 0 >> def\n/CMapName /Adobe-Identity-UCS def\n/CMapType 2 def\n1 begincodespacerange\n<0000> <FFFF>\nendcodespacerange\n6 beginbfchar\n<0001> <0041>\n<0002> <0042>\n<0003> <00660069>\n<0004> <D83DDE00>\n<0005> <00C1>\n<0007> <0078>\nendbfchar\nendcmap\nCMapName currentdict /CMap defineresource pop\nend\nend\n",
+    encoding_name: b"",
+    encoding: b"",
+};
+
+/// Two glyphs as a whole font.
+pub const OPEN_TYPE: Wanted<'static> = Wanted {
+    kind: ProgramKind::OpenType,
+    program: &[
+        79, 84, 84, 79, 0, 6, 0, 64, 0, 2, 0, 32, 67, 70, 70, 32, 8, 88, 53, 72, 0, 0, 0, 108, 0,
+        0, 0, 188, 104, 101, 97, 100, 15, 245, 139, 238, 0, 0, 1, 40, 0, 0, 0, 54, 104, 104, 101,
+        97, 3, 184, 3, 235, 0, 0, 1, 96, 0, 0, 0, 36, 104, 109, 116, 120, 4, 216, 0, 49, 0, 0, 1,
+        132, 0, 0, 0, 10, 109, 97, 120, 112, 0, 3, 80, 0, 0, 0, 1, 144, 0, 0, 0, 6, 112, 111, 115,
+        116, 0, 3, 0, 1, 0, 0, 1, 152, 0, 0, 0, 32, 1, 0, 4, 4, 0, 1, 1, 1, 10, 77, 97, 100, 101,
+        45, 66, 111, 108, 100, 0, 1, 1, 1, 63, 248, 27, 248, 28, 139, 12, 30, 30, 10, 0, 31, 139,
+        139, 30, 10, 0, 31, 139, 139, 12, 7, 139, 251, 38, 250, 75, 250, 52, 5, 29, 0, 0, 0, 106,
+        15, 29, 0, 0, 0, 145, 17, 29, 0, 0, 255, 255, 12, 34, 29, 0, 0, 0, 121, 12, 36, 29, 0, 0,
+        0, 113, 12, 37, 0, 2, 1, 1, 6, 14, 65, 100, 111, 98, 101, 73, 100, 101, 110, 116, 105, 116,
+        121, 0, 0, 2, 0, 1, 0, 1, 222, 11, 3, 0, 1, 0, 0, 0, 0, 3, 0, 1, 1, 1, 20, 140, 139, 139,
+        140, 139, 139, 12, 7, 29, 0, 0, 0, 2, 29, 0, 0, 0, 111, 18, 0, 3, 1, 1, 13, 25, 37, 248,
+        136, 188, 22, 249, 64, 248, 26, 253, 64, 7, 14, 249, 47, 139, 22, 249, 68, 249, 47, 253,
+        68, 7, 14, 249, 47, 212, 22, 249, 68, 248, 149, 253, 68, 7, 14, 0, 1, 0, 0, 0, 1, 0, 0,
+        198, 57, 186, 62, 95, 15, 60, 245, 0, 3, 3, 232, 0, 0, 0, 0, 214, 147, 164, 0, 0, 0, 0, 0,
+        214, 147, 164, 0, 0, 0, 255, 110, 3, 183, 3, 160, 0, 0, 0, 3, 0, 2, 0, 0, 0, 0, 0, 0, 0, 1,
+        0, 0, 0, 0, 0, 0, 0, 0, 3, 232, 0, 0, 0, 0, 3, 183, 0, 1, 0, 0, 0, 0, 0, 0, 0, 0, 0, 0, 0,
+        0, 0, 0, 0, 2, 1, 244, 0, 49, 2, 155, 0, 0, 0, 73, 0, 0, 0, 0, 80, 0, 0, 3, 0, 0, 0, 3, 0,
+        0, 0, 0, 0, 0, 0, 0, 0, 0, 0, 0, 0, 1, 0, 0, 0, 0, 0, 0, 0, 0, 0, 0, 0, 0, 0, 0, 0, 0,
+    ],
+    glyph_count: 3,
+    cids: &[1, 2],
+    codes: &[1, 2],
+    is_said: &[true, true],
+    widths: &[500, 667, 667],
+    default_width: 667,
+    columns: &[],
+    default_column: (0, 0),
+    name: b"EGYWKD+Made-Bold",
+    values: BOLD,
+    permission: NO_SUBSETS,
+    cid_set: &[0xE0],
+    to_unicode: b"/CIDInit /ProcSet findresource begin\n12 dict begin\nbegincmap\n/CIDSystemInfo << /Registry (Adobe) /Ordering (UCS) /Supplement 0 >> def\n/CMapName /Adobe-Identity-UCS def\n/CMapType 2 def\n1 begincodespacerange\n<0000> <FFFF>\nendcodespacerange\n2 beginbfchar\n<0001> <0041>\n<0002> <0042>\nendbfchar\nendcmap\nCMapName currentdict /CMap defineresource pop\nend\nend\n",
+    encoding_name: b"",
+    encoding: b"",
+};

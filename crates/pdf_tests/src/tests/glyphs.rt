@@ -1,0 +1,181 @@
+//! `pdf_glyphs`: tops, boxes and columns of three fonts made for this, against the values of an independent program; of the
+//! one that is moved against those of fontTools' instancer.
+
+use crate::tests::tables::{bold, regular, vertical};
+use pdf_glyphs::{
+    HeightVariation, OutlineTables, VerticalTables, box_around, columns_at, columns_of, top_of,
+};
+use pdf_text::Column;
+use pdf_values::GlyphBox;
+use std::alloc::Global;
+use std::test::*;
+
+const GLYPHS: [u16; 8] = [1, 2, 5, 6, 8, 2, 11, 10];
+
+const WIDTHS: [u32; 9] = [500, 667, 667, 556, 1000, 667, 0, 500, 333];
+
+/// Whether columns have these numbers.
+fn are(columns: &[Column], wanted: &[[i32; 3]]) -> bool {
+    if columns.len() != wanted.len() {
+        return false;
+    }
+    for (column, [advance, x, y]) in columns.iter().zip(wanted) {
+        if column.advance != *advance || column.x != *x || column.y != *y {
+            return false;
+        }
+    }
+    true
+}
+
+#[test]
+fn truetype_columns(rt: HostRuntime) -> Result<(), Fail> {
+    let outlines = OutlineTables {
+        head: Some(&regular::HEAD),
+        loca: Some(&regular::LOCA),
+        glyf: Some(&regular::GLYF),
+    };
+    assert_eq!(rt; top_of(outlines, Some(&regular::CMAP), 'H'), Some(1409));
+    assert_eq!(rt; top_of(outlines, Some(&regular::CMAP), 'x'), Some(1000));
+    assert_eq!(rt; top_of(outlines, Some(&regular::CMAP), 'Z'), None);
+    assert!(rt;
+        box_around(outlines, 12)
+            == Some(GlyphBox {
+                x_min: 0,
+                y_min: -300,
+                x_max: 1948,
+                y_max: 1900
+            })
+    );
+    let tables = VerticalTables {
+        vhea: Some(&regular::VHEA),
+        vmtx: Some(&regular::VMTX),
+        vorg: Some(&bold::VORG),
+        outlines,
+    };
+    let made = columns_of(rt.alloc(), tables, &GLYPHS, &WIDTHS)?;
+    let wanted = [
+        [-1000, 250, 880],
+        [-1000, 334, 880],
+        [-1000, 334, 880],
+        [-500, 278, 880],
+        [-1000, 500, 929],
+        [-1000, 334, 880],
+        [-1000, 0, 880],
+        [-1000, 250, 880],
+    ];
+    assert!(rt; are(&made.each, &wanted));
+    assert!(rt; made.default.y == 880 && made.default.advance == -1000);
+    Ok(())
+}
+
+#[test]
+fn cff_columns(rt: HostRuntime) -> Result<(), Fail> {
+    let outlines = OutlineTables {
+        head: Some(&bold::HEAD),
+        loca: None,
+        glyf: None,
+    };
+    let tables = VerticalTables {
+        vhea: Some(&bold::VHEA),
+        vmtx: Some(&bold::VMTX),
+        vorg: Some(&bold::VORG),
+        outlines,
+    };
+    let made = columns_of(rt.alloc(), tables, &GLYPHS, &WIDTHS)?;
+    let wanted = [
+        [-1000, 250, 880],
+        [-1000, 334, 880],
+        [-1000, 334, 880],
+        [-500, 278, 700],
+        [-1000, 500, 880],
+        [-1000, 334, 880],
+        [-1000, 0, 880],
+        [-1000, 250, 880],
+    ];
+    assert!(rt; are(&made.each, &wanted));
+    let cut = VerticalTables {
+        vmtx: Some(&bold::VMTX[..21]),
+        ..tables
+    };
+    let made = columns_of(rt.alloc(), cut, &[5, 4], &WIDTHS)?;
+    assert!(rt;
+        are(
+            &made.each,
+            &[[-1000, 250, 880], [-1000, 334, 880], [-1000, 334, 880]]
+        )
+    );
+    let none = VerticalTables {
+        vmtx: None,
+        ..tables
+    };
+    let made = columns_of(rt.alloc(), none, &[5], &WIDTHS)?;
+    assert!(rt; are(&made.each, &[[-1000, 250, 880], [-1000, 334, 880]]));
+    assert!(rt; made.default.y == 880 && made.default.advance == -1000);
+    Ok(())
+}
+
+/// Whether the advances at these coordinates, by these bytes of `VVAR`, are these; the origins are the default's.
+fn moved_are(
+    alloc: Global,
+    at: &[i32],
+    vvar: &[u8],
+    advances: [i32; 5],
+) -> Result<bool, subsetter_base::Error> {
+    let outlines = OutlineTables {
+        head: Some(&vertical::HEAD),
+        loca: Some(&vertical::LOCA),
+        glyf: Some(&vertical::GLYF),
+    };
+    let tables = VerticalTables {
+        vhea: Some(&vertical::VHEA),
+        vmtx: Some(&vertical::VMTX),
+        vorg: None,
+        outlines,
+    };
+    let variation = Some(HeightVariation { at, vvar });
+    let widths = [500, 667, 667, 244, 488];
+    let made = columns_at(alloc, tables, variation, &[1, 2, 3, 4], &widths)?;
+    let [a, b, c, d, e] = advances;
+    let wanted = [
+        [a, 250, 880],
+        [b, 334, 880],
+        [c, 334, 880],
+        [d, 122, 430],
+        [e, 244, 880],
+    ];
+    Ok(are(&made.each, &wanted))
+}
+
+#[test]
+fn moved_columns(rt: HostRuntime) -> Result<(), Fail> {
+    let alloc = rt.alloc();
+    let default = [-1000, -1000, -977, -500, -732];
+    assert!(rt;
+        moved_are(
+            alloc,
+            &[8192, -12288],
+            &vertical::VVAR,
+            [-1000, -1025, -1064, -328, -746]
+        )?
+    );
+    assert!(rt;
+        moved_are(
+            alloc,
+            &[16384, -16384],
+            &vertical::VVAR,
+            [-1000, -1049, -1143, -155, -750]
+        )?
+    );
+    assert!(rt;
+        moved_are(
+            alloc,
+            &[-8192, 0],
+            &vertical::VVAR,
+            [-1000, -987, -937, -594, -732]
+        )?
+    );
+    // Where `VVAR` can't be read, the default's advances stay.
+    assert!(rt; moved_are(alloc, &[8192, -12288], &vertical::VVAR[..40], default)?);
+    assert!(rt; moved_are(alloc, &[8192], &vertical::VVAR, default)?);
+    Ok(())
+}
