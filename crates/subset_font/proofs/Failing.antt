@@ -12,7 +12,7 @@ use Rattle.subset_font.specs.declared.task.Asked.{Asked}
 use Rattle.subset_font.specs.declared.task.Asked.TheVariants.{These, Every, ByText, ByCharacters}
 use Rattle.subset_args.specs.declared.options.PdfChoice.{PdfChoice}
 use Rattle.subset_pdf.specs.declared.sheet.SheetError.{SheetError}
-use Rattle.subset_pdf.specs.declared.sheet.SheetError.TheVariants.{Font, NotPermitted as Forbidden}
+use Rattle.subset_pdf.specs.declared.sheet.SheetError.TheVariants.{Font as RefusedFont, NotPermitted as Forbidden}
 use Rattle.subset_font.specs.Sheet.{failure_of, IsUnshownIf}
 use Rattle.subset_font.specs.declared.subset.Made.{Made}
 use Rattle.subset_font.specs.declared.outcome.Outcome.{Outcome}
@@ -37,7 +37,7 @@ unplaced_kind failure (inr (inl e)) = subst IsOfMaking (sym e) tt
 unplaced_kind failure (inr (inr e)) = subst IsOfMaking (sym e) tt
 
 sheet_error_kind : (why : SheetError) → IsOfMaking (failure_of why)
-sheet_error_kind (Font e) = tt
+sheet_error_kind (RefusedFont e) = tt
 sheet_error_kind (Forbidden permission) = tt
 
 unshown_if_kind : (choice : Option PdfChoice) (task : Task) (bytes : List ℕ) (made : Made) (failure : Failure) → IsUnshownIf choice task bytes made failure → IsOfMaking failure

@@ -52,7 +52,6 @@ fn request_of<'a>(task: &Task<'a>, choice: PdfChoice) -> PdfRequest<'a>
 }
 
 /// The PDF of what a task made, by a choice.
-#[tactic(auto, using(crate::proofs::Sheets::shown_of, crate::proofs::Sheets::unshown_by))]
 fn make_shown(
     alloc: Global,
     font: &[u8],
