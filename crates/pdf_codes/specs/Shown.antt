@@ -1,6 +1,5 @@
 -- The glyphs in use, and their texts.
-use Rattle.std.specs.Prelude.{ℕ, Bool, List, map, Vec}
-use Rattle.std.specs.Global.{Global}
+use Rattle.std.specs.Prelude.{ℕ, Bool, List, [], ◌∷◌, ◌++◌, map}
 use Rattle.std.specs.List.{list_any}
 use Rattle.pdf_codes.specs.Codes.{Used}
 use Rattle.pdf_codes.specs.Units.{is_long_text, units_of}
@@ -16,10 +15,7 @@ uses_of shown = map use_of shown
 abbrev pub has_long_text : List Used → Bool
 has_long_text us = list_any (λ u. is_long_text u.units) us
 
--- ---- what the code makes of them
-
-abbrev pub texts_view : List (Vec ℕ Global) → List (List ℕ)
-texts_view texts = map (λ t. t.items) texts
-
-abbrev pub units_view : List Used → List (List ℕ)
-units_view us = map (λ u. u.units) us
+-- the texts, one behind the other
+abbrev pub all_units : List Used → List ℕ
+all_units [] = []
+all_units (u ∷ us) = u.units ++ all_units us

@@ -11,7 +11,7 @@ ghost use Rattle.pdf_codes.specs.Texts.{first_text, is_said, lines_of_codes, tex
 
 use crate::codes::{Codes, codes_for, lines_of};
 use crate::leading::{are_cids, pairs_with, write_leading};
-use crate::shown::{Shown, entries_of, texts_of};
+use crate::shown::{Shown, entries_of, units_of_all};
 use crate::texts::texts_for;
 use pdf_text::NamedCmap;
 use std::alloc::Global;
@@ -41,8 +41,8 @@ pub fn codes_of(alloc: Global, shown: &[Shown<'_>], choice: Codes) -> Result<Vec
     ensures room { OnOk result (IsOverfull choice (uses_of shown.now) → ⊥) }
     ensures err { IfErr result (λ e. (e ≡ OutOfMemory) ⊎ ((e ≡ OverflowError) × IsOverfull choice (uses_of shown.now))) }
 {
-    let texts = texts_of(alloc, shown)?;
-    let entries = entries_of(alloc, shown, &texts)?;
+    let units = units_of_all(alloc, shown)?;
+    let entries = entries_of(alloc, shown, &units)?;
     codes_for(alloc, &entries, choice)
 }
 
@@ -66,8 +66,8 @@ pub fn codes_and_texts(
     ensures room { OnOk result (IsOverfull choice (uses_of shown.now) → ⊥) }
     ensures err { IfErr result (λ e. (e ≡ OutOfMemory) ⊎ ((e ≡ OverflowError) × IsOverfull choice (uses_of shown.now))) }
 {
-    let texts = texts_of(alloc, shown)?;
-    let entries = entries_of(alloc, shown, &texts)?;
+    let units = units_of_all(alloc, shown)?;
+    let entries = entries_of(alloc, shown, &units)?;
     let codes = codes_for(alloc, &entries, choice)?;
     let lines = lines_of(alloc, &entries, &codes)?;
     let made = texts_for(alloc, &lines)?;

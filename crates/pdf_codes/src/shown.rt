@@ -3,11 +3,11 @@
 ghost use Rattle.std.specs.Prelude.{◌≡◌, ◌≤◌, length, map, IfOk, IfErr};
 ghost use Rattle.subsetter_base.specs.declared.error.Error.TheVariants.{OutOfMemory};
 ghost use Rattle.pdf_codes.specs.Codes.{glyphs_of, used_of};
-ghost use Rattle.pdf_codes.specs.Shown.{has_long_text, texts_view, units_view, use_of, uses_of};
+ghost use Rattle.pdf_codes.specs.Shown.{all_units, has_long_text, use_of, uses_of};
 ghost use Rattle.pdf_codes.specs.Units.{units_of};
 
 use crate::codes::Entry;
-use crate::units::{is_long, units_of};
+use crate::units::{count_of, is_long, push_text};
 use std::alloc::Global;
 use subsetter_base::Error;
 
@@ -47,17 +47,17 @@ pub fn glyphs_of(alloc: Global, shown: &[Shown<'_>]) -> Result<Vec<u16>, Error>
     Ok(glyphs)
 }
 
-/// The texts in UTF-16.
-pub fn texts_of(alloc: Global, shown: &[Shown<'_>]) -> Result<Vec<Vec<u16>>, Error>
-    ensures ok { IfOk result (λ texts. texts_view texts.items ≡ units_view (uses_of shown.now)) }
-    ensures len { IfOk result (λ texts. length texts.items ≡ length shown.now) }
+/// The texts in UTF-16, one behind the other.
+#[tactic(auto, using(crate::proofs::Written::one_more))]
+pub fn units_of_all(alloc: Global, shown: &[Shown<'_>]) -> Result<Vec<u16>, Error>
+    ensures ok { IfOk result (λ units. units.items ≡ all_units (uses_of shown.now)) }
     ensures err { IfErr result (λ e. e ≡ OutOfMemory) }
 {
-    let mut texts = Vec::with_capacity(alloc, shown.len())?;
+    let mut units = Vec::with_capacity(alloc, shown.len())?;
     for entry in shown {
-        texts.push(units_of(alloc, entry.text)?)?;
+        push_text(&mut units, entry.text)?;
     }
-    Ok(texts)
+    Ok(units)
 }
 
 /// A glyph in use with the units of its text.
@@ -72,20 +72,22 @@ fn entry_of<'a>(shown: Shown<'_>, units: &'a [u16]) -> Entry<'a>
 }
 
 /// Each glyph in use with the units of its text.
-#[tactic(auto, using(crate::proofs::ShownSteps::text_here))]
+#[tactic(auto, using(crate::proofs::ShownSteps::fits, crate::proofs::ShownSteps::text_here, crate::proofs::ShownSteps::texts_behind))]
 pub fn entries_of<'a>(
     alloc: Global,
     shown: &[Shown<'_>],
-    texts: &'a [Vec<u16>],
+    units: &'a [u16],
 ) -> Result<Vec<Entry<'a>>, Error>
-    requires are { texts_view texts.now ≡ units_view (uses_of shown.now) }
-    requires len { length texts.now ≡ length shown.now }
+    requires { units.now ≡ all_units (uses_of shown.now) }
     ensures ok { IfOk result (λ entries. map used_of entries.items ≡ uses_of shown.now) }
     ensures err { IfErr result (λ e. e ≡ OutOfMemory) }
 {
     let mut entries = Vec::with_capacity(alloc, shown.len())?;
-    for place in 0..shown.len() {
-        entries.push(entry_of(shown[place], &texts[place]))?;
+    let mut rest = units;
+    for entry in shown {
+        let (text, behind) = rest.split_at(count_of(entry.text, rest));
+        entries.push(entry_of(*entry, text))?;
+        rest = behind;
     }
     Ok(entries)
 }

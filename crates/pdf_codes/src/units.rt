@@ -4,7 +4,6 @@ ghost use Rattle.std.specs.Prelude.{◌≡◌, ◌≤◌, ◌<◌, ◌+◌, ◌/
 ghost use Rattle.subsetter_base.specs.declared.error.Error.TheVariants.{OutOfMemory};
 ghost use Rattle.pdf_codes.specs.Units.{is_left_out, is_long_text, units_of, units_of_character, utf16};
 
-use std::alloc::Global;
 use subsetter_base::Error;
 
 /// Whether a character is none that the text of a code may have.
@@ -50,21 +49,16 @@ fn push_character(units: &mut Vec<u16>, character: char) -> Result<(), Error>
     push_utf16(units, character)
 }
 
-/// A text in UTF-16, without U+0000, U+FEFF and U+FFFE.
-///
-/// # Errors
-///
-/// `OutOfMemory` alone.
+/// Writes a text in UTF-16, without U+0000, U+FEFF and U+FFFE.
 #[tactic(auto, using(crate::proofs::Written::one_more))]
-pub fn units_of(alloc: Global, text: &[char]) -> Result<Vec<u16>, Error>
-    ensures ok { IfOk result (λ units. units.items ≡ units_of text.now) }
+pub fn push_text(units: &mut Vec<u16>, text: &[char]) -> Result<(), Error>
+    ensures ok { OnOk result (units.new.items ≡ units.old.items ++ units_of text.now) }
     ensures err { IfErr result (λ e. e ≡ OutOfMemory) }
 {
-    let mut units = Vec::with_capacity(alloc, text.len())?;
     for character in text {
-        push_character(&mut units, *character)?;
+        push_character(units, *character)?;
     }
-    Ok(units)
+    Ok(())
 }
 
 /// How many units a character has in the text of a code.
@@ -76,6 +70,19 @@ fn unit_count(character: char) -> usize
         return 0;
     }
     if u32::from(character) < 65536 { 1 } else { 2 }
+}
+
+/// How many units a text has, with which these begin.
+#[tactic(auto, using(crate::proofs::Written::count_more))]
+pub fn count_of(text: &[char], units: &[u16]) -> usize
+    requires { length (units_of text.now) ≤ length units.now }
+    ensures { result ≡ length (units_of text.now) }
+{
+    let mut count = 0;
+    for character in text {
+        count += unit_count(*character);
+    }
+    count
 }
 
 /// Whether a text has more than 256 units.

@@ -1,31 +1,72 @@
 -- How often widths are there, and the most frequent of them.
-use Rattle.std.proofs.Common.{◌≡◌, ℕ, ◌+◌, ◌<◌, ◌≤◌, ◌^◌, eqb, ltb, cond, Bool, true, false, List, length, take, get_or, Option, Some, refl, sym, ap, subst, ◌∙◌, inl, inr, arith}
+use Rattle.std.proofs.Common.{◌≡◌, ℕ, ◌+◌, ◌<◌, ◌≤◌, ◌^◌, eqb, ltb, cond, Bool, true, false, List, length, take, get_or, set, replicate, Option, Some, None, refl, sym, ap, subst, ◌∙◌, inl, inr, arith}
 use Rattle.std.specs.Prelude.{slice_index}
 use Rattle.std.specs.Option.{unwrap_or}
-use Rattle.std.proofs.lemmas.Bool.{eqb-true, ltb-true, lt-ltb, cases_lt}
-use Rattle.std.proofs.lemmas.List.{length-take}
+use Rattle.std.proofs.lemmas.Bool.{eqb-true, eqb-false, ltb-true, lt-ltb, le-ltb, cases_lt}
+use Rattle.std.proofs.lemmas.List.{length-take, length-set, length-replicate, get_or-replicate, get_or-set_same, get_or-set_other}
 use Rattle.std.proofs.lemmas.List.Sums.{count_by_more_no, count_by_more_yes, count_by-le-length}
+use Rattle.pdf_source.specs.Counted.{counted}
 use Rattle.pdf_source.specs.Frequent.{IsMostFrequent, count_of}
 
 -- a count of so few fits
 pub counted_few : (ws : List ℕ) (i n w : ℕ) → i < length ws → length ws < 2 ^ 32 → n ≡ count_of (take i ws) w → n + 1 < 2 ^ 32
 counted_few ws i n w lt few e = omega (arith, count_by-le-length (λ u. eqb u w) (take i ws), length-take i ws)
 
+-- no width was counted
+pub none_counted : (placed : List ℕ) (n w : ℕ) (mapped : ℕ → Option ℕ) → placed ≡ replicate n 0 → mapped w ≡ None → counted placed mapped w ≡ 0
+none_counted placed n w mapped e none = by (ltb w (length placed)) refl
+  where
+    by : (t : Bool) → ltb w (length placed) ≡ t → counted placed mapped w ≡ 0
+    by true h = ap (λ (t : Bool). cond t (get_or placed w 0) (unwrap_or (mapped w) 0)) h ∙ ap (λ (l : List ℕ). get_or l w 0) e ∙ get_or-replicate n w 0 0 (let lt = ltb-true w (length placed) h in omega (arith, ap length e, length-replicate {A = ℕ} n 0))
+    by false h = ap (λ (t : Bool). cond t (get_or placed w 0) (unwrap_or (mapped w) 0)) h ∙ ap (λ (o : Option ℕ). unwrap_or o 0) none
+
+-- a width is counted once more, at its place or in the map
+pub placed_once : (placed after : List ℕ) (mapped : ℕ → Option ℕ) (k n w : ℕ) → k < length placed → after ≡ set placed k n → counted after mapped w ≡ cond (eqb k w) n (counted placed mapped w)
+placed_once placed after mapped k n w lt e = by (eqb k w) refl
+  where
+    by : (t : Bool) → eqb k w ≡ t → counted after mapped w ≡ cond (eqb k w) n (counted placed mapped w)
+    by true h =
+        let same : k ≡ w = eqb-true k w h in
+        sym (ap (counted after mapped) same)
+        ∙ ap (λ (l : List ℕ). counted l mapped k) e
+        ∙ ap (λ (m : ℕ). cond (ltb k m) (get_or (set placed k n) k 0) (unwrap_or (mapped k) 0)) (length-set placed k n)
+        ∙ ap (λ (t : Bool). cond t (get_or (set placed k n) k 0) (unwrap_or (mapped k) 0)) (lt-ltb k (length placed) lt)
+        ∙ get_or-set_same placed k n 0 lt
+        ∙ sym (ap (λ (t : Bool). cond t n (counted placed mapped w)) h)
+    by false h =
+        ap (λ (l : List ℕ). counted l mapped w) e
+        ∙ ap (λ (m : ℕ). cond (ltb w m) (get_or (set placed k n) w 0) (unwrap_or (mapped w) 0)) (length-set placed k n)
+        ∙ ap (λ (x : ℕ). cond (ltb w (length placed)) x (unwrap_or (mapped w) 0)) (get_or-set_other placed k w n 0 (λ s. eqb-false k w h (sym s)))
+        ∙ sym (ap (λ (t : Bool). cond t n (counted placed mapped w)) h)
+
+pub mapped_once : (placed : List ℕ) (before after : ℕ → Option ℕ) (k n w : ℕ) → length placed ≤ k → after w ≡ cond (eqb k w) (Some n) (before w) → counted placed after w ≡ cond (eqb k w) n (counted placed before w)
+mapped_once placed before after k n w ge e = by (eqb k w) refl
+  where
+    by : (t : Bool) → eqb k w ≡ t → counted placed after w ≡ cond (eqb k w) n (counted placed before w)
+    by true h =
+        let same : k ≡ w = eqb-true k w h in
+        ap (λ (t : Bool). cond t (get_or placed w 0) (unwrap_or (after w) 0)) (le-ltb w (length placed) (omega arith))
+        ∙ ap (λ (o : Option ℕ). unwrap_or o 0) (e ∙ ap (λ (t : Bool). cond t (Some n) (before w)) h)
+        ∙ sym (ap (λ (t : Bool). cond t n (counted placed before w)) h)
+    by false h =
+        ap (λ (o : Option ℕ). cond (ltb w (length placed)) (get_or placed w 0) (unwrap_or o 0)) (e ∙ ap (λ (t : Bool). cond t (Some n) (before w)) h)
+        ∙ sym (ap (λ (t : Bool). cond t n (counted placed before w)) h)
+
 -- one width more is counted
-pub one_counted : (ws : List ℕ) (i w key n : ℕ) (before after : Option ℕ) → i < length ws → key ≡ get_or ws i 0 → after ≡ cond (eqb key w) (Some (n + 1)) before → n ≡ count_of (take i ws) key → unwrap_or before 0 ≡ count_of (take i ws) w → unwrap_or after 0 ≡ count_of (take (i + 1) ws) w
+pub one_counted : (ws : List ℕ) (i w key n before after : ℕ) → i < length ws → key ≡ get_or ws i 0 → after ≡ cond (eqb key w) (n + 1) before → n ≡ count_of (take i ws) key → before ≡ count_of (take i ws) w → after ≡ count_of (take (i + 1) ws) w
 one_counted ws i w key n before after lt k a c b = by (eqb key w) refl
   where
-    by : (t : Bool) → eqb key w ≡ t → unwrap_or after 0 ≡ count_of (take (i + 1) ws) w
+    by : (t : Bool) → eqb key w ≡ t → after ≡ count_of (take (i + 1) ws) w
     by true e =
         let same : key ≡ w = eqb-true key w e in
         let hit : eqb (get_or ws i 0) w ≡ true = ap (λ (x : ℕ). eqb x w) (sym k) ∙ e in
-        let here : after ≡ Some (n + 1) = a ∙ ap (λ (t : Bool). cond t (Some (n + 1)) before) e in
+        let here : after ≡ n + 1 = a ∙ ap (λ (t : Bool). cond t (n + 1) before) e in
         let so_far : n ≡ count_of (take i ws) w = c ∙ ap (count_of (take i ws)) same in
-        ap (λ (o : Option ℕ). unwrap_or o 0) here ∙ ap (λ (x : ℕ). x + 1) so_far ∙ sym (count_by_more_yes (λ u. eqb u w) ws i 0 lt hit)
+        here ∙ ap (λ (x : ℕ). x + 1) so_far ∙ sym (count_by_more_yes (λ u. eqb u w) ws i 0 lt hit)
     by false e =
         let miss : eqb (get_or ws i 0) w ≡ false = ap (λ (x : ℕ). eqb x w) (sym k) ∙ e in
-        let here : after ≡ before = a ∙ ap (λ (t : Bool). cond t (Some (n + 1)) before) e in
-        ap (λ (o : Option ℕ). unwrap_or o 0) here ∙ b ∙ sym (count_by_more_no (λ u. eqb u w) ws i 0 lt miss)
+        let here : after ≡ before = a ∙ ap (λ (t : Bool). cond t (n + 1) before) e in
+        here ∙ b ∙ sym (count_by_more_no (λ u. eqb u w) ws i 0 lt miss)
 
 -- ---- the greatest of the first i of n numbers, of several the first
 pub record IsBest (f : ℕ → ℕ) (n i best : ℕ) : Type 0 where

@@ -1,6 +1,7 @@
 pub mod Cff
 pub mod Chosen
 pub mod Frequent
+pub mod Counted
 pub mod Made
 pub mod Metrics
 pub mod Moved

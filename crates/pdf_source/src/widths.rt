@@ -1,14 +1,13 @@
 //! The widths of all glyphs of a new font (ISO 32000-1, 9.7.4.3).
 
-ghost use Rattle.std.specs.Prelude.{◌≡◌, ◌<◌, ◌≤◌, ◌+◌, ◌^◌, ◌*◌, ℕ, length, Ok, Err, IfOk, IfErr, nat_lt, if◌then◌else◌, slice_index};
+ghost use Rattle.std.specs.Prelude.{◌≡◌, ◌<◌, ◌≤◌, ◌+◌, ◌^◌, ◌*◌, ℕ, length, Ok, Err, IfOk, IfErr, OnOk, nat_eq, nat_lt, if◌then◌else◌, slice_index};
 ghost use Rattle.std.specs.HashMap.{get};
-ghost use Rattle.std.specs.Option.{unwrap_or};
-ghost use Rattle.std.specs.Prelude.{nat_eq};
 ghost use Rattle.subsetter_base.specs.Gives.{Gives};
 ghost use Rattle.subsetter_base.specs.declared.error.Error.TheVariants.{OutOfMemory};
 ghost use Rattle.subsetter_sfnt.specs.Read.{table_in};
 ghost use Rattle.cid_embed.specs.Afresh.{advance_in, measures_of, widths_from, widths_of};
 ghost use Rattle.cid_embed.specs.Width.{thousandths};
+ghost use Rattle.pdf_source.specs.Counted.{counted};
 ghost use Rattle.pdf_source.specs.Frequent.{IsMostFrequent, count_of};
 ghost use Rattle.pdf_source.specs.Metrics.{measures_seen};
 
@@ -91,38 +90,81 @@ pub fn widths_of(alloc: Global, face: &Face<'_>, count: u16) -> Result<Vec<u32>,
     all_widths(alloc, &metrics, count)
 }
 
-/// How often a width was counted.
-fn counted(counts: &HashMap<u32, u32>, width: u32) -> u32
-    ensures { result ≡ unwrap_or (get nat_eq counts.now width) 0 }
-{
-    match counts.get(&width) {
-        Some(count) => *count,
-        None => 0,
+/// Widths below this are counted at a place of their own, and the others, which few fonts have, by a map.
+const PLACES: usize = 2048;
+
+/// How often widths were counted.
+#[derive(Drop)]
+struct Counts {
+    placed: Vec<u32>,
+    mapped: HashMap<u32, u32>,
+}
+
+impl Counts {
+    /// None were counted.
+    fn new(alloc: Global) -> Result<Self, Error>
+        ensures ok { IfOk result (λ counts. (w : ℕ) → counted counts.placed.items (get nat_eq counts.mapped) w ≡ 0) }
+        ensures err { IfErr result (λ e. e ≡ OutOfMemory) }
+    {
+        Ok(Self {
+            placed: vec![in alloc; 0; PLACES]?,
+            mapped: HashMap::new(alloc),
+        })
+    }
+
+    /// How often a width was counted.
+    fn of(&self, width: u32) -> u32
+        ensures { result ≡ counted self.now.placed.items (get nat_eq self.now.mapped) width }
+    {
+        let place = width as usize;
+        if place < self.placed.len() {
+            return self.placed[place];
+        }
+        match self.mapped.get(&width) {
+            Some(count) => *count,
+            None => 0,
+        }
+    }
+
+    /// Counts a width once more.
+    #[tactic(auto, using(crate::proofs::Counting::placed_once, crate::proofs::Counting::mapped_once))]
+    fn add(&mut self, width: u32) -> Result<(), Error>
+        requires { counted self.old.placed.items (get nat_eq self.old.mapped) width + 1 < 2 ^ 32 }
+        ensures ok { OnOk result ((w : ℕ) → counted self.new.placed.items (get nat_eq self.new.mapped) w ≡ (if nat_eq width w then counted self.old.placed.items (get nat_eq self.old.mapped) width + 1 else counted self.old.placed.items (get nat_eq self.old.mapped) w)) }
+        ensures err { IfErr result (λ e. e ≡ OutOfMemory) }
+    {
+        let more = self.of(width) + 1;
+        let place = width as usize;
+        if place < self.placed.len() {
+            self.placed[place] = more;
+            return Ok(());
+        }
+        self.mapped.insert(width, more)?;
+        Ok(())
     }
 }
 
 /// How often each width is there.
-fn counts_of(alloc: Global, widths: &[u32]) -> Result<HashMap<u32, u32>, Error>
+#[tactic(auto, using(crate::proofs::Counting::counted_few))]
+fn counts_of(alloc: Global, widths: &[u32]) -> Result<Counts, Error>
     requires { length widths.now < 2 ^ 32 }
-    ensures ok { IfOk result (λ counts. (w : ℕ) → unwrap_or (get nat_eq counts w) 0 ≡ count_of widths.now w) }
+    ensures ok { IfOk result (λ counts. (w : ℕ) → counted counts.placed.items (get nat_eq counts.mapped) w ≡ count_of widths.now w) }
     ensures err { IfErr result (λ e. e ≡ OutOfMemory) }
 {
-    let mut counts = HashMap::new(alloc);
+    let mut counts = Counts::new(alloc)?;
     for width in widths {
-        let count = counted(&counts, *width);
-        let more = count + 1;
-        counts.insert(*width, more)?;
+        counts.add(*width)?;
     }
     Ok(counts)
 }
 
 /// The index of a width, if it is more frequent than the best one so far, else the index of that.
-fn more_frequent(counts: &HashMap<u32, u32>, widths: &[u32], best: usize, index: usize) -> usize
+fn more_frequent(counts: &Counts, widths: &[u32], best: usize, index: usize) -> usize
     requires best { best < length widths.now }
     requires index { index < length widths.now }
-    ensures { result ≡ (if nat_lt (unwrap_or (get nat_eq counts.now (slice_index widths.now best)) 0) (unwrap_or (get nat_eq counts.now (slice_index widths.now index)) 0) then index else best) }
+    ensures { result ≡ (if nat_lt (counted counts.now.placed.items (get nat_eq counts.now.mapped) (slice_index widths.now best)) (counted counts.now.placed.items (get nat_eq counts.now.mapped) (slice_index widths.now index)) then index else best) }
 {
-    if counted(counts, widths[best]) < counted(counts, widths[index]) {
+    if counts.of(widths[best]) < counts.of(widths[index]) {
         index
     } else {
         best

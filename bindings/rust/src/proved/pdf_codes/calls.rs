@@ -5,7 +5,7 @@ use crate::rattle::prelude::Vec;
 
 use crate::proved::pdf_codes::codes::{codes_for, lines_of, Codes};
 use crate::proved::pdf_codes::leading::{are_cids, pairs_with, write_leading};
-use crate::proved::pdf_codes::shown::{entries_of, texts_of, Shown};
+use crate::proved::pdf_codes::shown::{entries_of, units_of_all, Shown};
 use crate::proved::pdf_codes::texts::texts_for;
 use crate::proved::pdf_text::NamedCmap;
 use crate::proved::subsetter_base::Error;
@@ -29,8 +29,8 @@ pub struct ShownCodes {
 ///   glyph 0 among them.
 /// - `OutOfMemory`: a request for memory was refused.
 pub fn codes_of(alloc: Global, shown: &[Shown<'_>], choice: Codes) -> Result<Vec<u16>, Error> {
-    let texts = texts_of(alloc, shown)?;
-    let entries = entries_of(alloc, shown, &texts)?;
+    let units = units_of_all(alloc, shown)?;
+    let entries = entries_of(alloc, shown, &units)?;
     codes_for(alloc, &entries, choice)
 }
 
@@ -45,8 +45,8 @@ pub fn codes_and_texts(
     shown: &[Shown<'_>],
     choice: Codes,
 ) -> Result<ShownCodes, Error> {
-    let texts = texts_of(alloc, shown)?;
-    let entries = entries_of(alloc, shown, &texts)?;
+    let units = units_of_all(alloc, shown)?;
+    let entries = entries_of(alloc, shown, &units)?;
     let codes = codes_for(alloc, &entries, choice)?;
     let lines = lines_of(alloc, &entries, &codes)?;
     let made = texts_for(alloc, &lines)?;

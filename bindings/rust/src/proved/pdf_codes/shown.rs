@@ -4,7 +4,7 @@
 use crate::rattle::prelude::Vec;
 
 use crate::proved::pdf_codes::codes::Entry;
-use crate::proved::pdf_codes::units::{is_long, units_of};
+use crate::proved::pdf_codes::units::{count_of, is_long, push_text};
 use crate::proved::subsetter_base::Error;
 use crate::rattle::alloc::Global;
 
@@ -39,13 +39,13 @@ pub fn glyphs_of(alloc: Global, shown: &[Shown<'_>]) -> Result<Vec<u16>, Error> 
     Ok(glyphs)
 }
 
-/// The texts in UTF-16.
-pub fn texts_of(alloc: Global, shown: &[Shown<'_>]) -> Result<Vec<Vec<u16>>, Error> {
-    let mut texts = Vec::with_capacity(alloc, shown.len())?;
+/// The texts in UTF-16, one behind the other.
+pub fn units_of_all(alloc: Global, shown: &[Shown<'_>]) -> Result<Vec<u16>, Error> {
+    let mut units = Vec::with_capacity(alloc, shown.len())?;
     for entry in shown {
-        texts.push(units_of(alloc, entry.text)?)?;
+        push_text(&mut units, entry.text)?;
     }
-    Ok(texts)
+    Ok(units)
 }
 
 /// A glyph in use with the units of its text.
@@ -60,11 +60,14 @@ fn entry_of<'a>(shown: Shown<'_>, units: &'a [u16]) -> Entry<'a> {
 pub fn entries_of<'a>(
     alloc: Global,
     shown: &[Shown<'_>],
-    texts: &'a [Vec<u16>],
+    units: &'a [u16],
 ) -> Result<Vec<Entry<'a>>, Error> {
     let mut entries = Vec::with_capacity(alloc, shown.len())?;
-    for place in 0..shown.len() {
-        entries.push(entry_of(shown[place], &texts[place]))?;
+    let mut rest = units;
+    for entry in shown {
+        let (text, behind) = rest.split_at(count_of(entry.text, rest));
+        entries.push(entry_of(*entry, text))?;
+        rest = behind;
     }
     Ok(entries)
 }

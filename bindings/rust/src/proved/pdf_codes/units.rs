@@ -4,7 +4,6 @@
 use crate::rattle::prelude::Vec;
 
 use crate::proved::subsetter_base::Error;
-use crate::rattle::alloc::Global;
 
 /// Whether a character is none that the text of a code may have.
 fn is_left_out(character: char) -> bool {
@@ -37,17 +36,12 @@ fn push_character(units: &mut Vec<u16>, character: char) -> Result<(), Error> {
     push_utf16(units, character)
 }
 
-/// A text in UTF-16, without U+0000, U+FEFF and U+FFFE.
-///
-/// # Errors
-///
-/// `OutOfMemory` alone.
-pub fn units_of(alloc: Global, text: &[char]) -> Result<Vec<u16>, Error> {
-    let mut units = Vec::with_capacity(alloc, text.len())?;
+/// Writes a text in UTF-16, without U+0000, U+FEFF and U+FFFE.
+pub fn push_text(units: &mut Vec<u16>, text: &[char]) -> Result<(), Error> {
     for character in text {
-        push_character(&mut units, *character)?;
+        push_character(units, *character)?;
     }
-    Ok(units)
+    Ok(())
 }
 
 /// How many units a character has in the text of a code.
@@ -60,6 +54,15 @@ fn unit_count(character: char) -> usize {
     } else {
         2
     }
+}
+
+/// How many units a text has, with which these begin.
+pub fn count_of(text: &[char], _units: &[u16]) -> usize {
+    let mut count = 0;
+    for character in text {
+        count += unit_count(*character);
+    }
+    count
 }
 
 /// Whether a text has more than 256 units.

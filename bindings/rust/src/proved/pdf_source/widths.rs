@@ -66,28 +66,61 @@ pub fn widths_of(alloc: Global, face: &Face<'_>, count: u16) -> Result<Vec<u32>,
     all_widths(alloc, &metrics, count)
 }
 
-/// How often a width was counted.
-fn counted(counts: &HashMap<u32, u32>, width: u32) -> u32 {
-    match counts.get(&width) {
-        Some(count) => *count,
-        None => 0,
+/// Widths below this are counted at a place of their own, and the others, which few fonts have, by a map.
+const PLACES: usize = 2048;
+
+/// How often widths were counted.
+struct Counts {
+    placed: Vec<u32>,
+    mapped: HashMap<u32, u32>,
+}
+
+impl Counts {
+    /// None were counted.
+    fn new(alloc: Global) -> Result<Self, Error> {
+        Ok(Self {
+            placed: vec![in alloc; 0; PLACES]?,
+            mapped: HashMap::new(alloc),
+        })
+    }
+
+    /// How often a width was counted.
+    fn of(&self, width: u32) -> u32 {
+        let place = width as usize;
+        if place < self.placed.len() {
+            return self.placed[place];
+        }
+        match self.mapped.get(&width) {
+            Some(count) => *count,
+            None => 0,
+        }
+    }
+
+    /// Counts a width once more.
+    fn add(&mut self, width: u32) -> Result<(), Error> {
+        let more = self.of(width) + 1;
+        let place = width as usize;
+        if place < self.placed.len() {
+            self.placed[place] = more;
+            return Ok(());
+        }
+        self.mapped.insert(width, more)?;
+        Ok(())
     }
 }
 
 /// How often each width is there.
-fn counts_of(alloc: Global, widths: &[u32]) -> Result<HashMap<u32, u32>, Error> {
-    let mut counts = HashMap::new(alloc);
+fn counts_of(alloc: Global, widths: &[u32]) -> Result<Counts, Error> {
+    let mut counts = Counts::new(alloc)?;
     for width in widths {
-        let count = counted(&counts, *width);
-        let more = count + 1;
-        counts.insert(*width, more)?;
+        counts.add(*width)?;
     }
     Ok(counts)
 }
 
 /// The index of a width, if it is more frequent than the best one so far, else the index of that.
-fn more_frequent(counts: &HashMap<u32, u32>, widths: &[u32], best: usize, index: usize) -> usize {
-    if counted(counts, widths[best]) < counted(counts, widths[index]) {
+fn more_frequent(counts: &Counts, widths: &[u32], best: usize, index: usize) -> usize {
+    if counts.of(widths[best]) < counts.of(widths[index]) {
         index
     } else {
         best

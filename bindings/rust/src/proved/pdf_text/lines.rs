@@ -15,15 +15,19 @@ fn digit(n: u16) -> u8 {
     }
 }
 
-/// Writes four digits of base 16.
-fn write_word(text: &mut Vec<u8>, n: u16) -> Result<(), Error> {
-    let digits = [
+/// A number as four digits of base 16.
+pub fn digits(n: u16) -> [u8; 4] {
+    [
         digit(n / 4096 % 16),
         digit(n / 256 % 16),
         digit(n / 16 % 16),
         digit(n % 16),
-    ];
-    text.extend_from_slice(&digits)?;
+    ]
+}
+
+/// Writes four digits of base 16.
+fn write_word(text: &mut Vec<u8>, n: u16) -> Result<(), Error> {
+    text.extend_from_slice(&digits(n))?;
     Ok(())
 }
 

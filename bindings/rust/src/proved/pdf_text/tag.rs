@@ -6,13 +6,61 @@ use crate::rattle::prelude::Vec;
 use crate::proved::subsetter_base::Error;
 use crate::rattle::alloc::Global;
 
-/// The bytes as a number below the greatest prime below 2^32.
-fn digest(bytes: &[u8]) -> u64 {
-    let mut h = 0_u64;
+/// The bytes behind a number, one at a time.
+fn digest_behind(start: u64, bytes: &[u8]) -> u64 {
+    let mut h = start;
     for b in bytes {
         h = (65_599 * h + u64::from(*b) + 1) % 4_294_967_291;
     }
     h
+}
+
+/// What the first four of sixteen bytes count: each and one, by the power of 65,599 that the bytes behind it multiply it by.
+fn first(a: u8, b: u8, c: u8, d: u8) -> u64 {
+    412_560_925 * (u64::from(a) + 1)
+        + 1_384_565_098 * (u64::from(b) + 1)
+        + 3_943_398_063 * (u64::from(c) + 1)
+        + 2_768_719_420 * (u64::from(d) + 1)
+}
+
+/// What the four bytes behind these count.
+fn second(a: u8, b: u8, c: u8, d: u8) -> u64 {
+    647_177_936 * (u64::from(a) + 1)
+        + 990_682_743 * (u64::from(b) + 1)
+        + 3_942_737_328 * (u64::from(c) + 1)
+        + 3_220_614_473 * (u64::from(d) + 1)
+}
+
+/// What the next four count.
+fn third(a: u8, b: u8, c: u8, d: u8) -> u64 {
+    3_002_971_012 * (u64::from(a) + 1)
+        + 3_426_381_976 * (u64::from(b) + 1)
+        + 506_879_193 * (u64::from(c) + 1)
+        + 1_222_258_819 * (u64::from(d) + 1)
+}
+
+/// What the last four count.
+fn fourth(a: u8, b: u8, c: u8, d: u8) -> u64 {
+    780_915_824 * (u64::from(a) + 1)
+        + 8_261_510 * (u64::from(b) + 1)
+        + 65_599 * (u64::from(c) + 1)
+        + u64::from(d)
+        + 1
+}
+
+/// The bytes as a number below the greatest prime below 2^32. Sixteen bytes at a time, so that one remainder serves for all of them.
+fn digest(bytes: &[u8]) -> u64 {
+    let mut h = 0_u64;
+    let mut rest = bytes;
+    while let [b0, b1, b2, b3, b4, b5, b6, b7, b8, b9, b10, b11, b12, b13, b14, b15, behind @ ..] =
+        rest
+    {
+        let front = first(*b0, *b1, *b2, *b3) + second(*b4, *b5, *b6, *b7);
+        let back = third(*b8, *b9, *b10, *b11) + fourth(*b12, *b13, *b14, *b15);
+        h = (995_218_484 * h + front + back) % 4_294_967_291;
+        rest = behind;
+    }
+    digest_behind(h, rest)
 }
 
 /// The letter that a number has in base 26.

@@ -3,7 +3,7 @@
 
 use crate::rattle::prelude::Vec;
 
-use crate::proved::pdf_text::lines::{block_size, write_count, write_hex};
+use crate::proved::pdf_text::lines::{block_size, digits, write_count, write_hex};
 use crate::proved::subsetter_base::Error;
 use crate::rattle::alloc::Global;
 
@@ -14,8 +14,19 @@ pub struct Mapping<'a> {
     pub units: &'a [u16],
 }
 
+/// The line of a code whose text is one unit.
+fn short_line(code: u16, unit: u16) -> [u8; 14] {
+    let [a, b, c, d] = digits(code);
+    let [e, f, g, h] = digits(unit);
+    [b'<', a, b, c, d, b'>', b' ', b'<', e, f, g, h, b'>', b'\n']
+}
+
 /// Writes the line of a code.
 fn write_line(text: &mut Vec<u8>, mapping: Mapping<'_>) -> Result<(), Error> {
+    if let [unit] = mapping.units {
+        text.extend_from_slice(&short_line(mapping.code, *unit))?;
+        return Ok(());
+    }
     write_hex(text, &[mapping.code])?;
     text.extend_from_slice(b" ")?;
     write_hex(text, mapping.units)?;
