@@ -21,8 +21,8 @@ HERE = os.path.dirname(os.path.realpath(__file__))
 PROGRAM = os.path.join(os.path.dirname(HERE), "crates", "subset_font")
 ARGUMENTS = os.path.join(os.path.dirname(HERE), "crates", "subset_args", "src", "options.rt")
 
-ALL = ["--gids", "--gids-file", "--text", "--text-file", "--unicodes", "--unicodes-file", "-o", "--output-file", "--face-index", "--at", "--no-hinting", "--no-names",
-       "--no-glyph-names", "--limits", "--widths", "--verbose", "--json", "--quiet", "--axes", "--info", "-h", "--help", "--version"]
+ALL = ["--gids", "--gids-file", "--text", "--text-file", "--unicodes", "--unicodes-file", "-o", "--output-file", "--face-index", "--pdf", "--vertical", "--codes", "--rights", "--at",
+       "--no-hinting", "--no-names", "--no-glyph-names", "--limits", "--widths", "--verbose", "--json", "--quiet", "--axes", "--info", "-h", "--help", "--version"]
 FILES = ["list.txt", "one font.ttf", "other.otf"]
 # What is typed, of which the last word is completed, and what is offered.
 TRIES = [
@@ -31,7 +31,8 @@ TRIES = [
     (["--wid"], ["--widths"]),
     (["--text"], ["--text", "--text-file"]),
     (["--uni"], ["--unicodes", "--unicodes-file"]),
-    (["--ver"], ["--verbose", "--version"]),
+    (["--ver"], ["--verbose", "--version", "--vertical"]),
+    (["in.ttf", "--pd"], ["--pdf"]),
     (["--inf"], ["--info"]),
     (["--widths", "--js"], ["--json"]),
     (["in.ttf", "--face"], ["--face-index"]),
@@ -43,10 +44,13 @@ TRIES = [
     (["--info", "oth"], ["other.otf"]),
     (["-o", "oth"], ["other.otf"]),
     (["--output-file", "oth"], ["other.otf"]),
+    (["--pdf", "oth"], ["other.otf"]),
     (["--text", "oth"], []),
     (["--at", "li"], []),
     (["--limits", "li"], []),
     (["--face-index", "li"], []),
+    (["--codes", "li"], []),
+    (["--rights", "li"], []),
     (["--gids", "li"], []),
     (["--unicodes", "li"], []),
 ]

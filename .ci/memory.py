@@ -45,6 +45,7 @@ ALLOWED = {
     ("subset_font", "known_axes"): (2, "passes on that of `axes_there`"),
     ("subset_font", "lines_of_sizes"): (1, "`size_lines` writes into a vector, which has no other error"),
     ("subset_font", "members_of"): (1, "`json_members` writes into a vector, which has no other error"),
+    ("subset_font", "member_of"): (1, "`json_pdf` writes into a vector, which has no other error"),
     ("subset_font", "with_more"): (2, "`more_of` and `names_for` have no other error"),
     ("subset_font", "names_of_fvar"): (2, "passes on that of `read_axes`"),
     ("pdf_cff", "unless_memory"): (2, "passes on that of its argument"),

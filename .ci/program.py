@@ -34,7 +34,7 @@ import made  # noqa: E402
 
 USAGE = b"usage: subset_font IN OUT INDEX GID[,GID..]\n"
 OPTIONS = ["-o", "--output-file", "--face-index", "--gids", "--widths", "--limits", "--at", "--axes", "--info", "--no-hinting", "--no-names", "--no-glyph-names", "--gids-file",
-           "--text", "--text-file", "--unicodes", "--unicodes-file", "--json", "--verbose", "--quiet", "--help", "-h", "--version", "--"]
+           "--text", "--text-file", "--unicodes", "--unicodes-file", "--pdf", "--vertical", "--codes", "--rights", "--json", "--verbose", "--quiet", "--help", "-h", "--version", "--"]
 
 
 # ---- fonts
@@ -440,6 +440,26 @@ def beside_input(word):
     return wrong(f'"{word}" is one argument too many', "expected: with -o or --face-index, IN and options alone; glyphs by --gids")
 
 
+def forbidden(bit):
+    return hinted("embedding not permitted", f"fsType bit {bit} is set ({dict([(1, 'restricted'), (8, 'no subsetting'), (9, 'bitmaps only')])[bit]}): if you hold the rights, --rights held")
+
+
+def no_pdf(option):
+    return wrong(f"{option}: no PDF is requested", "expected: --pdf FILE beside it")
+
+
+def output_twice(name):
+    return wrong(f'--pdf: "{name}" is OUT, too', "expected: two files, for the new font and for the PDF")
+
+
+def coding(word):
+    return wrong(f'--codes: "{word}" is no kind of codes', "expected: consecutive, source or text")
+
+
+def rights(word):
+    return wrong(f'--rights: "{word}" is not held', "expected: held, where you may embed the font whatever it says")
+
+
 NO_SOURCE = wrong("no option requests glyphs", "expected: --gids, --text, --unicodes, or a file of one")
 NO_OUTPUT_OPTION = wrong("-o OUT is missing", "expected: a file for the new font, or - for standard output")
 INPUT_TWICE = wrong("--gids-file: standard input is requested twice", "expected: - for IN or for FILE, not for both")
@@ -537,6 +557,13 @@ PERMISSIONS = [(0, ["installable embedding"]), (1, ["installable embedding"]), (
                (256, ["installable embedding", "no subsetting"]), (512, ["installable embedding", "bitmap embedding only"]),
                (6, ["restricted license embedding", "preview and print embedding"]), (0x308, ["editable embedding", "no subsetting", "bitmap embedding only"]), (0x10, ["installable embedding"])]
 FONTS |= {f"fs_{bits}": six(("OS/2", bytes(8) + made.u16s(bits) + bytes(86))) for bits, _ in PERMISSIONS}
+# The same from version 2 of `OS/2` on, with a cmap: bits 8 and 9 are read there alone. And the bit that forbids a subset in a PDF.
+FORBIDDEN = [(2, 1), (256, 8), (512, 9), (0x308, 8), (0x302, 1)]
+FONTS |= {f"fs2_{bits}": six(("OS/2", made.u16s(2) + bytes(6) + made.u16s(bits) + bytes(86)), ("cmap", cmap((3, 1, BY_SEGMENTS)))) for bits in (0, 4, 6, 8, *(it for it, _ in FORBIDDEN))}
+# A and a are glyph 1.
+FONTS["shared"] = six(("cmap", cmap((3, 1, segments((65, 65, 65536 - 64, 0), (97, 97, 65536 - 96, 0), (0xFFFF, 0xFFFF, 1, 0))))))
+# No metrics in `hmtx`, which a PDF needs and a subset doesn't.
+FONTS["no_hmtx"] = six(("cmap", cmap((3, 1, BY_SEGMENTS))), without=("hmtx", "hhea"))
 
 
 def usage(*rows):
@@ -928,6 +955,31 @@ ROWS = [
            ("--no-hintings -o out --gids 1", no_option("--no-hintings", "--no-hinting")), ("six -o out --gids 1 --axes", AXES_LATE),
            ("six -o out --gids 1 --help", late("--help")), ("- -o out --gids-file -", INPUT_TWICE), ("six -o out --gids 1 --at wght=x", coordinate("wght=x")),
            ("six -o out --widths --gids 1 --widths", twice("--widths")), ("six -o out --gids 1 --limits 5", limits("5"))),
+    # a PDF: what is refused. (What it has is `PDFS`)
+    *(Row(f"fs2_{bits} {words}", 1, err=forbidden(bit), after=USED) for bits, bit in FORBIDDEN for words in ("--text AB --pdf page", "--gids 1 --pdf page -o out --codes source --vertical --json")),
+    Row("--pdf page fs2_2 out 0 1", 1, err=forbidden(1), after=USED),
+    *(Row(f"fs2_{bits} --gids 2,1 -o out", out=lines((2, 1), (1, 2)), same="six 2,1") for bits, _ in FORBIDDEN),
+    Row("small --gids 6 --pdf page", 1, err=b"malformed font\nGID 6: the glyphs of the face are 0 to 5\n"),
+    Row("no_hmtx --text A --pdf page -o out", 1, err=no_table("hmtx"), after=USED),
+    Row("simple --gids 1 --pdf page", 1, err=no_table("hmtx"), after=USED),
+    Row("six --text A --pdf page", 1, err=no_table("cmap", "no Unicode cmap in font")),
+    Row("instances --at bold --gids 1 --pdf page", 1, err=no_instance("named instances: Semi Bold, Black")),
+    Row("small --text A --pdf page --limits 9,9,9", 1, err=hinted("overflow occurred", "the new font has more than the 9 bytes of --limits")),
+    Row("none --text A --pdf page", 3, err=cannot_read("none", errno.ENOENT)),
+    Row("small --text A --pdf none/page", 3, err=cannot_write("none/page", errno.ENOENT)),
+    Row("small --text A --pdf none/page -o out", 3, err=cannot_write("none/page", errno.ENOENT), files={"out": OLD}),
+    Row("small --text A --pdf /dev/full", 3, err=cannot_write("/dev/full", errno.ENOSPC)),
+    *usage(("small --text A --pdf", no_value("--pdf")), ("small --text A --pdf page --pdf page", twice("--pdf")), ("--pdf page --text A", missing("IN")), ("--pdf page small", NO_SOURCE),
+           ("small --text A --pdf page --codes", no_value("--codes")), ("small --text A --pdf page --codes Text", coding("Text")), ("small --text A --codes x --pdf page", coding("x")),
+           ("small --text A --pdf page --codes text --codes text", twice("--codes")), ("small --text A --pdf page --vertical --vertical", twice("--vertical")),
+           ("small --text A --pdf page --rights", no_value("--rights")), ("small --text A --pdf page --rights hold", rights("hold")),
+           ("small --text A --pdf page --rights held --rights held", twice("--rights")), ("small --text A --pdf page --rights held --rights x", twice("--rights")),
+           ("small --text A -o out --vertical", no_pdf("--vertical")), ("small --text A -o out --codes text", no_pdf("--codes")), ("small --text A -o out --rights held", no_pdf("--rights")),
+           ("--rights held small out 0 1", no_pdf("--rights")), ("--codes consecutive small out 0 1", no_pdf("--codes")), ("--vertical --text A small out 0", no_pdf("--vertical")),
+           ("small --text A -o out --pdf out", output_twice("out")), ("--pdf out small out 0 1", output_twice("out")), ("small --text A -o - --pdf -", output_twice("-")),
+           ("--pdf page small out 0 x", gid("x")), ("--pdf page small out x 1", index("x")), ("--pdf page small out", missing("INDEX")), ("--pdf page --text A small out 0 1", beside_option("1")),
+           ("small --text A --pdf page --at wght=x", coordinate("wght=x")), ("small --text A --pdf page --face-index x", face_index("x")), ("small --text A --no-hintings --pdf page", no_option("--no-hintings", "--no-hinting")),
+           ("small --text A --pdf=page -o out", apart("--pdf=page", "--pdf")), ("- --pdf page --text-file -", wrong("--text-file: standard input is requested twice", "expected: - for IN or for FILE, not for both"))),
     # the glyphs of a text
     Row("--text AB small out 0", out=b"U+0041 1 -> 1\nU+0042 2 -> 2\n", same="six 1,2"),
     Row("six out 0 1,2", out=lines((1, 1), (2, 2)), same="six 1,2"),
@@ -981,7 +1033,7 @@ ROWS = [
         ("--no-hitning", "--no-hinting"), ("--no-hint", "--no-hinting"), ("--no-hinti", "--no-hinting"), ("--no-naming", None), ("--no-name", "--no-names"),
         ("--names", "--axes"), ("--gid-file", "--gids-file"), ("--gid", "--gids"), ("--face-indx", "--face-index"), ("--output-fil", "--output-file"), ("--outputfile", "--output-file"), ("--txet", "--text"), ("--axe", "--axes"), ("--ax", "--axes"), ("--a", "--at"),
         # (one that begins so comes first; one minus may stand for two)
-        ("-t", "--text"), ("-g", "--gids"), ("-text", "--text"), ("--output", "--output-file"), ("-output", "--output-file"), ("--no", "--no-hinting"), ("--v", "--verbose"), ("--txt=ABC", "--text"), ("--widths=1", "--widths"),
+        ("-t", "--text"), ("-g", "--gids"), ("-text", "--text"), ("--output", "--output-file"), ("-output", "--output-file"), ("--no", "--no-hinting"), ("--v", "--vertical"), ("--txt=ABC", "--text"), ("--widths=1", "--widths"),
         ("--Widths", "--widths"), ("--WIDTHS", None), ("--jso", "--json"), ("--limit=", "--limits"), ("--quite", "--quiet"), ("--hel", "--help"),
         ("--versions", "--version"), ("--verison", "--version"), ("-x", None), ("--no-glyphnames", "--no-glyph-names")))),
     # an option and its value in one word
@@ -1156,12 +1208,156 @@ def check_names(table, room):
         table.demand(names[count:] == [None] and hashlib.sha256(" ".join(names[:count]).encode()).hexdigest() == wanted, f"the names of {font}", names)
 
 
+# ---- PDFs
+
+def objects_of(page):
+    """The values of a PDF's objects, by the offsets that its cross-reference table has (ISO 32000-1, 7.5); none where it isn't whole."""
+    start = re.search(rb"startxref\n(\d+)\n%%EOF\n\Z", page or b"")
+    if not start or not page.startswith(b"%PDF-1.7\n"):
+        return {}
+    table = page[int(start[1]):]
+    count = int(re.match(rb"xref\n0 (\d+)\n0000000000 65535 f \n", table)[1])
+    rows = [table[table.index(b"f \n") + 3 + 20 * k:][:20] for k in range(count - 1)]
+    heads = [(b"%d 0 obj\n" % (k + 1), page[int(row[:10]):]) for k, row in enumerate(rows)]
+    if not all(row[10:] == b" 00000 n \n" for row in rows) or not all(at.startswith(head) for head, at in heads):
+        return {}
+    return {k + 1: at[len(head):at.index(b"\nendobj\n")] for k, (head, at) in enumerate(heads)}
+
+
+def stream_of(value):
+    """The bytes of a stream, by its length."""
+    return value[value.index(b"stream\n") + 7:][:int(re.search(rb"/Length (\d+)", value)[1])]
+
+
+def text_of(codes, to_unicode):
+    """The text of codes, by the lines of a ToUnicode CMap."""
+    found = dict(re.findall(rb"<([0-9A-F]{4})> <([0-9A-F]*)>\n", to_unicode.partition(b"endcodespacerange")[2]))
+    return "".join(bytes.fromhex(found.get(b"%04X" % code, b"").decode()).decode("utf-16-be") for code in codes)
+
+
+def what_is_shown(page):
+    """Of a PDF of the program: whether it is a line, the codes that its pages show, their text by ToUnicode, the encoding, font program, W and name; None where
+    it isn't whole."""
+    objects = objects_of(page)
+    one = {key: [it for it in objects.values() if re.search(key, it)] for key in (rb"/Type /Pages", rb"/Subtype /Type0", rb"/CIDFontType2", rb"/FontDescriptor /FontName")}
+    if not all(len(it) == 1 for it in one.values()):
+        return None
+    pages, font, cid_font, descriptor = (it[0] for it in one.values())
+
+    def led(value, key):
+        return objects[int(re.search(key + rb" (\d+) 0 R", value)[1])]
+    contents = [stream_of(led(it, rb"/Contents")) for it in objects.values() if b"/Type /Page " in it]
+    codes = [int(it, 16) for text in contents for it in re.findall(rb"^<([0-9A-F]{4})> Tj$", text, re.M)]
+    encoding = re.search(rb"/Encoding (/Identity-[HV]|\d+ 0 R)", font)[1]
+    return {"line": b"[0 0 595 842]" not in pages, "codes": codes, "text": text_of(codes, stream_of(led(font, rb"/ToUnicode"))), "encoding": encoding,
+            "program": stream_of(led(descriptor, rb"/FontFile2")), "widths": re.search(rb"/DW \d+(?: /W (\[.*?\]\]))?", cid_font)[0],
+            "name": re.search(rb"/FontName /(\S+)", descriptor)[1].decode()}
+
+
+# Words of a run (`page` is the PDF), whether the PDF is a line, its codes and text, and words of the run whose OUT is its program: names are never kept.
+PDFS = [
+    ("small --text AB --pdf page", True, [1, 2], "AB", b"/Identity-H", "small --gids 1,2"),
+    ("small --text-file list --pdf page", True, [1, 2, 1], "ABA", b"/Identity-H", "small --gids 1,2"),
+    ("--pdf page small --text BA", True, [1, 2], "BA", b"/Identity-H", "small --gids 2,1"),
+    ("small --text AB --pdf page --codes consecutive", True, [1, 2], "AB", b"/Identity-H", "small --gids 1,2"),
+    ("small --text CA --pdf page --codes source", True, [3, 1], "CA", None, "small --gids 3,1"),
+    ("small --text CA --codes text --pdf page --vertical", True, [1, 2], "CA", b"/Identity-V", "small --gids 3,1"),
+    ("shared --text AaA --pdf page", True, [1, 1, 1], "AAA", b"/Identity-H", "shared --gids 1"),
+    ("shared --text AaA --pdf page --codes text", True, [1, 2, 1], "AaA", None, "shared --gids 1"),
+    ("shared --text aA --vertical --pdf page --codes source", True, [1, 1], "aa", b"/Identity-V", "shared --gids 1"),
+    ("small --unicodes 42,41 --pdf page", False, [1, 2], "BA", b"/Identity-H", "small --gids 2,1"),
+    ("small --gids 2,5 --pdf page", False, [1, 2], "", b"/Identity-H", "small --gids 2,5"),
+    ("small --gids * --pdf page --codes source", False, [0, 1, 2, 3, 4, 5], "", b"/Identity-H", "small --gids *"),
+    ("--pdf page small out 0 2,5", False, [1, 2], "", b"/Identity-H", "small --gids 2,5"),
+    ("--pdf page --text AB small out 0", True, [1, 2], "AB", b"/Identity-H", "small --gids 1,2"),
+    ("small --text AB -o out --pdf page --quiet", True, [1, 2], "AB", b"/Identity-H", "small --gids 1,2"),
+    ("small --text AB -o - --pdf page", True, [1, 2], "AB", b"/Identity-H", "small --gids 1,2"),
+    ("small --text AB --pdf -", True, [1, 2], "AB", b"/Identity-H", "small --gids 1,2"),
+    ("small --text AB --pdf - -o out --json", True, [1, 2], "AB", b"/Identity-H", "small --gids 1,2"),
+    ("variable_named --at wght=650 --text A --pdf page", True, [1], "A", b"/Identity-H", "variable_named --at wght=650 --gids 1"),
+    ("instances --at black --gids 1,2 --pdf page", False, [1, 2], "", b"/Identity-H", "instances --at wght=900 --gids 1,2"),
+    ("mixed --face-index 1 --gids 4 --pdf page", False, [1], "", b"/Identity-H", "mixed --face-index 1 --gids 4"),
+    ("named --gids 1 --pdf page", False, [1], "", b"/Identity-H", "named --gids 1"),
+    ("named --gids 1 --pdf page --no-hinting", False, [1], "", b"/Identity-H", "named --no-hinting --gids 1"),
+    *((f"fs2_{bits} --text A --pdf page --rights held", True, [1], "A", b"/Identity-H", f"fs2_{bits} --gids 1") for bits, _ in FORBIDDEN),
+    *((f"{name} --gids 1 --pdf page", False, [1], "", b"/Identity-H", f"{name} --gids 1") for name in ("fs2_0", "fs2_4", "fs2_6", "fs2_8", "fs_256", "fs_512")),
+]
+
+
+def check_pdf(table, room):
+    """What a PDF has, what is printed beside it, and where it is written."""
+    for name, font in FONTS.items():
+        put(room, name, font)
+    put(room, "list", b"AB\n\rA")
+    for words, is_line, codes, text, encoding, alone in PDFS:
+        for name in ("page", "out"):
+            remove(os.path.join(room, name))
+        given = words.split()
+        got = table.start(given, room)
+        plain = [it for it in given if it not in ("--vertical", "--pdf", "--codes", "--rights", "consecutive", "source", "text", "held", "page")]
+        is_stream = "--pdf -" in words
+        plain.remove("-") if is_stream else None
+        page = got.stdout if is_stream else take(os.path.join(room, "page"))
+        shown = what_is_shown(page)
+        other = table.start([*alone.split(), "--no-names", "--no-glyph-names", "-o", "program"], room)
+        wanted = {"line": is_line, "codes": codes, "text": text, "program": take(os.path.join(room, "program"))}
+        found = {key: shown and shown[key] for key in wanted}
+        table.demand(found == wanted and other.returncode == 0, words, f"{got.stderr} {found}, wanted {wanted}")
+        table.demand(shown and (shown["encoding"] == encoding or encoding is None and shown["encoding"].endswith(b" 0 R")), words, f"the encoding {shown and shown['encoding']}")
+        # what is printed, and OUT, as without the PDF
+        out = take(os.path.join(room, "out"))
+        if "-o" not in given and "out" not in given:
+            table.demand(out is None, words, "OUT is there")
+            plain += ["-o", "out"]
+        remove(os.path.join(room, "out"))
+        base = table.start(plain, room)
+        printed = got.stderr if is_stream or "-o -" in words else got.stdout
+        if "--json" in given:
+            of_pdf = json.loads(printed)["pdf"]
+            table.demand(of_pdf == {"size": len(page), "font": shown["name"], "codes": codes}, words, of_pdf)
+            printed = printed[:printed.index(b',"pdf":')] + b"}\n"
+        table.demand((got.returncode, printed) == (base.returncode, base.stderr if "-o -" in words else base.stdout), f"{words}: what is printed", (got, base))
+        if "-o" in given or "out" in given:
+            table.demand((got.stdout if "-o -" in words else out) == (base.stdout if "-o -" in words else take(os.path.join(room, "out"))), f"{words}: OUT", got)
+        table.demand(not [it for it in os.listdir(room) if ".part" in it], f"{words}: files beside", os.listdir(room))
+    check_pdf_json(table, room)
+    check_pdf_places(table, room)
+
+
+def check_pdf_json(table, room):
+    """The object has the PDF beside each other member, and none where there is no PDF."""
+    for further in ([], ["--widths", "--verbose"]):
+        got = table.start(["shared", "--text", "AaB", "--pdf", "page", "--json", "--codes", "text", *further], room)
+        said, page = json.loads(got.stdout or b"{}"), take(os.path.join(room, "page"))
+        table.demand(list(said)[-1:] == ["pdf"] and said["pdf"]["codes"] == [1, 2, 0] and said["pdf"]["size"] == len(page), "the PDF in JSON", got)
+        name = said.get("pdf", {}).get("font", "")
+        table.demand(re.fullmatch("[A-Z]{6}[+]Font", name) and b"/FontName /" + name.encode() in page, "the name in JSON", name)
+    got = table.start(["shared", "--text", "A", "-o", "out", "--json"], room)
+    table.demand("pdf" not in json.loads(got.stdout), "no PDF in JSON", got)
+
+
+def check_pdf_places(table, room):
+    """A PDF is written before OUT, beside what it replaces; a failed one leaves all as it was."""
+    for name in ("page", "out"):
+        put(room, name, OLD)
+    before = sorted(os.listdir(room))
+    words = ["small", "--text", "AB", "--pdf", "page", "-o"]
+    if table.system != "windows":
+        got = table.start([*words, "out"], room, preexec_fn=few_bytes)
+        table.demand((got.returncode, got.stdout, got.stderr) == (3, b"", cannot_write("page", errno.EFBIG)), "a PDF that can't be written", got)
+        table.demand(take(os.path.join(room, "page")) == take(os.path.join(room, "out")) == OLD and sorted(os.listdir(room)) == before, "and files stay", os.listdir(room))
+    got = table.start([*words, "none/out"], room)
+    table.demand((got.returncode, got.stdout, got.stderr) == (3, b"", cannot_write("none/out", errno.ENOENT)), "OUT can't be written", got)
+    table.demand(what_is_shown(take(os.path.join(room, "page"))) and sorted(os.listdir(room)) == before, "and the PDF is whole", os.listdir(room))
+
+
 STATUSES = b"""
-Status: 0 OUT has the new font, 1 the font or a glyph is
-refused or memory ran out, 2 an argument is wrong, 3 a file
-can't be read or written. With --axes and --info: 0 it is
-printed, for --info also where a subset would be refused,
-1 IN is no font, or with --axes its table fvar is cut.
+Status: 0 OUT has the new font, and FILE the PDF, 1 the font
+or a glyph is refused, may not be embedded, or memory ran
+out, 2 an argument is wrong, 3 a file can't be read or
+written. With --axes and --info: 0 it is printed, for --info
+also where a subset would be refused, 1 IN is no font, or
+with --axes its table fvar is cut.
 """
 
 
@@ -1462,7 +1658,7 @@ def ended_by_std(got):
     return int(told[1]) if told and got.answer[:2] == (-6, b"") else None
 
 
-REFUSED_RUNS = (["in", "out", "0", "2"], ["--json", "--widths", "--gids-file", "list", "in", "out", "0"], ["--text", "A", "in", "-", "0"])
+REFUSED_RUNS = (["in", "out", "0", "2"], ["--json", "--pdf", "page", "--text", "A", "in", "out", "0"], ["--json", "--widths", "--gids-file", "list", "in", "out", "0"], ["--text", "A", "in", "-", "0"])
 
 
 def check_refused_memory(table, room):
@@ -1686,7 +1882,7 @@ def main():
     for words in OTHERWISE.get(given.system, {}):
         table.demand(words in [str(row.words) for row in ROWS], words, f"listed for {given.system}, and no row")
     unchecked = UNCHECKED.get(given.system, {})
-    for check in (check_words, check_names, check_places, check_links, check_device, check_rights, check_streams, check_closed, check_number_of_output, check_many, check_memory,
+    for check in (check_words, check_names, check_pdf, check_places, check_links, check_device, check_rights, check_streams, check_closed, check_number_of_output, check_many, check_memory,
                   check_refused_memory, check_refused_names, check_little_room, check_kept_room, check_failed_calls):
         if check.__name__ in unchecked:
             print(f"program: {check.__name__} isn't run on {given.system}: {unchecked[check.__name__]}")

@@ -11,9 +11,10 @@ At the first disagreement it tells it, and ends with status 1. What is demanded:
                   crates/subset_tests/src/tests/memory.rt)
     no memory     with every request refused, the calls that take no memory answer, and so does `subset` on fonts that are
                   refused by the first checks
-    subset_font   status 1 and `out of memory`, while IN is read status 3 and `cannot read IN`; OUT isn't touched
+    subset_font   status 1 and `out of memory`, while IN is read status 3 and `cannot read IN`; neither OUT nor a PDF is touched
     files         a failed call gives status 3 and its text, and OUT is what it was; it is whole where the standard output
-                  fails, and where the program does without the call. No other file is left
+                  fails, and where the program does without the call. No other file is left. A PDF that can't be written
+                  leaves OUT as it was, and is whole where OUT can't be written
     given back    no block of memory is held at the end that isn't held at the end of a run without a refusal
 
 The fonts are small ones of made.py; with --more also some of Debian's (fonts.py). With --program only what is said of
@@ -210,15 +211,32 @@ def with_instances(names):
 
 INSTANCES = with_instances(["Semi Bold", "Black"])
 
+# A font with what a PDF needs: `A` as before, and metrics of its three glyphs, of 1,000 units for each em.
+WIDE_HEAD = made.HEAD[:18] + made.u16s(1000) + made.HEAD[20:]
+WIDE = [("cmap", CMAP), ("hhea", bytes(34) + made.u16s(3)), ("hmtx", made.u16s(500, 0, 600, 0, 700, 0)), ("maxp", made.u32s(0x00010000) + made.u16s(3) + bytes(26))]
+WITH_WIDTHS = made.truetype([b"", bytes(12), bytes(11)], WIDE).replace(made.HEAD, WIDE_HEAD)
+# What a PDF of it has beside its file.
+PAGES = [["--text", "A"], ["--json", "--codes", "text", "--text", "A"], ["--vertical", "--codes", "source", "--text", "AA"]]
+
+
+def written_by(front):
+    """The names of the files that a run writes: OUT, and a PDF."""
+    return ["out", "page"] if "--pdf" in front else ["out"]
+
+
+def take_written(room, front):
+    return [take(room, name) for name in written_by(front)]
+
 
 def run_font(room, glyphs, front=(), **wishes):
-    """Runs the program on `in`, with an OUT that is there already. The glyphs are words, or a file lists them."""
-    put(room, "out", OLD)
+    """Runs the program on `in`, with an OUT that is there already, and a PDF. The glyphs are words, or a file lists them."""
+    for name in written_by(front):
+        put(room, name, OLD)
     words = ["--gids-file", "list", "in", "out", "0"] if "--gids-file" in front else ["in", "out", "0"]
     words += [] if {"--gids-file", "--text"} & set(front) else [glyphs]
     put(room, "list", glyphs.encode())
     got = run([FONT, *(it for it in front if it != "--gids-file"), *words], room, **wishes)
-    beside = [name for name in os.listdir(room) if name.startswith("out.")]
+    beside = [name for name in os.listdir(room) if name.startswith(("out.", "page."))]
     demand(not beside, f"subset_font {front} with {wishes} leaves {beside}", got)
     return got
 
@@ -226,12 +244,13 @@ def run_font(room, glyphs, front=(), **wishes):
 def base_of(name, data, glyphs, room, front=()):
     put(room, "in", data)
     base = run_font(room, glyphs, front)
-    demand((base.status, base.err) == (0, b"") and take(room, "out") != OLD, f"subset_font on {name}", base)
-    return base, take(room, "out")
+    whole = take_written(room, front)
+    demand((base.status, base.err) == (0, b"") and OLD not in whole, f"subset_font on {name}", base)
+    return base, whole
 
 
 def check_program(name, data, glyphs, room, front=()):
-    """The program ends with its status at each refused request, and OUT isn't touched."""
+    """The program ends with its status at each refused request, and no file is touched."""
     base, whole = base_of(name, data, glyphs, room, front)
     memory, in_reading = (1, b"out of memory\n"), (3, b"cannot read in\nout of memory\n")
     texts = {"reading": [in_reading], "before": [memory], "after": [memory]}
@@ -248,14 +267,14 @@ def check_program(name, data, glyphs, room, front=()):
         gives_back(base, got, what)
         if got.status == 0:
             # It could do without, as where a smaller block serves or a part of one isn't given back.
-            demand((got.out, got.err, take(room, "out")) == (base.out, b"", whole), what, got)
+            demand((got.out, got.err, take_written(room, front)) == (base.out, b"", whole), what, got)
             counts["no change"] += 1
             continue
         # (once IN is open, and before it is read, the buffer in front of the standard output is asked for)
         is_buffer = got.stage == "reading" and got.calls["read"] == 0 and (got.status, got.err) == memory
         buffers += is_buffer
         demand(not got.is_less and (is_buffer or (got.status, got.err) in texts.get(got.stage, [])), what, got)
-        demand(got.out == b"" and take(room, "out") == OLD, f"{what}: something was written", got)
+        demand(got.out == b"" and set(take_written(room, front)) == {OLD}, f"{what}: something was written", got)
         counts[got.stage] += 1
 
 
@@ -296,7 +315,7 @@ DISPENSABLE = {("open", 3), *(("size", number) for number in (1, 2, 4, 5, 6))}
 
 def check_files(name, data, glyphs, room):
     """The program ends with its status at each failed call."""
-    base, whole = base_of(name, data, glyphs, room)
+    base, (whole,) = base_of(name, data, glyphs, room)
     counts = {}
     for what in (*CALLS[:5], "rename", "sync"):
         for number in range(1, base.calls[what] + 1):
@@ -315,6 +334,34 @@ def check_files(name, data, glyphs, room):
             gives_back(base, got, case)
         demand(base.calls[what] > 0, f"subset_font on {name} makes no call of {what}", base)
         counts[what] = base.calls[what]
+    return counts
+
+
+# The files, and what a failed call leaves of OUT and of the PDF, by its text: whether each is new.
+LEFT = {"cannot read in": (False, False), "cannot write page": (False, False), "cannot write out": (False, True), "cannot write standard output": (True, True)}
+
+
+def check_files_of_pdf(name, data, room):
+    """With a PDF the program ends with its status at each failed call, too."""
+    front = ["--pdf", "page", "--text", "A" * 3000]
+    base, whole = base_of(name, data, "", room, front)
+    counts = dict.fromkeys(["no change", *LEFT], 0)
+    for what in (*CALLS[:5], "rename", "sync"):
+        for number in range(1, base.calls[what] + 1):
+            got = run_font(room, "", front, FAIL=f"{what}:{number}")
+            case, left = f"subset_font --pdf on {name}, {what} {number}", take_written(room, front)
+            text = "no change" if got.status == 0 else got.err[:-len(REASON) - 1].decode()
+            counts[text] = counts.get(text, 0) + 1
+            if got.status == 0:
+                demand((got.out, got.err, left) == (base.out, b"", whole), case, got)
+                continue
+            demand(got.status == 3 and text in LEFT and got.err.endswith(b"\n" + REASON), case, got)
+            demand(left == [new if is_new else OLD for new, is_new in zip(whole, LEFT[text])], f"{case}: what it leaves", got)
+            is_last = text == "cannot write standard output"
+            demand(base.out.startswith(got.out) and (is_last or got.out == b""), case, got)
+            demand(is_last == (what == "write1") and (what != "read" or text == "cannot read in"), case, got)
+            gives_back(base, got, case)
+    demand(all(counts.values()), f"subset_font --pdf on {name}", counts)
     return counts
 
 
@@ -385,7 +432,8 @@ def check_all_of_program(cases, room):
     runs = [(*case, ()) for case in cases]
     runs += [(name, data, glyphs, front) for front in (["--json", "--gids-file"], ["--quiet", "--no-names", "--gids-file"])]
     runs += [("a font with cmap", WITH_CMAP, "", ["--text", "A"])]
-    runs += [("a variable font", INSTANCES, "1,2", ["--at", at]) for at in ("wght=650", "semi bold")]
+    runs += [("a variable font", INSTANCES, "1,2", ["--at", at, *pdf]) for at in ("wght=650", "semi bold") for pdf in ([], ["--pdf", "page"])]
+    runs += [("a font with widths", WITH_WIDTHS, "", ["--pdf", "page", *it]) for it in PAGES]
     for name, data, glyphs, front in runs:
         counts = check_program(name, data, glyphs, room, front)
         print(f"{' '.join(['subset_font', *front])}, {name}: {sum(counts.values())} requests refused, {counts}")
@@ -396,6 +444,7 @@ def check_all_of_program(cases, room):
     for name, data, glyphs in cases:
         many = ",".join([glyphs] * 400)
         print(f"subset_font, {name}: failed calls {check_files(name, data, many, room)}")
+    print(f"subset_font --pdf: failed calls {check_files_of_pdf('a font with widths', WITH_WIDTHS, room)}")
     check_silence(room)
     return refused
 

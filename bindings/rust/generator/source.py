@@ -305,7 +305,9 @@ class Source(Tokens):
                     f"impl From<{of}> for {name} {{ fn from(error: {of}) -> Self {{ {name}::{variant}(error) }} }}")
                 i = self.next(close)
             elif self.kinds[told] == "text" and "{" not in self.text(told):
-                arms.append(f"{name}::{variant} => f.write_str({self.text(told)}),")
+                fields = "(..)" if self.text(i) == "(" else ""
+                arms.append(f"{name}::{variant}{fields} => f.write_str({self.text(told)}),")
+                i = self.next(self.close(i)) if fields else i
             else:
                 self.fail(at, f"{variant} has an error that isn't known")
             i = self.next(i)

@@ -1,15 +1,15 @@
 -- What is wrong with an argument, by itself.
-use Rattle.std.specs.Prelude.{◌≡◌, ◌≢◌, ◌⊎◌, ℕ, true, List, None}
+use Rattle.std.specs.Prelude.{◌≡◌, ◌≢◌, ◌⊎◌, ℕ, true, false, List, None}
 use Rattle.std.specs.Str.{IsUtf8}
 use Rattle.subset_args.specs.Lists.{ends_in, descends}
 use Rattle.subset_args.specs.Characters.{codes_in, codes_descend}
 use Rattle.subset_args.specs.Request.{topic_of}
 use Rattle.subsetter_words.specs.Numbers.{number_in_bits}
 use Rattle.subset_args.specs.Coordinates.{coordinate_in}
-use Rattle.subset_args.specs.Options.{kind_of, looks_like_option}
+use Rattle.subset_args.specs.Options.{kind_of, looks_like_option, coding_in, says_held}
 use Rattle.subset_args.specs.declared.options.Kind.TheVariants.{Place}
 use Rattle.subset_args.specs.declared.mistakes.Wrong.{Wrong}
-use Rattle.subset_args.specs.declared.mistakes.Wrong.TheVariants.{NoInput, NoOutput, NoIndex, NoGlyphs, Further, BehindShown, Late, ShownLate, Unknown, Twice, NoValue, GlyphsTwice, BesideOption, InputTwice, Index, FaceIndex, Glyph, Limits, Coordinate, Part, Descends, Codes, CodesDescend, BesideInput, NoOutputOption, NoSource}
+use Rattle.subset_args.specs.declared.mistakes.Wrong.TheVariants.{NoInput, NoOutput, NoIndex, NoGlyphs, Further, BehindShown, Late, ShownLate, Unknown, Twice, NoValue, GlyphsTwice, BesideOption, InputTwice, Index, FaceIndex, Glyph, Limits, Coordinate, Part, Descends, Codes, CodesDescend, BesideInput, NoOutputOption, NoSource, Coding, Rights, NoPdf, OutputTwice}
 
 -- what is said of an argument, or of a value that it lists, is so as far as its own bytes show
 abbrev pub IsWrong : Wrong → List ℕ → Type 0
@@ -39,3 +39,7 @@ IsWrong CodesDescend word = codes_descend word ≡ true
 IsWrong BesideInput word = Unit {0}
 IsWrong NoOutputOption word = Unit {0}
 IsWrong NoSource word = Unit {0}
+IsWrong Coding word = coding_in word ≡ None
+IsWrong Rights word = says_held word ≡ false
+IsWrong NoPdf word = Unit {0}
+IsWrong OutputTwice word = Unit {0}

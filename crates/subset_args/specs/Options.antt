@@ -1,13 +1,15 @@
 -- The options in front of IN.
-use Rattle.std.specs.Prelude.{Bool, true, false, ◌&&◌, ◌||◌, ◌==◌, nat_lt, if◌then◌else◌, ℕ, List, [], ◌∷◌, length, slice_index, Option, Some, None, codes, is_some}
+use Rattle.std.specs.Prelude.{Bool, true, false, not, ◌&&◌, ◌||◌, ◌==◌, nat_lt, if◌then◌else◌, ℕ, List, [], ◌∷◌, length, slice_index, Option, Some, None, codes, is_some}
 use Rattle.std.specs.Option.{option_map, option_and_then}
 use Rattle.std.specs.Str.{bytes_eq}
 use Rattle.subsetter_words.specs.Numbers.{number_in_bits}
 use Rattle.subset_args.specs.Limits.{Bounds, limits_in}
 use Rattle.subset_args.specs.declared.options.Switch.{Switch}
-use Rattle.subset_args.specs.declared.options.Switch.TheVariants.{Widths, NoHinting, NoNames, NoGlyphNames, Json, Quiet, Verbose}
+use Rattle.subset_args.specs.declared.options.Switch.TheVariants.{Widths, NoHinting, NoNames, NoGlyphNames, Json, Quiet, Verbose, Vertical}
 use Rattle.subset_args.specs.declared.options.Setting.{Setting}
-use Rattle.subset_args.specs.declared.options.Setting.TheVariants.{Limits, GidsFile, Text, At, Gids, FaceIndex, Output, TextFile, Unicodes, UnicodesFile}
+use Rattle.subset_args.specs.declared.options.Setting.TheVariants.{Limits, GidsFile, Text, At, Gids, FaceIndex, Output, TextFile, Unicodes, UnicodesFile, Pdf, Codes, Rights}
+use Rattle.subset_args.specs.declared.options.Coding.{Coding}
+use Rattle.subset_args.specs.declared.options.Coding.TheVariants.{Consecutive, Source as InSource, Text as EachText}
 use Rattle.subset_args.specs.declared.options.Kind.{Kind}
 use Rattle.subset_args.specs.declared.options.Kind.TheVariants.{Switch as IsSwitch, Setting as IsSetting, Help, Version, End, Place}
 use Rattle.subset_args.specs.declared.options.Switches.{Switches}
@@ -24,6 +26,7 @@ switch_of word =
     else if bytes_eq word (codes "--json") then Some Json
     else if bytes_eq word (codes "--quiet") then Some Quiet
     else if bytes_eq word (codes "--verbose") then Some Verbose
+    else if bytes_eq word (codes "--vertical") then Some Vertical
     else None
 
 -- the option that a value follows, which an argument is
@@ -40,6 +43,9 @@ setting_of word =
     else if bytes_eq word (codes "--text-file") then Some TextFile
     else if bytes_eq word (codes "--unicodes") then Some Unicodes
     else if bytes_eq word (codes "--unicodes-file") then Some UnicodesFile
+    else if bytes_eq word (codes "--pdf") then Some Pdf
+    else if bytes_eq word (codes "--codes") then Some Codes
+    else if bytes_eq word (codes "--rights") then Some Rights
     else None
 
 -- what an argument that is neither is
@@ -69,6 +75,7 @@ is_on NoGlyphNames all = all.no_glyph_names
 is_on Json all = all.json
 is_on Quiet all = all.quiet
 is_on Verbose all = all.verbose
+is_on Vertical all = all.vertical
 
 -- with one that is given
 abbrev pub switched_on : Switch → Switches → Switches
@@ -79,6 +86,7 @@ switched_on NoGlyphNames all = record all { no_glyph_names = true }
 switched_on Json all = record all { json = true }
 switched_on Quiet all = record all { quiet = true }
 switched_on Verbose all = record all { verbose = true }
+switched_on Vertical all = record all { vertical = true }
 
 -- where the glyphs are found that an option requests: in a file, by the characters of a text, or in a list of glyphs or of characters
 pub data GlyphSource : Type 0 where
@@ -95,10 +103,14 @@ pub record Choice : Type 0 where
   pub at : Option (List ℕ)
   pub output : Option (List ℕ)
   pub index : Option ℕ
+  -- the file of a PDF, how its glyphs get codes, and whether the user holds the rights to embed the font
+  pub pdf : Option (List ℕ)
+  pub coding : Option Coding
+  pub is_held : Bool
 
 -- nothing
 abbrev pub no_choice : Choice
-no_choice = record { switches = record { widths = false; no_hinting = false; no_names = false; no_glyph_names = false; json = false; quiet = false; verbose = false }; limits = None; source = None; at = None; output = None; index = None }
+no_choice = record { switches = record { widths = false; no_hinting = false; no_names = false; no_glyph_names = false; json = false; quiet = false; verbose = false; vertical = false }; limits = None; source = None; at = None; output = None; index = None; pdf = None; coding = None; is_held = false }
 
 -- with an option without a value; none where it was given before
 abbrev pub with_switch : Switch → Choice → Option Choice
@@ -124,6 +136,29 @@ with_output value choice = if is_some choice.output then None else Some (record 
 abbrev pub with_index : List ℕ → Choice → Option Choice
 with_index value choice = if is_some choice.index then None else option_map (λ index. record choice { index = Some index }) (number_in_bits 32 value)
 
+-- with the file of a PDF; none where it was given before
+abbrev pub with_pdf : List ℕ → Choice → Option Choice
+with_pdf value choice = if is_some choice.pdf then None else Some (record choice { pdf = Some value })
+
+-- how the glyphs of a PDF get codes
+abbrev pub coding_in : List ℕ → Option Coding
+coding_in word =
+    if bytes_eq word (codes "consecutive") then Some Consecutive
+    else if bytes_eq word (codes "source") then Some InSource
+    else if bytes_eq word (codes "text") then Some EachText
+    else None
+
+-- with that; none where it was given before, or is none of these
+abbrev pub with_coding : List ℕ → Choice → Option Choice
+with_coding value choice = if is_some choice.coding then None else option_map (λ coding. record choice { coding = Some coding }) (coding_in value)
+
+abbrev pub says_held : List ℕ → Bool
+says_held word = bytes_eq word (codes "held")
+
+-- with the rights to embed the font; none where they were given before, or by another word
+abbrev pub with_rights : List ℕ → Choice → Option Choice
+with_rights value choice = if choice.is_held || not (says_held value) then None else Some (record choice { is_held = true })
+
 -- with an option and its value
 abbrev pub with_setting : Setting → List ℕ → Choice → Option Choice
 with_setting Limits value choice = with_limits value choice
@@ -136,6 +171,9 @@ with_setting Output value choice = with_output value choice
 with_setting TextFile value choice = with_source (in_file OfText value) choice
 with_setting Unicodes value choice = with_source (in_codes value) choice
 with_setting UnicodesFile value choice = with_source (in_file OfCharacters value) choice
+with_setting Pdf value choice = with_pdf value choice
+with_setting Codes value choice = with_coding value choice
+with_setting Rights value choice = with_rights value choice
 
 -- what the arguments with options in front say: that help or the version is wanted, or what is chosen, and the arguments behind the options
 pub data Options : Type 0 where

@@ -10,6 +10,8 @@ use Rattle.subset_args.specs.Limits.{Bounds}
 use Rattle.subset_args.specs.Lists.{FileList, every, these, characters, text_of, argument_list}
 use Rattle.subset_args.specs.Characters.{argument_characters}
 use Rattle.subset_args.specs.Options.{GlyphSource, in_file, by_text, in_list, in_codes, Choice, Free, Options, helped, versioned, chosen, no_choice, parsed, free}
+use Rattle.subset_args.specs.declared.options.Coding.TheVariants.{Consecutive}
+use Rattle.subset_args.specs.declared.options.PdfChoice.{PdfChoice}
 use Rattle.subset_args.specs.declared.options.Switches.{Switches}
 use Rattle.subset_args.specs.declared.jobs.Topic.{Topic}
 use Rattle.subset_args.specs.declared.jobs.Topic.TheVariants.{Axes, Info}
@@ -42,16 +44,23 @@ is_name text = nat_lt 0 (length text) && not (has_byte is_equals text)
 abbrev pub position_in : List ℕ → Option Position
 position_in text = if is_name text then Some (at_instance text) else option_map at_coordinates (coordinates_in text)
 
+-- a PDF that is requested: its file, and how it is made
+pub record PdfRequest : Type 0 where
+  pub file : List ℕ
+  pub choice : PdfChoice
+
 -- what a run that makes a subset is to do
 pub record Request : Type 0 where
   pub switches : Switches
   pub limits : Option Bounds
   pub input : List ℕ
-  pub output : List ℕ
+  -- the file of the new font; it may be missing where a PDF is requested
+  pub output : Option (List ℕ)
   pub index : ℕ
   pub glyphs : Asked
   -- where on the axes of a variable font, if that is specified
   pub position : Option Position
+  pub pdf : Option PdfRequest
 
 -- what a run is to do
 pub data Command : Type 0 where
@@ -101,17 +110,34 @@ abbrev pub said_at : Option (List ℕ) → Option (Option Position)
 said_at None = Some None
 said_at (Some text) = option_map (λ p. Some p) (position_in text)
 
--- what is asked for, where standard input isn't to be read twice
-abbrev pub request_of : Choice → List ℕ → List ℕ → ℕ → Asked → Option Request
-request_of choice input output index glyphs = if is_stream input && lists_in_stream glyphs then None else option_map (λ at. record { switches = choice.switches; limits = choice.limits; input = input; output = output; index = index; glyphs = glyphs; position = at }) (said_at choice.at)
+-- ---- the PDF that is requested, if any
+
+-- how it is made: codes are consecutive where nothing is said
+abbrev pub pdf_choice : Choice → PdfChoice
+pdf_choice choice = record { vertical = choice.switches.vertical; coding = unwrap_or choice.coding Consecutive; is_held = choice.is_held }
+
+-- options that say how want a PDF
+abbrev pub pdf_by : Option (List ℕ) → Choice → Option (Option PdfRequest)
+pdf_by None choice = if choice.switches.vertical || (is_some choice.coding || choice.is_held) then None else Some None
+pdf_by (Some file) choice = Some (Some (record { file = file; choice = pdf_choice choice }))
+
+-- whether both are one file, by their names
+abbrev pub is_same : Option (List ℕ) → Option (List ℕ) → Bool
+is_same (Some one) (Some other) = bytes_eq one other
+is_same (Some one) None = false
+is_same None other = false
+
+-- what is asked for, where standard input isn't to be read twice, and no file written twice
+abbrev pub request_of : Choice → List ℕ → Option (List ℕ) → ℕ → Asked → Option Request
+request_of choice input output index glyphs = if (is_stream input && lists_in_stream glyphs) || is_same output choice.pdf then None else option_and_then (λ pdf. option_map (λ at. record { switches = choice.switches; limits = choice.limits; input = input; output = output; index = index; glyphs = glyphs; position = at; pdf = pdf }) (said_at choice.at)) (pdf_by choice.pdf choice)
 
 -- what is requested by IN, OUT, INDEX and the arguments behind them
-abbrev pub request_behind : Choice → List ℕ → List ℕ → ℕ → List (List ℕ) → Option Request
+abbrev pub request_behind : Choice → List ℕ → Option (List ℕ) → ℕ → List (List ℕ) → Option Request
 request_behind choice input output index words = option_and_then (request_of choice input output index) (asked choice.source words)
 
 -- what the arguments `IN OUT INDEX GID[,GID..]` ask for with these choices, or `IN OUT INDEX` where the glyphs are found elsewhere; none where their count is another, or one isn't as it should be
 abbrev pub request_plain : Choice → List (List ℕ) → Option Request
-request_plain choice (input ∷ output ∷ index ∷ words) = option_and_then (λ i. request_behind choice input output i words) (number_in_bits 32 index)
+request_plain choice (input ∷ output ∷ index ∷ words) = option_and_then (λ i. request_behind choice input (Some output) i words) (number_in_bits 32 index)
 request_plain choice _ = None
 
 -- none where an option says OUT or INDEX
@@ -131,9 +157,13 @@ command_of (chosen choice words) = option_map subset (request_with choice words)
 abbrev pub command_by_options : List (List ℕ) → Option Command
 command_by_options words = option_and_then command_of (parsed None no_choice words)
 
--- what is requested with OUT by an option, and INDEX too, if it isn't 0
+-- whether an option says where the new font or a PDF goes
+abbrev pub says_file : Choice → Bool
+says_file choice = is_some choice.output || is_some choice.pdf
+
+-- what is requested with OUT or a PDF by an option, and INDEX too, if it isn't 0
 abbrev pub request_free : Free → Option Request
-request_free f = option_and_then (λ output. option_and_then (request_of f.choice f.input output (unwrap_or f.choice.index 0)) (asked f.choice.source [])) f.choice.output
+request_free f = if says_file f.choice then option_and_then (request_of f.choice f.input f.choice.output (unwrap_or f.choice.index 0)) (asked f.choice.source []) else None
 
 abbrev pub command_free : List (List ℕ) → Option Command
 command_free words = option_and_then (λ f. option_map subset (request_free f)) (free None no_choice None words)
@@ -167,7 +197,7 @@ abbrev pub behind_first : List (List ℕ) → List (List ℕ)
 behind_first [] = []
 behind_first (word ∷ words) = words
 
--- what the arguments request: `--axes [--json] FONT [INDEX]` or `--info [--json] FONT [INDEX]`, `[OPTIONS] IN OUT INDEX [GID[,GID..]]`, or IN with options before and after it, one of which gives OUT
+-- what the arguments request: `--axes [--json] FONT [INDEX]` or `--info [--json] FONT [INDEX]`, `[OPTIONS] IN OUT INDEX [GID[,GID..]]`, or IN with options before and after it, one of which gives OUT or a PDF
 abbrev pub command : List (List ℕ) → Option Command
 command words = elim (first_topic words) [
   | Some topic ↦ shown_by topic (behind_first words)

@@ -3,7 +3,7 @@ use Rattle.std.specs.Prelude.{map, string_bytes}
 use Rattle.std.specs.Option.{option_copied, option_map}
 use Rattle.subset_args.specs.Limits.{limits_view}
 use Rattle.subset_args.specs.Options.{GlyphSource, in_file, by_text, in_list, in_codes, Choice, Free as FreeSaid, Options, helped, versioned, chosen}
-use Rattle.subset_args.specs.Request.{Asked, listed, every_glyph, of_characters, from, Position as Requested, at_coordinates, at_instance, Request, Command as Wanted, help, version, subset, show}
+use Rattle.subset_args.specs.Request.{Asked, listed, every_glyph, of_characters, from, Position as Requested, at_coordinates, at_instance, PdfRequest, Request, Command as Wanted, help, version, subset, show}
 use Rattle.subset_args.specs.declared.options.Source.{Source}
 use Rattle.subset_args.specs.declared.options.Source.TheVariants.{File, Text, InList, Characters as InCodes}
 use Rattle.subset_args.specs.declared.options.Chosen.{Chosen}
@@ -14,6 +14,7 @@ use Rattle.subset_args.specs.declared.jobs.Glyphs.{Glyphs}
 use Rattle.subset_args.specs.declared.jobs.Glyphs.TheVariants.{Listed, Characters, InFile, ByText, Every}
 use Rattle.subset_args.specs.declared.jobs.Position.{Position}
 use Rattle.subset_args.specs.declared.jobs.Position.TheVariants.{Coordinates, Named}
+use Rattle.subset_args.specs.declared.jobs.PdfJob.{PdfJob}
 use Rattle.subset_args.specs.declared.jobs.Job.{Job}
 use Rattle.subset_args.specs.declared.jobs.Command.{Command}
 use Rattle.subset_args.specs.declared.jobs.Command.TheVariants.{Help as ForHelp, Version as ForVersion, Subset, Show}
@@ -25,7 +26,7 @@ source_view (InList text) = in_list text.now
 source_view (InCodes text) = in_codes text.now
 
 abbrev pub chosen_view : Chosen → Choice
-chosen_view c = record { switches = c.switches; limits = option_map limits_view c.limits; source = option_map source_view c.source; at = option_copied c.at; output = option_copied c.output; index = c.index }
+chosen_view c = record { switches = c.switches; limits = option_map limits_view c.limits; source = option_map source_view c.source; at = option_copied c.at; output = option_copied c.output; index = c.index; pdf = option_copied c.pdf; coding = c.coding; is_held = c.is_held }
 
 abbrev pub parsed_view : Parsed → Options
 parsed_view Help = helped
@@ -46,8 +47,11 @@ abbrev pub position_view : Position → Requested
 position_view (Coordinates at) = at_coordinates at.items
 position_view (Named name) = at_instance (string_bytes name)
 
+abbrev pub pdf_view : PdfJob → PdfRequest
+pdf_view pdf = record { file = string_bytes pdf.file; choice = pdf.choice }
+
 abbrev pub job_view : Job → Request
-job_view job = record { switches = job.switches; limits = option_map limits_view job.limits; input = string_bytes job.input; output = string_bytes job.output; index = job.index; glyphs = asked_view job.glyphs; position = option_map position_view job.position }
+job_view job = record { switches = job.switches; limits = option_map limits_view job.limits; input = string_bytes job.input; output = option_map (λ name. string_bytes name) job.output; index = job.index; glyphs = asked_view job.glyphs; position = option_map position_view job.position; pdf = option_map pdf_view job.pdf }
 
 abbrev pub command_view : Command → Wanted
 command_view ForHelp = help

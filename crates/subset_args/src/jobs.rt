@@ -4,16 +4,18 @@ ghost use Rattle.std.specs.Prelude.{◌≡◌, ◌⊎◌, ℕ, List, map, IfOk, 
 ghost use Rattle.std.specs.Option.{option_copied, option_map};
 ghost use Rattle.subset_args.specs.Lists.{argument_list};
 ghost use Rattle.subset_args.specs.Characters.{argument_characters};
-ghost use Rattle.subset_args.specs.Request.{glyph_list, of_list, asked, is_stream, lists_in_stream, said_at, request_of, request_behind, request_plain, says_place, request_with, request_free, command_by_options, command_free, command_or, is_name, position_in, shown_of, shown_by, topic_of, first_topic, behind_first, command};
+ghost use Rattle.subset_args.specs.Request.{glyph_list, of_list, asked, is_stream, lists_in_stream, said_at, pdf_choice, pdf_by, is_same, request_of, request_behind, request_plain, says_place, says_file, request_with, request_free, command_by_options, command_free, command_or, is_name, position_in, shown_of, shown_by, topic_of, first_topic, behind_first, command};
 ghost use Rattle.subset_args.specs.ListView.{list_view};
-ghost use Rattle.subset_args.specs.View.{source_view, chosen_view, free_view, asked_view, position_view, job_view, command_view};
+ghost use Rattle.subset_args.specs.View.{source_view, chosen_view, free_view, asked_view, position_view, pdf_view, job_view, command_view};
 ghost use Rattle.subset_args.specs.declared.jobs.ArgsError.TheVariants.{Usage, OutOfMemory};
 
 use crate::characters::read_characters;
 use crate::coordinates::read_coordinates;
 use crate::limits::RunLimits;
 use crate::lists::{FileKind, GlyphList, read_argument};
-use crate::options::{Chosen, Free, Parsed, Source, Switches, parse_free, parse_options};
+use crate::options::{
+    Chosen, Coding, Free, Parsed, PdfChoice, Source, Switches, parse_free, parse_options,
+};
 use std::alloc::{AllocError, Global};
 use subsetter_base::Tag;
 use subsetter_words::{parts_of, u16_of, u32_of};
@@ -53,13 +55,22 @@ pub enum Glyphs {
     Every,
 }
 
+/// A PDF that is requested.
+#[derive(Debug, Drop)]
+pub struct PdfJob {
+    /// The name of its file.
+    pub file: String,
+    /// How it is made.
+    pub choice: PdfChoice,
+}
+
 /// The making of a subset.
 #[derive(Debug, Drop)]
 pub struct Job {
     /// The name of the source font's file.
     pub input: String,
-    /// The name of the file that the subset goes to.
-    pub output: String,
+    /// The name of the file that the subset goes to. Where there is none, a PDF is requested.
+    pub output: Option<String>,
     /// The font of a collection, from 0.
     pub index: u32,
     /// The glyphs to keep.
@@ -70,6 +81,8 @@ pub struct Job {
     pub switches: Switches,
     /// Where on the axes of a variable font, if that is specified.
     pub position: Option<Position>,
+    /// The PDF that is requested, if one is.
+    pub pdf: Option<PdfJob>,
 }
 
 /// Where on its axes a variable font is requested.
@@ -212,30 +225,81 @@ fn read_at(alloc: Global, at: Option<&str>) -> Result<Option<Position>, ArgsErro
     }
 }
 
-/// What is to be done, where standard input isn't to be read twice.
+/// How a PDF is made.
+fn pdf_choice(chosen: &Chosen<'_>) -> PdfChoice
+    ensures { result ≡ pdf_choice (chosen_view chosen.now) }
+{
+    PdfChoice {
+        vertical: chosen.switches.vertical,
+        coding: chosen.coding.unwrap_or(Coding::Consecutive),
+        is_held: chosen.is_held,
+    }
+}
+
+/// The PDF that is requested, if one is. Options that say how it is made want one.
+fn read_pdf(alloc: Global, chosen: &Chosen<'_>) -> Result<Option<PdfJob>, ArgsError>
+    ensures ok { IfOk result (λ pdf. pdf_by (option_copied chosen.now.pdf) (chosen_view chosen.now) ≡ Some (option_map pdf_view pdf)) }
+    ensures err { IfErr result (λ e. (e ≡ OutOfMemory) ⊎ ((e ≡ Usage) × (pdf_by (option_copied chosen.now.pdf) (chosen_view chosen.now) ≡ None))) }
+{
+    match chosen.pdf {
+        Some(file) => Ok(Some(PdfJob {
+            file: String::from_str(alloc, file)?,
+            choice: pdf_choice(chosen),
+        })),
+        None if chosen.switches.vertical || (chosen.coding.is_some() || chosen.is_held) => {
+            Err(ArgsError::Usage)
+        }
+        None => Ok(None),
+    }
+}
+
+/// Whether both are one file, by their names.
+pub fn is_same(one: Option<&str>, other: Option<&str>) -> bool
+    ensures { result ≡ is_same (option_copied one.entry) (option_copied other.entry) }
+{
+    match (one, other) {
+        (Some(one), Some(other)) => one == other,
+        _ => false,
+    }
+}
+
+/// The name of a file, if it is given.
+fn owned(alloc: Global, name: Option<&str>) -> Result<Option<String>, ArgsError>
+    ensures ok { IfOk result (λ o. option_map (λ name. string_bytes name) o ≡ option_copied name.entry) }
+    ensures err { IfErr result (λ e. e ≡ OutOfMemory) }
+{
+    match name {
+        Some(name) => Ok(Some(String::from_str(alloc, name)?)),
+        None => Ok(None),
+    }
+}
+
+/// What is to be done, where standard input isn't to be read twice, and no file written twice.
 fn job_with(
     alloc: Global,
     chosen: Chosen<'_>,
     input: &str,
-    output: &str,
+    output: Option<&str>,
     index: u32,
     glyphs: Glyphs,
 ) -> Result<Job, ArgsError>
-    ensures ok { IfOk result (λ job. request_of (chosen_view chosen.entry) input.now output.now index (asked_view glyphs) ≡ Some (job_view job)) }
-    ensures err { IfErr result (λ e. (e ≡ OutOfMemory) ⊎ ((e ≡ Usage) × (request_of (chosen_view chosen.entry) input.now output.now index (asked_view glyphs) ≡ None))) }
+    ensures ok { IfOk result (λ job. request_of (chosen_view chosen.entry) input.now (option_copied output.entry) index (asked_view glyphs) ≡ Some (job_view job)) }
+    ensures err { IfErr result (λ e. (e ≡ OutOfMemory) ⊎ ((e ≡ Usage) × (request_of (chosen_view chosen.entry) input.now (option_copied output.entry) index (asked_view glyphs) ≡ None))) }
 {
-    if is_stream(input) && lists_in_stream(&glyphs) {
+    if (is_stream(input) && lists_in_stream(&glyphs)) || is_same(output, chosen.pdf) {
         return Err(ArgsError::Usage);
     }
+    let pdf = read_pdf(alloc, &chosen)?;
     let position = read_at(alloc, chosen.at)?;
     Ok(Job {
         input: String::from_str(alloc, input)?,
-        output: String::from_str(alloc, output)?,
+        output: owned(alloc, output)?,
         index,
         glyphs,
         limits: chosen.limits,
         switches: chosen.switches,
         position,
+        pdf,
     })
 }
 
@@ -244,12 +308,12 @@ fn read_behind_index(
     alloc: Global,
     chosen: Chosen<'_>,
     input: &str,
-    output: &str,
+    output: Option<&str>,
     index: u32,
     words: &[String],
 ) -> Result<Job, ArgsError>
-    ensures ok { IfOk result (λ job. request_behind (chosen_view chosen.entry) input.now output.now index (map (λ word. string_bytes word) words.now) ≡ Some (job_view job)) }
-    ensures err { IfErr result (λ e. (e ≡ OutOfMemory) ⊎ ((e ≡ Usage) × (request_behind (chosen_view chosen.entry) input.now output.now index (map (λ word. string_bytes word) words.now) ≡ None))) }
+    ensures ok { IfOk result (λ job. request_behind (chosen_view chosen.entry) input.now (option_copied output.entry) index (map (λ word. string_bytes word) words.now) ≡ Some (job_view job)) }
+    ensures err { IfErr result (λ e. (e ≡ OutOfMemory) ⊎ ((e ≡ Usage) × (request_behind (chosen_view chosen.entry) input.now (option_copied output.entry) index (map (λ word. string_bytes word) words.now) ≡ None))) }
 {
     let glyphs = read_glyphs(alloc, chosen.source, words)?;
     job_with(alloc, chosen, input, output, index, glyphs)
@@ -267,7 +331,7 @@ fn read_plain_job(alloc: Global, chosen: Chosen<'_>, words: &[String]) -> Result
         return Err(ArgsError::Usage);
     };
     let index = u32_of(index).ok_or(ArgsError::Usage)?;
-    read_behind_index(alloc, chosen, input, output, index, rest)
+    read_behind_index(alloc, chosen, input, Some(output.as_str()), index, rest)
 }
 
 /// Whether an option says OUT or INDEX.
@@ -288,21 +352,28 @@ fn read_job(alloc: Global, chosen: Chosen<'_>, words: &[String]) -> Result<Job, 
     read_plain_job(alloc, chosen, words)
 }
 
-/// What is requested by options before and after IN, one of which says OUT.
+/// Whether an option says where the new font or a PDF goes.
+fn says_file(chosen: &Chosen<'_>) -> bool
+    ensures { result ≡ says_file (chosen_view chosen.now) }
+{
+    chosen.output.is_some() || chosen.pdf.is_some()
+}
+
+/// What is requested by options before and after IN, one of which says OUT or a PDF.
 fn read_free_job(alloc: Global, free: Free<'_>) -> Result<Job, ArgsError>
     ensures ok { IfOk result (λ job. request_free (free_view free.entry) ≡ Some (job_view job)) }
     ensures err { IfErr result (λ e. (e ≡ OutOfMemory) ⊎ ((e ≡ Usage) × (request_free (free_view free.entry) ≡ None))) }
 {
     let chosen = free.chosen;
-    let Some(output) = chosen.output else {
+    if !says_file(&chosen) {
         return Err(ArgsError::Usage);
-    };
+    }
     let glyphs = read_glyphs(alloc, chosen.source, &[])?;
     job_with(
         alloc,
         chosen,
         free.input,
-        output,
+        chosen.output,
         chosen.index.unwrap_or(0),
         glyphs,
     )
@@ -401,11 +472,12 @@ pub fn first_topic(words: &[String]) -> Option<(Topic, &[String])>
 
 /// What the arguments after the program's name request: `--axes [--json] FONT [INDEX]` or `--info` in its place, or
 /// `[OPTIONS] IN OUT INDEX GID[,GID..]`, where the last one is left out with an option that requests glyphs; or IN with options
-/// before and after it, where one gives OUT.
+/// before and after it, where one gives OUT or the file of a PDF.
 ///
 /// `Usage` where an option is given twice or isn't followed by its value, where the count of the other arguments is another,
 /// where INDEX or a GID isn't one or more ASCII digits whose value fits `u32` or `u16`, where the limits aren't such
-/// numbers that fit `u32` and `u8`, or the depth is 0, or where standard input is to be read twice.
+/// numbers that fit `u32` and `u8`, or the depth is 0, where standard input is to be read twice, where OUT and a PDF are one
+/// file, or where an option says how a PDF is made and there is none.
 pub fn read_words(alloc: Global, words: &[String]) -> Result<Command, ArgsError>
     ensures ok { IfOk result (λ c. command (map (λ word. string_bytes word) words.now) ≡ Some (command_view c)) }
     ensures err { IfErr result (λ e. (e ≡ OutOfMemory) ⊎ ((e ≡ Usage) × (command (map (λ word. string_bytes word) words.now) ≡ None))) }

@@ -7,10 +7,12 @@ ghost use Rattle.subset_args.specs.declared.options.Kind.TheVariants.{Place};
 
 use crate::characters::{codes_descend, is_wrong_codes};
 use crate::coordinates::is_coordinate;
-use crate::jobs::{first_topic, is_name, is_stream, topic_of};
+use crate::jobs::{first_topic, is_name, is_same, is_stream, topic_of};
 use crate::lists::{FileKind, descends, is_wrong_part};
 use crate::nearest::front;
-use crate::options::{Chosen, Kind, Setting, Source, kind_of, looks_like_option};
+use crate::options::{
+    Chosen, Kind, Setting, Source, coding_of, kind_of, looks_like_option, says_held,
+};
 use subsetter_words::{u16_of, u32_of};
 
 /// What is wrong with an argument, or with one of the values that it lists.
@@ -68,6 +70,14 @@ pub enum Wrong {
     NoOutputOption,
     /// No option says which glyphs are requested.
     NoSource,
+    /// The value of `--codes` is none of its words.
+    Coding,
+    /// The value of `--rights` isn't `held`.
+    Rights,
+    /// It is an option that says how a PDF is made, and there is no `--pdf`.
+    NoPdf,
+    /// It is the file of a PDF, and OUT.
+    OutputTwice,
 }
 
 /// A mistake in the arguments.
@@ -274,10 +284,72 @@ fn wrong_topic(words: &[String]) -> Option<Mistake<'_>>
     }
 }
 
-/// What is wrong with the glyphs that are requested, or with the coordinates.
+/// The value of `--codes` that is none of its words.
+fn wrong_coding(word: &str) -> Option<Mistake<'_>>
+    ensures { IfSome result (λ m. IsWrong m.wrong m.word.now) }
+{
+    match coding_of(word) {
+        Some(_) => None,
+        None => mistake_at(Wrong::Coding, word),
+    }
+}
+
+/// The value of `--rights` that isn't `held`.
+fn wrong_rights(word: &str) -> Option<Mistake<'_>>
+    ensures { IfSome result (λ m. IsWrong m.wrong m.word.now) }
+{
+    if says_held(word) {
+        return None;
+    }
+    mistake_at(Wrong::Rights, word)
+}
+
+/// The option that says how a PDF is made, where none is requested.
+fn without_pdf<'a>(chosen: &Chosen<'_>) -> Option<Mistake<'a>>
+    ensures { IfSome result (λ m. IsWrong m.wrong m.word.now) }
+{
+    if chosen.switches.vertical {
+        return mistake_at(Wrong::NoPdf, "--vertical");
+    }
+    if chosen.coding.is_some() {
+        return mistake_at(Wrong::NoPdf, "--codes");
+    }
+    if chosen.is_held {
+        return mistake_at(Wrong::NoPdf, "--rights");
+    }
+    None
+}
+
+/// What is wrong with a PDF beside OUT.
+fn wrong_pdf<'a>(chosen: &Chosen<'a>, output: Option<&str>) -> Option<Mistake<'a>>
+    ensures { IfSome result (λ m. IsWrong m.wrong m.word.now) }
+{
+    match chosen.pdf {
+        Some(file) if is_same(output, Some(file)) => mistake_at(Wrong::OutputTwice, file),
+        Some(_) => None,
+        None => without_pdf(chosen),
+    }
+}
+
+/// What is wrong with the coordinates, or else with a PDF beside OUT.
+fn wrong_rest<'a>(chosen: &Chosen<'a>, output: Option<&str>) -> Option<Mistake<'a>>
+    ensures { IfSome result (λ m. IsWrong m.wrong m.word.now) }
+{
+    let mistake = match chosen.at {
+        Some(at) => wrong_position(at),
+        None => None,
+    };
+    match mistake {
+        Some(mistake) => Some(mistake),
+        None => wrong_pdf(chosen, output),
+    }
+}
+
+/// What is wrong with the glyphs that are requested, with the coordinates, or with a PDF.
 fn wrong_behind_index<'a>(
     chosen: &Chosen<'a>,
     input: &str,
+    output: Option<&str>,
     words: &'a [String],
 ) -> Option<Mistake<'a>>
     ensures { IfSome result (λ m. IsWrong m.wrong m.word.now) }
@@ -290,9 +362,9 @@ fn wrong_behind_index<'a>(
         (None, [_, word, ..]) => mistake_at(Wrong::Further, word),
         (Some(_), [_, word, ..]) => mistake_at(Wrong::Further, word),
     };
-    match (mistake, chosen.at) {
-        (None, Some(at)) => wrong_position(at),
-        _ => mistake,
+    match mistake {
+        Some(mistake) => Some(mistake),
+        None => wrong_rest(chosen, output),
     }
 }
 
@@ -309,8 +381,8 @@ fn wrong_from_input<'a>(chosen: &Chosen<'a>, words: &'a [String]) -> Option<Mist
     match behind {
         [] => mistake_at(Wrong::NoOutput, ""),
         [_] => mistake_at(Wrong::NoIndex, ""),
-        [_, index, rest @ ..] => match wrong_index(index) {
-            None => wrong_behind_index(chosen, input, rest),
+        [output, index, rest @ ..] => match wrong_index(index) {
+            None => wrong_behind_index(chosen, input, Some(output.as_str()), rest),
             mistake => mistake,
         },
     }
@@ -353,6 +425,8 @@ fn wrong_setting<'a>(
     match setting {
         Setting::Limits if chosen.limits.is_none() => mistake_at(Wrong::Limits, value),
         Setting::FaceIndex if chosen.index.is_none() => wrong_face_index(value),
+        Setting::Codes if chosen.coding.is_none() => wrong_coding(value),
+        Setting::Rights if !chosen.is_held => wrong_rights(value),
         Setting::GidsFile
         | Setting::Text
         | Setting::Gids
@@ -410,10 +484,10 @@ fn wrong_request<'a>(chosen: &Chosen<'a>, input: &str) -> Option<Mistake<'a>>
     if chosen.source.is_none() {
         return mistake_at(Wrong::NoSource, "");
     }
-    if chosen.output.is_none() {
+    if chosen.output.is_none() && chosen.pdf.is_none() {
         return mistake_at(Wrong::NoOutputOption, "");
     }
-    wrong_behind_index(chosen, input, &[])
+    wrong_behind_index(chosen, input, chosen.output, &[])
 }
 
 /// What is wrong at the end of arguments that have options before and after IN.
@@ -492,6 +566,32 @@ fn wrong_free<'a>(
     }
 }
 
+/// Whether one of the arguments requests a PDF.
+fn says_pdf(words: &[String]) -> bool {
+    for word in words {
+        if let Kind::Setting(Setting::Pdf) = kind_of(word) {
+            return true;
+        }
+    }
+    false
+}
+
+/// What is wrong with arguments that request a PDF, with OUT by an option or without it; or where IN isn't alone, in the plain
+/// form.
+fn wrong_with_pdf(words: &[String]) -> Option<Mistake<'_>>
+    ensures { IfSome result (λ m. IsWrong m.wrong m.word.now) }
+{
+    match wrong_free(Chosen::NOTHING, None, words) {
+        Some(
+            Mistake {
+                wrong: Wrong::BesideInput,
+                ..
+            },
+        ) => wrong_from_option(Chosen::NOTHING, words),
+        mistake => mistake,
+    }
+}
+
 /// What is wrong with arguments for which `read_words` answers `Usage`: the first mistake.
 pub fn find_mistake(words: &[String]) -> Option<Mistake<'_>>
     ensures { IfSome result (λ m. IsWrong m.wrong m.word.now) }
@@ -499,6 +599,7 @@ pub fn find_mistake(words: &[String]) -> Option<Mistake<'_>>
     match first_topic(words) {
         Some((_, behind)) => wrong_topic(behind),
         None if says_output(words) => wrong_free(Chosen::NOTHING, None, words),
+        None if says_pdf(words) => wrong_with_pdf(words),
         None => wrong_from_option(Chosen::NOTHING, words),
     }
 }

@@ -3,7 +3,7 @@
 ghost use Rattle.std.specs.Prelude.{◌≡◌, map, string_bytes, None};
 ghost use Rattle.std.specs.Option.{option_copied, option_map};
 ghost use Rattle.subset_args.specs.Limits.{limits_from, limits_in, limits_view};
-ghost use Rattle.subset_args.specs.Options.{switch_of, setting_of, kind_of, is_on, switched_on, with_switch, with_limits, with_source, with_at, with_output, with_index, with_setting, parsed, free_with, behind_end, looks_like_option, free};
+ghost use Rattle.subset_args.specs.Options.{switch_of, setting_of, kind_of, is_on, switched_on, with_switch, with_limits, with_source, with_at, with_output, with_index, with_pdf, coding_in, with_coding, says_held, with_rights, with_setting, parsed, free_with, behind_end, looks_like_option, free};
 ghost use Rattle.subset_args.specs.View.{source_view, chosen_view, parsed_view, free_view};
 
 use crate::limits::RunLimits;
@@ -27,6 +27,8 @@ pub enum Switch {
     Quiet,
     /// `--verbose`
     Verbose,
+    /// `--vertical`
+    Vertical,
 }
 
 /// An option that a value follows.
@@ -52,6 +54,23 @@ pub enum Setting {
     Unicodes,
     /// `--unicodes-file FILE`
     UnicodesFile,
+    /// `--pdf FILE`
+    Pdf,
+    /// `--codes consecutive|source|text`
+    Codes,
+    /// `--rights held`
+    Rights,
+}
+
+/// How the glyphs of a PDF get codes.
+#[derive(Clone, Copy, PartialEq, Eq, Debug)]
+pub enum Coding {
+    /// From 1 on, in order of use.
+    Consecutive,
+    /// The glyphs' numbers in the source.
+    Source,
+    /// From 1 on, one for each pair of a glyph and its text.
+    Text,
 }
 
 /// Where the glyphs are found that no argument lists.
@@ -92,6 +111,7 @@ pub struct Switches {
     pub json: bool,
     pub quiet: bool,
     pub verbose: bool,
+    pub vertical: bool,
 }
 
 impl Switches {
@@ -104,6 +124,7 @@ impl Switches {
         json: false,
         quiet: false,
         verbose: false,
+        vertical: false,
     };
 
     /// Whether an option was given.
@@ -118,6 +139,7 @@ impl Switches {
             Switch::Json => self.json,
             Switch::Quiet => self.quiet,
             Switch::Verbose => self.verbose,
+            Switch::Vertical => self.vertical,
         }
     }
 
@@ -134,9 +156,21 @@ impl Switches {
             Switch::Json => all.json = true,
             Switch::Quiet => all.quiet = true,
             Switch::Verbose => all.verbose = true,
+            Switch::Vertical => all.vertical = true,
         }
         all
     }
+}
+
+/// How a PDF is made.
+#[derive(Clone, Copy, PartialEq, Eq, Debug)]
+pub struct PdfChoice {
+    /// Whether its text runs from top to bottom.
+    pub vertical: bool,
+    /// How its glyphs get codes.
+    pub coding: Coding,
+    /// Whether the user holds the rights to embed the font, whatever it says.
+    pub is_held: bool,
 }
 
 /// What the options in front of IN choose.
@@ -154,6 +188,12 @@ pub struct Chosen<'a> {
     pub output: Option<&'a str>,
     /// INDEX, if an option gives it.
     pub index: Option<u32>,
+    /// The file of a PDF, if one is requested.
+    pub pdf: Option<&'a str>,
+    /// How its glyphs get codes, if that is given.
+    pub coding: Option<Coding>,
+    /// Whether the user holds the rights to embed the font.
+    pub is_held: bool,
 }
 
 impl<'a> Chosen<'a> {
@@ -165,6 +205,9 @@ impl<'a> Chosen<'a> {
         at: None,
         output: None,
         index: None,
+        pdf: None,
+        coding: None,
+        is_held: false,
     };
 
     /// With an option without a value, which is given once.
@@ -181,6 +224,9 @@ impl<'a> Chosen<'a> {
             at: self.at,
             output: self.output,
             index: self.index,
+            pdf: self.pdf,
+            coding: self.coding,
+            is_held: self.is_held,
         })
     }
 
@@ -199,6 +245,9 @@ impl<'a> Chosen<'a> {
             Setting::TextFile => self.with_source(Source::File(FileKind::Text, value)),
             Setting::Unicodes => self.with_source(Source::Characters(value)),
             Setting::UnicodesFile => self.with_source(Source::File(FileKind::Characters, value)),
+            Setting::Pdf => self.with_pdf(value),
+            Setting::Codes => self.with_coding(value),
+            Setting::Rights => self.with_rights(value),
         }
     }
 
@@ -216,6 +265,9 @@ impl<'a> Chosen<'a> {
             at: self.at,
             output: self.output,
             index: self.index,
+            pdf: self.pdf,
+            coding: self.coding,
+            is_held: self.is_held,
         })
     }
 
@@ -233,6 +285,9 @@ impl<'a> Chosen<'a> {
             at: self.at,
             output: self.output,
             index: self.index,
+            pdf: self.pdf,
+            coding: self.coding,
+            is_held: self.is_held,
         })
     }
 
@@ -250,6 +305,9 @@ impl<'a> Chosen<'a> {
             at: Some(value),
             output: self.output,
             index: self.index,
+            pdf: self.pdf,
+            coding: self.coding,
+            is_held: self.is_held,
         })
     }
 
@@ -267,6 +325,9 @@ impl<'a> Chosen<'a> {
             at: self.at,
             output: Some(value),
             index: self.index,
+            pdf: self.pdf,
+            coding: self.coding,
+            is_held: self.is_held,
         })
     }
 
@@ -284,8 +345,90 @@ impl<'a> Chosen<'a> {
             at: self.at,
             output: self.output,
             index: Some(u32_of(value)?),
+            pdf: self.pdf,
+            coding: self.coding,
+            is_held: self.is_held,
         })
     }
+
+    /// With the file of a PDF.
+    fn with_pdf(self, value: &'a str) -> Option<Chosen<'a>>
+        ensures { option_map chosen_view result ≡ with_pdf value.now (chosen_view self.entry) }
+    {
+        if self.pdf.is_some() {
+            return None;
+        }
+        Some(Chosen {
+            switches: self.switches,
+            limits: self.limits,
+            source: self.source,
+            at: self.at,
+            output: self.output,
+            index: self.index,
+            pdf: Some(value),
+            coding: self.coding,
+            is_held: self.is_held,
+        })
+    }
+
+    /// With how the glyphs of a PDF get codes.
+    fn with_coding(self, value: &str) -> Option<Chosen<'a>>
+        ensures { option_map chosen_view result ≡ with_coding value.now (chosen_view self.entry) }
+    {
+        if self.coding.is_some() {
+            return None;
+        }
+        Some(Chosen {
+            switches: self.switches,
+            limits: self.limits,
+            source: self.source,
+            at: self.at,
+            output: self.output,
+            index: self.index,
+            pdf: self.pdf,
+            coding: Some(coding_of(value)?),
+            is_held: self.is_held,
+        })
+    }
+
+    /// With the rights to embed the font.
+    fn with_rights(self, value: &str) -> Option<Chosen<'a>>
+        ensures { option_map chosen_view result ≡ with_rights value.now (chosen_view self.entry) }
+    {
+        if self.is_held || !says_held(value) {
+            return None;
+        }
+        Some(Chosen {
+            switches: self.switches,
+            limits: self.limits,
+            source: self.source,
+            at: self.at,
+            output: self.output,
+            index: self.index,
+            pdf: self.pdf,
+            coding: self.coding,
+            is_held: true,
+        })
+    }
+}
+
+/// How the glyphs of a PDF get codes, by a word.
+pub fn coding_of(word: &str) -> Option<Coding>
+    ensures { result ≡ coding_in word.now }
+{
+    match word {
+        "consecutive" => Some(Coding::Consecutive),
+        "source" => Some(Coding::Source),
+        "text" => Some(Coding::Text),
+        _ => None,
+    }
+}
+
+/// Whether a word says that the user holds the rights.
+pub fn says_held(word: &str) -> bool
+    ensures { result ≡ says_held word.now }
+{
+    word == "held"
 }
 
 /// The limits that the parts of an argument write.
@@ -307,7 +450,7 @@ fn limits_of(word: &str) -> Option<RunLimits>
 }
 
 /// The options with a name, in the order of the help.
-pub const OPTIONS: [&str; 21] = [
+pub const OPTIONS: [&str; 25] = [
     "--gids",
     "--gids-file",
     "--text",
@@ -316,6 +459,10 @@ pub const OPTIONS: [&str; 21] = [
     "--unicodes-file",
     "--output-file",
     "--face-index",
+    "--pdf",
+    "--vertical",
+    "--codes",
+    "--rights",
     "--at",
     "--no-hinting",
     "--no-names",
@@ -343,6 +490,7 @@ fn switch_of(word: &str) -> Option<Switch>
         "--json" => Some(Switch::Json),
         "--quiet" => Some(Switch::Quiet),
         "--verbose" => Some(Switch::Verbose),
+        "--vertical" => Some(Switch::Vertical),
         _ => None,
     }
 }
@@ -363,6 +511,9 @@ fn setting_of(word: &str) -> Option<Setting>
         "--text-file" => Some(Setting::TextFile),
         "--unicodes" => Some(Setting::Unicodes),
         "--unicodes-file" => Some(Setting::UnicodesFile),
+        "--pdf" => Some(Setting::Pdf),
+        "--codes" => Some(Setting::Codes),
+        "--rights" => Some(Setting::Rights),
         _ => None,
     }
 }

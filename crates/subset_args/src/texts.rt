@@ -72,6 +72,10 @@ impl fmt::Display for Mistake<'_> {
             Wrong::BesideInput => write!(f, "\"{word}\" is one argument too many"),
             Wrong::NoOutputOption => write!(f, "-o OUT is missing"),
             Wrong::NoSource => write!(f, "no option requests glyphs"),
+            Wrong::Coding => write!(f, "--codes: \"{word}\" is no kind of codes"),
+            Wrong::Rights => write!(f, "--rights: \"{word}\" is not held"),
+            Wrong::NoPdf => write!(f, "{word}: no PDF is requested"),
+            Wrong::OutputTwice => write!(f, "--pdf: \"{word}\" is OUT, too"),
         }
     }
 }
@@ -124,6 +128,10 @@ fn expected(wrong: Wrong) -> &'static str {
         Wrong::Descends | Wrong::CodesDescend => ORDER_WANTED,
         Wrong::BesideInput =>
             "expected: with -o or --face-index, IN and options alone; glyphs by --gids",
+        Wrong::Coding => "expected: consecutive, source or text",
+        Wrong::Rights => "expected: held, where you may embed the font whatever it says",
+        Wrong::NoPdf => "expected: --pdf FILE beside it",
+        Wrong::OutputTwice => "expected: two files, for the new font and for the PDF",
         Wrong::NoOutputOption => "expected: a file for the new font, or - for standard output",
         Wrong::NoSource => "expected: --gids, --text, --unicodes, or a file of one",
     }

@@ -3,16 +3,16 @@ _subset_font() {
     local word=${COMP_WORDS[COMP_CWORD]}
     COMPREPLY=()
     case ${COMP_WORDS[COMP_CWORD - 1]} in
-    --gids-file | --text-file | --unicodes-file | -o | --output-file)
+    --gids-file | --text-file | --unicodes-file | -o | --output-file | --pdf)
         mapfile -t COMPREPLY < <(compgen -f -- "$word")
         return
         ;;
-    --gids | --text | --unicodes | --face-index | --at | --limits)
+    --gids | --text | --unicodes | --face-index | --codes | --rights | --at | --limits)
         return
         ;;
     esac
     case $word in
-    -*) mapfile -t COMPREPLY < <(compgen -W "--gids --gids-file --text --text-file --unicodes --unicodes-file -o --output-file --face-index --at --no-hinting --no-names --no-glyph-names --limits --widths --verbose --json --quiet --axes --info -h --help --version" -- "$word") ;;
+    -*) mapfile -t COMPREPLY < <(compgen -W "--gids --gids-file --text --text-file --unicodes --unicodes-file -o --output-file --face-index --pdf --vertical --codes --rights --at --no-hinting --no-names --no-glyph-names --limits --widths --verbose --json --quiet --axes --info -h --help --version" -- "$word") ;;
     *) mapfile -t COMPREPLY < <(compgen -f -- "$word") ;;
     esac
 }

@@ -4,3 +4,4 @@ mod Failing
 mod Steps
 mod Outcomes
 mod Limiting
+mod Sheets

@@ -1,6 +1,6 @@
 -- What the options in front of IN choose for a task.
 use Rattle.std.specs.Prelude.{◌≡◌, ℕ, ℤ, List, [], not, if◌then◌else◌, Option, Some, None, string_bytes}
-use Rattle.std.specs.Option.{option_copied, option_and_then}
+use Rattle.std.specs.Option.{option_copied, option_and_then, option_map}
 use Rattle.subsetter.specs.Limits.{token_limit, depth_limit}
 use Rattle.subsetter_sfnt.specs.declared.extras.Extras.{Extras}
 use Rattle.subsetter_type2.specs.declared.limits.Limits.{Limits}
@@ -96,3 +96,4 @@ pub record IsPlanOf (job : Job) (list : Option GlyphList) (plan : Plan) : Type 0
   pub task : IsTaskOf job list plan.task
   pub instance : option_copied plan.instance ≡ option_and_then instance_chosen job.position
   pub verbose : plan.verbose ≡ job.switches.verbose
+  pub pdf : plan.pdf ≡ option_map (λ p. p.choice) job.pdf

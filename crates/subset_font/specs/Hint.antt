@@ -19,10 +19,12 @@ use Rattle.subset_font.specs.declared.face.Place.{Place}
 use Rattle.subset_font.specs.declared.task.Asked.{Asked}
 use Rattle.subset_font.specs.declared.task.Asked.TheVariants.{These, Every, ByText, ByCharacters}
 use Rattle.subset_font.specs.declared.task.Task.{Task}
+use Rattle.pdf_values.specs.Permission.{is_usable}
+use Rattle.pdf_values.specs.declared.permission.Permission.{Permission}
 use Rattle.subset_font.specs.declared.failure.Failure.{Failure}
-use Rattle.subset_font.specs.declared.failure.Failure.TheVariants.{Error, NoMapping, NoInstance, Usage, List as WrongList, Read, ReadList, Write, Output}
+use Rattle.subset_font.specs.declared.failure.Failure.TheVariants.{Error, NoMapping, NoInstance, NotPermitted, Usage, List as WrongList, Read, ReadList, Write, WritePdf, Output}
 use Rattle.subset_font.specs.declared.hint.Hint.{Hint}
-use Rattle.subset_font.specs.declared.hint.Hint.TheVariants.{NoGlyph, NoEntries, Descends, Outside, Cff2, NoUnicode, WrongAxes, NoAxes, NoOutlines, NoMetrics, FewMetrics}
+use Rattle.subset_font.specs.declared.hint.Hint.TheVariants.{NoGlyph, NoEntries, Descends, Outside, Cff2, NoUnicode, WrongAxes, NoAxes, NoOutlines, NoMetrics, FewMetrics, Forbidden}
 
 -- the first of the glyphs that a face of so many doesn't have
 abbrev pub first_past : ℕ → List ℕ → Option ℕ
@@ -196,21 +198,29 @@ abbrev pub axes_hint : Failure → List ℕ → ℕ → Option Hint
 axes_hint (Error e) bytes index = axes_hint_of_error e bytes index
 axes_hint NoMapping bytes index = None
 axes_hint NoInstance bytes index = None
+axes_hint (NotPermitted permission) bytes index = None
 axes_hint Usage bytes index = None
 axes_hint WrongList bytes index = None
 axes_hint Read bytes index = None
 axes_hint ReadList bytes index = None
 axes_hint Write bytes index = None
+axes_hint WritePdf bytes index = None
 axes_hint Output bytes index = None
+
+-- the bit of fsType (OpenType, "OS/2") that forbids to embed a subset: restricted, no subsetting, or bitmaps alone
+abbrev pub forbidden_bit : Permission → ℕ
+forbidden_bit p = if is_usable p.usage then (if p.subsetting then 9 else 8) else 1
 
 -- what is said behind a failure
 abbrev pub hint_of : Failure → Task → List ℕ → Option Hint
 hint_of (Error e) task bytes = hint_of_error e task bytes
 hint_of NoMapping task bytes = hint_of_mapping (face_of task bytes)
 hint_of NoInstance task bytes = None
+hint_of (NotPermitted permission) task bytes = Some (Forbidden (forbidden_bit permission))
 hint_of Usage task bytes = None
 hint_of WrongList task bytes = None
 hint_of Read task bytes = None
 hint_of ReadList task bytes = None
 hint_of Write task bytes = None
+hint_of WritePdf task bytes = None
 hint_of Output task bytes = None

@@ -13,5 +13,6 @@ pub mod Missing
 pub mod Broken
 pub mod LimitHint
 pub mod Named
+pub mod Sheet
 pub mod Outcome
 pub mod Info

@@ -1,5 +1,5 @@
 -- What a plan makes of a font that is read, and why it doesn't.
-use Rattle.std.specs.Prelude.{◌≡◌, ◌⊎◌, ℕ, ℤ, Bool, if◌then◌else◌, List, [], map, length, Option, Some, None, codes}
+use Rattle.std.specs.Prelude.{◌≡◌, ◌⊎◌, ℕ, ℤ, Bool, if◌then◌else◌, List, [], ◌++◌, map, length, Option, Some, None, codes}
 use Rattle.std.specs.Borrow.{Bor}
 use Rattle.std.specs.Option.{option_copied}
 use Rattle.subsetter_base.specs.declared.error.Error.TheVariants.{OutOfMemory, UnknownKind, MalformedFont}
@@ -14,6 +14,8 @@ use Rattle.subset_font.specs.Made.{face_of, IsMade, IsUnmade}
 use Rattle.subset_font.specs.Missing.{missing}
 use Rattle.subset_font.specs.Named.{face_settings}
 use Rattle.subset_font.specs.Notes.{notes_for}
+use Rattle.subset_font.specs.Sheet.{pdf_text, IsSheetIf, IsUnshownIf}
+use Rattle.subset_pdf.specs.declared.sheet.Sheet.{Sheet}
 use Rattle.subset_font.specs.Tables.{bytes_or_none, records_in, table_sizes}
 use Rattle.subset_font.specs.declared.task.Task.{Task}
 use Rattle.subset_font.specs.declared.task.Plan.{Plan}
@@ -37,13 +39,13 @@ sizes_if verbose font new = if verbose then Some (sizes_of font new) else None
 abbrev pub members_of : Bool → Option (List (Tag × ℤ)) → Font → Made → List ℕ
 members_of verbose at font made = members (length font.bytes) (length made.font.items) (sizes_if verbose font made.font.items) (axes_known font) (notes_for (axes_known font) at) (missing made.picked.characters.items made.picked.glyphs.items)
 
-abbrev pub more_by : Form → Bool → Option (List (Tag × ℤ)) → Font → Made → List ℕ
-more_by Lines verbose at font made = if verbose then sizes_text (sizes_of font made.font.items) (length font.bytes) (length made.font.items) else []
-more_by Json verbose at font made = members_of verbose at font made
-more_by Silence verbose at font made = []
+abbrev pub more_by : Form → Bool → Option (List (Tag × ℤ)) → Font → Made → Option Sheet → List ℕ
+more_by Lines verbose at font made sheet = if verbose then sizes_text (sizes_of font made.font.items) (length font.bytes) (length made.font.items) else []
+more_by Json verbose at font made sheet = members_of verbose at font made ++ pdf_text sheet
+more_by Silence verbose at font made sheet = []
 
-abbrev pub more_text : Plan → List ℕ → Made → List ℕ
-more_text plan bytes made = more_by plan.task.form plan.verbose (option_copied plan.task.at) (face_of plan.task bytes) made
+abbrev pub more_text : Plan → List ℕ → Made → Option Sheet → List ℕ
+more_text plan bytes made sheet = more_by plan.task.form plan.verbose (option_copied plan.task.at) (face_of plan.task bytes) made sheet
 
 -- ---- the names of the glyphs, which a JSON object has
 
@@ -70,7 +72,9 @@ pub record IsOutcome (plan : Plan) (bytes : List ℕ) (outcome : Outcome) : Type
   pub task : Task
   pub is_placed : IsPlaced plan bytes task
   pub is_made : IsMade task bytes outcome.made
-  pub more_is : outcome.more.items ≡ more_text plan bytes outcome.made
+  -- with the PDF, if one is requested
+  pub sheet_is : IsSheetIf plan.pdf task bytes outcome.made outcome.sheet
+  pub more_is : outcome.more.items ≡ more_text plan bytes outcome.made outcome.sheet
   pub names_are : map (λ name. name.items) outcome.names.items ≡ names_for plan bytes outcome.made.picked.glyphs.items
 
 -- the font has no such instance, or its `fvar` can't be read
@@ -86,5 +90,13 @@ pub record IsUnmadePlan (plan : Plan) (bytes : List ℕ) (failure : Failure) : T
   pub is_placed : IsPlaced plan bytes task
   pub is_unmade : IsUnmade task bytes failure
 
+-- or the PDF of what the task makes
+pub record IsUnshownPlan (plan : Plan) (bytes : List ℕ) (failure : Failure) : Type 0 where
+  pub task : Task
+  pub is_placed : IsPlaced plan bytes task
+  pub made : Made
+  pub is_made : IsMade task bytes made
+  pub is_unshown : IsUnshownIf plan.pdf task bytes made failure
+
 abbrev pub IsNoOutcome : Plan → List ℕ → Failure → Type 0
-IsNoOutcome plan bytes failure = (failure ≡ Error OutOfMemory) ⊎ (IsUnplaced plan bytes failure ⊎ IsUnmadePlan plan bytes failure)
+IsNoOutcome plan bytes failure = (failure ≡ Error OutOfMemory) ⊎ (IsUnplaced plan bytes failure ⊎ (IsUnmadePlan plan bytes failure ⊎ IsUnshownPlan plan bytes failure))

@@ -1,10 +1,10 @@
-//! A plan from the font that is read to the font and the numbers that are written.
+//! A plan from the font that is read to the PDF, the font and the numbers that are written.
 
 ghost use Rattle.std.specs.Prelude.{◌≡◌, ◌⊎◌, IfOk, IfErr, IfSome, OnOk, IsErrOf};
 ghost use Rattle.std.specs.Io.KnownBytes.{IsAtEnd};
 ghost use Rattle.subset_font.specs.Outcome.{IsOutcome, IsNoOutcome};
 ghost use Rattle.subset_font.specs.Carried.{IsBeforeWriting, IsFailureOf, WritesFont, WritesAll};
-ghost use Rattle.subset_font.specs.declared.failure.Failure.TheVariants.{Read as CannotRead, Write as CannotWrite, Output};
+ghost use Rattle.subset_font.specs.declared.failure.Failure.TheVariants.{Read as CannotRead, Write as CannotWrite, WritePdf as CannotWritePdf, Output};
 
 use crate::failure::Failure;
 use crate::outcome::{Outcome, make_planned};
@@ -46,32 +46,38 @@ fn make_from<R: Read>(
     outcome
 }
 
-/// Reads the font from the reader, writes its subset to one writer, and the new numbers to the other. The bytes that
-/// were read are kept. Room for so many of them is taken at once.
+/// Reads the font from the reader, writes the PDF of its glyphs to one writer, if one is requested, its subset to another, and
+/// the new numbers to the third. The bytes that were read are kept. Room for so many of them is taken at once.
 ///
 /// `Read` where the reader fails; `Error`, `NoMapping` or `NoInstance` where the glyphs or the font are refused, or the font
-/// has no widths that are requested; `Write` and `Output` where a writer fails. A writer is first used when the subset is made.
-pub fn carry_out<R: Read, W: Write, L: Write>(
+/// has no widths that are requested; `NotPermitted` where it may not be embedded into the PDF; `WritePdf`, `Write` and `Output`
+/// where a writer fails. A writer is first used when all is made.
+pub fn carry_out<R: Read, P: Write, W: Write, L: Write>(
     alloc: Global,
     plan: &Plan<'_>,
     reader: &mut R,
     room: usize,
     source: &mut Vec<u8>,
+    page: &mut P,
     output: &mut W,
     lines: &mut L,
 ) -> Result<(), Failure>
-    ensures ok { OnOk result (WritesAll plan.now (R.remaining reader.old) (W.contents output.old) (W.contents output.new) (L.contents lines.old) (L.contents lines.new)) }
-    // Both writers are as they were where the font can't be read or is refused.
+    ensures ok { OnOk result (WritesAll plan.now (R.remaining reader.old) (P.contents page.old) (P.contents page.new) (W.contents output.old) (W.contents output.new) (L.contents lines.old) (L.contents lines.new)) }
+    // All writers are as they were where the font can't be read or is refused.
+    ensures page_kept { IfErr result (λ e. IsBeforeWriting e → page.new ≡ page.old) }
     ensures output_kept { IfErr result (λ e. IsBeforeWriting e → output.new ≡ output.old) }
     ensures lines_kept { IfErr result (λ e. IsBeforeWriting e → lines.new ≡ lines.old) }
+    // Nothing else is written before the whole PDF.
+    ensures no_font { IsErrOf result Failure.WritePdf → output.new ≡ output.old }
+    ensures no_line { IsErrOf result Failure.WritePdf → lines.new ≡ lines.old }
     // No line is written before the whole font.
     ensures unwritten { IsErrOf result Failure.Write → lines.new ≡ lines.old }
     ensures written { IsErrOf result Failure.Output → WritesFont plan.now (R.remaining reader.old) (W.contents output.old) (W.contents output.new) }
     // Why nothing is written.
-    ensures err { IfErr result (λ e. IsFailureOf plan.now (R.remaining reader.old) e ⊎ ((e ≡ CannotWrite) ⊎ (e ≡ Output))) }
+    ensures err { IfErr result (λ e. IsFailureOf plan.now (R.remaining reader.old) e ⊎ ((e ≡ CannotWritePdf) ⊎ ((e ≡ CannotWrite) ⊎ (e ≡ Output)))) }
 {
     match make_from(alloc, plan, reader, room, source) {
-        Ok(outcome) => emit(&outcome, plan.task.form, output, lines),
+        Ok(outcome) => emit(&outcome, plan.task.form, page, output, lines),
         Err(failure) => Err(failure),
     }
 }

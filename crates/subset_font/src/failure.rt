@@ -5,6 +5,7 @@ ghost use Rattle.subset_font.specs.Failure.{status_of, status_of_end};
 
 use std::fmt;
 use subset_args::{Glyphs, Job};
+use subset_pdf::Permission;
 use subsetter::Error;
 
 /// Why a run of the program ended without a subset.
@@ -19,6 +20,9 @@ pub enum Failure {
     /// The face has no named instance of the requested name.
     #[error("no such instance in font")]
     NoInstance,
+    /// The font's maker doesn't permit to embed it, and the user holds no rights.
+    #[error("embedding not permitted")]
+    NotPermitted(Permission),
     /// The arguments after the program's name aren't as the usage says.
     #[error("usage: subset_font IN OUT INDEX GID[,GID..]")]
     Usage,
@@ -34,6 +38,9 @@ pub enum Failure {
     /// The output can't be written. The text wants the file's name after it.
     #[error("cannot write")]
     Write,
+    /// The PDF can't be written. The text wants the file's name after it.
+    #[error("cannot write")]
+    WritePdf,
     /// The lines can't be written.
     #[error("cannot write standard output")]
     Output,
@@ -46,9 +53,11 @@ impl Failure {
         ensures range { (1 ≤ result) × (result ≤ 3) }
     {
         match self {
-            Failure::Error(_) | Failure::NoMapping | Failure::NoInstance => 1,
+            Failure::Error(_) => 1,
+            Failure::NoMapping | Failure::NoInstance | Failure::NotPermitted(_) => 1,
             Failure::Usage | Failure::List => 2,
-            Failure::Read | Failure::ReadList | Failure::Write | Failure::Output => 3,
+            Failure::Read | Failure::ReadList => 3,
+            Failure::Write | Failure::WritePdf | Failure::Output => 3,
         }
     }
 }
@@ -62,11 +71,28 @@ pub struct Told<'a> {
     pub file: Option<&'a str>,
 }
 
+/// A name that may be missing.
+pub fn given(name: &Option<String>) -> Option<&str> {
+    match name {
+        Some(name) => Some(name.as_str()),
+        None => None,
+    }
+}
+
+/// The name of the file of the PDF that is requested, if one is.
+pub fn pdf_file(job: &Job) -> Option<&str> {
+    match &job.pdf {
+        Some(pdf) => Some(pdf.file.as_str()),
+        None => None,
+    }
+}
+
 /// The name of the file that failed, if one did.
 pub fn file_of<'a>(ended: &Result<(), Failure>, job: &'a Job) -> Option<&'a str> {
     match (ended, &job.glyphs) {
         (Err(Failure::Read), _) => Some(job.input.as_str()),
-        (Err(Failure::Write), _) => Some(job.output.as_str()),
+        (Err(Failure::Write), _) => given(&job.output),
+        (Err(Failure::WritePdf), _) => pdf_file(job),
         (Err(Failure::ReadList), Glyphs::InFile(_, name)) => Some(name.as_str()),
         _ => None,
     }

@@ -4,7 +4,7 @@ ghost use Rattle.std.specs.Prelude.{◌≡◌, ◌≤◌};
 ghost use Rattle.subsetter_sfnt.specs.Extras.{all_extras};
 ghost use Rattle.subset_font.specs.Asked.{face_glyphs};
 ghost use Rattle.subset_font.specs.Made.{face_of};
-ghost use Rattle.subset_font.specs.Hint.{first_past, no_glyph, no_table, no_table_for_widths, no_table_for, entry, wrong_range, wrong_between, wrong_outline, first_wrong, listed, no_outline, is_cff2, wrong_metrics_of, wrong_metrics, no_outlines, no_font_or_glyph, no_part, wrong_table, wrong_outlines, hint_of_malformed, cut_or_bare, hint_of_unknown, hint_of_error, no_mapping, hint_of_mapping, no_axes, axes_hint_of_error, axes_hint, hint_of};
+ghost use Rattle.subset_font.specs.Hint.{first_past, no_glyph, no_table, no_table_for_widths, no_table_for, entry, wrong_range, wrong_between, wrong_outline, first_wrong, listed, no_outline, is_cff2, wrong_metrics_of, wrong_metrics, no_outlines, no_font_or_glyph, no_part, wrong_table, wrong_outlines, hint_of_malformed, cut_or_bare, hint_of_unknown, hint_of_error, no_mapping, hint_of_mapping, no_axes, axes_hint_of_error, axes_hint, forbidden_bit, hint_of};
 
 use crate::broken::{cut_table, missing_table, no_font};
 use crate::face::{count_glyphs, find_place, table};
@@ -14,6 +14,7 @@ use crate::tables::directory_of;
 use crate::task::{Asked, Task};
 use std::fmt;
 use subset_lines::Outlines;
+use subset_pdf::{Permission, Usage};
 use subsetter::{Error, Tag};
 use subsetter_base::read::Reader;
 
@@ -64,6 +65,8 @@ pub enum Hint {
     MoreBytes(u32),
     /// A glyph needs more than so many tokens and such a depth.
     LittleLimits(u32, u8),
+    /// This bit of `fsType` forbids to embed a subset.
+    Forbidden(u8),
 }
 
 impl fmt::Display for Hint {
@@ -117,6 +120,13 @@ impl fmt::Display for Hint {
             Hint::MoreBytes(most) => {
                 write!(f, "the new font has more than the {most} bytes of --limits")
             }
+            Hint::Forbidden(bit) => {
+                let meaning = meaning_of(bit);
+                write!(
+                    f,
+                    "fsType bit {bit} is set ({meaning}): if you hold the rights, --rights held"
+                )
+            }
             Hint::LittleLimits(tokens, depth) => {
                 write!(
                     f,
@@ -124,6 +134,15 @@ impl fmt::Display for Hint {
                 )
             }
         }
+    }
+}
+
+/// What a bit of `fsType` says that forbids to embed a subset.
+fn meaning_of(bit: u8) -> &'static str {
+    match bit {
+        1 => "restricted",
+        8 => "no subsetting",
+        _ => "bitmaps only",
     }
 }
 
@@ -427,6 +446,16 @@ pub fn find_axes_hint(failure: &Failure, font: &[u8], index: u32) -> Option<Hint
     }
 }
 
+/// The bit of `fsType` that forbids to embed a subset, where one does: bit 1, else 8, else 9.
+fn forbidden_bit(permission: Permission) -> u8
+    ensures { result ≡ forbidden_bit permission }
+{
+    match permission.usage {
+        Usage::Restricted => 1,
+        _ => { if permission.subsetting { 9 } else { 8 } }
+    }
+}
+
 /// What more is known of a font that is refused.
 pub fn find_hint(failure: &Failure, font: &[u8], task: &Task<'_>) -> Option<Hint>
     ensures { result ≡ hint_of failure.now task.now font.now }
@@ -434,6 +463,7 @@ pub fn find_hint(failure: &Failure, font: &[u8], task: &Task<'_>) -> Option<Hint
     match failure {
         Failure::Error(error) => hint_of_error(*error, font, task),
         Failure::NoMapping => hint_of_mapping(font, task.index),
+        Failure::NotPermitted(permission) => Some(Hint::Forbidden(forbidden_bit(*permission))),
         _ => None,
     }
 }

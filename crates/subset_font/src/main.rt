@@ -25,6 +25,7 @@ mod outcome;
 mod output;
 mod reason;
 mod run;
+mod sheet;
 mod streams;
 mod subset;
 mod tables;

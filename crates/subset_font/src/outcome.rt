@@ -8,6 +8,7 @@ ghost use Rattle.subset_font.specs.Made.{face_of, IsMade, IsUnmade};
 ghost use Rattle.subset_font.specs.Named.{face_settings};
 ghost use Rattle.subsetter_sfnt.specs.Read.{stored};
 ghost use Rattle.subset_font.specs.Outcome.{sizes_of, sizes_if, members_of, more_text, names_of, names_for, IsOutcome, IsNoOutcome};
+ghost use Rattle.subset_font.specs.Sheet.{IsSheetIf, IsUnshownIf};
 ghost use Rattle.subset_font.specs.Tables.{bytes_or_none};
 ghost use Rattle.subset_font.specs.declared.failure.Failure.TheVariants.{Error as Refused};
 ghost use Rattle.subsetter_base.specs.declared.error.Error.TheVariants.{OutOfMemory};
@@ -17,12 +18,14 @@ use crate::failure::Failure;
 use crate::missing::missing;
 use crate::named::face_settings;
 use crate::notes::{known_axes, notes_for};
+use crate::sheet::{sheet_if, with_pdf};
 use crate::subset::{Made, make_of};
 use crate::tables::{directory_of, table_sizes};
 use crate::task::{Form, Plan, Task};
 use glyph_names::glyph_names;
 use std::alloc::{AllocError, Global};
 use subset_lines::{TableSize, json_members, size_lines};
+use subset_pdf::Sheet;
 use subsetter::{Error, Tag};
 
 /// What a plan makes of a font.
@@ -34,6 +37,8 @@ pub struct Outcome {
     pub more: Vec<u8>,
     /// The names of the requested glyphs, as far as they are printed; an empty one is none.
     pub names: Vec<Vec<u8>>,
+    /// The PDF, if one is requested.
+    pub sheet: Option<Sheet>,
 }
 
 /// The tables of the font that is read and of the new one, with their sizes.
@@ -111,13 +116,22 @@ fn members_of(
 }
 
 /// What is printed behind the numbers.
-fn more_of(alloc: Global, font: &[u8], plan: &Plan<'_>, made: &Made) -> Result<Vec<u8>, AllocError>
-    ensures { IfOk result (λ v. v.items ≡ more_text plan.now font.now made.now) }
+fn more_of(
+    alloc: Global,
+    font: &[u8],
+    plan: &Plan<'_>,
+    made: &Made,
+    sheet: &Option<Sheet>,
+) -> Result<Vec<u8>, AllocError>
+    ensures { IfOk result (λ v. v.items ≡ more_text plan.now font.now made.now sheet.now) }
 {
     let index = plan.task.index;
     match plan.task.form {
         Form::Lines if plan.verbose => lines_of_sizes(alloc, font, index, &made.font),
-        Form::Json => members_of(alloc, font, index, plan.verbose, plan.task.at, made),
+        Form::Json => {
+            let members = members_of(alloc, font, index, plan.verbose, plan.task.at, made)?;
+            with_pdf(alloc, members, sheet)
+        }
         Form::Lines => Ok(Vec::new(alloc)),
         Form::Silence => Ok(Vec::new(alloc)),
     }
@@ -163,18 +177,31 @@ fn names_for(
     }
 }
 
-/// The same for what was made, which is kept.
-fn with_more(alloc: Global, font: &[u8], plan: &Plan<'_>, made: Made) -> Result<Outcome, Failure>
+/// The same for what was made by a task, which is kept, with the names of its glyphs, and the PDF, if one is requested.
+fn with_more(
+    alloc: Global,
+    font: &[u8],
+    plan: &Plan<'_>,
+    task: &Task<'_>,
+    made: Made,
+) -> Result<Outcome, Failure>
     ensures made { IfOk result (λ o. o.made ≡ made) }
-    ensures more { IfOk result (λ o. o.more.items ≡ more_text plan.now font.now made) }
+    ensures sheet { IfOk result (λ o. IsSheetIf plan.now.pdf task.now font.now made o.sheet) }
+    ensures more { IfOk result (λ o. o.more.items ≡ more_text plan.now font.now made o.sheet) }
     ensures names { IfOk result (λ o. map (λ name. name.items) o.names.items ≡ names_for plan.now font.now made.picked.glyphs.items) }
-    ensures err { IfErr result (λ e. e ≡ Refused OutOfMemory) }
+    ensures err { IfErr result (λ e. (e ≡ Refused OutOfMemory) ⊎ IsUnshownIf plan.now.pdf task.now font.now made e) }
 {
-    let Ok(more) = more_of(alloc, font, plan, &made) else {
+    let sheet = sheet_if(alloc, font, plan.pdf, task, &made)?;
+    let Ok(more) = more_of(alloc, font, plan, &made, &sheet) else {
         return Err(Failure::Error(Error::OutOfMemory));
     };
     match names_for(alloc, font, plan, &made.picked.glyphs) {
-        Ok(names) => Ok(Outcome { made, more, names }),
+        Ok(names) => Ok(Outcome {
+            made,
+            more,
+            names,
+            sheet,
+        }),
         Err(_) => Err(Failure::Error(Error::OutOfMemory)),
     }
 }
@@ -208,7 +235,7 @@ fn make_placed(
 {
     let task = placed(&plan.task, at);
     match make_of(alloc, font, &task) {
-        Ok(made) => with_more(alloc, font, plan, made),
+        Ok(made) => with_more(alloc, font, plan, &task, made),
         Err(failure) => Err(failure),
     }
 }
@@ -237,7 +264,7 @@ fn make_as_given(alloc: Global, font: &[u8], plan: &Plan<'_>) -> Result<Outcome,
     ensures err { IfErr result (IsNoOutcome plan.now font.now) }
 {
     match make_of(alloc, font, &plan.task) {
-        Ok(made) => with_more(alloc, font, plan, made),
+        Ok(made) => with_more(alloc, font, plan, &plan.task, made),
         Err(failure) => Err(failure),
     }
 }

@@ -2,33 +2,55 @@
 
 ghost use Rattle.std.specs.Prelude.{◌≡◌, ◌⊎◌, OnOk, IfErr, IsErrOf};
 ghost use Rattle.std.specs.Io.KnownBytes.{Appends};
+ghost use Rattle.subset_font.specs.Sheet.{page_of};
 ghost use Rattle.subset_font.specs.Told.{told_of};
-ghost use Rattle.subset_font.specs.declared.failure.Failure.TheVariants.{Write as CannotWrite, Output};
+ghost use Rattle.subset_font.specs.declared.failure.Failure.TheVariants.{Write as CannotWrite, WritePdf as CannotWritePdf, Output};
 
 use crate::failure::Failure;
 use crate::outcome::Outcome;
 use crate::task::Form;
 use std::io::Write;
 use subset_lines::{Numbering, write_json, write_lines};
+use subset_pdf::Sheet;
 
-/// Writes the font to one writer, and then the new numbers to the other.
+/// Writes the PDF, if there is one, to one writer, then the font to another, and then the new numbers to the third.
 ///
-/// `Write` where the first writer fails, `Output` where the other does.
-pub fn emit<W: Write, L: Write>(
+/// `WritePdf` where the first writer fails, `Write` where the second does, and `Output` where the third does.
+pub fn emit<P: Write, W: Write, L: Write>(
     outcome: &Outcome,
     form: Form,
+    page: &mut P,
     output: &mut W,
     lines: &mut L,
 ) -> Result<(), Failure>
+    ensures page { OnOk result (Appends (P.contents page.old) (P.contents page.new) (page_of outcome.now.sheet)) }
     ensures font { OnOk result (Appends (W.contents output.old) (W.contents output.new) outcome.now.made.font.items) }
     ensures lines { OnOk result (Appends (L.contents lines.old) (L.contents lines.new) (told_of form outcome.now)) }
+    // Nothing else is written before the whole PDF.
+    ensures no_font { IsErrOf result Failure.WritePdf → output.new ≡ output.old }
+    ensures no_line { IsErrOf result Failure.WritePdf → lines.new ≡ lines.old }
     // No line is written before the whole font.
     ensures unwritten { IsErrOf result Failure.Write → lines.new ≡ lines.old }
     ensures written { IsErrOf result Failure.Output → Appends (W.contents output.old) (W.contents output.new) outcome.now.made.font.items }
-    ensures err { IfErr result (λ e. (e ≡ CannotWrite) ⊎ (e ≡ Output)) }
+    ensures err { IfErr result (λ e. (e ≡ CannotWritePdf) ⊎ ((e ≡ CannotWrite) ⊎ (e ≡ Output))) }
 {
+    write_page(&outcome.sheet, page)?;
     write_font(&outcome.made.font, output)?;
     write_numbers(outcome, form, lines)
+}
+
+/// Writes the PDF, if there is one, and passes on what the writer keeps back.
+fn write_page<P: Write>(sheet: &Option<Sheet>, page: &mut P) -> Result<(), Failure>
+    ensures bytes { OnOk result (Appends (P.contents page.old) (P.contents page.new) (page_of sheet.now)) }
+    ensures err { IfErr result (λ e. e ≡ CannotWritePdf) }
+{
+    let Some(sheet) = sheet else {
+        return Ok(());
+    };
+    if page.write_all(&sheet.file).is_err() || page.flush().is_err() {
+        return Err(Failure::WritePdf);
+    }
+    Ok(())
 }
 
 /// Writes the font, and passes on what the writer keeps back.

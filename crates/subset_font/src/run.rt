@@ -11,7 +11,7 @@ ghost use Rattle.subsetter_base.specs.declared.error.Error.TheVariants.{OutOfMem
 
 use crate::axes::carry_axes;
 use crate::carried::{carry_out, read_whole};
-use crate::failure::{Failure, Told, file_of, status_of_run};
+use crate::failure::{Failure, Told, file_of, given, pdf_file, status_of_run};
 use crate::help::{HELP, VERSION_LINE};
 use crate::hint::{Hint, find_axes_hint, find_hint, no_axes};
 use crate::info::carry_info;
@@ -21,7 +21,9 @@ use crate::named::instance_names;
 use crate::notes::{known_axes, notes_for};
 use crate::reason::{Noted, reason_of, unread};
 use crate::streams::{Source, Target, goes_to_output, hold_streams, lines_beside, open_source};
-use crate::task::{Asked, Form, Plan, Task, at_of, extras_of, form_of, instance_of, limits_of};
+use crate::task::{
+    Asked, Form, Plan, Task, at_of, extras_of, form_of, instance_of, limits_of, pdf_of,
+};
 use std::alloc::Global;
 use std::fs::OpenFile;
 use std::io::{BufWriter, ErrorKind, Read, Write};
@@ -159,6 +161,7 @@ fn plan_of<'a>(job: &'a Job, list: &'a Option<GlyphList>) -> Plan<'a>
         task: task_of(job, list),
         instance: instance_of(&job.position),
         verbose: job.switches.verbose,
+        pdf: pdf_of(&job.pdf),
     }
 }
 
@@ -199,13 +202,14 @@ fn room_of<F: OpenFile + Read + Drop, S: Read + Drop>(
     }
 }
 
-/// Does a plan between a reader and two writers, the second of them behind a buffer.
-fn carry_buffered<R: Read, W: Write, L: Write>(
+/// Does a plan between a reader and three writers, the last of them behind a buffer.
+fn carry_buffered<R: Read, P: Write, W: Write, L: Write>(
     alloc: Global,
     plan: &Plan<'_>,
     input: &mut R,
     room: usize,
     source: &mut Vec<u8>,
+    page: &mut P,
     output: &mut W,
     lines: &mut L,
 ) -> Result<(), Failure>
@@ -214,11 +218,11 @@ fn carry_buffered<R: Read, W: Write, L: Write>(
     let Ok(mut lines) = BufWriter::new(alloc, lines) else {
         return Err(Failure::Error(Error::OutOfMemory));
     };
-    carry_out(alloc, plan, input, room, source, output, &mut lines)
+    carry_out(alloc, plan, input, room, source, page, output, &mut lines)
 }
 
-/// Does a plan on files and the standard streams. The output's file is made by its first write; the lines go to standard error
-/// where the font goes to standard output. Why the system refused one is kept.
+/// Does a plan on files and the standard streams. Each file is made by its first write; the lines go to standard error where the
+/// font or a PDF goes to standard output. Why the system refused one is kept.
 fn perform<R: Files + Print + Eprint + Input + AllocGlobal>(
     rt: &R,
     job: &Job,
@@ -232,7 +236,8 @@ fn perform<R: Files + Print + Eprint + Input + AllocGlobal>(
     let opened = open_font(rt, job.input.as_str(), reason)?;
     let room = room_of(&opened, reason)?;
     let mut input = Noted::new(opened);
-    let mut output = Noted::new(Target::new(rt, job.output.as_str()));
+    let mut page = Noted::new(Target::new(rt, pdf_file(job)));
+    let mut output = Noted::new(Target::new(rt, given(&job.output)));
     let mut lines = Noted::new(lines_beside(rt, is_font_there));
     let ended = carry_buffered(
         rt.alloc(),
@@ -240,10 +245,17 @@ fn perform<R: Files + Print + Eprint + Input + AllocGlobal>(
         &mut input,
         room,
         source,
+        &mut page,
         &mut output,
         &mut lines,
     );
-    *reason = reason_of(&ended, input.reason(), output.reason(), lines.reason());
+    *reason = reason_of(
+        &ended,
+        input.reason(),
+        page.reason(),
+        output.reason(),
+        lines.reason(),
+    );
     ended
 }
 
@@ -362,9 +374,22 @@ fn report_names<R: Eprint + AllocGlobal>(rt: &R, font: &[u8], index: u32) {
     }
 }
 
+/// The task of a plan with the widths, where they are printed, or a PDF has them.
+fn task_with_widths<'a>(plan: &Plan<'a>) -> Task<'a> {
+    let task = plan.task;
+    Task {
+        asked: task.asked,
+        index: task.index,
+        options: task.options,
+        widths: task.widths || plan.pdf.is_some(),
+        form: task.form,
+        at: task.at,
+    }
+}
+
 /// Reports more of a run that failed, as far as it can be seen in the font.
 fn report_more<R: Eprint + AllocGlobal>(rt: &R, failure: &Failure, font: &[u8], plan: &Plan<'_>) {
-    match find_hint(failure, font, &plan.task) {
+    match find_hint(failure, font, &task_with_widths(plan)) {
         Some(hint) => tell_hint(rt, Some(hint)),
         None => tell_hint(rt, find_limit_hint(rt.alloc(), failure, font, plan)),
     }
@@ -391,7 +416,7 @@ fn run_job<R: Files + Print + Eprint + Input + AllocGlobal>(rt: &R, job: &Job) -
     };
     let plan = plan_of(job, &list);
     let mut font = Vec::new(rt.alloc());
-    let is_font_there = goes_to_output(rt, job.output.as_str());
+    let is_font_there = goes_to_output(rt, given(&job.output)) || goes_to_output(rt, pdf_file(job));
     let ended = perform(rt, job, &plan, is_font_there, &mut font, &mut reason);
     let status = report(rt, &ended, file_of(&ended, job));
     tell_reason(rt, reason);
@@ -451,7 +476,7 @@ fn perform_shown<R: Files + Print + Input + AllocGlobal>(
         source,
         &mut lines,
     );
-    *reason = reason_of(&ended, input.reason(), None, lines.reason());
+    *reason = reason_of(&ended, input.reason(), None, None, lines.reason());
     ended
 }
 

@@ -1,10 +1,10 @@
 //! What is made of the font that is read.
 
 ghost use Rattle.std.specs.Prelude.{◌≡◌, None};
-ghost use Rattle.std.specs.Option.{option_copied, option_and_then};
+ghost use Rattle.std.specs.Option.{option_copied, option_and_then, option_map};
 ghost use Rattle.subset_font.specs.Chosen.{LimitsAreChosen, extras_chosen, form_chosen, at_chosen, instance_chosen};
 
-use subset_args::{Position, RunLimits, Switches};
+use subset_args::{PdfChoice, PdfJob, Position, RunLimits, Switches};
 use subsetter::{Extras, Limits, Options, Tag};
 
 /// Which glyphs are kept.
@@ -57,6 +57,8 @@ pub struct Plan<'a> {
     pub instance: Option<&'a str>,
     /// Whether the tables are listed with their sizes.
     pub verbose: bool,
+    /// How the PDF is made, if one is requested.
+    pub pdf: Option<PdfChoice>,
 }
 
 /// With a bound on the bytes of the font, if there is one.
@@ -113,6 +115,16 @@ pub fn instance_of(position: &Option<Position>) -> Option<&str>
     match position {
         Some(Position::Named(name)) => Some(name.as_str()),
         Some(Position::Coordinates(_)) => None,
+        None => None,
+    }
+}
+
+/// How the PDF is made, if one is requested.
+pub fn pdf_of(pdf: &Option<PdfJob>) -> Option<PdfChoice>
+    ensures { result ≡ option_map (λ p. p.choice) pdf.now }
+{
+    match pdf {
+        Some(pdf) => Some(pdf.choice),
         None => None,
     }
 }

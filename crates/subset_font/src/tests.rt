@@ -105,6 +105,7 @@ fn plan_of(glyphs: &[u16]) -> Plan<'_> {
         },
         instance: None,
         verbose: false,
+        pdf: None,
     }
 }
 
@@ -120,6 +121,7 @@ fn each_read_that_fails_is_told(rt: HostRuntime) -> Result<(), Fail> {
             (0, "")
         };
         let mut source = Vec::new(rt.alloc());
+        let mut page = Vec::new(rt.alloc());
         let mut out = Vec::new(rt.alloc());
         let mut lines = Vec::new(rt.alloc());
         let ended = carry_out(
@@ -128,6 +130,7 @@ fn each_read_that_fails_is_told(rt: HostRuntime) -> Result<(), Fail> {
             &mut reader,
             0,
             &mut source,
+            &mut page,
             &mut out,
             &mut lines,
         );
@@ -153,6 +156,7 @@ fn outcome(alloc: Global, more: &[u8]) -> Result<Outcome, Fail> {
         made,
         more: Vec::from_slice(alloc, more)?,
         names: Vec::new(alloc),
+        sheet: None,
     })
 }
 
@@ -161,9 +165,10 @@ fn each_write_that_fails_is_told(rt: HostRuntime) -> Result<(), Fail> {
     let outcome = outcome(rt.alloc(), MORE)?;
     // Three writes take the font, and no line is written before it is whole. The flush alone fails at the last.
     for (left, flushes) in [(0, true), (1, true), (2, true), (3, false)] {
+        let mut page = Vec::new(rt.alloc());
         let mut output = failing(rt.alloc(), left, flushes);
         let mut lines = Vec::new(rt.alloc());
-        let ended = emit(&outcome, Form::Lines, &mut output, &mut lines);
+        let ended = emit(&outcome, Form::Lines, &mut page, &mut output, &mut lines);
         let (status, text) = told(rt.alloc(), ended)?;
         assert_eq!(rt; (status, text.as_str()), (3, "cannot write"), "at {left}");
         assert_eq!(rt;
@@ -195,9 +200,10 @@ fn each_line_that_fails_is_told(rt: HostRuntime) -> Result<(), Fail> {
         for left in 0..103usize {
             // At the last but one the flush alone fails, when all is taken.
             let flushes = left != 101;
+            let mut page = Vec::new(rt.alloc());
             let mut output = Vec::new(rt.alloc());
             let mut lines = failing(rt.alloc(), left, flushes);
-            let ended = emit(&outcome, form, &mut output, &mut lines);
+            let ended = emit(&outcome, form, &mut page, &mut output, &mut lines);
             let (status, text) = told(rt.alloc(), ended)?;
             let whole = lines.taken.as_slice() == wanted;
             let silent = wanted.is_empty();

@@ -6,6 +6,7 @@ pub mod Fixed
 pub mod Names
 pub mod Axes
 pub mod Quoted
+pub mod Pdf
 pub mod Notes
 pub mod Missing
 pub mod Sizes

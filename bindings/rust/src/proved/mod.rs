@@ -60,6 +60,8 @@ pub mod subset_args;
 pub mod subset_font;
 #[cfg(feature = "program")]
 pub mod subset_lines;
+#[cfg(feature = "program")]
+pub mod subset_pdf;
 pub mod subsetter;
 pub mod subsetter_base;
 pub mod subsetter_cff;

@@ -17,6 +17,8 @@ pub use crate::proved::pdf_glyphs::Columns;
 pub use crate::proved::pdf_source::{Descriptor, Direction, FontOptions, ProgramChoice, SubsetTag};
 pub use crate::proved::pdf_text::{Column, DefaultColumn, NamedCmap, ProgramKind};
 pub use crate::proved::pdf_values::{Bounds, Edges, Heights, Permission, Rights, Usage, Values};
+#[cfg(feature = "program")]
+pub use crate::proved::subsetter::Limits;
 pub use call::pdf_font;
 pub use error::FontError;
 pub use font::PdfFont;

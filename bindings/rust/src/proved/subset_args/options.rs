@@ -24,6 +24,8 @@ pub enum Switch {
     Quiet,
     /// `--verbose`
     Verbose,
+    /// `--vertical`
+    Vertical,
 }
 
 /// An option that a value follows.
@@ -49,6 +51,23 @@ pub enum Setting {
     Unicodes,
     /// `--unicodes-file FILE`
     UnicodesFile,
+    /// `--pdf FILE`
+    Pdf,
+    /// `--codes consecutive|source|text`
+    Codes,
+    /// `--rights held`
+    Rights,
+}
+
+/// How the glyphs of a PDF get codes.
+#[derive(Clone, Copy, PartialEq, Eq, Debug)]
+pub enum Coding {
+    /// From 1 on, in order of use.
+    Consecutive,
+    /// The glyphs' numbers in the source.
+    Source,
+    /// From 1 on, one for each pair of a glyph and its text.
+    Text,
 }
 
 /// Where the glyphs are found that no argument lists.
@@ -89,6 +108,7 @@ pub struct Switches {
     pub json: bool,
     pub quiet: bool,
     pub verbose: bool,
+    pub vertical: bool,
 }
 
 impl Switches {
@@ -101,6 +121,7 @@ impl Switches {
         json: false,
         quiet: false,
         verbose: false,
+        vertical: false,
     };
 
     /// Whether an option was given.
@@ -113,6 +134,7 @@ impl Switches {
             Switch::Json => self.json,
             Switch::Quiet => self.quiet,
             Switch::Verbose => self.verbose,
+            Switch::Vertical => self.vertical,
         }
     }
 
@@ -127,9 +149,21 @@ impl Switches {
             Switch::Json => all.json = true,
             Switch::Quiet => all.quiet = true,
             Switch::Verbose => all.verbose = true,
+            Switch::Vertical => all.vertical = true,
         }
         all
     }
+}
+
+/// How a PDF is made.
+#[derive(Clone, Copy, PartialEq, Eq, Debug)]
+pub struct PdfChoice {
+    /// Whether its text runs from top to bottom.
+    pub vertical: bool,
+    /// How its glyphs get codes.
+    pub coding: Coding,
+    /// Whether the user holds the rights to embed the font, whatever it says.
+    pub is_held: bool,
 }
 
 /// What the options in front of IN choose.
@@ -147,6 +181,12 @@ pub struct Chosen<'a> {
     pub output: Option<&'a str>,
     /// INDEX, if an option gives it.
     pub index: Option<u32>,
+    /// The file of a PDF, if one is requested.
+    pub pdf: Option<&'a str>,
+    /// How its glyphs get codes, if that is given.
+    pub coding: Option<Coding>,
+    /// Whether the user holds the rights to embed the font.
+    pub is_held: bool,
 }
 
 impl<'a> Chosen<'a> {
@@ -158,6 +198,9 @@ impl<'a> Chosen<'a> {
         at: None,
         output: None,
         index: None,
+        pdf: None,
+        coding: None,
+        is_held: false,
     };
 
     /// With an option without a value, which is given once.
@@ -172,6 +215,9 @@ impl<'a> Chosen<'a> {
             at: self.at,
             output: self.output,
             index: self.index,
+            pdf: self.pdf,
+            coding: self.coding,
+            is_held: self.is_held,
         })
     }
 
@@ -188,6 +234,9 @@ impl<'a> Chosen<'a> {
             Setting::TextFile => self.with_source(Source::File(FileKind::Text, value)),
             Setting::Unicodes => self.with_source(Source::Characters(value)),
             Setting::UnicodesFile => self.with_source(Source::File(FileKind::Characters, value)),
+            Setting::Pdf => self.with_pdf(value),
+            Setting::Codes => self.with_coding(value),
+            Setting::Rights => self.with_rights(value),
         }
     }
 
@@ -203,6 +252,9 @@ impl<'a> Chosen<'a> {
             at: self.at,
             output: self.output,
             index: self.index,
+            pdf: self.pdf,
+            coding: self.coding,
+            is_held: self.is_held,
         })
     }
 
@@ -218,6 +270,9 @@ impl<'a> Chosen<'a> {
             at: self.at,
             output: self.output,
             index: self.index,
+            pdf: self.pdf,
+            coding: self.coding,
+            is_held: self.is_held,
         })
     }
 
@@ -233,6 +288,9 @@ impl<'a> Chosen<'a> {
             at: Some(value),
             output: self.output,
             index: self.index,
+            pdf: self.pdf,
+            coding: self.coding,
+            is_held: self.is_held,
         })
     }
 
@@ -248,6 +306,9 @@ impl<'a> Chosen<'a> {
             at: self.at,
             output: Some(value),
             index: self.index,
+            pdf: self.pdf,
+            coding: self.coding,
+            is_held: self.is_held,
         })
     }
 
@@ -263,8 +324,80 @@ impl<'a> Chosen<'a> {
             at: self.at,
             output: self.output,
             index: Some(u32_of(value)?),
+            pdf: self.pdf,
+            coding: self.coding,
+            is_held: self.is_held,
         })
     }
+
+    /// With the file of a PDF.
+    fn with_pdf(self, value: &'a str) -> Option<Chosen<'a>> {
+        if self.pdf.is_some() {
+            return None;
+        }
+        Some(Chosen {
+            switches: self.switches,
+            limits: self.limits,
+            source: self.source,
+            at: self.at,
+            output: self.output,
+            index: self.index,
+            pdf: Some(value),
+            coding: self.coding,
+            is_held: self.is_held,
+        })
+    }
+
+    /// With how the glyphs of a PDF get codes.
+    fn with_coding(self, value: &str) -> Option<Chosen<'a>> {
+        if self.coding.is_some() {
+            return None;
+        }
+        Some(Chosen {
+            switches: self.switches,
+            limits: self.limits,
+            source: self.source,
+            at: self.at,
+            output: self.output,
+            index: self.index,
+            pdf: self.pdf,
+            coding: Some(coding_of(value)?),
+            is_held: self.is_held,
+        })
+    }
+
+    /// With the rights to embed the font.
+    fn with_rights(self, value: &str) -> Option<Chosen<'a>> {
+        if self.is_held || !says_held(value) {
+            return None;
+        }
+        Some(Chosen {
+            switches: self.switches,
+            limits: self.limits,
+            source: self.source,
+            at: self.at,
+            output: self.output,
+            index: self.index,
+            pdf: self.pdf,
+            coding: self.coding,
+            is_held: true,
+        })
+    }
+}
+
+/// How the glyphs of a PDF get codes, by a word.
+pub fn coding_of(word: &str) -> Option<Coding> {
+    match word {
+        "consecutive" => Some(Coding::Consecutive),
+        "source" => Some(Coding::Source),
+        "text" => Some(Coding::Text),
+        _ => None,
+    }
+}
+
+/// Whether a word says that the user holds the rights.
+pub fn says_held(word: &str) -> bool {
+    word == "held"
 }
 
 /// The limits that the parts of an argument write.
@@ -282,7 +415,7 @@ fn limits_of(word: &str) -> Option<RunLimits> {
 }
 
 /// The options with a name, in the order of the help.
-pub const OPTIONS: [&str; 21] = [
+pub const OPTIONS: [&str; 25] = [
     "--gids",
     "--gids-file",
     "--text",
@@ -291,6 +424,10 @@ pub const OPTIONS: [&str; 21] = [
     "--unicodes-file",
     "--output-file",
     "--face-index",
+    "--pdf",
+    "--vertical",
+    "--codes",
+    "--rights",
     "--at",
     "--no-hinting",
     "--no-names",
@@ -316,6 +453,7 @@ fn switch_of(word: &str) -> Option<Switch> {
         "--json" => Some(Switch::Json),
         "--quiet" => Some(Switch::Quiet),
         "--verbose" => Some(Switch::Verbose),
+        "--vertical" => Some(Switch::Vertical),
         _ => None,
     }
 }
@@ -334,6 +472,9 @@ fn setting_of(word: &str) -> Option<Setting> {
         "--text-file" => Some(Setting::TextFile),
         "--unicodes" => Some(Setting::Unicodes),
         "--unicodes-file" => Some(Setting::UnicodesFile),
+        "--pdf" => Some(Setting::Pdf),
+        "--codes" => Some(Setting::Codes),
+        "--rights" => Some(Setting::Rights),
         _ => None,
     }
 }

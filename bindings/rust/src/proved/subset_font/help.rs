@@ -9,6 +9,7 @@ pub const VERSION_LINE: &str = "subset_font 0.2.6+1, a port of the Rust crate su
 pub const HELP: &str = "usage: subset_font [OPTIONS] IN OUT INDEX GID[,GID..]
        subset_font [OPTIONS] IN OUT INDEX
        subset_font [OPTIONS] IN -o OUT [OPTIONS]
+       subset_font [OPTIONS] IN --pdf FILE [OPTIONS]
        subset_font --axes [--json] IN [INDEX]
        subset_font --info [--json] IN [INDEX]
 
@@ -24,7 +25,7 @@ for each of them.
   GID    the number of a glyph in IN
 
 Options are before IN, each at most once, in any order.
-With -o they may also be after IN.
+With -o or --pdf they may also be after IN.
 
 Which glyphs, where no GID is given:
   --gids LIST       numbers and ranges, as 3,5,10-20, or *
@@ -50,7 +51,19 @@ Which files:
   -o OUT, --output-file OUT
                     the new font
   --face-index INDEX
-                    the face, with -o (default 0)
+                    the face, with -o or --pdf (default 0)
+
+A PDF that shows the glyphs, also in place of OUT:
+  --pdf FILE        the PDF, with their font: the line of
+                    --text or --text-file, else a grid of
+                    the glyphs; - is standard output
+  --vertical        its text runs from top to bottom
+  --codes KIND      the codes in its strings: consecutive
+                    (new numbers, the default), source (the
+                    numbers in IN), or text (one for each
+                    glyph with each text)
+  --rights RIGHTS   held: you may embed the font, whatever
+                    it says (fsType)
 
 What the new font has:
   --at TAG=VALUE[,TAG=VALUE..]
@@ -88,14 +101,16 @@ What is printed:
 
   --                ends the options
 
-Status: 0 OUT has the new font, 1 the font or a glyph is
-refused or memory ran out, 2 an argument is wrong, 3 a file
-can't be read or written. With --axes and --info: 0 it is
-printed, for --info also where a subset would be refused,
-1 IN is no font, or with --axes its table fvar is cut.
+Status: 0 OUT has the new font, and FILE the PDF, 1 the font
+or a glyph is refused, may not be embedded, or memory ran
+out, 2 an argument is wrong, 3 a file can't be read or
+written. With --axes and --info: 0 it is printed, for --info
+also where a subset would be refused, 1 IN is no font, or
+with --axes its table fvar is cut.
 
 Examples:
   subset_font DejaVuSans.ttf subset.ttf 0 36,37,38
   subset_font DejaVuSans.ttf --text ABC -o subset.ttf
+  subset_font DejaVuSans.ttf --text ABC --pdf abc.pdf
   subset_font --no-names --gids 36-38 in.otf - 0 > out.otf
 ";

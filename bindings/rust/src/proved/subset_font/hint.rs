@@ -8,6 +8,7 @@ use crate::proved::subset_font::info::outlines_of;
 use crate::proved::subset_font::tables::directory_of;
 use crate::proved::subset_font::task::{Asked, Task};
 use crate::proved::subset_lines::Outlines;
+use crate::proved::subset_pdf::{Permission, Usage};
 use crate::proved::subsetter::{Error, Tag};
 use crate::proved::subsetter_base::read::Reader;
 use crate::rattle::fmt;
@@ -59,6 +60,8 @@ pub enum Hint {
     MoreBytes(u32),
     /// A glyph needs more than so many tokens and such a depth.
     LittleLimits(u32, u8),
+    /// This bit of `fsType` forbids to embed a subset.
+    Forbidden(u8),
 }
 
 impl fmt::Display for Hint {
@@ -112,6 +115,13 @@ impl fmt::Display for Hint {
             Hint::MoreBytes(most) => {
                 write!(f, "the new font has more than the {most} bytes of --limits")
             }
+            Hint::Forbidden(bit) => {
+                let meaning = meaning_of(bit);
+                write!(
+                    f,
+                    "fsType bit {bit} is set ({meaning}): if you hold the rights, --rights held"
+                )
+            }
             Hint::LittleLimits(tokens, depth) => {
                 write!(
                     f,
@@ -119,6 +129,15 @@ impl fmt::Display for Hint {
                 )
             }
         }
+    }
+}
+
+/// What a bit of `fsType` says that forbids to embed a subset.
+fn meaning_of(bit: u8) -> &'static str {
+    match bit {
+        1 => "restricted",
+        8 => "no subsetting",
+        _ => "bitmaps only",
     }
 }
 
@@ -369,11 +388,26 @@ pub fn find_axes_hint(failure: &Failure, font: &[u8], index: u32) -> Option<Hint
     }
 }
 
+/// The bit of `fsType` that forbids to embed a subset, where one does: bit 1, else 8, else 9.
+fn forbidden_bit(permission: Permission) -> u8 {
+    match permission.usage {
+        Usage::Restricted => 1,
+        _ => {
+            if permission.subsetting {
+                9
+            } else {
+                8
+            }
+        }
+    }
+}
+
 /// What more is known of a font that is refused.
 pub fn find_hint(failure: &Failure, font: &[u8], task: &Task<'_>) -> Option<Hint> {
     match failure {
         Failure::Error(error) => hint_of_error(*error, font, task),
         Failure::NoMapping => hint_of_mapping(font, task.index),
+        Failure::NotPermitted(permission) => Some(Hint::Forbidden(forbidden_bit(*permission))),
         _ => None,
     }
 }

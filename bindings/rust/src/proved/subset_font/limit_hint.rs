@@ -25,6 +25,7 @@ fn within<'a>(plan: &Plan<'a>, limits: Limits) -> Plan<'a> {
         },
         instance: plan.instance,
         verbose: plan.verbose,
+        pdf: plan.pdf,
     }
 }
 

@@ -9,10 +9,12 @@ use crate::proved::subset_font::failure::Failure;
 use crate::proved::subset_font::missing::missing;
 use crate::proved::subset_font::named::face_settings;
 use crate::proved::subset_font::notes::{known_axes, notes_for};
+use crate::proved::subset_font::sheet::{sheet_if, with_pdf};
 use crate::proved::subset_font::subset::{make_of, Made};
 use crate::proved::subset_font::tables::{directory_of, table_sizes};
 use crate::proved::subset_font::task::{Form, Plan, Task};
 use crate::proved::subset_lines::{json_members, size_lines, TableSize};
+use crate::proved::subset_pdf::Sheet;
 use crate::proved::subsetter::{Error, Tag};
 use crate::rattle::alloc::{AllocError, Global};
 
@@ -24,6 +26,8 @@ pub struct Outcome {
     pub more: Vec<u8>,
     /// The names of the requested glyphs, as far as they are printed; an empty one is none.
     pub names: Vec<Vec<u8>>,
+    /// The PDF, if one is requested.
+    pub sheet: Option<Sheet>,
 }
 
 /// The tables of the font that is read and of the new one, with their sizes.
@@ -101,11 +105,15 @@ fn more_of(
     font: &[u8],
     plan: &Plan<'_>,
     made: &Made,
+    sheet: &Option<Sheet>,
 ) -> Result<Vec<u8>, AllocError> {
     let index = plan.task.index;
     match plan.task.form {
         Form::Lines if plan.verbose => lines_of_sizes(alloc, font, index, &made.font),
-        Form::Json => members_of(alloc, font, index, plan.verbose, plan.task.at, made),
+        Form::Json => {
+            let members = members_of(alloc, font, index, plan.verbose, plan.task.at, made)?;
+            with_pdf(alloc, members, sheet)
+        }
         Form::Lines => Ok(Vec::new(alloc)),
         Form::Silence => Ok(Vec::new(alloc)),
     }
@@ -145,16 +153,28 @@ fn names_for(
     }
 }
 
-/// The same for what was made, which is kept.
-fn with_more(alloc: Global, font: &[u8], plan: &Plan<'_>, made: Made) -> Result<Outcome, Failure> {
-    let more = match more_of(alloc, font, plan, &made) {
+/// The same for what was made by a task, which is kept, with the names of its glyphs, and the PDF, if one is requested.
+fn with_more(
+    alloc: Global,
+    font: &[u8],
+    plan: &Plan<'_>,
+    task: &Task<'_>,
+    made: Made,
+) -> Result<Outcome, Failure> {
+    let sheet = sheet_if(alloc, font, plan.pdf, task, &made)?;
+    let more = match more_of(alloc, font, plan, &made, &sheet) {
         Ok(more) => more,
         _ => {
             return Err(Failure::Error(Error::OutOfMemory));
         }
     };
     match names_for(alloc, font, plan, &made.picked.glyphs) {
-        Ok(names) => Ok(Outcome { made, more, names }),
+        Ok(names) => Ok(Outcome {
+            made,
+            more,
+            names,
+            sheet,
+        }),
         Err(_) => Err(Failure::Error(Error::OutOfMemory)),
     }
 }
@@ -181,7 +201,7 @@ fn make_placed(
 ) -> Result<Outcome, Failure> {
     let task = placed(&plan.task, at);
     match make_of(alloc, font, &task) {
-        Ok(made) => with_more(alloc, font, plan, made),
+        Ok(made) => with_more(alloc, font, plan, &task, made),
         Err(failure) => Err(failure),
     }
 }
@@ -202,7 +222,7 @@ fn make_at_instance(
 /// What a plan makes of a font that is taken as it is, or at given coordinates.
 fn make_as_given(alloc: Global, font: &[u8], plan: &Plan<'_>) -> Result<Outcome, Failure> {
     match make_of(alloc, font, &plan.task) {
-        Ok(made) => with_more(alloc, font, plan, made),
+        Ok(made) => with_more(alloc, font, plan, &plan.task, made),
         Err(failure) => Err(failure),
     }
 }

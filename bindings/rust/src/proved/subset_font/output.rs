@@ -5,19 +5,36 @@ use crate::proved::subset_font::failure::Failure;
 use crate::proved::subset_font::outcome::Outcome;
 use crate::proved::subset_font::task::Form;
 use crate::proved::subset_lines::{write_json, write_lines, Numbering};
+use crate::proved::subset_pdf::Sheet;
 use crate::rattle::io::Write;
 
-/// Writes the font to one writer, and then the new numbers to the other.
+/// Writes the PDF, if there is one, to one writer, then the font to another, and then the new numbers to the third.
 ///
-/// `Write` where the first writer fails, `Output` where the other does.
-pub fn emit<W: Write, L: Write>(
+/// `WritePdf` where the first writer fails, `Write` where the second does, and `Output` where the third does.
+pub fn emit<P: Write, W: Write, L: Write>(
     outcome: &Outcome,
     form: Form,
+    page: &mut P,
     output: &mut W,
     lines: &mut L,
 ) -> Result<(), Failure> {
+    write_page(&outcome.sheet, page)?;
     write_font(&outcome.made.font, output)?;
     write_numbers(outcome, form, lines)
+}
+
+/// Writes the PDF, if there is one, and passes on what the writer keeps back.
+fn write_page<P: Write>(sheet: &Option<Sheet>, page: &mut P) -> Result<(), Failure> {
+    let sheet = match sheet {
+        Some(sheet) => sheet,
+        _ => {
+            return Ok(());
+        }
+    };
+    if page.write_all(&sheet.file).is_err() || page.flush().is_err() {
+        return Err(Failure::WritePdf);
+    }
+    Ok(())
 }
 
 /// Writes the font, and passes on what the writer keeps back.

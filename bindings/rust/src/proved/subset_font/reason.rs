@@ -62,15 +62,17 @@ pub fn unread(kept: Option<io::Error>) -> Option<io::Error> {
     }
 }
 
-/// Why a run failed that read the font, and wrote the new one and the lines, by what each of the three kept.
+/// Why a run failed that read the font, and wrote a PDF, the new font and the lines, by what each of the four kept.
 pub fn reason_of(
     ended: &Result<(), Failure>,
     input: Option<io::Error>,
+    page: Option<io::Error>,
     output: Option<io::Error>,
     lines: Option<io::Error>,
 ) -> Option<io::Error> {
     match ended {
         Err(Failure::Read) => unread(input),
+        Err(Failure::WritePdf) => page,
         Err(Failure::Write) => output,
         Err(Failure::Output) => lines,
         _ => None,

@@ -44,21 +44,24 @@ pub fn hold_streams<R: Files>(rt: &R) -> (Option<R::File>, Option<R::File>, Opti
     (first, second, third)
 }
 
-/// What the font is written to.
+/// What the font or a PDF is written to.
 pub enum Target<'a, R: Files + Print> {
     /// A file, which is made by the first write.
     File(LateFile<'a, R>),
     /// Standard output.
     Standard(&'a R),
+    /// Nothing: the bytes are dropped.
+    Nowhere,
 }
 
 impl<'a, R: Files + Print + AllocGlobal> Target<'a, R> {
-    /// What the argument OUT names. No file is made yet.
-    pub fn new(rt: &'a R, name: &'a str) -> Self {
-        if is_stream(name) {
-            return Target::Standard(rt);
+    /// What an argument names, if it is given. No file is made yet.
+    pub fn new(rt: &'a R, name: Option<&'a str>) -> Self {
+        match name {
+            None => Target::Nowhere,
+            Some(name) if is_stream(name) => Target::Standard(rt),
+            Some(name) => Target::File(LateFile::new(rt, rt.alloc(), name)),
         }
-        Target::File(LateFile::new(rt, rt.alloc(), name))
     }
 }
 
@@ -67,13 +70,14 @@ impl<R: Files + Print> Write for Target<'_, R> {
         match self {
             Target::File(file) => file.write(buf),
             Target::Standard(rt) => io::writer(*rt).write(buf),
+            Target::Nowhere => Ok(buf.len()),
         }
     }
 
     fn flush(&mut self) -> io::Result<()> {
         match self {
             Target::File(file) => file.flush(),
-            Target::Standard(_) => Ok(()),
+            Target::Standard(_) | Target::Nowhere => Ok(()),
         }
     }
 }
@@ -117,12 +121,15 @@ fn is_standard_output<R: Files>(rt: &R, name: &str) -> bool {
     }
 }
 
-/// Whether the font goes to standard output.
-pub fn goes_to_output<R: Files>(rt: &R, output: &str) -> bool {
-    is_stream(output) || is_standard_output(rt, output)
+/// Whether the font or a PDF goes to standard output, if it is named.
+pub fn goes_to_output<R: Files>(rt: &R, name: Option<&str>) -> bool {
+    match name {
+        Some(name) => is_stream(name) || is_standard_output(rt, name),
+        None => false,
+    }
 }
 
-/// What the lines go to: standard output, or if the font goes there, standard error.
+/// What the lines go to: standard output, or if the font or a PDF goes there, standard error.
 pub fn lines_beside<'a, R: Print + Eprint>(rt: &'a R, is_font_there: bool) -> Lines<'a, R> {
     if is_font_there {
         return Lines::Error(rt);

@@ -1,0 +1,102 @@
+-- What is answered for glyphs in use, and for glyphs and characters.
+use Rattle.std.proofs.Common.{◌≡◌, ◌⊎◌, inl, inr, ℕ, ℤ, List, true, false, map, Result, Ok, Err, refl, sym, ap, subst, ◌∙◌}
+use Rattle.std.specs.Prelude.{IfOk, IfErr}
+use Rattle.subsetter_base.specs.declared.tag.Tag.{Tag}
+use Rattle.subsetter_base.specs.declared.error.Error.{Error}
+use Rattle.subsetter_base.specs.declared.error.Error.TheVariants.{OutOfMemory, OverflowError}
+use Rattle.subsetter_sfnt.specs.Read.{Font}
+use Rattle.pdf_codes.specs.Codes.{Used}
+use Rattle.pdf_codes.specs.Shown.{has_long_text, uses_of}
+use Rattle.pdf_codes.specs.declared.shown.Shown.{Shown}
+use Rattle.pdf_values.specs.declared.permission.Permission.{Permission}
+use Rattle.pdf_source.specs.declared.choice.FontOptions.{FontOptions}
+use Rattle.pdf_font.specs.PdfFont.{HasFontFault, IsPdfFont, font_of, in_embedding, no_maxp, overfull, not_permitted, long_text}
+use Rattle.pdf_font.specs.declared.error.FontError.{FontError}
+use Rattle.pdf_font.specs.declared.error.FontError.TheVariants.{Subset, NotPermitted as Forbidden, TextTooLong}
+use Rattle.pdf_font.specs.declared.font.PdfFont.{PdfFont}
+use Rattle.pdf_objects.specs.Glyphs.{IsSheetOf, IsTooLargeFor}
+use Rattle.pdf_objects.specs.Values.{HasManyColumns}
+use Rattle.pdf_sheet.specs.declared.frame.Layout.{Layout}
+use Rattle.subset_pdf.specs.Options.{options_of}
+use Rattle.subset_pdf.specs.Shown.{entries_of, entry_of}
+use Rattle.subset_pdf.specs.Sheet.{HasFaultFor, HasSheetFault, HasSheetFaultBy, IsFontFor, IsSheetBy, IsSheetFor, IsTooLargeAs, in_font, too_large}
+use Rattle.subset_pdf.specs.declared.options.PdfRequest.{PdfRequest}
+use Rattle.subset_pdf.specs.declared.sheet.Sheet.{Sheet}
+use Rattle.subset_pdf.specs.declared.sheet.SheetError.{SheetError}
+use Rattle.subset_pdf.specs.declared.sheet.SheetError.TheVariants.{Font as RefusedFont, NotPermitted}
+
+-- that a text is too long is no fault where none is
+long_of : (font : Font) (settings : List (Tag × ℤ)) (options : FontOptions) (us : List Used) (order : List ℕ) (e : FontError) → HasFontFault font settings options us order e → e ≡ TextTooLong → has_long_text us ≡ true
+long_of font settings options us order _ (in_embedding f) m = absurd cc
+long_of font settings options us order _ (no_maxp static s k n) m = absurd cc
+long_of font settings options us order _ (overfull o) m = absurd cc
+long_of font settings options us order _ (not_permitted p) m = absurd cc
+long_of font settings options us order _ (long_text l) m = l
+
+module _ (bytes : List ℕ) (request : PdfRequest) (shown : List Shown) where
+  -- a fault for which `pdf_font` answers nothing, by the options that it gets
+  abbrev FaultBy : FontOptions → FontError → Type 0
+  FaultBy options e = (e ≡ Subset OutOfMemory) ⊎ ((order : List ℕ) × HasFontFault (font_of bytes request.index options) request.at.now options (uses_of shown) order e)
+
+  pub font_made : (options : FontOptions) (f : PdfFont) → options ≡ options_of request → IsPdfFont (font_of bytes request.index options) request.at.now options (uses_of shown) f → IsFontFor bytes request shown f
+  font_made options f is h = subst (λ (o : FontOptions). IsPdfFont (font_of bytes request.index o) request.at.now o (uses_of shown) f) is h
+
+  refused_by : (e : Error) → FaultBy (options_of request) (Subset e) → (RefusedFont e ≡ RefusedFont OutOfMemory) ⊎ HasFaultFor bytes request shown (RefusedFont e)
+  refused_by e (inl memory) = inl (let same : e ≡ OutOfMemory = cc in ap RefusedFont same)
+  refused_by e (inr fault) = inr fault
+
+  pub font_refused : (options : FontOptions) (e : Error) → options ≡ options_of request → FaultBy options (Subset e) → (RefusedFont e ≡ RefusedFont OutOfMemory) ⊎ HasFaultFor bytes request shown (RefusedFont e)
+  font_refused options e is h = refused_by e (subst (λ (o : FontOptions). FaultBy o (Subset e)) is h)
+
+  forbidden_by : (p : Permission) → FaultBy (options_of request) (Forbidden p) → (NotPermitted p ≡ RefusedFont OutOfMemory) ⊎ HasFaultFor bytes request shown (NotPermitted p)
+  forbidden_by p (inl memory) = absurd cc
+  forbidden_by p (inr fault) = inr fault
+
+  pub font_forbidden : (options : FontOptions) (p : Permission) → options ≡ options_of request → FaultBy options (Forbidden p) → (NotPermitted p ≡ RefusedFont OutOfMemory) ⊎ HasFaultFor bytes request shown (NotPermitted p)
+  font_forbidden options p is h = forbidden_by p (subst (λ (o : FontOptions). FaultBy o (Forbidden p)) is h)
+
+  not_long : (options : FontOptions) → has_long_text (uses_of shown) ≡ false → FaultBy options TextTooLong → ⊥
+  not_long options short (inl memory) = absurd cc
+  not_long options short (inr fault) =
+      let long = long_of (font_of bytes request.index options) request.at.now options (uses_of shown) fault.0 TextTooLong fault.1 refl in
+      let both : true ≡ false = sym long ∙ short in cc
+
+  pub font_never_long : (options : FontOptions) → has_long_text (uses_of shown) ≡ false → FaultBy options TextTooLong → (RefusedFont OverflowError ≡ RefusedFont OutOfMemory) ⊎ HasFaultFor bytes request shown (RefusedFont OverflowError)
+  font_never_long options short h = absurd (not_long options short h)
+
+  -- ---- its sheet
+
+  pub sheet_by : (font : PdfFont) (r : Result Sheet SheetError) → IsFontFor bytes request shown font → IfOk r (λ s. s.font ≡ font) → IfOk r (λ s. IsSheetOf s.font shown request.layout s.file.items) → IfOk r (IsSheetBy bytes request shown)
+  sheet_by font (Ok s) is same sheet = record { font = subst (λ (f : PdfFont). IsFontFor bytes request shown f) (sym same) is; file = sheet }
+  sheet_by font (Err e) is same sheet = tt
+
+  too_large_by : (font : PdfFont) (e : SheetError) → IsFontFor bytes request shown font → (e ≡ RefusedFont OutOfMemory) ⊎ IsTooLargeAs font shown request.layout e → (e ≡ RefusedFont OutOfMemory) ⊎ HasSheetFaultBy bytes request shown e
+  too_large_by font e is (inl memory) = inl memory
+  too_large_by font e is (inr large) = inr (too_large font is large)
+
+  pub no_sheet_by : (font : PdfFont) (r : Result Sheet SheetError) → IsFontFor bytes request shown font → IfErr r (λ e. (e ≡ RefusedFont OutOfMemory) ⊎ IsTooLargeAs font shown request.layout e) → IfErr r (λ e. (e ≡ RefusedFont OutOfMemory) ⊎ HasSheetFaultBy bytes request shown e)
+  no_sheet_by font (Ok s) is h = tt
+  no_sheet_by font (Err e) is h = too_large_by font e is h
+
+  pub no_font_by : (e : SheetError) → (e ≡ RefusedFont OutOfMemory) ⊎ HasFaultFor bytes request shown e → (e ≡ RefusedFont OutOfMemory) ⊎ HasSheetFaultBy bytes request shown e
+  no_font_by e (inl memory) = inl memory
+  no_font_by e (inr fault) = inr (in_font fault)
+
+  -- ---- for glyphs and characters
+
+  pub sheet_for : (characters glyphs : List ℕ) (r : Result Sheet SheetError) → map entry_of shown ≡ entries_of characters glyphs → IfOk r (IsSheetBy bytes request shown) → IfOk r (IsSheetFor bytes request characters glyphs)
+  sheet_for characters glyphs (Ok s) are h = record { shown = shown; are_shown = are; is_sheet = h }
+  sheet_for characters glyphs (Err e) are h = tt
+
+  fault_for : (characters glyphs : List ℕ) (e : SheetError) → map entry_of shown ≡ entries_of characters glyphs → (e ≡ RefusedFont OutOfMemory) ⊎ HasSheetFaultBy bytes request shown e → (e ≡ RefusedFont OutOfMemory) ⊎ HasSheetFault bytes request characters glyphs e
+  fault_for characters glyphs e are (inl memory) = inl memory
+  fault_for characters glyphs e are (inr fault) = inr (record { shown = shown; are_shown = are; fault = fault })
+
+  pub no_sheet_for : (characters glyphs : List ℕ) (r : Result Sheet SheetError) → map entry_of shown ≡ entries_of characters glyphs → IfErr r (λ e. (e ≡ RefusedFont OutOfMemory) ⊎ HasSheetFaultBy bytes request shown e) → IfErr r (λ e. (e ≡ RefusedFont OutOfMemory) ⊎ HasSheetFault bytes request characters glyphs e)
+  no_sheet_for characters glyphs (Ok s) are h = tt
+  no_sheet_for characters glyphs (Err e) are h = fault_for characters glyphs e are h
+
+-- the answer of `write_sheet` under its name
+pub too_large_as : (font : PdfFont) (shown : List Shown) (layout : Layout) (e : Error) → (e ≡ OutOfMemory) ⊎ ((e ≡ OverflowError) × (IsTooLargeFor font shown layout ⊎ HasManyColumns font.columns)) → (RefusedFont e ≡ RefusedFont OutOfMemory) ⊎ IsTooLargeAs font shown layout (RefusedFont e)
+too_large_as font shown layout e (inl memory) = inl (ap RefusedFont memory)
+too_large_as font shown layout e (inr large) = inr (ap RefusedFont large.0, large.1)

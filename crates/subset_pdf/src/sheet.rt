@@ -1,0 +1,118 @@
+//! The PDF.
+
+ghost use Rattle.std.specs.Prelude.{◌≡◌, ◌⊎◌, false, IfOk, IfErr};
+ghost use Rattle.pdf_codes.specs.Shown.{has_long_text, uses_of};
+ghost use Rattle.pdf_objects.specs.Glyphs.{IsSheetOf};
+ghost use Rattle.subset_pdf.specs.Sheet.{HasFaultFor, HasSheetFault, HasSheetFaultBy, IsFontFor, IsSheetBy, IsSheetFor, IsTooLargeAs};
+ghost use Rattle.subset_pdf.specs.declared.sheet.SheetError.TheVariants.{Font as RefusedFont};
+ghost use Rattle.subsetter_base.specs.declared.error.Error.TheVariants.{OutOfMemory};
+
+use crate::options::{PdfRequest, options_of};
+use crate::shown::shown_of;
+use pdf_font::{FontError, PdfFont, Permission, Shown, pdf_font};
+use pdf_objects::write_sheet;
+use std::alloc::Global;
+use subsetter_base::Error;
+
+/// A PDF that shows glyphs, and all that it has of their font.
+#[derive(Drop)]
+pub struct Sheet {
+    /// What the PDF has of the font.
+    pub font: PdfFont,
+    /// The bytes of the PDF.
+    pub file: Vec<u8>,
+}
+
+/// Why there is no PDF.
+#[derive(Debug, Drop)]
+pub enum SheetError {
+    /// The font is refused, the PDF would be too large, or memory ran out.
+    Font(Error),
+    /// The font's maker doesn't permit it, and the user holds no rights.
+    NotPermitted(Permission),
+}
+
+/// What the PDF has of the font for glyphs in use, of which no text is too long.
+#[tactic(auto, using(crate::proofs::Sheets::font_made, crate::proofs::Sheets::font_refused, crate::proofs::Sheets::font_forbidden, crate::proofs::Sheets::font_never_long))]
+fn font_for(
+    alloc: Global,
+    data: &[u8],
+    request: &PdfRequest<'_>,
+    shown: &[Shown<'_>],
+) -> Result<PdfFont, SheetError>
+    requires { has_long_text (uses_of shown.now) ≡ false }
+    ensures ok { IfOk result (IsFontFor «data».now request.now shown.now) }
+    ensures err { IfErr result (λ e. (e ≡ RefusedFont OutOfMemory) ⊎ HasFaultFor «data».now request.now shown.now e) }
+{
+    let options = options_of(request);
+    match pdf_font(alloc, data, request.index, request.at, shown, &options) {
+        Ok(font) => Ok(font),
+        Err(FontError::Subset(error)) => Err(SheetError::Font(error)),
+        Err(FontError::NotPermitted(permission)) => Err(SheetError::NotPermitted(permission)),
+        // (no text is too long)
+        Err(FontError::TextTooLong) => Err(SheetError::Font(Error::OverflowError)),
+    }
+}
+
+/// The PDF of a font.
+#[tactic(auto, using(crate::proofs::Sheets::too_large_as))]
+fn drawn(
+    alloc: Global,
+    request: &PdfRequest<'_>,
+    font: PdfFont,
+    shown: &[Shown<'_>],
+) -> Result<Sheet, SheetError>
+    ensures font { IfOk result (λ sheet. sheet.font ≡ font) }
+    ensures ok { IfOk result (λ sheet. IsSheetOf sheet.font shown.now request.now.layout sheet.file.items) }
+    ensures err { IfErr result (λ e. (e ≡ RefusedFont OutOfMemory) ⊎ IsTooLargeAs font shown.now request.now.layout e) }
+{
+    match write_sheet(alloc, &font, shown, request.layout) {
+        Ok(file) => Ok(Sheet { font, file }),
+        Err(error) => Err(SheetError::Font(error)),
+    }
+}
+
+/// The PDF that shows glyphs in use.
+#[tactic(auto, using(crate::proofs::Sheets::sheet_by, crate::proofs::Sheets::no_sheet_by, crate::proofs::Sheets::no_font_by))]
+fn sheet_of(
+    alloc: Global,
+    data: &[u8],
+    request: &PdfRequest<'_>,
+    shown: &[Shown<'_>],
+) -> Result<Sheet, SheetError>
+    requires { has_long_text (uses_of shown.now) ≡ false }
+    ensures ok { IfOk result (IsSheetBy «data».now request.now shown.now) }
+    ensures err { IfErr result (λ e. (e ≡ RefusedFont OutOfMemory) ⊎ HasSheetFaultBy «data».now request.now shown.now e) }
+{
+    match font_for(alloc, data, request, shown) {
+        Ok(font) => drawn(alloc, request, font, shown),
+        Err(error) => Err(error),
+    }
+}
+
+/// A PDF that shows glyphs of a font in 36 points, each with its character as its text, as far as there are any: in a line, or
+/// in a grid of 12 by 16 a page.
+///
+/// # Errors
+///
+/// - `NotPermitted`: `fsType` forbids it, and the user holds no rights.
+/// - `Font`: what `pdf_font` answers; the PDF would have 10,000,000,000 bytes or more (`OverflowError`); a request for memory was
+///   refused (`OutOfMemory`).
+#[tactic(auto, using(crate::proofs::Short::short, crate::proofs::Sheets::sheet_for, crate::proofs::Sheets::no_sheet_for))]
+pub fn make_sheet(
+    alloc: Global,
+    data: &[u8],
+    request: &PdfRequest<'_>,
+    characters: &[char],
+    glyphs: &[u16],
+) -> Result<Sheet, SheetError>
+    // What is made is the sheet of what `pdf_font` answers for the glyphs.
+    ensures ok { IfOk result (IsSheetFor «data».now request.now characters.now glyphs.now) }
+    // What is refused has a fault of that name.
+    ensures err { IfErr result (λ e. (e ≡ RefusedFont OutOfMemory) ⊎ HasSheetFault «data».now request.now characters.now glyphs.now e) }
+{
+    match shown_of(alloc, characters, glyphs) {
+        Ok(shown) => sheet_of(alloc, data, request, &shown),
+        Err(error) => Err(SheetError::Font(error)),
+    }
+}
