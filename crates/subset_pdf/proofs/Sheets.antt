@@ -61,8 +61,8 @@ module _ (bytes : List ℕ) (request : PdfRequest) (shown : List Shown) where
       let long = long_of (font_of bytes request.index options) request.at.now options (uses_of shown) fault.0 TextTooLong fault.1 refl in
       let both : true ≡ false = sym long ∙ short in cc
 
-  pub font_never_long : (options : FontOptions) → has_long_text (uses_of shown) ≡ false → FaultBy options TextTooLong → (RefusedFont OverflowError ≡ RefusedFont OutOfMemory) ⊎ HasFaultFor bytes request shown (RefusedFont OverflowError)
-  font_never_long options short h = absurd (not_long options short h)
+  pub font_never_long : (options : FontOptions) (e : FontError) → e ≡ TextTooLong → has_long_text (uses_of shown) ≡ false → FaultBy options e → (RefusedFont OverflowError ≡ RefusedFont OutOfMemory) ⊎ HasFaultFor bytes request shown (RefusedFont OverflowError)
+  font_never_long options e is short h = absurd (not_long options short (subst (λ (f : FontError). FaultBy options f) is h))
 
   -- ---- its sheet
 
