@@ -43,14 +43,14 @@ module _ (font : Font) (settings : List (Tag × ℤ)) (options : FontOptions) (u
   unopened {X} e (inl memory) before = record {
     why = inl (ap Subset memory);
     unopened = λ fault h. absurd (before fault h (ap (failed {X = X}) memory));
-    forbidden = λ opens no. inl (ap Subset memory);
-    long = λ opens yes h. inl (ap Subset memory);
+    forbidden = λ opens denied. inl (ap Subset memory);
+    long = λ opens held h. inl (ap Subset memory);
   }
   unopened e (inr fault) before = record {
     why = inr (([], in_embedding (opening_fault options.limits.bytes options.limits.tokens options.limits.depth font settings (glyphs_of us) e fault)), unopened_final e fault);
     unopened = λ why h. (e, refl, fault);
-    forbidden = λ opens no. absurd (opens e fault);
-    long = λ opens yes h. absurd (opens e fault);
+    forbidden = λ opens denied. absurd (opens e fault);
+    long = λ opens held h. absurd (opens e fault);
   }
 
   same_error : (e d : FontError) → failed_font e ≡ failed_font d → e ≡ d
@@ -58,7 +58,7 @@ module _ (font : Font) (settings : List (Tag × ℤ)) (options : FontOptions) (u
 
   -- a font that is answered can be opened
   pub without_memory : (f : PdfFont) → IsPdfFont font settings options us f → IsFontRefused font settings options us (Subset OutOfMemory)
-  without_memory f is = record { why = inl refl; unopened = λ fault h. absurd (unopened_final fault h f is); forbidden = λ opens no. inl refl; long = λ opens yes h. inl refl }
+  without_memory f is = record { why = inl refl; unopened = λ fault h. absurd (unopened_final fault h f is); forbidden = λ opens denied. inl refl; long = λ opens held h. inl refl }
 
   module _ (given : List (Tag × ℤ)) (used : List Used) (g : given ≡ settings) (u : used ≡ us) where
     there : (P : List (Tag × ℤ) → List Used → Type 0) → P given used → P settings us
@@ -72,10 +72,10 @@ module _ (font : Font) (settings : List (Tag × ℤ)) (options : FontOptions) (u
     first e found fault h = let d = found.unopened fault h in (d.0, same_error e (Subset d.0) d.1, d.2)
 
     forbidden_by : (e : FontError) → IsFoundFirst font options used (Err e) → CanBeOpened font → is_permitted (permission (stored font (codes "OS/2"))) options.rights ≡ false → (e ≡ Subset OutOfMemory) ⊎ (e ≡ NotPermitted (permission (stored font (codes "OS/2"))))
-    forbidden_by e found opens no = inr (same_error e (NotPermitted (permission (stored font (codes "OS/2")))) (found.forbidden opens no))
+    forbidden_by e found opens denied = inr (same_error e (NotPermitted (permission (stored font (codes "OS/2")))) (found.forbidden opens denied))
 
     long_by : (e : FontError) → IsFoundFirst font options used (Err e) → CanBeOpened font → is_permitted (permission (stored font (codes "OS/2"))) options.rights ≡ true → has_long_text us ≡ true → (e ≡ Subset OutOfMemory) ⊎ (e ≡ TextTooLong)
-    long_by e found opens yes h = inr (same_error e TextTooLong (found.long opens yes (ap has_long_text u ∙ h)))
+    long_by e found opens held h = inr (same_error e TextTooLong (found.long opens held (ap has_long_text u ∙ h)))
 
     pub refused_by : (r : Result PdfFont FontError) → IfErr r (λ e. (e ≡ Subset OutOfMemory) ⊎ ((order : List ℕ) × HasFontFault font given options used order e)) → IfErr r (λ e. (e ≡ Subset OutOfMemory) ⊎ HasNoPdfFont font given options used) → IsFoundFirst font options used r → IfErr r (IsFontRefused font settings options us)
     refused_by (Ok f) err none found = tt
