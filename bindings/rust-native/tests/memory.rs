@@ -7,6 +7,7 @@ use std::env;
 use std::fs;
 use std::os::unix::process::ExitStatusExt;
 use std::process::Command;
+use std::sync::{Mutex, MutexGuard, PoisonError};
 use subsetter::{embed, subset, GlyphRemapper};
 use table::table;
 
@@ -95,8 +96,15 @@ fn growth(call: impl Fn()) -> u64 {
     sizes()[1].saturating_sub(before)
 }
 
+/// What a test holds while no other test here may grow the process.
+fn alone() -> MutexGuard<'static, ()> {
+    static ALONE: Mutex<()> = Mutex::new(());
+    ALONE.lock().unwrap_or_else(PoisonError::into_inner)
+}
+
 #[test]
 fn all_is_given_back() {
+    let _alone = alone();
     let fonts = table().fonts;
     let (long, many) = (&fonts["long_glyph"], &fonts["many_glyphs"]);
     let mapper = GlyphRemapper::new_from_glyphs(&[1]);
@@ -108,7 +116,7 @@ fn all_is_given_back() {
 
 #[cfg(feature = "variable-fonts")]
 mod pdf {
-    use super::{growth, sizes};
+    use super::{alone, growth, sizes};
     use std::env;
     use std::ffi::c_void;
     use std::os::unix::process::ExitStatusExt;
@@ -192,23 +200,33 @@ mod pdf {
         encoding: 10,
     };
 
-    type Call = fn(&PdfFont);
+    type Call = fn(&PdfFont) -> String;
 
-    /// The calls by their names, each with a font that was made before.
+    /// All that a font has, as text.
+    fn parts_of(font: &PdfFont) -> String {
+        let lists = (font.cids(), font.codes(), font.is_said(), font.widths());
+        let texts = (font.to_unicode(), font.encoding(), font.cid_set());
+        let values = (font.columns(), font.descriptor(), font.permission());
+        format!("{:?} {lists:?} {texts:?} {values:?}", font.program())
+    }
+
+    /// The calls by their names, each with a font that was made before, and its answer as text.
     const CALLS: [(&str, Call); 8] = [
-        ("pdf_font", |_| drop(font())),
-        ("glyphs_of", |_| drop(glyphs_of(MADE, 0, "ABBA").unwrap())),
+        ("pdf_font", |_| parts_of(&font())),
+        ("glyphs_of", |_| {
+            format!("{:?}", glyphs_of(MADE, 0, "ABBA").unwrap())
+        }),
         ("codes_of", |_| {
-            drop(codes_of(&SHOWN, Codes::EachText).unwrap());
+            format!("{:?}", codes_of(&SHOWN, Codes::EachText).unwrap())
         }),
-        ("objects", |font| drop(font.objects(4).unwrap())),
+        ("objects", |font| format!("{:?}", font.objects(4).unwrap())),
         ("sheet", |font| {
-            drop(font.sheet(&SHOWN, Layout::Grid).unwrap());
+            format!("{:?}", font.sheet(&SHOWN, Layout::Grid).unwrap())
         }),
-        ("w", |font| drop(font.w().unwrap())),
-        ("w2", |font| drop(font.w2().unwrap())),
+        ("w", |font| format!("{:?}", font.w().unwrap())),
+        ("w2", |font| format!("{:?}", font.w2().unwrap())),
         ("dictionaries", |font| {
-            drop(font.dictionaries(&REFERENCES).unwrap());
+            format!("{:?}", font.dictionaries(&REFERENCES).unwrap())
         }),
     ];
 
@@ -224,8 +242,9 @@ mod pdf {
         let (call, font) = (call.unwrap().1, font());
         println!("calls");
         LEFT.store(refused, Ordering::SeqCst);
-        call(&font);
+        let answer = call(&font);
         let left = LEFT.swap(0, Ordering::SeqCst);
+        assert_eq!(answer, call(&font));
         println!("goes on, {left} left");
     }
 
@@ -247,7 +266,8 @@ mod pdf {
             .unwrap()
     }
 
-    /// The number of requests of a call, each of which ends the process where it is refused.
+    /// The number of requests of a call. Where one is refused, the process ends, or the answer is the same: a list that is made
+    /// shorter stays where it is.
     fn requests(call: &str) -> usize {
         for refused in 1.. {
             let output = with_a_refused_request(call, refused);
@@ -259,6 +279,10 @@ mod pdf {
                 return refused - 1;
             }
             let place = format!("{call}, request {refused}: {printed}{said}");
+            if printed.contains("goes on, 0 left") {
+                assert!(output.status.success(), "{place}");
+                continue;
+            }
             assert!(!printed.contains("goes on"), "{place}");
             assert!(said.contains("memory allocation of"), "{place}");
             assert_eq!(output.status.signal(), Some(6), "{place}");
@@ -268,6 +292,7 @@ mod pdf {
 
     #[test]
     fn each_refused_request_ends_the_process() {
+        let _alone = alone();
         let each = CALLS.map(|(call, _)| thread::spawn(move || (call, requests(call))));
         for (call, count) in each.map(|it| it.join().unwrap()) {
             println!("{call}: {count} requests");
@@ -279,6 +304,7 @@ mod pdf {
 
     #[test]
     fn all_is_given_back_for_pdf() {
+        let _alone = alone();
         let shown: Vec<Shown<'_>> = SHOWN.iter().cycle().take(600).copied().collect();
         let make = || pdf_font(MADE, 0, &[], &shown, &options()).unwrap();
         let font = make();
