@@ -1,12 +1,12 @@
 -- The glyphs of characters, in other words.
-use Rattle.std.proofs.Common.{◌≡◌, ℕ, List, sym, ap, subst, ◌∙◌, ◌⊎◌, inl, inr, Option, Some, None, Vec, Global, Result, Ok, Err, map}
+use Rattle.std.proofs.Common.{◌≡◌, ℕ, List, sym, ap, ◌∙◌, inl, Option, Some, None, Vec, Global, Result, Ok, Err, map}
 use Rattle.std.specs.Prelude.{IfOk, IfErr, codes}
-use Rattle.std.specs.Option.{option_and_then, option_copied, option_map}
+use Rattle.std.specs.Option.{option_and_then, option_map}
 use Rattle.subsetter_base.specs.declared.error.Error.{Error}
 use Rattle.subsetter_base.specs.declared.error.Error.TheVariants.{OutOfMemory, MalformedFont}
 use Rattle.subsetter_sfnt.specs.Fault.{HasOpeningFault}
 use Rattle.subsetter_sfnt.specs.Plain.{opened}
-use Rattle.subsetter_sfnt.specs.Read.{Font, stored, table_in}
+use Rattle.subsetter_sfnt.specs.Read.{Font, table_in}
 use Rattle.subsetter_sfnt.specs.declared.face.Face.{Face}
 use Rattle.subsetter_sfnt.proofs.Laws.Fault.{opened_refused}
 use Rattle.subsetter_variable.proofs.Stands.{find_is}

@@ -1,5 +1,5 @@
 -- What is said of a font that was laid out for C is what `pdf_objects` says of the font itself.
-use Rattle.std.proofs.Common.{◌≡◌, ◌<◌, ◌≤◌, ℕ, zero, suc, ◌+◌, Bool, true, false, List, [], ◌∷◌, ◌++◌, length, get_or, map, take, refl, sym, ap, ◌∙◌, arith, ℤ, Option, Some, None, Vec, Global}
+use Rattle.std.proofs.Common.{◌≡◌, ◌<◌, ℕ, zero, suc, ◌+◌, Bool, true, false, List, [], ◌∷◌, ◌++◌, length, get_or, map, take, refl, ap, ◌∙◌, arith, ℤ, Option, Some, None, Vec, Global}
 use Rattle.std.specs.Prelude.{◌==◌, if◌then◌else◌, min, is_some, pos, unsigned_abs}
 use Rattle.std.specs.Option.{option_map}
 use Rattle.std.proofs.lemmas.List.{length-append, length-map}

@@ -1,8 +1,7 @@
 -- What is said of parts of a PDF file that are handed over, in other words.
-use Rattle.std.proofs.Common.{◌≡◌, ℕ, List, [], sym, subst, ◌⊎◌, Vec, Global, Result, Ok, Err}
+use Rattle.std.proofs.Common.{◌≡◌, ℕ, List, [], sym, subst, Vec, Global, Result, Ok, Err}
 use Rattle.std.specs.Prelude.{IfOk, IfErr}
 use Rattle.subsetter_base.specs.declared.error.Error.{Error}
-use Rattle.subsetter_base.specs.declared.error.Error.TheVariants.{OutOfMemory, OverflowError}
 use Rattle.pdf_text.specs.declared.objects.FontObjects.{FontObjects}
 use Rattle.subsetter_c.specs.Handed.{IsAnswered}
 use Rattle.subsetter_c.specs.PdfObjects.{IsWritten, whole, refused}

@@ -7,7 +7,6 @@ use Rattle.subsetter_base.specs.declared.error.Error.TheVariants.{OutOfMemory, O
 use Rattle.pdf_codes.specs.Codes.{Used}
 use Rattle.pdf_codes.specs.Shown.{use_of, uses_of}
 use Rattle.pdf_codes.specs.declared.shown.Shown.{Shown}
-use Rattle.pdf_text.specs.declared.columns.Column.{Column}
 use Rattle.pdf_text.specs.declared.values.FontValues.{FontValues}
 use Rattle.pdf_sheet.specs.File.{AreInTable, body_of, file_of}
 use Rattle.pdf_sheet.specs.Pages.{IsTooLarge, sheet_values}

@@ -1,4 +1,4 @@
-use Rattle.std.proofs.Common.{sym, inr, Some, None}
+use Rattle.std.proofs.Common.{inr, Some, None}
 use Rattle.subsetter_sfnt.specs.Extras.{all_extras}
 use Rattle.subsetter_sfnt.specs.FontAt.{font_at}
 use Rattle.subsetter_sfnt.specs.Read.{Font}

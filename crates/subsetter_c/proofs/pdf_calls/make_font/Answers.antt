@@ -1,4 +1,4 @@
-use Rattle.std.proofs.Common.{◌≡◌, length, true, refl}
+use Rattle.std.proofs.Common.{◌≡◌, length, true}
 use Rattle.subsetter_sfnt.specs.Read.{Font}
 use Rattle.pdf_font.specs.PdfFont.{IsPdfFont, font_of}
 use Rattle.subsetter_pdf_c.specs.Entries.{are_texts, uses_in}

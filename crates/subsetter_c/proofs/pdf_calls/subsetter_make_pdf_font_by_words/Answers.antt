@@ -1,4 +1,3 @@
-use Rattle.std.proofs.Common.{refl}
 use Rattle.subsetter_c.proofs.pdf_calls.subsetter_make_pdf_font_by_words.Goals as goal
 
 pub returns-in-Some-clause-unknown : goal.returns-in-Some-clause-unknown
