@@ -1100,6 +1100,12 @@ def is_reason(line, wanted):
     return line == wanted or bool(number and here) and int(here[1]) in WINDOWS_NUMBERS.get(int(number[1]), ())
 
 
+def are_reasons(text, wanted):
+    """Whether each line is the wanted one, or Windows' reason for one of Unix."""
+    lines, others = text.splitlines(), wanted.splitlines()
+    return len(lines) == len(others) and all(map(is_reason, lines, others))
+
+
 class Table:
     def __init__(self, program, is_cargo=False, runner=None, system=None):
         self.program, self.same, self.ran, self.wrong = program, {"simple 2": SIMPLE_2}, 0, 0
@@ -1347,7 +1353,8 @@ def check_pdf_places(table, room):
         table.demand((got.returncode, got.stdout, got.stderr) == (3, b"", cannot_write("page", errno.EFBIG)), "a PDF that can't be written", got)
         table.demand(take(os.path.join(room, "page")) == take(os.path.join(room, "out")) == OLD and sorted(os.listdir(room)) == before, "and files stay", os.listdir(room))
     got = table.start([*words, "none/out"], room)
-    table.demand((got.returncode, got.stdout, got.stderr) == (3, b"", cannot_write("none/out", errno.ENOENT)), "OUT can't be written", got)
+    is_said = are_reasons(got.stderr, cannot_write("none/out", errno.ENOENT))
+    table.demand((got.returncode, got.stdout, is_said) == (3, b"", True), "OUT can't be written", got)
     table.demand(what_is_shown(take(os.path.join(room, "page"))) and sorted(os.listdir(room)) == before, "and the PDF is whole", os.listdir(room))
 
 
