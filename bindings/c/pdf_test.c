@@ -22,6 +22,7 @@ static long held;
 static unsigned long refused, requests;
 
 void *__real_malloc(size_t size);
+void *__real_calloc(size_t count, size_t size);
 void *__real_realloc(void *block, size_t size);
 void __real_free(void *block);
 
@@ -31,6 +32,15 @@ void *__wrap_malloc(size_t size)
         return NULL;
     held++;
     return __real_malloc(size);
+}
+
+/* (a compiler makes it of a request whose memory is then set to 0) */
+void *__wrap_calloc(size_t count, size_t size)
+{
+    if (++requests == refused)
+        return NULL;
+    held++;
+    return __real_calloc(count, size);
 }
 
 void *__wrap_realloc(void *block, size_t size)

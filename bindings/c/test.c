@@ -33,6 +33,7 @@ static int is_counted = 1;
 #define __real_free free
 #else
 void *__real_malloc(size_t size);
+void *__real_calloc(size_t count, size_t size);
 void *__real_realloc(void *block, size_t size);
 void __real_free(void *block);
 
@@ -61,6 +62,19 @@ void *__wrap_malloc(size_t size)
         return NULL;
     void *block = __real_malloc(size);
     *entry(NULL) = (struct block){block, size};
+    held++;
+    return block;
+}
+
+/* (a compiler makes it of a request whose memory is then set to 0) */
+void *__wrap_calloc(size_t count, size_t size)
+{
+    if (!is_counted)
+        return __real_calloc(count, size);
+    if (++requests == refused)
+        return NULL;
+    void *block = __real_calloc(count, size);
+    *entry(NULL) = (struct block){block, count * size};
     held++;
     return block;
 }
