@@ -1,10 +1,10 @@
 #!/usr/bin/env python3
-"""Runs the built programs subset_bench and instance_parts on what no stored run can hold: several runs of each, and times.
+"""Runs the built programs dev_bench and dev_parts on what no stored run can hold: several runs of each, and times.
 
 drivers.py [--crates FOLDER]
 
-The hash that subset_bench prints is compared with one of the published algorithm (FNV-1a of 64 bits), the bytes that it writes
-with those of the program subset_font, and an instance with what instance_parts has stored. The last line is `drivers: N rows,
+The hash that dev_bench prints is compared with one of the published algorithm (FNV-1a of 64 bits), the bytes that it writes
+with those of the program subset_font, and an instance with what dev_parts has stored. The last line is `drivers: N rows,
 M differ`, and the status 1 where one differs.
 """
 import argparse
@@ -17,8 +17,8 @@ import tempfile
 sys.dont_write_bytecode = True
 import program  # noqa: E402
 
-BENCH_USAGE = "usage: subset_bench FONT INDEX GLYPHS COUNT [OUT [TAG=VALUE ..]] | --list FILE\n"
-PARTS_USAGE = "usage: instance_parts FONT INDEX GLYPHS [TAG=VALUE ..]\n"
+BENCH_USAGE = "usage: dev_bench FONT INDEX GLYPHS COUNT [OUT [TAG=VALUE ..]] | --list FILE\n"
+PARTS_USAGE = "usage: dev_parts [--instance FONT INDEX GLYPHS [TAG=VALUE ..]] [--cff2 FONT ADVANCE GLYPHS [COORDINATE ..]]\n"
 
 
 def digest(data):
@@ -61,7 +61,7 @@ class Rows:
         """A task that writes what subset_font writes for the same glyphs, each with its number."""
         font, index, *_ = words.split()
         made = self.run("subset_font", f"--quiet {font} wanted.ttf {index} {glyphs}")
-        status, out, err = self.run("subset_bench", words)
+        status, out, err = self.run("dev_bench", words)
         wanted = self.take("wanted.ttf")
         holds = made[0] == status == 0 and err == "" and self.is_measured(out.rstrip("\n"), wanted) and self.take("out.ttf") == wanted
         self.demand(holds, words, (status, out, err))
@@ -78,17 +78,17 @@ def check_bench(rows, stored):
     rows.measures("faces.ttf 1 2 3 out.ttf", "2")
     for words in ("six.ttf 0 1 0", "six.ttf 0 1,,2 1", "six.ttf 0 65536 1", "six.ttf 0 1-2-3 1", "six.ttf 0 1", "six.ttf 4294967296 1 1",
                   "six.ttf 0 1 1 out.ttf wght", ""):
-        rows.ends("subset_bench", words, (2, BENCH_USAGE, ""))
-    rows.ends("subset_bench", "none.ttf 1 3,10-12,0 5 out.ttf", (1, "", "cannot read\n"))
-    rows.ends("subset_bench", "six.ttf 0 3,10-12,0 5", (0, "error malformed font\n", ""))
+        rows.ends("dev_bench", words, (2, BENCH_USAGE, ""))
+    rows.ends("dev_bench", "none.ttf 1 3,10-12,0 5 out.ttf", (1, "", "cannot read\n"))
+    rows.ends("dev_bench", "six.ttf 0 3,10-12,0 5", (0, "error malformed font\n", ""))
     with open(os.path.join(rows.room, "list"), "w", encoding="utf-8") as file:
         file.write("six.ttf 0 9 1\nsix.ttf 0 5 2 out.ttf\n")
     rows.run("subset_font", "--quiet six.ttf wanted.ttf 0 5")
-    status, out, err = rows.run("subset_bench", "--list list")
+    status, out, err = rows.run("dev_bench", "--list list")
     lines = out.splitlines()
     rows.demand((status, err, lines[:1]) == (0, "", ["error malformed font"]) and len(lines) == 2
                 and rows.is_measured(lines[1], rows.take("wanted.ttf")), "a list of tasks", (status, out, err))
-    status, out, err = rows.run("subset_bench", "variable.ttf 0 1-3 1 out.ttf wght=42598400")
+    status, out, err = rows.run("dev_bench", "variable.ttf 0 1-3 1 out.ttf wght=42598400")
     rows.demand(status == 0 and rows.is_measured(out.rstrip("\n"), stored) and rows.take("out.ttf") == stored, "an instance", (status, out, err))
 
 
@@ -100,22 +100,26 @@ def check_parts(rows):
         ("variable.ttf 0 3 wght=0 wght=42598400", ["at 8192", "glyph 3"]),
         ("variable.ttf 0 0", ["at 0", "glyph 0"]),
     ):
-        status, out, err = rows.run("instance_parts", words)
+        status, out, err = rows.run("dev_parts", f"--instance {words}")
         told = [line for line in out.splitlines() if line.startswith(("at", "glyph"))]
-        rows.demand((status, told, err) == (0, front, ""), f"instance_parts {words}", (status, out, err))
-    for words in ("", "variable.ttf 0", "variable.ttf 0 3 wght", "variable.ttf 0 3 wght=x", "variable.ttf 0 1-3", "variable.ttf x 3"):
-        rows.ends("instance_parts", words, (2, PARTS_USAGE, ""))
-    rows.ends("instance_parts", "none.ttf 0 3", (1, "", "cannot read\n"))
+        rows.demand((status, told, err) == (0, front, ""), f"dev_parts --instance {words}", (status, out, err))
+    for words in ("", "variable.ttf 0 3", "--instance", "--cff2", "--instance variable.ttf 0", "--instance variable.ttf 0 3 wght", "--instance variable.ttf 0 3 wght=x",
+                  "--instance variable.ttf 0 1-3", "--instance variable.ttf x 3", "variable.ttf 0 3 --cff2 square.otf 551 0,1", "--cff2 square.otf 551", "--cff2 square.otf 551 1-3",
+                  "--cff2 square.otf 551 0,1 32768", "--cff2 square.otf 32768 0,1"):
+        rows.ends("dev_parts", words, (2, PARTS_USAGE, ""))
+    for words in ("--instance none.ttf 0 3", "--cff2 none.ttf 551 0,1"):
+        rows.ends("dev_parts", words, (1, "", "cannot read\n"))
+    rows.ends("dev_parts", "--cff2 variable.ttf 551 0,1", (1, "", "unknown font kind\n"))
 
 
 def main():
     words = argparse.ArgumentParser(usage=__doc__)
     words.add_argument("--crates", default=os.path.join(program.ROOT, "crates"))
     crates = os.path.realpath(words.parse_args().crates)
-    for name in ("subset_font", "subset_bench", "instance_parts"):
+    for name in ("subset_font", "dev_bench", "dev_parts"):
         if not os.path.exists(os.path.join(crates, name, "out", name)):
             sys.exit(f"drivers.py: no {name} in {crates}")
-    parts = os.path.join(program.ROOT, "crates", "instance_parts")
+    parts = os.path.join(program.ROOT, "crates", "dev_parts")
     with open(os.path.join(parts, "stdout"), encoding="utf-8") as file:
         stored = bytes(int(it) for line in file if line.startswith("instance ") for it in line.split()[1:])
     with open(os.path.join(parts, "data", "variable.ttf"), "rb") as file:

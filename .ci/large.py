@@ -1,5 +1,5 @@
 #!/usr/bin/env python3
-"""Runs the built program subset_font on fonts that are too large for a row of `subset_rows`, or cut at each of their bytes.
+"""Runs the built program subset_font on fonts that are too large for a row of `dev_rows`, or cut at each of their bytes.
 
 large.py [--program FILE]
 

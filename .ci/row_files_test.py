@@ -14,7 +14,7 @@ sys.dont_write_bytecode = True
 import planted  # noqa: E402
 
 CHECK = "rows/compile"
-SUBSET, INSTANCE = "crates/subset_rows/data/rows.txt", "crates/instance_rows/data/rows.txt"
+SUBSET, INSTANCE = "crates/dev_rows/data/subset.txt", "crates/dev_rows/data/instance.txt"
 # Name, file below rows, the text in whose place the plant is, the plant, and the row that differs then. All are planted at once,
 # each in a row of its own.
 FIELDS = [
@@ -124,7 +124,7 @@ def room():
     with tempfile.TemporaryDirectory(prefix="rows-") as top:
         shutil.copytree(os.path.join(planted.ROOT, "rows"), os.path.join(top, "rows"))
         for path in (SUBSET, INSTANCE):
-            os.makedirs(os.path.dirname(os.path.join(top, path)))
+            os.makedirs(os.path.dirname(os.path.join(top, path)), exist_ok=True)
             shutil.copy(os.path.join(planted.ROOT, path), os.path.join(top, path))
         yield top
 
@@ -142,7 +142,7 @@ def fields_at_once():
     status, shown = checked("--all", edits=[(name, f"rows/{path}", old, new) for name, path, old, new, _ in FIELDS])
     if status == 0 or "Traceback" in shown:
         return [f"all fields at once: status {status}:\n{shown}"]
-    return [f"{name}: GOT THROUGH" for name, _, _, _, row in FIELDS if not re.search(rf"^crates/.*rows\.txt:\d+: {row}: ", shown, re.M)]
+    return [f"{name}: GOT THROUGH" for name, _, _, _, row in FIELDS if not re.search(rf"^crates/.*\.txt:\d+: {row}: ", shown, re.M)]
 
 
 def first_alone():
@@ -173,7 +173,7 @@ def main():
     status, shown = checked()
     if status != 0:
         sys.exit(f"row_files_test: rows/compile --check fails as it is:\n{shown}")
-    plants = [(name, f"rows/{path}", old, new, r"crates/\w+/data/rows\.txt:\d+: \w+ \w+: from|^compile: rows/.*:\d+: ") for name, path, old, new in CODE] + FILES
+    plants = [(name, f"rows/{path}", old, new, r"crates/\w+/data/\w+\.txt:\d+: \w+ \w+: from|^compile: rows/.*:\d+: ") for name, path, old, new in CODE] + FILES
     with concurrent.futures.ThreadPoolExecutor(os.cpu_count()) as pool:
         faults = [fault for it in pool.map(alone, plants) for fault in it]
     return planted.tell(fields_at_once() + first_alone() + faults + written(), len(FIELDS) + len(plants) + 2)

@@ -3,8 +3,8 @@
 
     compare/again.py [--faces N] [--program FILE] [--verify FILE] [--no-install]
 
-It needs Debian with fonts installed (those of fonts.py are, unless --no-install), fontTools, and subset_bench, which
-`rt run` builds in crates/subset_bench (--program names another).
+It needs Debian with fonts installed (those of fonts.py are, unless --no-install), fontTools, and dev_bench, which
+`rt run` builds in crates/dev_bench (--program names another).
 
     chain        five subsets, each of the one before, of a TrueType font, of a SID-keyed and of a CID-keyed one: each
                  glyph of each must draw as its glyph of the first font, by fontTools, with the same advance; where the

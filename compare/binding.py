@@ -3,7 +3,7 @@
 
     ORIGINAL=FOLDER compare/binding.py [--calls N] [--no-build]
 
-The three drivers are subset_bench (the port, called by Rattle), the original's driver, and that same driver over the
+The three drivers are dev_bench (the port, called by Rattle), the original's driver, and that same driver over the
 Rust binding (compare/binding, which differs in one line of its manifest). Each font is subset to few glyphs by the three
 in turns, so that what a call costs besides its work is seen best; the row says the least time of N calls (2000) in five
 rounds in nanoseconds, and whether the bytes are the same. It needs what compare/run.py needs, and `make` in bindings/c.

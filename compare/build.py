@@ -15,7 +15,7 @@ def built(crate, name=None):
     return os.path.join(ROOT, "crates", crate, "out", name or crate)
 
 
-BENCH, FONT, PARTS = built("subset_bench"), built("subset_font"), built("instance_parts")
+BENCH, FONT, PARTS = built("dev_bench"), built("subset_font"), built("dev_parts")
 
 
 def rt(crate, verb="run"):

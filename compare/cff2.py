@@ -4,7 +4,7 @@
     compare/cff2.py [FOLDER ..] [--places N] [--glyphs N] [--seed S] [--only WORD] [--program FILE] [--jobs J] [--no-install]
 
 It needs Debian (it installs libharfbuzz0b and python3-fonttools by apt-get, which wants root, unless --no-install) and
-cff2_parts, which `rt run` builds in crates/cff2_parts (--program names another). The fonts are that crate's own and each font
+dev_parts, which `rt run` builds in crates/dev_parts (--program names another). The fonts are that crate's own and each font
 with the table `CFF2` in a FOLDER. Cantarell-VF.otf (`prebuilt` of Debian's source package fonts-cantarell) and
 AdobeVFPrototype.otf (`test/subset/data/fonts` of harfbuzz) have to be among them, unless --only names others; harfbuzz has
 more in `test/api/fonts` and `test/shape/data/text-rendering-tests/fonts`.
@@ -38,7 +38,7 @@ import fonts
 import instance
 
 PACKAGES = ["libharfbuzz0b", "python3-fonttools"]
-OWN = os.path.join(build.ROOT, "crates", "cff2_parts", "data")
+OWN = os.path.join(build.ROOT, "crates", "dev_parts", "data")
 UNIT = 2 ** 30
 NEAR_A_HALF = 0.001
 # A contour whose end is as near to its beginning is closed, in floats.
@@ -57,7 +57,7 @@ def port_glyphs(program, path, glyphs, at):
     """What the port prints of each glyph: its operators as (bytes, operands, mask), and its charstring; or an error."""
     answers = {}
     for k in range(0, len(glyphs), GLYPHS_AT_ONCE):
-        words = [program, path, str(ADVANCE), ",".join(map(str, glyphs[k:k + GLYPHS_AT_ONCE])), *map(str, at)]
+        words = [program, "--cff2", path, str(ADVANCE), ",".join(map(str, glyphs[k:k + GLYPHS_AT_ONCE])), *map(str, at)]
         run = subprocess.run(words, stdout=subprocess.PIPE, stderr=subprocess.PIPE)
         if run.returncode:
             raise RuntimeError(f"{' '.join(words)}: status {run.returncode}, {run.stderr.decode('latin-1').strip()}")
@@ -420,7 +420,7 @@ def lacking(words, paths):
 
 def main():
     parser = by_font.parser(__doc__, glyphs=0)
-    parser.add_argument("--program", default=build.built("cff2_parts"))
+    parser.add_argument("--program", default=build.PARTS)
     parser.add_argument("--no-install", action="store_true")
     words = parser.parse_args()
     if not words.no_install:

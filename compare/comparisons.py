@@ -18,7 +18,7 @@ def sources(*crates):
 SUBSET = sources("subsetter", "subsetter_base", "subsetter_sfnt", "subsetter_cff", "subsetter_cffdata", "subsetter_type2")
 INSTANCE = sources("subsetter_instance", "subsetter_points", "subsetter_variation", "subsetter_variable")
 CFF2 = sources("subsetter_cff_at", "subsetter_cff2", "subsetter_blend", "subsetter_variation", "subsetter_cff", "subsetter_type2", "subsetter_cffdata", "subsetter_base")
-BENCH = sources("subset_bench")
+BENCH = sources("dev_bench")
 PROGRAM = sources("subset_font", "subset_args", "subset_lines", "subset_pdf", "pdf_objects", "pdf_sheet", "pdf_font", "glyph_names", "cid_embed", "cmap", "late_file")
 C = sources("subsetter_c", "subsetter_pdf_c", "cid_embed", "cid_embed_at") + ("bindings/c/*",)
 BINDINGS = C + ("bindings/python/**", "bindings/rust-native/**", "bindings/plants", "bindings/test")
@@ -132,7 +132,7 @@ COMPARISONS = [
                bytes_saved, SUBSET + PROGRAM),
     Comparison("instance", "Are coordinates, scalars and points those of HarfBuzz, FreeType and fontTools?",
                f"{DEBIAN} compare/instance.py {VARIABLE} --results compare/results", lines_like(r"\d+ differences? out of bounds"),
-               INSTANCE + sources("instance_parts"), f"{DEBIAN} compare/instance.py {VARIABLE} --places 4 --glyphs 40", data=("instance.csv",)),
+               INSTANCE + sources("dev_parts"), f"{DEBIAN} compare/instance.py {VARIABLE} --places 4 --glyphs 40", data=("instance.csv",)),
     Comparison("instances", "Are whole instances drawn as by a second reading, HarfBuzz, fontTools and FreeType?",
                f"{DEBIAN} compare/instances.py {VARIABLE} --results compare/results", lines_like(r"\d+ fonts, HarfBuzz at most.*differ"),
                SUBSET + INSTANCE, f"{DEBIAN} compare/instances.py {VARIABLE} --places 3 --glyphs 40", data=("instances.csv",)),
@@ -146,7 +146,7 @@ COMPARISONS = [
                f"{DEBIAN} compare/instance_times.py {VARIABLE} --results compare/results", lines_like(r"\d+ rows, \d+ past their bound"),
                SUBSET + INSTANCE + BENCH, data=("instance_times.csv",), timed=True),
     Comparison("cff2", "Are glyphs of CFF2 fonts at coordinates those of fontTools and HarfBuzz, each coordinate rounded once?",
-               f"{DEBIAN} compare/cff2.py {VARIABLE}", lines_like(r"\d+ fonts: .* differ"), CFF2 + sources("cff2_parts"),
+               f"{DEBIAN} compare/cff2.py {VARIABLE}", lines_like(r"\d+ fonts: .* differ"), CFF2 + sources("dev_parts"),
                f"{DEBIAN} compare/cff2.py {VARIABLE} --places 3 --glyphs 40"),
     Comparison("javascript", "Does the WebAssembly answer the native library's bytes?", "node bindings/js/tests/compare.mjs --fonts 600 --copies 2500",
                lines_like(r"^\d+ (real fonts|damaged copies): \d+ done"), SUBSET + INSTANCE + JAVASCRIPT,

@@ -1,10 +1,10 @@
 #!/usr/bin/python3
 """What it costs that the release files run on every x86-64 processor: compare/cpu.py [--seconds S] [--rounds N] [--only WORD] [--no-install] [--keep FOLDER]
 
-It compiles the driver subset_bench twice from what is proved, for x86-64 and for x86-64-v2, and times both on the fonts and
+It compiles the driver dev_bench twice from what is proved, for x86-64 and for x86-64-v2, and times both on the fonts and
 glyphs of `run.py --all`, in N (8) rounds that take turns. It prints a row for each case with the least nanoseconds of a call,
 then the sums and the mean ratio, and writes them to results/cpu.csv. The packages are built for x86-64 as long as that
-costs at most 5 % of the sum. `rt check` in crates/subset_bench comes first; the drivers are left in FOLDER, or taken from it.
+costs at most 5 % of the sum. `rt check` in crates/dev_bench comes first; the drivers are left in FOLDER, or taken from it.
 """
 import argparse
 import math
@@ -32,7 +32,7 @@ def drivers(room):
         made[name] = os.path.join(room, name)
         if os.path.exists(made[name]):
             continue
-        kit.compile("subset_bench", "x86_64", f"{made[name]}.o", cpu)
+        kit.compile("dev_bench", "x86_64", f"{made[name]}.o", cpu)
         kit.link(f"{made[name]}.o", made[name])
     return made
 

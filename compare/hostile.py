@@ -2,7 +2,7 @@
 """The largest work from a small file: hostile.py [--no-build] [--instructions]
                                         hostile.py --families [--no-build] [--bytes N ..] [--only WORD]
 
-It makes fonts that ask for as much as they can, subsets them by subset_bench, and prints what a kept glyph takes: the
+It makes fonts that ask for as much as they can, subsets them by dev_bench, and prints what a kept glyph takes: the
 least time of several calls, and the most bytes that a call has asked of the allocator and not given back, its output
 among them (counted by peak.c). The fonts:
 
@@ -144,7 +144,7 @@ def main():
     given = words.parse_args()
     if not given.no_build:
         build.preload("peak.c", to="peak.so")
-        build.rt("subset_font" if given.families else "subset_bench")
+        build.rt("subset_font" if given.families else "dev_bench")
     if given.families:
         sys.exit(0 if all_families(given.bytes, given.only) else 1)
     head = ["Font", "Bytes of the file", "Glyphs", "Call, ms", "A glyph, µs", "Bytes of the output", "Held a glyph, bytes"]

@@ -5,7 +5,7 @@
                         [--to FILE] [--results FOLDER] [--no-install]
 
 It needs Debian (it installs the Inter fonts, libharfbuzz0b, python3-freetype and python3-fonttools by apt-get, which wants
-root, unless --no-install), and instance_parts, which `rt run` builds in crates/instance_parts (--program names another).
+root, unless --no-install), and dev_parts, which `rt run` builds in crates/dev_parts (--program names another).
 The fonts are Inter's six and each variable font with TrueType outlines in a FOLDER.
 
 For each font it takes N places (20), at random and the same in each run by the seed: on each axis a user coordinate in
@@ -56,7 +56,7 @@ def port_lines(program, path, glyphs, place):
     coordinates are the 32 bits that fvar would store."""
     # The last setting of a tag counts, so one before it changes nothing.
     settings = [f"{tag}={value % 2 ** 32}" for tag, value in [(place[0][0], 0), *place]]
-    words = [program, path, "0", ",".join(map(str, glyphs)), *settings]
+    words = [program, "--instance", path, "0", ",".join(map(str, glyphs)), *settings]
     run = subprocess.run(words, stdout=subprocess.PIPE, stderr=subprocess.PIPE)
     lines = run.stdout.decode("latin-1").splitlines()
     if run.returncode or not lines or lines[0].split(" ")[0] != "at":

@@ -3,11 +3,11 @@
 
     compare/instance_times.py [FOLDER ..] [--turns N] [--no-build] [--no-instancer] [--results FOLDER]
 
-It needs what instance.py needs, libharfbuzz-dev, and subset_bench. Of Inter, and of Roboto Flex and Source Serif where a FOLDER
+It needs what instance.py needs, libharfbuzz-dev, and dev_bench. Of Inter, and of Roboto Flex and Source Serif where a FOLDER
 has them, it takes 3, 80 and 2,000 spread glyphs (or all), at a random place. The port and HarfBuzz take turns, one call each,
 N times (12); the ratio is the median of those of the turns, whose two calls follow one another. Each turn goes through all rows,
 so that a slow second of the machine falls on no row alone. fontTools makes its instance of the whole font once, without a file. Memory is the
-bytes that subset_bench asks for at most (peak.c), less those of a run that a font of no bytes ends.
+bytes that dev_bench asks for at most (peak.c), less those of a run that a font of no bytes ends.
 
 The status is 1 where the port takes more than 1.5 of HarfBuzz's time from 80 glyphs on, more than 0.01 of fontTools', or more
 memory than the source, twice the answer and 8 MB.

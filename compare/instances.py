@@ -5,7 +5,7 @@
     compare/instances.py [FOLDER ..] --damage N [--seed S] [--only WORD] [--jobs J]
     compare/instances.py --hostile
 
-It needs what instance.py needs, and subset_bench, which `rt run` builds in crates/subset_bench.
+It needs what instance.py needs, and dev_bench, which `rt run` builds in crates/dev_bench.
 
 For each font it takes N places (20) as instance.py does, and N glyphs at each (100), composites and empty ones among them.
 The port makes an instance for these glyphs. Its file is read by variable.py, and
@@ -52,7 +52,7 @@ KINDS = ["reading", "HarfBuzz", "HarfBuzz advance", "fontTools", "extremes", "MV
 # ---- the port
 
 def words_of(path, glyphs, out, place):
-    """A task of subset_bench: an instance at a place, or without one a subset."""
+    """A task of dev_bench: an instance at a place, or without one a subset."""
     return [path, "0", ",".join(map(str, glyphs)) or "0", "1", out, *(f"{tag}={value % 2 ** 32}" for tag, value in place)]
 
 
@@ -60,12 +60,12 @@ def lines_of(words, tasks):
     run = subprocess.run([build.BENCH, *words], stdout=subprocess.PIPE, stderr=subprocess.PIPE)
     lines = run.stdout.decode().splitlines()
     if run.returncode or len(lines) != len(tasks):
-        raise RuntimeError(f"subset_bench: status {run.returncode}, {len(lines)} lines of {len(tasks)}, {run.stderr.decode()}: {tasks[0]}")
+        raise RuntimeError(f"dev_bench: status {run.returncode}, {len(lines)} lines of {len(tasks)}, {run.stderr.decode()}: {tasks[0]}")
     return lines
 
 
 def port(tasks, room):
-    """The line that subset_bench prints for each task. (In a list blanks divide words, and a tag may have one.)"""
+    """The line that dev_bench prints for each task. (In a list blanks divide words, and a tag may have one.)"""
     if any(" " in word for task in tasks for word in task):
         return [lines_of(task, [task])[0] for task in tasks]
     path = os.path.join(room, "tasks")

@@ -16,7 +16,7 @@ Of N faces (200; three of four TrueType, the others CFF), some glyphs each, by `
               numbers of components, which name the same glyphs; there is no program and no `name`, and `post` is the same
     drawing   fontTools draws each glyph as its source; FreeType without hinting has the same points, and the same pixels
 --sizes prints a table of the sizes of 71 Latin glyphs of 14 text faces, in Markdown.
---same compares the outputs of OLD, another subset_bench, with those of this one (--bench) on N faces (2,000): each face
+--same compares the outputs of OLD, another dev_bench, with those of this one (--bench) on N faces (2,000): each face
 with low and with spread numbers, byte for byte.
 
 It prints each failure and the sums; the status is 1 where one was found, or where there were too few faces.
@@ -359,7 +359,7 @@ def same(old, new, count, folders):
 
 
 def answer(program, path, index, glyphs, out):
-    """The bytes that a subset_bench answers, or its line."""
+    """The bytes that a dev_bench answers, or its line."""
     with open(out + ".list", "w") as file:
         file.write(f"{path} {index} {glyphs} 1 {out}\n")
     line = subprocess.run([program, "--list", out + ".list"], stdout=subprocess.PIPE).stdout.decode().strip()

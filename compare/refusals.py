@@ -1,14 +1,14 @@
 #!/usr/bin/python3
 """Refuses each request for memory and fails each call for files, one at a time: refusals.py [--no-build] [--more] [--program]
 
-It builds refuse.c, and but for --no-build the programs (`rt run`) and the tests of `subset_tests` (`rt test`), and runs
+It builds refuse.c, and but for --no-build the programs (`rt run`) and the tests of `dev_subset_tests` (`rt test`), and runs
 them, each time with the next request refused or the next call failed, until a run ends in which nothing was. Then it prints
 how many that were.
 At the first disagreement it tells it, and ends with status 1. What is demanded:
 
-    subset        what is timed by subset_bench answers `out of memory`, and nothing else changes
+    subset        what is timed by dev_bench answers `out of memory`, and nothing else changes
     mapper        each call of GlyphRemapper answers, or is out of memory and leaves the list as it was (the tests of
-                  crates/subset_tests/src/tests/memory.rt)
+                  crates/dev_subset_tests/src/tests/memory.rt)
     no memory     with every request refused, the calls that take no memory answer, and so does `subset` on fonts that are
                   refused by the first checks
     subset_font   status 1 and `out of memory`, while IN is read status 3 and `cannot read IN`; neither OUT nor a PDF is touched
@@ -39,8 +39,8 @@ NO_MEMORY = b"error out of memory\n"
 
 
 # Simple glyphs and a composite, which vary by one axis.
-VARIABLE = os.path.join(build.ROOT, "crates", "instance_parts", "data", "variable.ttf")
-BENCH, FONT, TESTS = build.BENCH, build.FONT, build.built("subset_tests", "subset_tests_tests")
+VARIABLE = os.path.join(build.ROOT, "crates", "dev_parts", "data", "variable.ttf")
+BENCH, FONT, TESTS = build.BENCH, build.FONT, build.built("dev_subset_tests", "dev_subset_tests_tests")
 
 
 @dataclass
@@ -164,7 +164,7 @@ def check_without_memory(room):
 
 
 def run_test(name, room, **wishes):
-    """Runs one test of crates/subset_tests/src/tests/memory.rt."""
+    """Runs one test of crates/dev_subset_tests/src/tests/memory.rt."""
     got = run([TESTS, f"tests::memory::{name}"], room, WITHIN="clock", **wishes)
     demand(got.status == 0, f"the test {name} with {wishes}", got)
     return got
@@ -376,7 +376,7 @@ def check_silence(room):
 # ---- all
 
 def build_all():
-    for crate, verb in (("subset_bench", "run"), ("subset_font", "run"), ("subset_tests", "test")):
+    for crate, verb in (("dev_bench", "run"), ("subset_font", "run"), ("dev_subset_tests", "test")):
         build.rt(crate, verb)
 
 

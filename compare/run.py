@@ -8,7 +8,7 @@ FOLDER holds the original crate (README.md says how to get it). Needs Debian (fo
 and `rt`.
 
 It builds both drivers, which have the same words, print the same lines and time the same call:
-    port      `rt run` in crates/subset_bench proves and builds out/subset_bench (by LLVM, for x86-64-v2)
+    port      `rt run` in crates/dev_bench proves and builds out/dev_bench (by LLVM, for x86-64-v2)
     original  cargo build --release in compare/original, for x86-64-v2 too
     harfbuzz  gcc's build of harfbuzz.c, over Debian's HarfBuzz
     floor     gcc's build of floor.c, which copies and sums the output's bytes and does nothing else
@@ -194,7 +194,7 @@ def build_all(original_only, with_binding):
     if with_binding:
         binding.build_binding()
     if not original_only:
-        build.rt("subset_bench")
+        build.rt("dev_bench")
 
 
 def table(head, rows):

@@ -1,7 +1,7 @@
-"""The programs `subset_rows` and `instance_rows` as a Cargo package: their proved sources by the crate's generator.
+"""The program `dev_rows` as a Cargo package: its proved sources by the crate's generator.
 
-The crate itself doesn't have them. The package is the crate's own files with `drivers/` beside them, and `src/proved` with what
-these reach. It is written below the repository, in out/, and only where a file isn't so already.
+The crate itself doesn't have it. The package is the crate's own files with `drivers/` beside them, and `src/proved` with what
+it reaches. It is written below the repository, in out/, and only where a file isn't so already.
 """
 import shutil
 import sys
@@ -46,15 +46,14 @@ def lay_out(package):
     shutil.copy(HERE / "drivers/Cargo.toml", package)
     shutil.copy(HERE / "drivers/drivers.rs", package / "src")
     (package / "src/bin").mkdir()
-    for name in ("subset_rows", "instance_rows"):
-        shutil.copy(HERE / f"drivers/{name}.rs", package / "src/bin")
+    shutil.copy(HERE / "drivers/dev_rows.rs", package / "src/bin")
     for name, (wanted, written) in EDITS.items():
         edited(package / name, wanted, written)
     command.check_rustfmt()
     source.MACROS = {*source.MACROS, "println"}
     texts = command.formatted(package, Crates(ROOT, package).texts())
     command.write(package / "src/proved", texts)
-    edited(package / "src/proved/instance_rows/answer.rs", *FORMATTER)
+    edited(package / "src/proved/dev_rows/instances/answer.rs", *FORMATTER)
     shutil.rmtree(package / "generator")
 
 

@@ -20,7 +20,7 @@ class Failed(Exception):
 
 def files(folder):
     """The font of the program and its subset, from the rows."""
-    rows = [line.split() for line in (ROOT / "crates/subset_rows/data/rows.txt").read_text().splitlines()]
+    rows = [line.split() for line in (ROOT / "crates/dev_rows/data/subset.txt").read_text().splitlines()]
     font = next(it[2] for it in rows if it[:2] == ["font", "three_advances"])
     subset = next(it[6] for it in rows if it[:5] == ["embed", "widths", "three_advances", "0", "2,2,1"])
     folder.mkdir(parents=True, exist_ok=True)

@@ -1,5 +1,5 @@
 #!/usr/bin/env python3
-"""Tests of the Python module: each row of crates/subset_rows/data/rows.txt and of a font of this machine, what can be passed and what can't, where
+"""Tests of the Python module: each row of crates/dev_rows/data/subset.txt and of a font of this machine, what can be passed and what can't, where
 the library is looked for, and memory."""
 
 import array
@@ -886,7 +886,7 @@ def check_pdf():
 
 def main():
     fonts, texts = {}, {}
-    rows = read_rows(os.path.join(HERE, "../../crates/subset_rows/data/rows.txt"), fonts, texts)
+    rows = read_rows(os.path.join(HERE, "../../crates/dev_rows/data/subset.txt"), fonts, texts)
     simple = next(row.wanted for row in rows if row.name == "simple")
     check_rows(rows)
     check_font_rows(texts)

@@ -1,7 +1,7 @@
 /* Gives fonts to the C library, each between two pages that may not be touched.
  *
  *     driver FILE..         inputs, as libFuzzer keeps them
- *     driver --list FILE    a line `FONT INDEX GLYPHS COUNT` for each font; the answers have the lines of crates/subset_bench
+ *     driver --list FILE    a line `FONT INDEX GLYPHS COUNT` for each font; the answers have the lines of crates/dev_bench
  *
  * An input is a font and 24 bytes behind it: how many glyphs are asked for (0 to 8), the face, what is left out, the depth,
  * the tokens in four bytes, and eight glyph numbers in two bytes each, of which the first ones count. 0 is the default.

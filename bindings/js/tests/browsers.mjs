@@ -12,7 +12,7 @@ const scripts = ["subsetter.mjs", "page/example.mjs", ...["assert", "rows", "cal
 const forPdf = ["pdf_rows.txt", "made.ttf", "made.otf", "made_version_1.otf", "made_variable.ttf"];
 const server = await serve({
     "/index.html": () => "<!doctype html><meta charset=utf-8><title>Tests</title>",
-    "/rows.txt": () => read("../../../crates/subset_rows/data/rows.txt"),
+    "/rows.txt": () => read("../../../crates/dev_rows/data/subset.txt"),
     "/subsetter.wasm": () => read("../out/subsetter.wasm"),
     ...Object.fromEntries(scripts.map((name) => [`/${name}`, () => read(`../${name}`)])),
     ...Object.fromEntries(forPdf.map((name) => [`/${name}`, () => read(`../../rust/tests/data/${name}`)])),

@@ -18,7 +18,7 @@ import { runRows } from "./rows.mjs";
 const here = (name) => fileURLToPath(new URL(name, import.meta.url));
 const read = (name) => readFileSync(here(name));
 const wasm = new Uint8Array(read("../out/subsetter.wasm"));
-const table = read("../../../crates/subset_rows/data/rows.txt").toString();
+const table = read("../../../crates/dev_rows/data/subset.txt").toString();
 const version = read("../../../VERSION").toString().trim();
 
 async function rows() {

@@ -168,7 +168,7 @@ const room = mkdtempSync(join(tmpdir(), "subsetter-plants-")), copy = join(room,
 mkdirSync(copy, { recursive: true });
 // (dates stay, so that make has nothing to do for what is built)
 const copied = { recursive: true, verbatimSymlinks: true, preserveTimestamps: true };
-for (const name of ["VERSION", "crates.txt", "LICENSE", "NOTICE", "crates/subset_rows/data", "bindings/rust/src", "bindings/capi/src", "bindings/c/subsetter.h"]) {
+for (const name of ["VERSION", "crates.txt", "LICENSE", "NOTICE", "crates/dev_rows/data", "bindings/rust/src", "bindings/capi/src", "bindings/c/subsetter.h"]) {
     cpSync(join(here, "../..", name), join(room, name), copied);
 }
 cpSync(here, copy, copied);

@@ -1,4 +1,4 @@
-/** The worked rows of crates/subset_rows/data/rows.txt, by each way in which the module can be called. */
+/** The worked rows of crates/dev_rows/data/subset.txt, by each way in which the module can be called. */
 import { equal, same, throws } from "./assert.mjs";
 
 const ERRORS = [, "UnknownKind", "MalformedFont", "Unimplemented", "SubsetError", "OverflowError", "CFFError", "OutOfMemory"];

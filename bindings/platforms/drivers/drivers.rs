@@ -1,7 +1,7 @@
-//! The programs of the rows of data, `subset_rows` and `instance_rows`, and what they print by.
+//! The program of the rows of data, `dev_rows`, and what it prints by.
 
 use crate::host::rt::{Files, HostRuntime, Print};
-use crate::proved::{instance_rows, subset_rows};
+use crate::proved::dev_rows;
 use crate::rattle::alloc::{AllocError, Global};
 use crate::rattle::fmt::Display;
 use crate::rattle::io::{ErrorKind, Result};
@@ -40,12 +40,7 @@ impl<T> Vec<T> {
     }
 }
 
-/// The program `subset_rows`.
-pub fn rows_of_subsets() -> ExitCode {
-    subset_rows::main(HostRuntime)
-}
-
-/// The program `instance_rows`.
-pub fn rows_of_instances() -> ExitCode {
-    instance_rows::main(HostRuntime)
+/// The program `dev_rows`.
+pub fn rows() -> ExitCode {
+    dev_rows::main(HostRuntime)
 }

@@ -2,7 +2,7 @@
 //!
 //!     platforms sources                     the sum of the sources that it was built from
 //!     platforms machine                     its system, the bits of a `usize`, and which byte of a number is first
-//!     platforms rows FILE                   the rows of crates/subset_rows/data/rows.txt by each public call
+//!     platforms rows FILE                   the rows of crates/dev_rows/data/subset.txt by each public call
 //!     platforms numbers LIST FIRST COUNT    numbers, each of many answers; LIST has lines PATH TAB FACE
 //!
 //! Number k is that of the (k mod n)th of the n faces, whole where k < n, else of copies that are damaged.

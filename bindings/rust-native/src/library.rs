@@ -658,7 +658,7 @@ mod tests {
     fn font(name: &str) -> Vec<u8> {
         let rows = include_str!(concat!(
             env!("CARGO_MANIFEST_DIR"),
-            "/../../crates/subset_rows/data/rows.txt"
+            "/../../crates/dev_rows/data/subset.txt"
         ));
         let row = rows
             .lines()

@@ -1,4 +1,4 @@
-//! The worked rows of `crates/subset_rows/data/rows.txt`, and those of a font of this machine.
+//! The worked rows of `crates/dev_rows/data/subset.txt`, and those of a font of this machine.
 
 #![allow(dead_code)] // (each test takes a part of it)
 
@@ -172,7 +172,7 @@ impl Table {
 pub fn table() -> Table {
     table_of(concat!(
         env!("CARGO_MANIFEST_DIR"),
-        "/../../crates/subset_rows/data/rows.txt"
+        "/../../crates/dev_rows/data/subset.txt"
     ))
 }
 

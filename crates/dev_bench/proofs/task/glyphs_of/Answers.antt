@@ -1,0 +1,21 @@
+use Rattle.std.proofs.Common.{◌≡◌, ℕ, ◌+◌, ◌++◌, List, [], Option, Some, Bor, get_or, drop, sym, ap, ◌∙◌, arith}
+use Rattle.std.proofs.lemmas.Grind.{common_steps}
+use Rattle.std.proofs.lemmas.List.{drop_more}
+use Rattle.std.specs.Option.{option_map}
+use Rattle.dev_base.specs.Ranges.{numbers_between}
+use Rattle.dev_bench.specs.Words.{part_glyphs, all_glyphs}
+use Rattle.subsetter_words.proofs.Numbers.{texts}
+use Rattle.dev_bench.proofs.Ranges.{next_part}
+use Rattle.dev_bench.proofs.task.glyphs_of.Goals as goal
+
+pub loop-part-preserved : goal.loop-part-preserved
+loop-part-preserved c =
+    let items = c.deref-part-items.result.now in
+    let i = c.loop-part.part-index in
+    let none : Bor (List ℕ) = record { ref_ptr = (0, 0); now = [] } in
+    let before = c.loop-part.glyphs.items in
+    let ns = numbers_between c.in_ok-first.first c.in_ok-first.last in
+    let new : c.add_glyphs.new.glyphs.items ≡ before ++ ns = grind (arith, common_steps) in
+    let is : part_glyphs (get_or items i none).now ≡ Some ns = sym c.ends_of.ensures ∙ ap (λ (o : Option (ℕ × ℕ)). option_map (λ (ends : ℕ × ℕ). numbers_between ends.0 ends.1) o) c.in_ok-first.ensures.ok_part in
+    next_part before ns c.add_glyphs.new.glyphs.items (get_or items i none).now (texts (drop (i + 1) items)) is new
+    ∙ ap (λ (ps : List (Bor (List ℕ))). option_map (λ more. before ++ more) (all_glyphs (texts ps))) (sym (drop_more items i none c.loop-part-test.true)) ∙ c.loop-part.invariant

@@ -1,0 +1,4 @@
+pub mod Digest
+pub mod Lines
+pub mod Measured
+pub mod Words

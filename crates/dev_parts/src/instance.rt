@@ -1,0 +1,5 @@
+//! Glyphs of a TrueType font at coordinates, and its instance.
+
+pub mod glyph;
+pub mod printing;
+pub mod request;

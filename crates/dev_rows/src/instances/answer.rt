@@ -1,0 +1,77 @@
+//! What a call answers, as it is printed.
+
+use dev_base::failure::Failure;
+use std::alloc::Global;
+use std::fmt;
+use subsetter_base::Error;
+
+/// What a call answers.
+#[derive(Drop)]
+pub enum Answer {
+    /// Lists of numbers.
+    Lists(Vec<Vec<i64>>),
+    /// Bytes.
+    Bytes(Vec<u8>),
+    /// Nothing is there.
+    Nothing,
+    /// It is refused.
+    Refused(Error),
+}
+
+/// Writes the numbers of a list with commas between them, `-` where there are none.
+fn write_list<W: fmt::Write>(f: &mut fmt::Formatter<W>, list: &[i64]) -> fmt::Result {
+    let [first, behind @ ..] = list else {
+        return f.write_str("-");
+    };
+    write!(f, "{first}")?;
+    for number in behind {
+        write!(f, ",{number}")?;
+    }
+    Ok(())
+}
+
+impl fmt::Display for Answer {
+    fn fmt<W: fmt::Write>(&self, f: &mut fmt::Formatter<W>) -> fmt::Result {
+        match self {
+            Answer::Lists(lists) => {
+                for list in lists {
+                    f.write_str(" ")?;
+                    write_list(f, list)?;
+                }
+                Ok(())
+            }
+            Answer::Bytes(bytes) if bytes.is_empty() => f.write_str(" -"),
+            Answer::Bytes(bytes) => {
+                f.write_str(" ")?;
+                for byte in bytes {
+                    write!(f, "{byte:02x}")?;
+                }
+                Ok(())
+            }
+            Answer::Nothing => f.write_str(" none"),
+            Answer::Refused(error) => write!(f, " error {error}"),
+        }
+    }
+}
+
+/// The list of numbers that go into 64 bits.
+pub fn list<T: Copy>(alloc: Global, numbers: &[T]) -> Result<Vec<i64>, Failure>
+where
+    i64: From<T>,
+{
+    let mut list = Vec::with_capacity(alloc, numbers.len())?;
+    for number in numbers {
+        list.push(i64::from(*number))?;
+    }
+    Ok(list)
+}
+
+/// The answer that is these lists.
+pub fn lists<const N: usize>(alloc: Global, lists: [Vec<i64>; N]) -> Result<Answer, Failure> {
+    Ok(Answer::Lists(Vec::from_array(alloc, lists)?))
+}
+
+/// The answer that is one number.
+pub fn one(alloc: Global, number: i64) -> Result<Answer, Failure> {
+    lists(alloc, [list(alloc, &[number])?])
+}

@@ -1,0 +1,143 @@
+//! What a call answers, and how it differs from what a row says.
+
+ghost use Rattle.std.specs.Prelude.{◌≡◌, ◌≤◌, IfNone};
+ghost use Rattle.dev_rows.specs.Answers.{status_of, IsSame};
+
+use cid_embed::Embedded;
+use std::alloc::Global;
+use std::fmt;
+use subsetter::Error;
+
+/// What a call answers, as a row writes it.
+#[derive(Debug, Drop)]
+pub struct Answer {
+    /// 0 where all was done, else the number of the error.
+    pub status: u32,
+    /// The bytes of the new font; none for an error.
+    pub font: Vec<u8>,
+    /// The CIDs of the asked glyphs, which `embed` alone answers.
+    pub cids: Vec<u16>,
+    /// The widths of the CIDs, which `embed` alone answers.
+    pub widths: Vec<u32>,
+}
+
+/// The number of an error: from 1 on, in the order of the names in `Error`.
+pub fn status_of(error: Error) -> u32
+    ensures value { result ≡ status_of error }
+    ensures above { 1 ≤ result }
+{
+    match error {
+        Error::UnknownKind => 1,
+        Error::MalformedFont => 2,
+        Error::Unimplemented => 3,
+        Error::SubsetError => 4,
+        Error::OverflowError => 5,
+        Error::CFFError => 6,
+        Error::OutOfMemory => 7,
+    }
+}
+
+impl Answer {
+    /// The answer that is a status alone.
+    fn refused(alloc: Global, status: u32) -> Self
+        ensures { result.status ≡ status }
+    {
+        Answer {
+            status,
+            font: Vec::new(alloc),
+            cids: Vec::new(alloc),
+            widths: Vec::new(alloc),
+        }
+    }
+
+    /// The answer that is an error.
+    pub fn of_error(alloc: Global, error: Error) -> Self
+        ensures { 1 ≤ result.status }
+    {
+        Answer::refused(alloc, status_of(error))
+    }
+
+    /// The answer that is a new font.
+    pub fn of_font(alloc: Global, font: Vec<u8>) -> Self
+        ensures { result.font.items ≡ font.items }
+    {
+        Answer {
+            status: 0,
+            font,
+            cids: Vec::new(alloc),
+            widths: Vec::new(alloc),
+        }
+    }
+
+    /// The answer that is a new font with CIDs and widths.
+    pub fn of_embedded(made: Embedded) -> Self
+        ensures { result.font.items ≡ made.font.items }
+    {
+        let Embedded { font, cids, widths } = made;
+        Answer {
+            status: 0,
+            font,
+            cids,
+            widths,
+        }
+    }
+}
+
+/// In what an answer isn't the one of a row.
+#[derive(Clone, Copy, Debug, PartialEq, Eq)]
+pub enum Difference {
+    /// The status, and that of the row.
+    Status(u32, u32),
+    /// The length of the font, that of the row, and the first byte that differs or is missing in one of them.
+    Font(usize, usize, usize),
+    /// The CIDs.
+    Cids,
+    /// The widths.
+    Widths,
+}
+
+impl fmt::Display for Difference {
+    fn fmt<W: fmt::Write>(&self, f: &mut fmt::Formatter<W>) -> fmt::Result {
+        match self {
+            Difference::Status(answered, wanted) => {
+                write!(f, "status {answered} in place of {wanted}")
+            }
+            Difference::Font(answered, wanted, place) => write!(
+                f,
+                "{answered} bytes in place of {wanted}, which differ from byte {place} on"
+            ),
+            Difference::Cids => f.write_str("other CIDs"),
+            Difference::Widths => f.write_str("other widths"),
+        }
+    }
+}
+
+/// The first place at which two lists of bytes differ, or the length of the shorter one.
+fn first_difference(one: &[u8], other: &[u8]) -> usize {
+    for (place, (a, b)) in one.iter().zip(other).enumerate() {
+        if *a != *b {
+            return place;
+        }
+    }
+    one.len().min(other.len())
+}
+
+/// In what an answer first isn't the wanted one; none only where they are the same to the byte.
+pub fn compare(answered: &Answer, wanted: &Answer) -> Option<Difference>
+    ensures { IfNone result (IsSame answered.now wanted.now) }
+{
+    if answered.status != wanted.status {
+        return Some(Difference::Status(answered.status, wanted.status));
+    }
+    if answered.font.as_slice() != wanted.font.as_slice() {
+        let place = first_difference(&answered.font, &wanted.font);
+        return Some(Difference::Font(answered.font.len(), wanted.font.len(), place));
+    }
+    if answered.cids.as_slice() != wanted.cids.as_slice() {
+        return Some(Difference::Cids);
+    }
+    if answered.widths.as_slice() != wanted.widths.as_slice() {
+        return Some(Difference::Widths);
+    }
+    None
+}
