@@ -1,4 +1,3 @@
-mod Directory
 mod Tables
 mod Reading
 mod Numbers

@@ -8,7 +8,8 @@ use Rattle.subsetter_base.specs.declared.error.Error.{Error}
 use Rattle.subsetter_base.specs.declared.error.Error.TheVariants.{MalformedFont}
 use Rattle.subsetter_base.proofs.Lists.{rest_of}
 use Rattle.subsetter_base.proofs.Results.{with_front, named_err}
-use Rattle.cid_embed.specs.Afresh.{Measures, advance_in, widths_from}
+use Rattle.cid_embed.specs.Afresh.{Measures, widths_from}
+use Rattle.subsetter_sfnt.specs.Fields.Hmtx.{advance_in}
 use Rattle.cid_embed.specs.Width.{thousandths}
 
 -- each width with a space in front

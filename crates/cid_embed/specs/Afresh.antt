@@ -5,16 +5,12 @@ use Rattle.subsetter_base.specs.Bytes.{range, number, ◌>>=◌}
 use Rattle.subsetter_base.specs.declared.error.Error.{Error}
 use Rattle.subsetter_base.specs.declared.error.Error.TheVariants.{MalformedFont}
 use Rattle.std.specs.Option.{option_and_then}
-use Rattle.subsetter_sfnt.specs.declared.face.TableRecord.{TableRecord}
 use Rattle.subsetter_sfnt.specs.Read.{table_in}
-use Rattle.subsetter.specs.Hmtx.Read.{number_of_metrics}
-use Rattle.cid_embed.specs.declared.reader.Place.{Place}
+use Rattle.subsetter_sfnt.specs.Fields.Hhea.{number_of_h_metrics}
+use Rattle.subsetter_sfnt.specs.Fields.Hmtx.{advance_in}
 use Rattle.cid_embed.specs.declared.reader.Metrics.{Metrics}
-use Rattle.cid_embed.specs.Width.{units_in, thousandths}
-
--- where a record of the directory says that its table stands
-abbrev pub place_in : TableRecord → Place
-place_in r = record { offset = r.offset; length = r.length }
+use Rattle.cid_embed.specs.Width.{thousandths}
+use Rattle.subsetter_sfnt.specs.Fields.Head.{units_per_em}
 
 -- the bytes of the directory's records: 16 for each of the number at byte 4, from byte 12 on
 abbrev pub directory_bytes : List ℕ → Option (List ℕ)
@@ -41,15 +37,11 @@ unfoldable pub measures_of : (List ℕ → Option (List ℕ)) → Result Measure
 measures_of find = do
   hmtx ← ok_or (find (codes "hmtx")) MalformedFont
   head ← ok_or (find (codes "head")) MalformedFont
-  found ← ok_or (units_in head) MalformedFont
+  found ← ok_or (units_per_em head) MalformedFont
   units ← if_units found
   hhea ← ok_or (find (codes "hhea")) MalformedFont
-  pairs ← ok_or (number_of_metrics hhea) MalformedFont
+  pairs ← ok_or (number_of_h_metrics hhea) MalformedFont
   Ok (record { hmtx = hmtx; pairs = pairs; units = units })
-
--- the advance of a glyph: that of its own pair, and past the pairs that of the last
-abbrev pub advance_in : List ℕ → ℕ → ℕ → Option ℕ
-advance_in hmtx pairs g = number hmtx (4 * min g (pairs - 1)) 2
 
 -- the widths of so many glyphs, from one on
 abbrev pub widths_from : Measures → ℕ → ℕ → Result (List ℕ) Error

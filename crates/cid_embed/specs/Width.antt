@@ -5,11 +5,8 @@ use Rattle.subsetter_base.specs.declared.error.Error.{Error}
 use Rattle.subsetter_base.specs.declared.error.Error.TheVariants.{MalformedFont}
 use Rattle.subsetter_sfnt.specs.Optional.{◌>>=◌}
 use Rattle.subsetter_sfnt.specs.Read.{Font, table}
+use Rattle.subsetter_sfnt.specs.Fields.Head.{units_per_em as units_in}
 use Rattle.subsetter.specs.Hmtx.Read.{metric}
-
--- unitsPerEm: how many font design units the em has
-abbrev pub units_in : List ℕ → Option ℕ
-units_in head = number head 18 2
 
 abbrev pub units_per_em : Font → Option ℕ
 units_per_em font = table font (codes "head") >>= units_in

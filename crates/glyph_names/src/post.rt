@@ -6,6 +6,7 @@ ghost use Rattle.glyph_names.specs.Post.{first_string, pascal_strings, behind_in
 
 use std::alloc::{AllocError, Global};
 use subsetter_base::read::Reader;
+use subsetter_sfnt::fields::post::{INDEXES, num_glyphs, version};
 
 /// How many names of its own a font can name by indexes of 16 bits.
 const OWN_NAMES: usize = 65_278;
@@ -43,8 +44,8 @@ fn strings_in(alloc: Global, most: usize, bytes: &[u8]) -> Result<Vec<&[u8]>, Al
 fn behind_indexes(post: &[u8]) -> &[u8]
     ensures { result.now ≡ behind_indexes post.now }
 {
-    match Reader::new_at(post, 32).read::<u16>() {
-        Some(count) => post.get(34 + 2 * usize::from(count)..).unwrap_or(&[]),
+    match num_glyphs(post) {
+        Some(count) => post.get(INDEXES + 2 * usize::from(count)..).unwrap_or(&[]),
         None => &[],
     }
 }
@@ -92,7 +93,7 @@ fn name_by_index<'a>(
     if glyph >= count {
         return &[];
     }
-    match Reader::new_at(post, 34 + 2 * usize::from(glyph)).read::<u16>() {
+    match Reader::new_at(post, INDEXES + 2 * usize::from(glyph)).read::<u16>() {
         Some(index) => name_of_index(macintosh, own, index),
         None => &[],
     }
@@ -114,7 +115,7 @@ fn name_by_version<'a>(
     if version != 0x0002_0000 {
         return &[];
     }
-    match Reader::new_at(post, 32).read::<u16>() {
+    match num_glyphs(post) {
         Some(count) => name_by_index(macintosh, own, post, glyph, count),
         None => &[],
     }
@@ -124,7 +125,7 @@ fn name_by_version<'a>(
 pub fn post_name<'a>(macintosh: &[&'a str], own: &[&'a [u8]], post: &[u8], glyph: u16) -> &'a [u8]
     ensures { result.now ≡ name_by_names (map (λ s. s.now) macintosh.now) (map (λ s. s.now) own.now) post.now glyph }
 {
-    match Reader::new(post).read::<u32>() {
+    match version(post) {
         Some(version) => name_by_version(macintosh, own, post, glyph, version),
         None => &[],
     }

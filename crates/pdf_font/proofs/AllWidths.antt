@@ -10,30 +10,33 @@ use Rattle.subsetter_base.specs.declared.error.Error.{Error}
 use Rattle.subsetter_base.specs.declared.error.Error.TheVariants.{MalformedFont}
 use Rattle.subsetter_base.proofs.ByteLemmas.{number-short}
 use Rattle.subsetter_base.proofs.Options.{just_is, is_some_of}
-use Rattle.subsetter.specs.declared.hmtx.Metric.{Metric}
+use Rattle.subsetter_sfnt.specs.declared.fields.hmtx.LongHorMetric.{LongHorMetric}
 use Rattle.subsetter_sfnt.specs.Read.{Font, as_font, table}
 use Rattle.subsetter.specs.Glyf.Fault.{short_head}
 use Rattle.subsetter.specs.Head.Read.{KeepsHead}
-use Rattle.subsetter.specs.Hmtx.Read.{number_of_metrics, metric_at, metric_in, metric_of, KeepsMetrics}
+use Rattle.subsetter.specs.Hmtx.Read.{metric_of, KeepsMetrics}
+use Rattle.subsetter_sfnt.specs.Fields.Hmtx.{metric_at, metric_in, advance_in}
+use Rattle.subsetter_sfnt.specs.Fields.Hhea.{number_of_h_metrics}
 use Rattle.subsetter.specs.Fault.{HasFault, in_outlines}
 use Rattle.subsetter.specs.Subset.{IsSubset}
-use Rattle.cid_embed.specs.Afresh.{Measures, advance_in, measures_of, widths_from, widths_of}
-use Rattle.cid_embed.specs.Width.{units_in, units_per_em, thousandths, width, HasWidthFault, no_hmtx, no_head, no_units}
+use Rattle.cid_embed.specs.Afresh.{Measures, measures_of, widths_from, widths_of}
+use Rattle.cid_embed.specs.Width.{units_per_em, thousandths, width, HasWidthFault, no_hmtx, no_head, no_units}
+use Rattle.subsetter_sfnt.specs.Fields.Head.{units_per_em as units_in}
 
 -- ---- the advance of a metric
 
-abbrev metric_by : Option ℕ → Option ℕ → Option Metric
+abbrev metric_by : Option ℕ → Option ℕ → Option LongHorMetric
 metric_by a b = option_and_then (λ advance. option_and_then (λ bearing. Some (record { advance = advance; bearing = bearing })) b) a
 
-advance_by : (a b : Option ℕ) (m : Metric) → metric_by a b ≡ Some m → a ≡ Some m.advance
+advance_by : (a b : Option ℕ) (m : LongHorMetric) → metric_by a b ≡ Some m → a ≡ Some m.advance
 advance_by None b m h = absurd cc
 advance_by (Some a) None m h = absurd cc
-advance_by (Some a) (Some b) m h = ap (λ (x : Metric). Some x.advance) (just_is (record { advance = a; bearing = b }) m h)
+advance_by (Some a) (Some b) m h = ap (λ (x : LongHorMetric). Some x.advance) (just_is (record { advance = a; bearing = b }) m h)
 
-advance_there : (hmtx : List ℕ) (p q : ℕ) (m : Metric) → metric_at hmtx p q ≡ Some m → number hmtx p 2 ≡ Some m.advance
+advance_there : (hmtx : List ℕ) (p q : ℕ) (m : LongHorMetric) → metric_at hmtx p q ≡ Some m → number hmtx p 2 ≡ Some m.advance
 advance_there hmtx p q m h = advance_by (number hmtx p 2) (number hmtx q 2) m h
 
-pub advance_of : (hmtx : List ℕ) (pairs g : ℕ) (m : Metric) → metric_in hmtx pairs g ≡ Some m → advance_in hmtx pairs g ≡ Some m.advance
+pub advance_of : (hmtx : List ℕ) (pairs g : ℕ) (m : LongHorMetric) → metric_in hmtx pairs g ≡ Some m → advance_in hmtx pairs g ≡ Some m.advance
 unfolding metric_in
 advance_of hmtx pairs g m h = elim (cases_lt g pairs) [
   | inl less ↦
@@ -46,7 +49,7 @@ advance_of hmtx pairs g m h = elim (cases_lt g pairs) [
       ap (λ k. number hmtx (4 * k) 2) last ∙ by (eqb pairs 0) here
 ]
   where
-    past : Bool → Option Metric
+    past : Bool → Option LongHorMetric
     past b = cond b None (metric_at hmtx (4 * (pairs - 1)) (4 * pairs + 2 * (g - pairs)))
 
     by : (b : Bool) → past b ≡ Some m → number hmtx (4 * (pairs - 1)) 2 ≡ Some m.advance
@@ -57,13 +60,13 @@ advance_of hmtx pairs g m h = elim (cases_lt g pairs) [
 
 -- the metric of a glyph stands in a source, and in a table under a number
 pub record HasMetric (font : Font) (m : Measures) (g i : ℕ) : Type 0 where
-  pub metric : Metric
+  pub metric : LongHorMetric
   pub source : metric_of (table font) g ≡ Some metric
   pub copy : metric_in m.hmtx m.pairs i ≡ Some metric
 
-width_is : (font : Font) (g units : ℕ) (m : Metric) → metric_of (table font) g ≡ Some m → units_per_em font ≡ Some units → width font g ≡ Some (thousandths m.advance units)
+width_is : (font : Font) (g units : ℕ) (m : LongHorMetric) → metric_of (table font) g ≡ Some m → units_per_em font ≡ Some units → width font g ≡ Some (thousandths m.advance units)
 width_is font g units m h u =
-    ap (option_and_then (λ (x : Metric). option_and_then (λ n. Some (thousandths x.advance n)) (units_per_em font))) h ∙ ap (option_and_then (λ n. Some (thousandths m.advance n))) u
+    ap (option_and_then (λ (x : LongHorMetric). option_and_then (λ n. Some (thousandths x.advance n)) (units_per_em font))) h ∙ ap (option_and_then (λ n. Some (thousandths m.advance n))) u
 
 one_width : (m : Measures) (g n a : ℕ) (ws : List ℕ) → advance_in m.hmtx m.pairs g ≡ Some a → widths_from m (g + 1) n ≡ Ok ws → widths_from m g (suc n) ≡ Ok (thousandths a m.units ∷ ws)
 one_width m g n a ws h k =
@@ -90,7 +93,7 @@ all_widths font m (x ∷ glyphs) g u h =
 
 -- ---- what is read step by step
 
-all_read : (find : List ℕ → Option (List ℕ)) (n : ℕ) (hmtx head hhea : List ℕ) (units pairs : ℕ) → find (codes "hmtx") ≡ Some hmtx → find (codes "head") ≡ Some head → number head 18 2 ≡ Some (suc units) → find (codes "hhea") ≡ Some hhea → number_of_metrics hhea ≡ Some pairs → widths_of find n ≡ widths_from (record { hmtx = hmtx; pairs = pairs; units = suc units }) 0 n
+all_read : (find : List ℕ → Option (List ℕ)) (n : ℕ) (hmtx head hhea : List ℕ) (units pairs : ℕ) → find (codes "hmtx") ≡ Some hmtx → find (codes "head") ≡ Some head → number head 18 2 ≡ Some (suc units) → find (codes "hhea") ≡ Some hhea → number_of_h_metrics hhea ≡ Some pairs → widths_of find n ≡ widths_from (record { hmtx = hmtx; pairs = pairs; units = suc units }) 0 n
 unfolding widths_of measures_of
 all_read find n hmtx head hhea units pairs h k u a b = rw (h, k, u, ne_eqb (suc units) 0 (λ e. omega arith), a, b) refl
 
@@ -104,7 +107,7 @@ same_units a b len mid =
     let t : take 2 (drop 18 a) ≡ take 2 (drop 18 b) = units_within a ∙ ap (λ (l : List ℕ). take 2 (drop 6 l)) mid ∙ sym (units_within b) in
     ap (λ (n : ℕ). option_map be (cond (leb 20 n) (Some (take 2 (drop 18 a))) None)) len ∙ ap (λ (l : List ℕ). option_map be (cond (leb 20 (length b)) (Some l) None)) t
 
-metric_read : (find : List ℕ → Option (List ℕ)) (hhea hmtx : List ℕ) (count g : ℕ) → find (codes "hhea") ≡ Some hhea → find (codes "hmtx") ≡ Some hmtx → number_of_metrics hhea ≡ Some count → metric_of find g ≡ metric_in hmtx count g
+metric_read : (find : List ℕ → Option (List ℕ)) (hhea hmtx : List ℕ) (count g : ℕ) → find (codes "hhea") ≡ Some hhea → find (codes "hmtx") ≡ Some hmtx → number_of_h_metrics hhea ≡ Some count → metric_of find g ≡ metric_in hmtx count g
 unfolding metric_of
 metric_read find hhea hmtx count g a b c = rw (a, b, c) refl
 

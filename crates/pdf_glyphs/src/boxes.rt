@@ -6,7 +6,9 @@ ghost use Rattle.std.specs.Option.{option_copied};
 ghost use Rattle.pdf_glyphs.specs.Boxes.{around, box_at, boxes_from, entry, glyph_box, is_short, joined, outlines_view};
 
 use pdf_values::GlyphBox;
-use pdf_values::fields::{long_in, number_in, signed_in};
+use subsetter_sfnt::fields::head::index_to_loc_format;
+use subsetter_sfnt::fields::loca::loca_offset;
+use subsetter_sfnt::fields::signed_in;
 
 /// The tables that outlines are found by; none where the font lacks one.
 #[derive(Clone, Copy)]
@@ -20,7 +22,10 @@ pub struct OutlineTables<'a> {
 fn is_short(head: Option<&[u8]>) -> bool
     ensures { result ≡ is_short (option_copied head.entry) }
 {
-    match number_in(head, 50) {
+    let Some(bytes) = head else {
+        return true;
+    };
+    match index_to_loc_format(bytes) {
         Some(format) => format == 0,
         None => true,
     }
@@ -32,12 +37,11 @@ fn entry(tables: OutlineTables<'_>, index: usize) -> Option<usize>
     ensures exact { result ≡ entry (outlines_view tables.entry) index }
     ensures small { IfSome result (λ n. n < 2 ^ 32) }
 {
+    let loca = tables.loca?;
     if is_short(tables.head) {
-        let half = number_in(tables.loca, 2 * index)?;
-        return Some(2 * usize::from(half));
+        return loca_offset(loca, false, index);
     }
-    let offset = long_in(tables.loca, 4 * index)?;
-    Some(offset as usize)
+    loca_offset(loca, true, index)
 }
 
 /// The box of the header at an offset of `glyf`.

@@ -9,9 +9,12 @@ ghost use Rattle.pdf_glyphs.specs.Vertical.{advance_at, advance_of, bearing_of, 
 
 use crate::boxes::{OutlineTables, glyph_box};
 use crate::heights::{HeightVariation, varied_height};
+use crate::origins::default_origin;
 use pdf_text::Column;
-use pdf_values::fields::{number_in, signed_in};
 use pdf_values::{thousandths, units_per_em};
+use subsetter_sfnt::fields::hhea::number_of_h_metrics;
+use subsetter_sfnt::fields::hmtx::glyph_advance;
+use subsetter_sfnt::fields::signed_in;
 
 /// The tables that vertical metrics are found by; none where the font lacks one.
 #[derive(Clone, Copy)]
@@ -27,7 +30,10 @@ pub struct VerticalTables<'a> {
 fn pair_count(tables: VerticalTables<'_>) -> u16
     ensures { result ≡ pair_count (vertical_view tables.entry) }
 {
-    match number_in(tables.vhea, 34) {
+    let Some(vhea) = tables.vhea else {
+        return 0;
+    };
+    match number_of_h_metrics(vhea) {
         Some(count) => count,
         None => 0,
     }
@@ -41,7 +47,8 @@ fn advance_of(tables: VerticalTables<'_>, glyph: u16) -> Option<u16>
     if count == 0 {
         return None;
     }
-    number_in(tables.vmtx, 4 * usize::from(glyph.min(count - 1)))
+    let vmtx = tables.vmtx?;
+    glyph_advance(vmtx, count, glyph)
 }
 
 /// The same with what it varies by, if it does.
@@ -102,7 +109,7 @@ fn origin_y(tables: VerticalTables<'_>, glyph: u16, recorded: Option<i16>) -> Op
     }
     match recorded {
         Some(y) => Some(i32::from(y)),
-        None => Some(i32::from(signed_in(tables.vorg, 4)?)),
+        None => Some(i32::from(default_origin(tables.vorg)?)),
     }
 }
 

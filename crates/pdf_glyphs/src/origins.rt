@@ -3,12 +3,23 @@
 ghost use Rattle.std.specs.Prelude.{◌≡◌, ◌<◌, ℕ, ℤ, length, IfErr, IfOk, None, Option, Some, replicate, slice_index, slice_index_or};
 ghost use Rattle.std.specs.Option.{option_copied, option_map, option_or};
 ghost use Rattle.subsetter_base.specs.declared.error.Error.TheVariants.{OutOfMemory};
+ghost use Rattle.subsetter_sfnt.specs.Fields.Numbers.{signed_field};
 ghost use Rattle.pdf_glyphs.specs.Origins.{filled, origin_seen};
 ghost use Rattle.pdf_glyphs.specs.Vertical.{by_record, origin_at, origin_of, record_count};
 
-use pdf_values::fields::{number_in, signed_in};
 use std::alloc::Global;
 use subsetter_base::{Error, GlyphRemapper};
+use subsetter_sfnt::fields::{number_in, signed_in};
+
+/// defaultVertOriginY, two bytes.
+const DEFAULT_VERT_ORIGIN_Y: usize = 4;
+/// numVertOriginYMetrics, two bytes.
+const NUM_VERT_ORIGIN_Y_METRICS: usize = 6;
+/// Where the first record's glyphIndex is, two bytes, and behind it vertOriginY.
+const GLYPH_INDEX: usize = 8;
+const VERT_ORIGIN_Y: usize = 10;
+/// How many bytes a record has.
+const RECORD_SIZE: usize = 4;
 
 /// The y of a glyph's origin, in the font's units.
 #[derive(Clone, Copy)]
@@ -17,11 +28,18 @@ struct GlyphOrigin {
     y: i16,
 }
 
+/// The y of the origins that no record has.
+pub fn default_origin(vorg: Option<&[u8]>) -> Option<i16>
+    ensures { result ≡ signed_field (option_copied vorg.entry) 4 }
+{
+    signed_in(vorg, DEFAULT_VERT_ORIGIN_Y)
+}
+
 /// How many records there are.
 fn record_count(vorg: Option<&[u8]>) -> u16
     ensures { result ≡ record_count (option_copied vorg.entry) }
 {
-    match number_in(vorg, 6) {
+    match number_in(vorg, NUM_VERT_ORIGIN_Y_METRICS) {
         Some(count) => count,
         None => 0,
     }
@@ -31,9 +49,9 @@ fn record_count(vorg: Option<&[u8]>) -> u16
 fn origin_at(vorg: Option<&[u8]>, index: u16) -> Option<GlyphOrigin>
     ensures { option_map origin_seen result ≡ origin_at (option_copied vorg.entry) index }
 {
-    let at = 4 * usize::from(index);
-    let glyph = number_in(vorg, at + 8)?;
-    let y = signed_in(vorg, at + 10)?;
+    let at = RECORD_SIZE * usize::from(index);
+    let glyph = number_in(vorg, at + GLYPH_INDEX)?;
+    let y = signed_in(vorg, at + VERT_ORIGIN_Y)?;
     Some(GlyphOrigin { glyph, y })
 }
 

@@ -2,7 +2,7 @@
 use Rattle.std.specs.Prelude.{ℕ, List, codes, Option, ℤ, pos, neg_ℤ}
 use Rattle.std.specs.Option.{option_and_then, option_map, option_or, unwrap_or}
 use Rattle.pdf_values.specs.Heights.{above_0, box_line, descent_of, first_line, typographic_line, windows_line}
-use Rattle.pdf_values.specs.Os2.{s_cap_height, sx_height}
+use Rattle.subsetter_sfnt.specs.Fields.Os2.{sx_height, s_cap_height}
 use Rattle.pdf_values.specs.Rounding.{thousandths}
 use Rattle.pdf_values.specs.declared.heights.Heights.{Heights}
 use Rattle.pdf_values.specs.declared.heights.Line.{Line}

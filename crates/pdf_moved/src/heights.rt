@@ -2,18 +2,22 @@
 
 ghost use Rattle.std.specs.Prelude.{◌≡◌, ◌<◌, ◌≤◌, ◌^◌, IfSome, codes, unsigned_abs};
 ghost use Rattle.std.specs.Option.{option_and_then, option_copied, option_map, option_or, unwrap_or};
-ghost use Rattle.pdf_values.specs.Fields.{signed_field};
 ghost use Rattle.pdf_values.specs.Heights.{above_0, box_line, counted, descent_of, first_line, line, typographic_line, windows_line};
-ghost use Rattle.pdf_values.specs.Os2.{of_version_2};
 ghost use Rattle.pdf_values.specs.Rounding.{thousandths};
 ghost use Rattle.pdf_moved.specs.Heights.{clip_line, heights_at, heights_by, moved_height, moved_line, moved_text_line, other_line, said_line, text_line};
 ghost use Rattle.pdf_moved.specs.Lines.{line_view};
 ghost use Rattle.pdf_moved.specs.Movement.{movement_view};
 
 use crate::movement::{Movement, varied};
-use pdf_values::fields::{number_in, says_bit, signed_in};
+use pdf_values::fields::says_bit;
 use pdf_values::{Heights, thousandths};
 use subsetter_base::Tag;
+use subsetter_sfnt::fields::head::{y_max, y_min};
+use subsetter_sfnt::fields::hhea::{ascender, descender};
+use subsetter_sfnt::fields::os2::{
+    fs_selection, s_cap_height, s_typo_ascender, s_typo_descender, sx_height, us_win_ascent,
+    us_win_descent,
+};
 
 /// How far a line of text reaches above the baseline, and, as a number below 0, below it, in the font's units.
 #[derive(Clone, Copy)]
@@ -37,13 +41,13 @@ fn counted(ascent: i32, descent: i32) -> Option<Line>
 }
 
 /// The line of two signed fields.
-fn line_in(table: Option<&[u8]>, ascent: usize, descent: usize) -> Option<Line>
-    ensures value { option_map line_view result ≡ line (signed_field (option_copied table.entry) ascent) (signed_field (option_copied table.entry) descent) }
+fn line_in(ascent: Option<i16>, descent: Option<i16>) -> Option<Line>
+    ensures value { option_map line_view result ≡ line ascent descent }
     ensures ascent { IfSome result (λ l. unsigned_abs l.ascent ≤ 2 ^ 16) }
     ensures descent { IfSome result (λ l. unsigned_abs l.descent ≤ 2 ^ 16) }
 {
-    let above = signed_in(table, ascent)?;
-    let below = signed_in(table, descent)?;
+    let above = ascent?;
+    let below = descent?;
     counted(i32::from(above), i32::from(below))
 }
 
@@ -53,8 +57,8 @@ fn windows_line(os2: Option<&[u8]>) -> Option<Line>
     ensures ascent { IfSome result (λ l. unsigned_abs l.ascent ≤ 2 ^ 16) }
     ensures descent { IfSome result (λ l. unsigned_abs l.descent ≤ 2 ^ 16) }
 {
-    let above = number_in(os2, 74)?;
-    let below = number_in(os2, 76)?;
+    let above = us_win_ascent(os2)?;
+    let below = us_win_descent(os2)?;
     counted(i32::from(above), -i32::from(below))
 }
 
@@ -64,10 +68,10 @@ fn first_line(hhea: Option<&[u8]>, os2: Option<&[u8]>) -> Option<Line>
     ensures ascent { IfSome result (λ l. unsigned_abs l.ascent ≤ 2 ^ 16) }
     ensures descent { IfSome result (λ l. unsigned_abs l.descent ≤ 2 ^ 16) }
 {
-    if says_bit(number_in(os2, 62), 7) {
+    if says_bit(fs_selection(os2), 7) {
         return None;
     }
-    line_in(hhea, 4, 6)
+    line_in(ascender(hhea), descender(hhea))
 }
 
 /// The line of `hhea` or the typographic one, with what it varies by.
@@ -107,7 +111,7 @@ fn said_line(hhea: Option<&[u8]>, os2: Option<&[u8]>) -> Option<Line>
 {
     match first_line(hhea, os2) {
         Some(line) => Some(line),
-        None => line_in(os2, 68, 70),
+        None => line_in(s_typo_ascender(os2), s_typo_descender(os2)),
     }
 }
 
@@ -131,7 +135,7 @@ fn other_line(movement: Movement<'_>, os2: Option<&[u8]>, head: Option<&[u8]>) -
 {
     match windows_line(os2) {
         Some(line) => Some(clip_line(movement, line)),
-        None => line_in(head, 42, 38),
+        None => line_in(y_max(head), y_min(head)),
     }
 }
 
@@ -169,17 +173,6 @@ fn above_0(height: Option<i16>) -> Option<i32>
         return Some(i32::from(height));
     }
     None
-}
-
-/// A signed field of `OS/2` that is there from version 2 on.
-fn of_version_2(os2: Option<&[u8]>, at: usize) -> Option<i16>
-    ensures { result ≡ of_version_2 (option_copied os2.entry) at }
-{
-    let version = number_in(os2, 0)?;
-    if version < 2 {
-        return None;
-    }
-    signed_in(os2, at)
 }
 
 /// A height that is said, with what it varies by, else the top of a glyph.
@@ -291,7 +284,7 @@ pub fn heights_at(
     ensures { result ≡ heights_at (movement_view movement.entry) (option_copied hhea.entry) (option_copied os2.entry) (option_copied head.entry) cap_top x_top units }
 {
     let line = moved_line(movement, hhea, os2, head);
-    let cap = moved_height(movement, Tag::new(b"cpht"), of_version_2(os2, 88), cap_top);
-    let x = moved_height(movement, Tag::new(b"xhgt"), of_version_2(os2, 86), x_top);
+    let cap = moved_height(movement, Tag::new(b"cpht"), s_cap_height(os2), cap_top);
+    let x = moved_height(movement, Tag::new(b"xhgt"), sx_height(os2), x_top);
     heights_by(line, cap, x, units)
 }

@@ -6,7 +6,8 @@ use Rattle.subsetter_base.specs.Gives.{Gives}
 use Rattle.subsetter_base.specs.declared.error.Error.{Error}
 use Rattle.subsetter_base.specs.declared.error.Error.TheVariants.{MalformedFont}
 use Rattle.subsetter_base.proofs.Results.{with_front, named_err}
-use Rattle.cid_embed.specs.Afresh.{Measures, advance_in, widths_from}
+use Rattle.cid_embed.specs.Afresh.{Measures, widths_from}
+use Rattle.subsetter_sfnt.specs.Fields.Hmtx.{advance_in}
 use Rattle.cid_embed.specs.Width.{thousandths}
 
 moved : (a : ℕ) (front : List ℕ) (rest : Result (List ℕ) Error) → with_front (front ++ a ∷ []) rest ≡ with_front front (rest >>= λ widths. Ok (a ∷ widths))

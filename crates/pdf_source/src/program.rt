@@ -18,7 +18,8 @@ use std::alloc::Global;
 use subsetter_base::read::Reader;
 use subsetter_base::{Error, Tag};
 use subsetter_sfnt::extras::Extras;
-use subsetter_sfnt::face::Face;
+use subsetter_sfnt::face::{Face, OTTO};
+use subsetter_sfnt::fields::maxp::num_glyphs;
 use subsetter_sfnt::flavor::FontFlavor;
 use subsetter_sfnt::parse::parse;
 
@@ -44,7 +45,7 @@ pub struct NewFont {
 fn flavor_by(word: u32) -> FontFlavor
     ensures { result ≡ flavor_by word }
 {
-    if word == 0x4F54544F {
+    if word == OTTO {
         FontFlavor::Cff
     } else {
         FontFlavor::TrueType
@@ -83,9 +84,7 @@ fn count_in(new: &Face<'_>, flavor: FontFlavor, requested: u16) -> Result<u16, E
         FontFlavor::Cff => Ok(requested),
         FontFlavor::TrueType => {
             let maxp = new.stored(Tag::MAXP).ok_or(Error::MalformedFont)?;
-            Reader::new_at(maxp, 4)
-                .read::<u16>()
-                .ok_or(Error::MalformedFont)
+            num_glyphs(maxp).ok_or(Error::MalformedFont)
         }
     }
 }

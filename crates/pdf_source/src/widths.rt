@@ -5,7 +5,8 @@ ghost use Rattle.std.specs.HashMap.{get};
 ghost use Rattle.subsetter_base.specs.Gives.{Gives};
 ghost use Rattle.subsetter_base.specs.declared.error.Error.TheVariants.{OutOfMemory};
 ghost use Rattle.subsetter_sfnt.specs.Read.{table_in};
-ghost use Rattle.cid_embed.specs.Afresh.{advance_in, measures_of, widths_from, widths_of};
+ghost use Rattle.cid_embed.specs.Afresh.{measures_of, widths_from, widths_of};
+ghost use Rattle.subsetter_sfnt.specs.Fields.Hmtx.{advance_in};
 ghost use Rattle.cid_embed.specs.Width.{thousandths};
 ghost use Rattle.pdf_source.specs.Counted.{counted};
 ghost use Rattle.pdf_source.specs.Frequent.{IsMostFrequent, count_of};
@@ -13,9 +14,11 @@ ghost use Rattle.pdf_source.specs.Metrics.{measures_seen};
 
 use std::alloc::Global;
 use std::collections::HashMap;
-use subsetter_base::read::Reader;
 use subsetter_base::{Error, Tag};
 use subsetter_sfnt::face::Face;
+use subsetter_sfnt::fields::head::units_per_em;
+use subsetter_sfnt::fields::hhea::number_of_h_metrics;
+use subsetter_sfnt::fields::hmtx::glyph_advance;
 
 /// What advances and widths are found by.
 #[derive(Clone, Copy)]
@@ -36,16 +39,12 @@ fn metrics_of<'a>(face: &Face<'a>) -> Result<Metrics<'a>, Error>
 {
     let hmtx = face.stored(Tag::HMTX).ok_or(Error::MalformedFont)?;
     let head = face.stored(Tag::HEAD).ok_or(Error::MalformedFont)?;
-    let units = Reader::new_at(head, 18)
-        .read::<u16>()
-        .ok_or(Error::MalformedFont)?;
+    let units = units_per_em(head).ok_or(Error::MalformedFont)?;
     if units == 0 {
         return Err(Error::MalformedFont);
     }
     let hhea = face.stored(Tag::HHEA).ok_or(Error::MalformedFont)?;
-    let pairs = Reader::new_at(hhea, 34)
-        .read::<u16>()
-        .ok_or(Error::MalformedFont)?;
+    let pairs = number_of_h_metrics(hhea).ok_or(Error::MalformedFont)?;
     Ok(Metrics { hmtx, pairs, units })
 }
 
@@ -54,8 +53,7 @@ impl Metrics<'_> {
     fn advance(&self, glyph: u16) -> Option<u16>
         ensures { result ≡ advance_in self.now.hmtx.now self.now.pairs glyph }
     {
-        let pair = glyph.min(self.pairs.saturating_sub(1));
-        Reader::new_at(self.hmtx, 4 * usize::from(pair)).read::<u16>()
+        glyph_advance(self.hmtx, self.pairs, glyph)
     }
 }
 

@@ -1,7 +1,7 @@
 -- FontBBox (ISO 32000-1, Table 122).
 use Rattle.std.specs.Prelude.{ℕ, ◌&&◌, if◌then◌else◌, int_lt, List, Option, Some, None, pos}
 use Rattle.std.specs.Option.{option_and_then, option_or, unwrap_or}
-use Rattle.pdf_values.specs.Head.{x_min, y_min, x_max, y_max}
+use Rattle.subsetter_sfnt.specs.Fields.Head.{x_min, y_min, x_max, y_max}
 use Rattle.pdf_values.specs.Rounding.{lowered, raised, IsBelow, IsAbove}
 use Rattle.pdf_values.specs.declared.bounds.Bounds.{Bounds}
 use Rattle.pdf_values.specs.declared.bounds.Bounds.TheVariants.{Font, Kept}

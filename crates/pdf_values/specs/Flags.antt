@@ -3,8 +3,10 @@ use Rattle.std.specs.Prelude.{◌≡◌, ℕ, ◌+◌, Bool, true, false, not, �
 use Rattle.std.specs.Option.{option_map_or}
 use Rattle.std.specs.Ordering.{int_eq}
 use Rattle.pdf_values.specs.Fields.{has_bit}
-use Rattle.pdf_values.specs.Os2.{family_class, b_family_type, b_serif_style, fs_selection}
-use Rattle.pdf_values.specs.Head.{mac_style, is_fixed_pitch, says_bit}
+use Rattle.subsetter_sfnt.specs.Fields.Os2.{family_class, b_family_type, b_serif_style, fs_selection}
+use Rattle.pdf_values.specs.Head.{says_bit}
+use Rattle.subsetter_sfnt.specs.Fields.Post.{is_fixed_pitch}
+use Rattle.subsetter_sfnt.specs.Fields.Head.{mac_style}
 
 -- whether a field that is said passes a test
 abbrev pub says : (ℕ → Bool) → Option ℕ → Bool

@@ -2,8 +2,10 @@
 use Rattle.std.specs.Prelude.{ℕ, ◌≤◌, ◌^◌, Bool, ◌&&◌, if◌then◌else◌, int_lt, List, Option, Some, None, ℤ, pos, neg_ℤ, unsigned_abs}
 use Rattle.std.specs.Option.{option_and_then, option_map, option_or, unwrap_or}
 use Rattle.std.specs.Ordering.{int_eq}
-use Rattle.pdf_values.specs.Os2.{fs_selection, s_typo_ascender, s_typo_descender, us_win_ascent, us_win_descent, sx_height, s_cap_height}
-use Rattle.pdf_values.specs.Head.{y_min, y_max, ascender, descender, says_bit}
+use Rattle.subsetter_sfnt.specs.Fields.Os2.{fs_selection, s_typo_ascender, s_typo_descender, us_win_ascent, us_win_descent, sx_height, s_cap_height}
+use Rattle.pdf_values.specs.Head.{says_bit}
+use Rattle.subsetter_sfnt.specs.Fields.Hhea.{ascender, descender}
+use Rattle.subsetter_sfnt.specs.Fields.Head.{y_min, y_max}
 use Rattle.pdf_values.specs.Rounding.{thousandths}
 use Rattle.pdf_values.specs.declared.heights.Line.{Line}
 use Rattle.pdf_values.specs.declared.heights.Heights.{Heights}

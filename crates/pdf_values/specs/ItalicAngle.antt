@@ -1,7 +1,7 @@
 -- ItalicAngle (ISO 32000-1, Table 122), in thousandths of a degree.
 use Rattle.std.specs.Prelude.{ℕ, List, Option, ℤ, pos}
 use Rattle.std.specs.Option.{option_map_or}
-use Rattle.pdf_values.specs.Head.{italic_angle}
+use Rattle.subsetter_sfnt.specs.Fields.Post.{italic_angle}
 use Rattle.pdf_values.specs.Rounding.{thousandths}
 
 -- that of `post`, which has as many 65536ths to a degree, else 0

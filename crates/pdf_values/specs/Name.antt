@@ -6,29 +6,19 @@ use Rattle.subsetter_base.specs.Bytes.{be, range, number}
 use Rattle.subsetter_variation.specs.Optional.{◌>>=◌}
 use Rattle.pdf_values.specs.declared.naming.Kind.{Kind}
 use Rattle.pdf_values.specs.declared.naming.Kind.TheVariants.{WindowsEnglish, Windows, Unicode, MacintoshRoman}
-use Rattle.pdf_values.specs.declared.naming.NameRecord.{NameRecord}
-
--- platformID, encodingID, languageID, nameID, length and stringOffset, two bytes each
-abbrev pub record_of : List ℕ → NameRecord
-record_of bytes = record {
-  platform = be (take 2 bytes);
-  encoding = be (take 2 (drop 2 bytes));
-  language = be (take 2 (drop 4 bytes));
-  name = be (take 2 (drop 6 bytes));
-  size = be (take 2 (drop 8 bytes));
-  offset = be (take 2 (drop 10 bytes));
-}
+use Rattle.subsetter_sfnt.specs.Fields.Name.{name_record_of}
+use Rattle.subsetter_sfnt.specs.declared.fields.name.NameRecord.{NameRecord}
 
 -- platform 0 is Unicode, 1 is Macintosh, whose encoding 0 is Roman, and 3 is Windows, whose language 1033 is English of the United States
 abbrev pub is_of : Kind → NameRecord → Bool
-is_of WindowsEnglish r = r.platform == 3 && r.language == 1033
-is_of Windows r = r.platform == 3
-is_of Unicode r = r.platform == 0
-is_of MacintoshRoman r = r.platform == 1 && r.encoding == 0
+is_of WindowsEnglish r = r.platform_id == 3 && r.language_id == 1033
+is_of Windows r = r.platform_id == 3
+is_of Unicode r = r.platform_id == 0
+is_of MacintoshRoman r = r.platform_id == 1 && r.encoding_id == 0
 
 -- the string of the record at a place, if it is a name of a kind with this ID; strings stand in the storage
 abbrev pub string_at : Kind → ℕ → List ℕ → ℕ → ℕ → Option (List ℕ)
-string_at kind id name storage at = option_and_then (λ bytes. let r = record_of bytes in if r.name == id && is_of kind r then range name (storage + r.offset) r.size else None) (range name at 12)
+string_at kind id name storage at = option_and_then (λ bytes. let r = name_record_of bytes in if r.name_id == id && is_of kind r then range name (storage + r.string_offset) r.length else None) (range name at 12)
 
 -- the first such string of that many records from a place on
 unfoldable pub string_from : Kind → ℕ → List ℕ → ℕ → ℕ → ℕ → Option (List ℕ)

@@ -2,7 +2,7 @@
 use Rattle.std.specs.Prelude.{ℕ, Bool, true, false, not, ◌&&◌, nat_le, List, Option, if◌then◌else◌}
 use Rattle.std.specs.Option.{option_map_or}
 use Rattle.pdf_values.specs.Fields.{has_bit}
-use Rattle.pdf_values.specs.Os2.{fs_type, version}
+use Rattle.subsetter_sfnt.specs.Fields.Os2.{version, fs_type}
 use Rattle.pdf_values.specs.declared.permission.Permission.{Permission}
 use Rattle.pdf_values.specs.declared.permission.Rights.{Rights}
 use Rattle.pdf_values.specs.declared.permission.Rights.TheVariants.{AsSaid, Held}

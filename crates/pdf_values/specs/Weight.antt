@@ -1,8 +1,9 @@
 -- How bold a font is (OpenType, "OS/2", "usWeightClass"; ISO 32000-1, Table 122).
 use Rattle.std.specs.Prelude.{ℕ, ◌+◌, ◌*◌, ◌/◌, min, max, ◌==◌, nat_le, if◌then◌else◌, List, Option, Some, None}
 use Rattle.std.specs.Option.{option_and_then, unwrap_or}
-use Rattle.pdf_values.specs.Os2.{us_weight_class}
-use Rattle.pdf_values.specs.Head.{mac_style, says_bit}
+use Rattle.subsetter_sfnt.specs.Fields.Os2.{us_weight_class}
+use Rattle.pdf_values.specs.Head.{says_bit}
+use Rattle.subsetter_sfnt.specs.Fields.Head.{mac_style}
 
 -- old fonts count from 1 to 9
 abbrev pub in_hundreds : ℕ → ℕ

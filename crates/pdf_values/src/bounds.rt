@@ -5,8 +5,8 @@ ghost use Rattle.std.specs.Option.{option_copied, unwrap_or};
 ghost use Rattle.pdf_values.specs.Bounds.{extended, head_box, no_box, box_of, outward, bounds_of, IsAround};
 ghost use Rattle.pdf_values.specs.Rounding.{lowered, raised, IsBelow, IsAbove};
 
-use crate::fields::signed_in;
 use crate::rounding::{lowered, raised};
+use subsetter_sfnt::fields::head::{x_max, x_min, y_max, y_min};
 
 /// Which glyphs FontBBox is to hold.
 #[derive(Clone, Copy, PartialEq, Eq)]
@@ -49,10 +49,10 @@ fn extended(glyphs: GlyphBox) -> Option<GlyphBox>
 fn head_box(head: Option<&[u8]>) -> Option<GlyphBox>
     ensures { result ≡ head_box (option_copied head.entry) }
 {
-    let x_min = signed_in(head, 36)?;
-    let y_min = signed_in(head, 38)?;
-    let x_max = signed_in(head, 40)?;
-    let y_max = signed_in(head, 42)?;
+    let x_min = x_min(head)?;
+    let y_min = y_min(head)?;
+    let x_max = x_max(head)?;
+    let y_max = y_max(head)?;
     extended(GlyphBox {
         x_min,
         y_min,

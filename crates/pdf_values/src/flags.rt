@@ -4,13 +4,16 @@ ghost use Rattle.std.specs.Prelude.{◌≡◌};
 ghost use Rattle.std.specs.Option.{option_copied};
 ghost use Rattle.pdf_values.specs.Flags.{is_fixed, has_serifs, is_script, is_slanted, flag, flags_of, is_serif_class, is_serif_face, is_script_face, IsFlags};
 
-use crate::fields::{byte_in, has_bit, long_in, number_in, says_bit};
+use crate::fields::{has_bit, says_bit};
+use subsetter_sfnt::fields::head::mac_style;
+use subsetter_sfnt::fields::os2::{b_family_type, b_serif_style, fs_selection, s_family_class};
+use subsetter_sfnt::fields::post::is_fixed_pitch;
 
 /// Whether all advances are equal: isFixedPitch of `post`.
 fn is_fixed(post: Option<&[u8]>) -> bool
     ensures { result ≡ is_fixed (option_copied post.entry) }
 {
-    match long_in(post, 12) {
+    match is_fixed_pitch(post) {
         Some(n) => n != 0,
         None => false,
     }
@@ -27,10 +30,10 @@ fn is_serif_class(class: u16) -> bool
 fn is_serif_face(os2: Option<&[u8]>) -> bool
     ensures { result ≡ is_serif_face (option_copied os2.entry) }
 {
-    let Some(family) = byte_in(os2, 32) else {
+    let Some(family) = b_family_type(os2) else {
         return false;
     };
-    let Some(style) = byte_in(os2, 33) else {
+    let Some(style) = b_serif_style(os2) else {
         return false;
     };
     family == 2 && 2 <= style && style <= 10
@@ -40,7 +43,7 @@ fn is_serif_face(os2: Option<&[u8]>) -> bool
 fn has_serifs(os2: Option<&[u8]>) -> bool
     ensures { result ≡ has_serifs (option_copied os2.entry) }
 {
-    let Some(class) = number_in(os2, 30) else {
+    let Some(class) = s_family_class(os2) else {
         return false;
     };
     is_serif_class(class / 256) || (class / 256 == 0 && is_serif_face(os2))
@@ -50,7 +53,7 @@ fn has_serifs(os2: Option<&[u8]>) -> bool
 fn is_script_face(os2: Option<&[u8]>) -> bool
     ensures { result ≡ is_script_face (option_copied os2.entry) }
 {
-    match byte_in(os2, 32) {
+    match b_family_type(os2) {
         Some(family) => family == 3,
         None => false,
     }
@@ -60,7 +63,7 @@ fn is_script_face(os2: Option<&[u8]>) -> bool
 fn is_script(os2: Option<&[u8]>) -> bool
     ensures { result ≡ is_script (option_copied os2.entry) }
 {
-    let Some(class) = number_in(os2, 30) else {
+    let Some(class) = s_family_class(os2) else {
         return false;
     };
     class / 256 == 10 || (class / 256 == 0 && is_script_face(os2))
@@ -70,9 +73,9 @@ fn is_script(os2: Option<&[u8]>) -> bool
 fn is_slanted(os2: Option<&[u8]>, head: Option<&[u8]>) -> bool
     ensures { result ≡ is_slanted (option_copied os2.entry) (option_copied head.entry) }
 {
-    match number_in(os2, 62) {
+    match fs_selection(os2) {
         Some(n) => has_bit(n, 0) || has_bit(n, 9),
-        None => says_bit(number_in(head, 44), 1),
+        None => says_bit(mac_style(head), 1),
     }
 }
 

@@ -4,14 +4,14 @@ ghost use Rattle.std.specs.Prelude.{◌≡◌};
 ghost use Rattle.std.specs.Option.{option_copied};
 ghost use Rattle.pdf_values.specs.ItalicAngle.{angle};
 
-use crate::fields::long_signed_in;
 use crate::rounding::thousandths;
+use subsetter_sfnt::fields;
 
 /// ItalicAngle in thousandths of a degree, as `post` says, else 0.
 pub fn italic_angle(post: Option<&[u8]>) -> i32
     ensures { result ≡ angle (option_copied post.entry) }
 {
-    match long_signed_in(post, 4) {
+    match fields::post::italic_angle(post) {
         Some(angle) => thousandths(angle, 65536),
         None => 0,
     }

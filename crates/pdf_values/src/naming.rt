@@ -4,11 +4,15 @@
 ghost use Rattle.std.specs.Prelude.{◌≡◌, ◌≤◌, ◌<◌, ◌^◌, [], length, IfOk, IfErr};
 ghost use Rattle.std.specs.Option.{option_copied, option_map_or};
 ghost use Rattle.subsetter_base.specs.declared.error.Error.TheVariants.{OutOfMemory};
-ghost use Rattle.pdf_values.specs.Name.{record_of, is_of, string_at, string_from, string_of, is_name_character, plain_text, wide_text, text_of, text_in, or_else, table_name, postscript_name, IsNameText};
+ghost use Rattle.pdf_values.specs.Name.{is_of, string_at, string_from, string_of, is_name_character, plain_text, wide_text, text_of, text_in, or_else, table_name, postscript_name, IsNameText};
+ghost use Rattle.subsetter_sfnt.specs.Fields.Name.{name_record_of};
 
 use std::alloc::Global;
 use subsetter_base::Error;
-use subsetter_base::read::{Reader, u16_at};
+use subsetter_base::read::Reader;
+use subsetter_sfnt::fields::name::{
+    COUNT, HEADER_SIZE, NAME_RECORD_SIZE, NameRecord, STORAGE_OFFSET,
+};
 
 /// Whose a name is.
 #[derive(Clone, Copy)]
@@ -19,41 +23,15 @@ enum Kind {
     MacintoshRoman,
 }
 
-/// The record of a name.
-#[derive(Clone, Copy)]
-struct NameRecord {
-    platform: u16,
-    encoding: u16,
-    language: u16,
-    name: u16,
-    size: u16,
-    offset: u16,
-}
-
-/// The record that twelve bytes spell.
-fn record_of(bytes: &[u8]) -> NameRecord
-    requires { length bytes.now ≡ 12 }
-    ensures { result ≡ record_of bytes.now }
-{
-    NameRecord {
-        platform: u16_at(bytes, 0),
-        encoding: u16_at(bytes, 2),
-        language: u16_at(bytes, 4),
-        name: u16_at(bytes, 6),
-        size: u16_at(bytes, 8),
-        offset: u16_at(bytes, 10),
-    }
-}
-
 /// Whether a name is of a kind.
 fn is_of(kind: Kind, record: NameRecord) -> bool
     ensures { result ≡ is_of kind «record» }
 {
     match kind {
-        Kind::WindowsEnglish => record.platform == 3 && record.language == 1033,
-        Kind::Windows => record.platform == 3,
-        Kind::Unicode => record.platform == 0,
-        Kind::MacintoshRoman => record.platform == 1 && record.encoding == 0,
+        Kind::WindowsEnglish => record.platform_id == 3 && record.language_id == 1033,
+        Kind::Windows => record.platform_id == 3,
+        Kind::Unicode => record.platform_id == 0,
+        Kind::MacintoshRoman => record.platform_id == 1 && record.encoding_id == 0,
     }
 }
 
@@ -63,7 +41,7 @@ fn string_at(name: &[u8], kind: Kind, id: u16, storage: usize, at: usize) -> Opt
     ensures { option_copied result ≡ string_at kind id name.now storage at }
 {
     let bytes = Reader::new_at(name, at).read_bytes(12)?;
-    let entry = record_of(bytes);
+    let entry = name_record_of(bytes);
     if entry.name == id && is_of(kind, entry) {
         return Reader::new_at(name, storage + usize::from(entry.offset)).read_bytes(usize::from(
             entry.size,
@@ -79,7 +57,8 @@ fn string_from(name: &[u8], kind: Kind, id: u16, storage: usize, count: u16) -> 
     ensures { option_copied result ≡ string_from kind id name.now storage count 6 }
 {
     for place in 0..count {
-        if let Some(string) = string_at(name, kind, id, storage, 6 + 12 * usize::from(place)) {
+        let at = HEADER_SIZE + NAME_RECORD_SIZE * usize::from(place);
+        if let Some(string) = string_at(name, kind, id, storage, at) {
             return Some(string);
         }
     }
@@ -90,8 +69,8 @@ fn string_from(name: &[u8], kind: Kind, id: u16, storage: usize, count: u16) -> 
 fn string_of(name: &[u8], kind: Kind, id: u16) -> Option<&[u8]>
     ensures { option_copied result ≡ string_of kind id name.now }
 {
-    let count = Reader::new_at(name, 2).read::<u16>()?;
-    let storage = Reader::new_at(name, 4).read::<u16>()?;
+    let count = Reader::new_at(name, COUNT).read::<u16>()?;
+    let storage = Reader::new_at(name, STORAGE_OFFSET).read::<u16>()?;
     string_from(name, kind, id, usize::from(storage), count)
 }
 

@@ -4,7 +4,8 @@ ghost use Rattle.std.specs.Prelude.{◌≡◌};
 ghost use Rattle.std.specs.Option.{option_copied};
 ghost use Rattle.pdf_values.specs.Permission.{has_later_bits, is_permitted, is_usable, permission, permission_of, usage_of};
 
-use crate::fields::{has_bit, number_in};
+use crate::fields::has_bit;
+use subsetter_sfnt::fields::os2::{fs_type, version};
 
 /// What a document may do with a font.
 #[derive(Clone, Copy, PartialEq, Eq, Debug)]
@@ -59,7 +60,7 @@ fn usage_of(fs_type: u16) -> Usage
 fn has_later_bits(os2: Option<&[u8]>) -> bool
     ensures { result ≡ has_later_bits (option_copied os2.entry) }
 {
-    match number_in(os2, 0) {
+    match version(os2) {
         Some(version) => 2 <= version,
         None => false,
     }
@@ -80,7 +81,7 @@ fn permission_in(later: bool, fs_type: u16) -> Permission
 pub fn permission_of(os2: Option<&[u8]>) -> Permission
     ensures { result ≡ permission (option_copied os2.entry) }
 {
-    match number_in(os2, 8) {
+    match fs_type(os2) {
         Some(fs_type) => permission_in(has_later_bits(os2), fs_type),
         None => Permission {
             usage: Usage::Unsaid,

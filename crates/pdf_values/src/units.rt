@@ -4,14 +4,17 @@ ghost use Rattle.std.specs.Prelude.{◌≡◌, ◌<◌};
 ghost use Rattle.std.specs.Option.{option_copied};
 ghost use Rattle.pdf_values.specs.Head.{units_per_em};
 
-use crate::fields::number_in;
+use subsetter_sfnt::fields;
 
 /// How many units `head` says to the em: above 0, else a thousand.
 pub fn units_per_em(head: Option<&[u8]>) -> u16
     ensures value { result ≡ units_per_em (option_copied head.entry) }
     ensures above { 0 < result }
 {
-    match number_in(head, 18) {
+    let Some(bytes) = head else {
+        return 1000;
+    };
+    match fields::head::units_per_em(bytes) {
         Some(n) => { if n == 0 { 1000 } else { n } }
         None => 1000,
     }

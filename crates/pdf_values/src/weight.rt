@@ -5,7 +5,9 @@ ghost use Rattle.std.specs.Prelude.{◌≡◌, ◌≤◌, ◌%◌, ◌*◌};
 ghost use Rattle.std.specs.Option.{option_copied};
 ghost use Rattle.pdf_values.specs.Weight.{in_hundreds, class_weight, style_weight, weight_of, font_weight, stem_of_weight, stem_v};
 
-use crate::fields::{number_in, says_bit};
+use crate::fields::says_bit;
+use subsetter_sfnt::fields::head::mac_style;
+use subsetter_sfnt::fields::os2::us_weight_class;
 
 /// Old fonts count from 1 to 9.
 fn in_hundreds(class: u16) -> u16
@@ -28,7 +30,7 @@ fn class_weight(class: u16) -> Option<u16>
 fn style_weight(head: Option<&[u8]>) -> u16
     ensures { result ≡ style_weight (option_copied head.entry) }
 {
-    if says_bit(number_in(head, 44), 0) {
+    if says_bit(mac_style(head), 0) {
         700
     } else {
         400
@@ -41,7 +43,7 @@ pub fn weight_of(os2: Option<&[u8]>, head: Option<&[u8]>) -> u16
     ensures least { 1 ≤ result }
     ensures most { result ≤ 1000 }
 {
-    if let Some(class) = number_in(os2, 4) {
+    if let Some(class) = us_weight_class(os2) {
         if let Some(weight) = class_weight(class) {
             return weight;
         }

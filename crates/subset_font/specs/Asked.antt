@@ -4,7 +4,7 @@ use Rattle.std.specs.Option.{option_map, option_and_then}
 use Rattle.std.specs.Str.{encode_utf8_all}
 use Rattle.subsetter_base.specs.declared.error.Error.TheVariants.{MalformedFont}
 use Rattle.subsetter_sfnt.specs.Read.{Font, stored}
-use Rattle.subsetter.specs.Maxp.Read.{number_of_glyphs}
+use Rattle.subsetter_sfnt.specs.Fields.Maxp.{num_glyphs}
 use Rattle.cmap.specs.Subtable.{Mapping, mapping, glyph_of}
 use Rattle.subset_args.specs.Lists.{counting}
 use Rattle.subset_font.specs.declared.task.Asked.{Asked}
@@ -14,7 +14,7 @@ use Rattle.subset_font.specs.declared.failure.Failure.TheVariants.{Error, NoMapp
 
 -- how many glyphs a face has, as its `maxp` says
 abbrev pub face_glyphs : Font → Option ℕ
-face_glyphs font = option_and_then number_of_glyphs (stored font (codes "maxp"))
+face_glyphs font = option_and_then num_glyphs (stored font (codes "maxp"))
 
 -- the table of a face's `cmap` by which Unicode characters have glyphs
 abbrev pub face_mapping : Font → Option Mapping

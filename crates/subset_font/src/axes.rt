@@ -10,12 +10,12 @@ ghost use Rattle.subset_font.specs.declared.failure.Failure.TheVariants.{Error a
 ghost use Rattle.std.specs.Io.KnownBytes.{Appends};
 
 use crate::carried::read_whole;
-use crate::face::{header_place, table};
 use crate::failure::Failure;
 use std::alloc::Global;
 use std::io::{Read, Write};
 use subset_lines::{FontAxes, read_axes, write_axes, write_axes_json};
 use subsetter::{Error, Tag};
+use subsetter_sfnt::directory::{header_offset, table};
 use subsetter_variation::axes::{Axis, axes};
 
 /// Writes axes, as lines or as JSON.
@@ -98,7 +98,7 @@ pub fn tell_axes<L: Write>(
     ensures err { IfErr result (λ e. (e ≡ Output) ⊎ ((e ≡ Refused OutOfMemory) ⊎ IsAxesFault json (record { bytes = font.now; index = index; extras = all_extras }) e)) }
     ensures kind { IfErr result (λ e. e ≢ Usage) }
 {
-    if header_place(font, index).is_none() {
+    if header_offset(font, index).is_none() {
         return Err(Failure::Error(Error::UnknownKind));
     }
     match table(font, index, Tag::new(b"fvar")) {

@@ -2,23 +2,31 @@
 
 ghost use Rattle.std.specs.Prelude.{◌≡◌, ◌+◌, length};
 ghost use Rattle.subsetter_sfnt.specs.Extras.{all_extras};
-ghost use Rattle.subsetter_sfnt.specs.Read.{record_of};
 ghost use Rattle.subset_font.specs.Broken.{packed, not_font, face_count, no_face, no_directory, no_font, is_cut, cut_hint, first_cut, cut_table, missing_table};
 ghost use Rattle.subset_font.specs.Tables.{records_in};
 
-use crate::face::{Place, find_place, header_place, kind_at, place_in, records, tag_in};
+use crate::face::{Place, place_of};
 use crate::hint::Hint;
 use crate::tables::directory_of;
 use subsetter::Tag;
 use subsetter_base::read::Reader;
+use subsetter_sfnt::directory::{find_record, header_offset, kind_at, records};
+use subsetter_sfnt::face::{TTC_TAG, TableRecord};
+
+/// What a WOFF begins with: `wOFF`.
+const WOFF: u32 = 0x774F4646;
+/// What a WOFF2 begins with: `wOF2`.
+const WOFF2: u32 = 0x774F4632;
+/// numFonts of the header of a collection, four bytes.
+const NUM_FONTS: usize = 8;
 
 /// Whether a file is a WOFF or a WOFF2.
 fn packed(font: &[u8]) -> Option<Hint>
     ensures { result ≡ packed font.now }
 {
     match Reader::new_at(font, 0).read::<u32>()? {
-        0x774F4646 => Some(Hint::Woff),
-        0x774F4632 => Some(Hint::Woff2),
+        WOFF => Some(Hint::Woff),
+        WOFF2 => Some(Hint::Woff2),
         _ => None,
     }
 }
@@ -28,7 +36,7 @@ pub fn face_count(font: &[u8]) -> Option<u32>
     ensures { result ≡ face_count font.now }
 {
     match Reader::new_at(font, 0).read::<u32>()? {
-        0x74746366 => Reader::new_at(font, 8).read::<u32>(),
+        TTC_TAG => Reader::new_at(font, NUM_FONTS).read::<u32>(),
         _ => None,
     }
 }
@@ -61,7 +69,7 @@ fn not_font(font: &[u8]) -> Option<Hint>
 fn no_directory(font: &[u8], index: u32) -> Option<Hint>
     ensures { result ≡ no_directory (record { bytes = font.now; index = index; extras = all_extras }) }
 {
-    match (header_place(font, index), records(font, index)) {
+    match (header_offset(font, index), records(font, index)) {
         (None, _) => Some(Hint::NoHeader(index)),
         (Some(_), None) => Some(Hint::CutDirectory),
         (Some(_), Some(_)) => None,
@@ -83,19 +91,17 @@ fn end_of(place: Place) -> u64
 }
 
 /// Whether the table of a record ends behind a file of so many bytes.
-fn is_cut(bytes: &[u8], size: u64) -> bool
-    requires { length bytes.now ≡ 16 }
-    ensures { result ≡ is_cut size (record_of bytes.now) }
+fn is_cut(one: TableRecord, size: u64) -> bool
+    ensures { result ≡ is_cut size one }
 {
-    end_of(place_in(bytes)) > size
+    end_of(place_of(one)) > size
 }
 
 /// That it does so.
-fn cut_hint(bytes: &[u8], size: u64) -> Hint
-    requires { length bytes.now ≡ 16 }
-    ensures { result ≡ cut_hint size (record_of bytes.now) }
+fn cut_hint(one: TableRecord, size: u64) -> Hint
+    ensures { result ≡ cut_hint size one }
 {
-    Hint::Cut(tag_in(bytes), end_of(place_in(bytes)), size)
+    Hint::Cut(one.tag, end_of(place_of(one)), size)
 }
 
 /// The first table of a directory that ends behind a file of so many bytes.
@@ -103,9 +109,9 @@ fn first_cut(records: &[u8], size: u64) -> Option<Hint>
     ensures { result ≡ first_cut size (records_in records.now) }
 {
     let mut r = Reader::new(records);
-    while let Some(bytes) = r.read_bytes(16) {
-        if is_cut(bytes, size) {
-            return Some(cut_hint(bytes, size));
+    while let Some(one) = r.read::<TableRecord>() {
+        if is_cut(one, size) {
+            return Some(cut_hint(one, size));
         }
     }
     None
@@ -122,8 +128,8 @@ pub fn cut_table(font: &[u8], index: u32) -> Option<Hint>
 pub fn missing_table(font: &[u8], index: u32, tag: Tag) -> Hint
     ensures { result ≡ missing_table (record { bytes = font.now; index = index; extras = all_extras }) tag }
 {
-    match find_place(directory_of(font, index), tag) {
-        Some(place) => Hint::Cut(tag, end_of(place), font.len() as u64),
+    match find_record(directory_of(font, index), tag) {
+        Some(found) => Hint::Cut(tag, end_of(place_of(found)), font.len() as u64),
         None => Hint::NoTable(tag),
     }
 }

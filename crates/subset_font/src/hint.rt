@@ -7,7 +7,7 @@ ghost use Rattle.subset_font.specs.Made.{face_of};
 ghost use Rattle.subset_font.specs.Hint.{first_past, no_glyph, no_table, no_table_for_widths, no_table_for, entry, wrong_range, wrong_between, wrong_outline, first_wrong, listed, no_outline, is_cff2, wrong_metrics_of, wrong_metrics, no_outlines, no_font_or_glyph, no_part, wrong_table, wrong_outlines, hint_of_malformed, cut_or_bare, hint_of_unknown, hint_of_error, no_mapping, hint_of_mapping, no_axes, axes_hint_of_error, axes_hint, forbidden_bit, hint_of};
 
 use crate::broken::{cut_table, missing_table, no_font};
-use crate::face::{count_glyphs, find_place, table};
+use crate::face::{count_glyphs, place_of};
 use crate::failure::Failure;
 use crate::info::outlines_of;
 use crate::tables::directory_of;
@@ -17,6 +17,11 @@ use subset_lines::Outlines;
 use subset_pdf::{Permission, Usage};
 use subsetter::{Error, Tag};
 use subsetter_base::read::Reader;
+use subsetter_sfnt::directory::{find_record, table};
+use subsetter_sfnt::fields::head::index_to_loc_format;
+use subsetter_sfnt::fields::hhea::number_of_h_metrics;
+use subsetter_sfnt::fields::hmtx::last_advance;
+use subsetter_sfnt::fields::loca::loca_offset;
 
 /// What more is known of a refusal.
 #[derive(Clone, Copy, PartialEq, Eq, Debug, Drop)]
@@ -209,11 +214,11 @@ fn entry(loca: &[u8], format: u16, index: usize) -> Option<u64>
     ensures { result ≡ entry loca.now format index }
 {
     if format == 0 {
-        let half = Reader::new_at(loca, 2 * index).read::<u16>()?;
-        return Some(2 * u64::from(half));
+        let offset = loca_offset(loca, false, index)?;
+        return Some(offset as u64);
     }
-    let offset = Reader::new_at(loca, 4 * index).read::<u32>()?;
-    Some(u64::from(offset))
+    let offset = loca_offset(loca, true, index)?;
+    Some(offset as u64)
 }
 
 /// What is wrong with the range of an outline in `glyf`.
@@ -284,7 +289,7 @@ fn no_outline(font: &[u8], task: &Task<'_>) -> Option<Hint>
     let Some(head) = table(font, task.index, Tag::HEAD) else {
         return Some(missing_table(font, task.index, Tag::HEAD));
     };
-    let format = Reader::new_at(head, 50).read::<u16>()?;
+    let format = index_to_loc_format(head)?;
     first_wrong(glyf, loca, format, listed(&task.asked))
 }
 
@@ -302,11 +307,11 @@ fn is_cff2(font: &[u8], index: u32) -> Option<Hint>
 fn wrong_metrics_of(hhea: &[u8], hmtx: &[u8]) -> Option<Hint>
     ensures { result ≡ wrong_metrics_of hhea.now hmtx.now }
 {
-    let count = Reader::new_at(hhea, 34).read::<u16>()?;
+    let count = number_of_h_metrics(hhea)?;
     if count == 0 {
         return Some(Hint::NoMetrics);
     }
-    match Reader::new_at(hmtx, 4 * (usize::from(count) - 1)).read::<u16>() {
+    match last_advance(hmtx, count) {
         Some(_) => None,
         None => Some(Hint::FewMetrics(count)),
     }
@@ -428,7 +433,7 @@ pub fn no_axes(font: &[u8], index: u32) -> Option<Hint>
     ensures { result ≡ no_axes (record { bytes = font.now; index = index; extras = all_extras }) }
 {
     let tag = Tag::new(b"fvar");
-    let place = find_place(directory_of(font, index), tag);
+    let place = find_record(directory_of(font, index), tag);
     match (table(font, index, tag), place) {
         (Some(_), _) => None,
         (None, None) => Some(Hint::NoAxes),

@@ -8,7 +8,7 @@ ghost use Rattle.subset_font.specs.declared.failure.Failure.TheVariants.{Output,
 use crate::asked::first_glyphs;
 use crate::broken::face_count;
 use crate::carried::read_whole;
-use crate::face::{count_glyphs, header_place, table};
+use crate::face::count_glyphs;
 use crate::failure::Failure;
 use crate::hint::find_hint;
 use crate::subset::make_of;
@@ -19,6 +19,7 @@ use std::io::{Read, Write};
 use subset_lines::{Info, Outlines, write_info, write_info_json};
 use subsetter::{Error, Extras, Limits, Options, Tag};
 use subsetter_base::read::Reader;
+use subsetter_sfnt::directory::{header_offset, table};
 
 /// What the outlines of a face are.
 pub fn outlines_of(font: &[u8], index: u32) -> Outlines
@@ -159,7 +160,7 @@ pub fn show_info<L: Write>(
 ) -> Result<(), Failure>
     ensures { IfErr result (λ e. e ≢ Usage) }
 {
-    if header_place(font, index).is_none() {
+    if header_offset(font, index).is_none() {
         return Err(Failure::Error(Error::UnknownKind));
     }
     let Ok(tables) = tables_of(alloc, directory_of(font, index)) else {

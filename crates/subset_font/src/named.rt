@@ -12,12 +12,12 @@ ghost use Rattle.subset_font.specs.Tables.{bytes_or_none};
 ghost use Rattle.subset_font.specs.declared.failure.Failure.TheVariants.{Error as Refused, NoInstance};
 
 use crate::axes::names_of;
-use crate::face::{header_place, table};
 use crate::failure::Failure;
 use std::alloc::{AllocError, Global};
 use subset_lines::{FontAxes, after_four, name_of, read_axes, text_of_name};
 use subsetter::{Error, Tag};
 use subsetter_base::read::Reader;
+use subsetter_sfnt::directory::{header_offset, table};
 use subsetter_variation::axes::Axis;
 
 /// Whether two names are the same but for the case of ASCII letters.
@@ -113,7 +113,7 @@ pub fn face_settings(
     ensures err { IfErr result (λ e. (e ≡ Refused OutOfMemory) ⊎ (((e ≡ Refused UnknownKind) ⊎ ((e ≡ Refused MalformedFont) ⊎ (e ≡ NoInstance))) × (face_settings (record { bytes = font.now; index = index; extras = all_extras }) name.now ≡ None))) }
 {
     let Some(fvar) = table(font, index, Tag::new(b"fvar")) else {
-        if header_place(font, index).is_none() {
+        if header_offset(font, index).is_none() {
             return Err(Failure::Error(Error::UnknownKind));
         }
         return Err(Failure::NoInstance);

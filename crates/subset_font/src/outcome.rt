@@ -13,7 +13,6 @@ ghost use Rattle.subset_font.specs.Tables.{bytes_or_none};
 ghost use Rattle.subset_font.specs.declared.failure.Failure.TheVariants.{Error as Refused};
 ghost use Rattle.subsetter_base.specs.declared.error.Error.TheVariants.{OutOfMemory};
 
-use crate::face::table;
 use crate::failure::Failure;
 use crate::missing::missing;
 use crate::named::face_settings;
@@ -27,6 +26,7 @@ use std::alloc::{AllocError, Global};
 use subset_lines::{TableSize, json_members, size_lines};
 use subset_pdf::Sheet;
 use subsetter::{Error, Tag};
+use subsetter_sfnt::directory::table;
 
 /// What a plan makes of a font.
 #[derive(Drop)]

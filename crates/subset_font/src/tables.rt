@@ -3,14 +3,15 @@
 ghost use Rattle.std.specs.Prelude.{◌≡◌, ◌++◌, map, OnOk, IfOk, length, ◌/◌};
 ghost use Rattle.std.specs.Option.{option_copied, option_map};
 ghost use Rattle.subsetter_sfnt.specs.Extras.{all_extras};
-ghost use Rattle.subsetter_sfnt.specs.Read.{record_of, records};
+ghost use Rattle.subsetter_sfnt.specs.Read.{records};
 ghost use Rattle.subset_font.specs.Tables.{bytes_or_none, records_in, size_among, old_row, new_row, new_rows, table_sizes, tag_and_size, tables_of};
 
-use crate::face::{find_place, place_in, records, tag_in};
 use std::alloc::{AllocError, Global};
 use subset_lines::TableSize;
 use subsetter::Tag;
 use subsetter_base::read::Reader;
+use subsetter_sfnt::directory::{find_record, records};
+use subsetter_sfnt::face::TableRecord;
 
 /// The records of a face's directory, no bytes where it has none.
 pub fn directory_of(font: &[u8], index: u32) -> &[u8]
@@ -26,22 +27,20 @@ pub fn directory_of(font: &[u8], index: u32) -> &[u8]
 fn size_among(records: &[u8], tag: Tag) -> Option<u32>
     ensures { result ≡ size_among tag (records_in records.now) }
 {
-    match find_place(records, tag) {
-        Some(place) => Some(place.length),
+    match find_record(records, tag) {
+        Some(found) => Some(found.length),
         None => None,
     }
 }
 
 /// The row of a table of the font that is read, from its record.
-fn old_row(bytes: &[u8], new: &[u8]) -> TableSize
-    requires { length bytes.now ≡ 16 }
-    ensures { result ≡ old_row (records_in new.now) (record_of bytes.now) }
+fn old_row(one: TableRecord, new: &[u8]) -> TableSize
+    ensures { result ≡ old_row (records_in new.now) one }
 {
-    let tag = tag_in(bytes);
     TableSize {
-        tag,
-        old: Some(place_in(bytes).length),
-        new: size_among(new, tag),
+        tag: one.tag,
+        old: Some(one.length),
+        new: size_among(new, one.tag),
     }
 }
 
@@ -51,23 +50,21 @@ fn push_old_rows(rows: &mut Vec<TableSize>, old: &[u8], new: &[u8]) -> Result<()
     ensures { OnOk result (rows.new.items ≡ rows.old.items ++ map (old_row (records_in new.now)) (records_in old.now)) }
 {
     let mut r = Reader::new(old);
-    while let Some(bytes) = r.read_bytes(16) {
-        rows.push(old_row(bytes, new))?;
+    while let Some(one) = r.read::<TableRecord>() {
+        rows.push(old_row(one, new))?;
     }
     Ok(())
 }
 
 /// Adds the row of a table of the new font, from its record, if the other one has no such table.
-fn push_new_row(rows: &mut Vec<TableSize>, old: &[u8], bytes: &[u8]) -> Result<(), AllocError>
-    requires { length bytes.now ≡ 16 }
-    ensures { OnOk result (rows.new.items ≡ rows.old.items ++ new_row (records_in old.now) (record_of bytes.now)) }
+fn push_new_row(rows: &mut Vec<TableSize>, old: &[u8], one: TableRecord) -> Result<(), AllocError>
+    ensures { OnOk result (rows.new.items ≡ rows.old.items ++ new_row (records_in old.now) one) }
 {
-    let tag = tag_in(bytes);
-    if size_among(old, tag).is_none() {
+    if size_among(old, one.tag).is_none() {
         rows.push(TableSize {
-            tag,
+            tag: one.tag,
             old: None,
-            new: Some(place_in(bytes).length),
+            new: Some(one.length),
         })?;
     }
     Ok(())
@@ -79,8 +76,8 @@ fn push_new_rows(rows: &mut Vec<TableSize>, old: &[u8], new: &[u8]) -> Result<()
     ensures { OnOk result (rows.new.items ≡ rows.old.items ++ new_rows (records_in old.now) (records_in new.now)) }
 {
     let mut r = Reader::new(new);
-    while let Some(bytes) = r.read_bytes(16) {
-        push_new_row(rows, old, bytes)?;
+    while let Some(one) = r.read::<TableRecord>() {
+        push_new_row(rows, old, one)?;
     }
     Ok(())
 }
@@ -96,11 +93,10 @@ pub fn table_sizes(alloc: Global, old: &[u8], new: &[u8]) -> Result<Vec<TableSiz
 }
 
 /// The tag of a table and its size, from its record.
-fn tag_and_size(bytes: &[u8]) -> (Tag, u32)
-    requires { length bytes.now ≡ 16 }
-    ensures { result ≡ tag_and_size (record_of bytes.now) }
+fn tag_and_size(one: TableRecord) -> (Tag, u32)
+    ensures { result ≡ tag_and_size one }
 {
-    (tag_in(bytes), place_in(bytes).length)
+    (one.tag, one.length)
 }
 
 /// The tables of a directory with their sizes.
@@ -110,8 +106,8 @@ pub fn tables_of(alloc: Global, records: &[u8]) -> Result<Vec<(Tag, u32)>, Alloc
 {
     let mut tables = Vec::new(alloc);
     let mut r = Reader::new(records);
-    while let Some(bytes) = r.read_bytes(16) {
-        tables.push(tag_and_size(bytes))?;
+    while let Some(one) = r.read::<TableRecord>() {
+        tables.push(tag_and_size(one))?;
     }
     Ok(tables)
 }

@@ -34,11 +34,12 @@ mod pieces;
 
 use crate::glyf::component::{Count, is_composite, push_components};
 use crate::glyf::outlines::OutlineList;
-use crate::head::loca_format;
 use std::alloc::Global;
 use subsetter_base::read::Reader;
 use subsetter_base::{Error, GlyphRemapper, Tag};
 use subsetter_sfnt::face::Face;
+use subsetter_sfnt::fields::head::index_to_loc_format;
+use subsetter_sfnt::fields::loca::loca_offset;
 
 /// The tables that outlines are read from.
 #[derive(Clone, Copy)]
@@ -62,7 +63,7 @@ impl<'a> GlyfTables<'a> {
         let loca = face.table(Tag::LOCA).ok_or(Error::MalformedFont)?;
         let glyf = face.table(Tag::GLYF).ok_or(Error::MalformedFont)?;
         let head = face.table(Tag::HEAD).ok_or(Error::MalformedFont)?;
-        let format = loca_format(head).ok_or(Error::MalformedFont)?;
+        let format = index_to_loc_format(head).ok_or(Error::MalformedFont)?;
         Ok(Self {
             loca,
             glyf,
@@ -78,13 +79,7 @@ impl<'a> GlyfTables<'a> {
         ensures exact { result ≡ offset (seen self.now) entry }
         ensures small { IfSome result (λ n. n < 2 ^ 32) }
     {
-        if self.long {
-            let offset = Reader::new_at(self.loca, 4 * entry).read::<u32>()?;
-            Some(offset as usize)
-        } else {
-            let half = Reader::new_at(self.loca, 2 * entry).read::<u16>()?;
-            Some(2 * half as usize)
-        }
+        loca_offset(self.loca, self.long, entry)
     }
 
     /// The outline of a glyph.

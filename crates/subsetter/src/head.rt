@@ -3,29 +3,17 @@
 //! It says, among much else, in checksumAdjustment what the sum of the whole file lacks to a fixed number, and in
 //! indexToLocFormat which format `loca` has. The new one is a copy in which these two are written anew.
 
-ghost use Rattle.std.specs.Prelude.{◌≡◌, ◌≤◌, ◌+◌, ◌++◌, length, vec_capacity, IfSome};
+ghost use Rattle.std.specs.Prelude.{◌≡◌, ◌≤◌, ◌+◌, ◌++◌, length, vec_capacity};
 ghost use Rattle.std.specs.Option.{option_copied};
-ghost use Rattle.subsetter_base.specs.Bytes.{number};
 ghost use Rattle.subsetter_base.specs.Gives.{Gives};
 ghost use Rattle.subsetter.specs.Head.Written.{format_bytes, head_in};
 
 use std::marker::Model;
 use subsetter_base::Error;
-use subsetter_base::read::Reader;
+use subsetter_sfnt::fields::head::{
+    CHECKSUM_ADJUSTMENT, GLYPH_DATA_FORMAT, INDEX_TO_LOC_FORMAT, MAGIC_NUMBER,
+};
 use subsetter_sfnt::room::put;
-
-/// Where indexToLocFormat begins, two bytes.
-const FORMAT_START: usize = 50;
-/// Where it ends.
-const FORMAT_END: usize = 52;
-
-/// indexToLocFormat, none where `head` ends before it does. `loca` has the long format where it is not 0.
-pub fn loca_format(head: &[u8]) -> Option<u16>
-    ensures exact { result ≡ number head.now 50 2 }
-    ensures whole { IfSome result (λ n. 52 ≤ length head.now) }
-{
-    Reader::new_at(head, FORMAT_START).read::<u16>()
-}
 
 /// Writes indexToLocFormat: 0 for halves of offsets, 1 for offsets.
 fn write_format(out: &mut Vec<u8>, long: bool)
@@ -70,11 +58,11 @@ impl<'a> NewHead<'a> {
         ensures capacity { vec_capacity out.old ≤ vec_capacity out.new }
     {
         let source = self.source;
-        put(out, &source[..8]);
+        put(out, &source[..CHECKSUM_ADJUSTMENT]);
         put(out, &[0, 0, 0, 0]);
-        put(out, &source[12..FORMAT_START]);
+        put(out, &source[MAGIC_NUMBER..INDEX_TO_LOC_FORMAT]);
         write_format(out, self.long);
-        put(out, &source[FORMAT_END..]);
+        put(out, &source[GLYPH_DATA_FORMAT..]);
     }
 }
 
@@ -86,7 +74,7 @@ pub fn subset<'a>(head: Option<&'a [u8]>, long: bool) -> Result<Option<NewHead<'
     let Some(head) = head else {
         return Ok(None);
     };
-    if head.len() < FORMAT_END {
+    if head.len() < GLYPH_DATA_FORMAT {
         return Err(Error::MalformedFont);
     }
     Ok(Some(NewHead { source: head, long }))

@@ -11,48 +11,14 @@ ghost use Rattle.std.specs.Prelude.{◌≡◌, ◌+◌, ◌++◌, ◌≤◌, ◌
 ghost use Rattle.std.specs.Option.{option_copied};
 ghost use Rattle.std.specs.List.{flat_map};
 ghost use Rattle.subsetter_base.specs.Gives.{Gives};
-ghost use Rattle.subsetter.specs.Hmtx.Read.{metric_at, metric_in};
 ghost use Rattle.subsetter.specs.Hmtx.Written.{least_count, pair_bytes, bearing_bytes, metrics_all, source_count, tables_of, metrics_in};
 
 use std::alloc::Global;
 use std::marker::Model;
-use subsetter_base::read::Reader;
 use subsetter_base::{Error, GlyphRemapper};
+use subsetter_sfnt::fields::hhea::{NUMBER_OF_H_METRICS, SIZE as HHEA_SIZE, number_of_h_metrics};
+use subsetter_sfnt::fields::hmtx::{LongHorMetric, glyph_metric, last_advance};
 use subsetter_sfnt::room::put;
-
-/// The horizontal metric of a glyph, in font design units.
-#[derive(Clone, Copy, PartialEq, Eq)]
-pub struct Metric {
-    /// The advance width.
-    pub advance: u16,
-    /// The left side bearing: the two bytes of an i16, which is kept and never computed with.
-    pub bearing: u16,
-}
-
-/// An advance and a bearing at two places of `hmtx`.
-fn metric_at(hmtx: &[u8], advance_at: usize, bearing_at: usize) -> Option<Metric>
-    ensures { result ≡ metric_at hmtx.now advance_at bearing_at }
-{
-    let advance = Reader::new_at(hmtx, advance_at).read::<u16>()?;
-    let bearing = Reader::new_at(hmtx, bearing_at).read::<u16>()?;
-    Some(Metric { advance, bearing })
-}
-
-/// The metric of a glyph: among the first `count` a pair of its own, after them the last advance with a bearing of its own.
-#[tactic(auto, unfolding(crate::specs::Hmtx::Read::metric_in))]
-fn glyph_metric(hmtx: &[u8], count: u16, glyph: u16) -> Option<Metric>
-    ensures { result ≡ metric_in hmtx.now count glyph }
-{
-    let pairs = count as usize;
-    let glyph = glyph as usize;
-    if glyph < pairs {
-        metric_at(hmtx, 4 * glyph, 4 * glyph + 2)
-    } else if pairs == 0 {
-        None
-    } else {
-        metric_at(hmtx, 4 * (pairs - 1), 4 * pairs + 2 * (glyph - pairs))
-    }
-}
 
 /// numberOfHMetrics of the source, whose last pair has its advance. No pairs are `OverflowError`; a cut table is `MalformedFont`.
 #[tactic(auto, unfolding(crate::specs::Hmtx::Written::source_count))]
@@ -60,15 +26,11 @@ fn source_count(hhea: &[u8], hmtx: &[u8]) -> Result<u16, Error>
     ensures exact { result ≡ source_count hhea.now hmtx.now }
     ensures header { OnOk result (36 ≤ length hhea.now) }
 {
-    let count = Reader::new_at(hhea, 34)
-        .read::<u16>()
-        .ok_or(Error::MalformedFont)?;
+    let count = number_of_h_metrics(hhea).ok_or(Error::MalformedFont)?;
     if count == 0 {
         return Err(Error::OverflowError);
     }
-    Reader::new_at(hmtx, 4 * (count as usize - 1))
-        .read::<u16>()
-        .ok_or(Error::MalformedFont)?;
+    last_advance(hmtx, count).ok_or(Error::MalformedFont)?;
     Ok(count)
 }
 
@@ -78,7 +40,7 @@ fn metrics(
     hmtx: &[u8],
     count: u16,
     mapper: &GlyphRemapper,
-) -> Result<Vec<Metric>, Error>
+) -> Result<Vec<LongHorMetric>, Error>
     ensures exact { Gives (λ v. v.items) result (metrics_all hmtx.now count mapper.now) }
     ensures few { IfOk result (λ v. length v.items < 2 ^ 16) }
 {
@@ -90,7 +52,7 @@ fn metrics(
 }
 
 /// The least number of pairs: up to the first glyph after which all share its advance.
-fn least_count(metrics: &[Metric]) -> usize
+fn least_count(metrics: &[LongHorMetric]) -> usize
     ensures value { result ≡ least_count metrics.now }
     ensures bound { result ≤ length metrics.now }
 {
@@ -111,7 +73,7 @@ fn least_count(metrics: &[Metric]) -> usize
 }
 
 /// Writes pairs of advance and bearing.
-fn write_pairs(out: &mut Vec<u8>, metrics: &[Metric])
+fn write_pairs(out: &mut Vec<u8>, metrics: &[LongHorMetric])
     requires { length out.old.items + length (flat_map pair_bytes metrics.now) ≤ vec_capacity out.old }
     ensures items { out.new.items ≡ out.old.items ++ flat_map pair_bytes metrics.now }
     ensures capacity { vec_capacity out.old ≤ vec_capacity out.new }
@@ -124,7 +86,7 @@ fn write_pairs(out: &mut Vec<u8>, metrics: &[Metric])
 }
 
 /// Writes bearings alone.
-fn write_bearings(out: &mut Vec<u8>, metrics: &[Metric])
+fn write_bearings(out: &mut Vec<u8>, metrics: &[LongHorMetric])
     requires { length out.old.items + length (flat_map bearing_bytes metrics.now) ≤ vec_capacity out.old }
     ensures items { out.new.items ≡ out.old.items ++ flat_map bearing_bytes metrics.now }
     ensures capacity { vec_capacity out.old ≤ vec_capacity out.new }
@@ -140,7 +102,7 @@ fn write_bearings(out: &mut Vec<u8>, metrics: &[Metric])
 pub struct NewMetrics<'a> {
     /// The source's `hhea`.
     header: &'a [u8],
-    metrics: Vec<Metric>,
+    metrics: Vec<LongHorMetric>,
     pairs: u16,
 }
 
@@ -182,9 +144,9 @@ impl<'a> NewMetrics<'a> {
         ensures capacity { vec_capacity out.old ≤ vec_capacity out.new }
     {
         let header = self.header;
-        put(out, &header[..34]);
+        put(out, &header[..NUMBER_OF_H_METRICS]);
         put(out, &self.pairs.to_be_bytes());
-        put(out, &header[36..]);
+        put(out, &header[HHEA_SIZE..]);
     }
 
     /// Writes `hmtx`.

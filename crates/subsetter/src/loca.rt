@@ -12,6 +12,7 @@ use crate::glyf::outlines::{OutlineList, outlines_len};
 use std::alloc::Global;
 use subsetter_base::Error;
 use subsetter_base::write::Writer;
+use subsetter_sfnt::fields::loca::{OFFSET16_SIZE, OFFSET32_SIZE};
 
 /// Whether the offsets need the long format: halves of them don't fit 16 bits.
 pub fn is_long(outlines: &OutlineList<'_>) -> bool
@@ -39,7 +40,7 @@ pub fn subset(alloc: Global, outlines: &OutlineList<'_>, long: bool) -> Result<V
     ensures ok { IfOk result (λ v. v.items ≡ loca_bytes long 0 outlines.now.items) }
     ensures err { IfErr result (λ e. e ≡ OutOfMemory) }
 {
-    let entry = if long { 4 } else { 2 };
+    let entry = if long { OFFSET32_SIZE } else { OFFSET16_SIZE };
     let room = outlines.len().saturating_add(1).saturating_mul(entry);
     let mut w = Writer::with_capacity(alloc, room)?;
     let mut offset: usize = 0;

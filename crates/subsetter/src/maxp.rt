@@ -13,6 +13,7 @@ ghost use Rattle.subsetter.specs.Maxp.Written.{hinted_fields, maxp_in};
 
 use std::marker::Model;
 use subsetter_base::Error;
+use subsetter_sfnt::fields::maxp::NUM_GLYPHS_END;
 use subsetter_sfnt::flavor::FontFlavor;
 use subsetter_sfnt::room::put;
 
@@ -32,7 +33,7 @@ fn further_fields(maxp: &[u8], flavor: FontFlavor) -> &[u8]
     ensures { result.now ≡ further_fields flavor maxp.now }
 {
     match flavor {
-        FontFlavor::TrueType => &maxp[6..],
+        FontFlavor::TrueType => &maxp[NUM_GLYPHS_END..],
         FontFlavor::Cff => &[],
     }
 }
@@ -94,7 +95,7 @@ impl<'a> NewMaxp<'a> {
     pub fn len(&self) -> usize
         ensures { result ≡ length self.now }
     {
-        6 + further_fields(self.source, self.flavor).len()
+        NUM_GLYPHS_END + further_fields(self.source, self.flavor).len()
     }
 
     /// Writes it.
@@ -123,7 +124,7 @@ pub fn subset<'a>(
     let Some(maxp) = maxp else {
         return Ok(None);
     };
-    if maxp.len() < 6 {
+    if maxp.len() < NUM_GLYPHS_END {
         return Err(Error::MalformedFont);
     }
     Ok(Some(NewMaxp {

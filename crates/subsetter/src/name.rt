@@ -14,7 +14,8 @@ ghost use Rattle.std.specs.Prelude.{ℕ, List, nat_le, ◌&&◌, ◌≡◌, ◌+
 ghost use Rattle.std.specs.Option.{option_copied, option_map, ok_or};
 ghost use Rattle.subsetter_base.specs.Gives.{Gives, Fails};
 ghost use Rattle.subsetter_base.specs.declared.error.Error.TheVariants.{OutOfMemory};
-ghost use Rattle.subsetter.specs.Name.Read.{name_record_bytes, name_parts, is_unicode, is_kept_record, string_of, among, with_string, string_place, joined};
+ghost use Rattle.subsetter.specs.Name.Read.{name_parts, is_kept_record, among, with_string, string_place, joined};
+ghost use Rattle.subsetter_sfnt.specs.Fields.Name.{name_record_bytes};
 ghost use Rattle.subsetter.specs.Name.Plain.{placed, placed_string, name_of_table, new_name, header_bytes, laid_behind, few_laid, laid_bytes, kept_bytes};
 ghost use Rattle.subsetter.specs.Name.View.{nows, seen_parts, seen_table, name_seen};
 
@@ -25,83 +26,16 @@ use std::alloc::Global;
 use std::collections::HashMap;
 use std::marker::Model;
 use subsetter_base::Error;
-use subsetter_base::read::{LazyArray16, Readable, Reader, u16_at};
+use subsetter_base::read::{LazyArray16, Reader};
 use subsetter_base::write::{Writeable, Writer};
+use subsetter_sfnt::fields::name::{COUNT, NameRecord};
 use subsetter_sfnt::room::put;
 
-/// A record of `name`: the string of a name, by its length and its offset in the storage, in bytes.
-#[derive(Clone, Copy, Debug)]
-pub struct NameRecord {
-    pub platform_id: u16,
-    pub encoding_id: u16,
-    pub language_id: u16,
-    pub name_id: u16,
-    pub length: u16,
-    pub string_offset: u16,
-}
-
-impl NameRecord {
-    /// Whether its string is Unicode: on the platform Unicode, and on Windows in three encodings.
-    pub fn is_unicode(&self) -> bool
-        ensures { result ≡ is_unicode self.now.platform_id self.now.encoding_id }
-    {
-        self.platform_id == 0
-            || (self.platform_id == 3
-                && (self.encoding_id == 0 || self.encoding_id == 1 || self.encoding_id == 10))
-    }
-
-    /// The bytes of its string, if they are inside the storage.
-    fn string<'a>(&self, storage: &'a [u8]) -> Option<&'a [u8]>
-        ensures { option_copied result ≡ string_of storage.now self.now }
-    {
-        Reader::new_at(storage, self.string_offset as usize).read_bytes(self.length as usize)
-    }
-
-    /// Whether a subset keeps it: its string is Unicode, and it isn't the description.
-    fn is_kept(&self) -> bool
-        ensures { result ≡ is_kept_record self.now }
-    {
-        self.is_unicode() && self.name_id < 15 && self.name_id != 10
-    }
-}
-
-impl Readable<'_> for NameRecord {
-    ghost use Rattle.std.specs.Prelude.{Some};
-    ghost use Rattle.subsetter.specs.Name.Read.{name_record_of};
-
-    const SIZE: usize = 12;
-
-    ghost SIZE = { 12 };
-
-    ghost value_of = { λ bytes. Some (name_record_of bytes) };
-
-    fn read(r: &mut Reader<'_>) -> Option<Self> {
-        let b = r.read_bytes(12)?;
-        Some(NameRecord {
-            platform_id: u16_at(b, 0),
-            encoding_id: u16_at(b, 2),
-            language_id: u16_at(b, 4),
-            name_id: u16_at(b, 6),
-            length: u16_at(b, 8),
-            string_offset: u16_at(b, 10),
-        })
-    }
-}
-
-impl Writeable for NameRecord {
-    ghost use Rattle.subsetter.specs.Name.Read.{name_record_bytes};
-
-    ghost bytes_of = { λ r. name_record_bytes r };
-
-    fn write(&self, w: &mut Writer) -> Result<(), Error> {
-        let [a, b] = self.platform_id.to_be_bytes();
-        let [c, d] = self.encoding_id.to_be_bytes();
-        let [e, f] = self.language_id.to_be_bytes();
-        let [g, h] = self.name_id.to_be_bytes();
-        let [i, j] = self.length.to_be_bytes();
-        let [k, l] = self.string_offset.to_be_bytes();
-        w.extend(&[a, b, c, d, e, f, g, h, i, j, k, l])
-    }
+/// Whether a subset keeps a record: its string is Unicode, and it isn't the description.
+fn is_kept(one: &NameRecord) -> bool
+    ensures { result ≡ is_kept_record one.now }
+{
+    one.is_unicode() && one.name_id < 15 && one.name_id != 10
 }
 
 /// How many strings are looked through one by one.
@@ -258,7 +192,7 @@ fn parse_parts(data: &[u8]) -> Option<Table<'_>>
     ensures parts { option_map seen_parts result ≡ name_parts «data».now }
     ensures whole { IfSome result (λ t. length t.records.bytes ≡ t.records.count * 12) }
 {
-    let mut r = Reader::new_at(data, 2);
+    let mut r = Reader::new_at(data, COUNT);
     let count = r.read::<u16>()?;
     let offset = r.read::<u16>()?;
     let records = r.read_array16::<NameRecord>(count)?;
@@ -382,7 +316,7 @@ fn collect_names<'a>(
     ensures err { IfErr result (λ e. Fails e (laid_behind [] (placed table.now.storage.now [] (filter is_kept_record (seen_table table.now).records)))) }
 {
     for record in table.records.iter() {
-        if record.is_kept() {
+        if is_kept(&record) {
             let string = record.string(table.storage).ok_or(Error::SubsetError)?;
             let string_offset = strings.place(string)?;
             front.write(&NameRecord {

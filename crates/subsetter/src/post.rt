@@ -26,6 +26,7 @@ use std::marker::Model;
 use subsetter_base::read::{LazyArray16, Reader};
 use subsetter_base::write::Writer;
 use subsetter_base::{Error, GlyphRemapper};
+use subsetter_sfnt::fields::post::{HEADER_SIZE, version};
 
 /// How many glyphs have standard Macintosh names, whose indexes are the numbers below.
 const STANDARD_NAMES: u16 = 258;
@@ -87,11 +88,11 @@ impl<'a> Version2Table<'a> {
     pub fn parse(data: &'a [u8]) -> Option<Self>
         ensures { option_map seen_post result ≡ post_table «data».now }
     {
-        if Reader::new(data).read::<u32>()? != 0x0002_0000 {
+        if version(data)? != 0x0002_0000 {
             return None;
         }
         let mut r = Reader::new(data);
-        let header = r.read_bytes(32)?;
+        let header = r.read_bytes(HEADER_SIZE)?;
         let count = r.read::<u16>()?;
         let glyph_indexes = r.read_array16::<u16>(count)?;
         let names_data = r.tail()?;

@@ -10,19 +10,20 @@ use Rattle.subsetter_base.specs.declared.error.Error.{Error}
 use Rattle.subsetter_base.specs.declared.error.Error.TheVariants.{MalformedFont, OverflowError}
 use Rattle.subsetter_base.proofs.ByteLemmas.{range-take_drop, number-fits}
 use Rattle.subsetter_base.proofs.Options.{just}
-use Rattle.subsetter.specs.declared.hmtx.Metric.{Metric}
-use Rattle.subsetter.specs.Hmtx.Read.{number_of_metrics, metric_in}
+use Rattle.subsetter_sfnt.specs.declared.fields.hmtx.LongHorMetric.{LongHorMetric}
+use Rattle.subsetter_sfnt.specs.Fields.Hmtx.{metric_in}
+use Rattle.subsetter_sfnt.specs.Fields.Hhea.{number_of_h_metrics}
 use Rattle.subsetter.specs.Hmtx.Written.{MetricBytes, least_count, hmtx_bytes, hhea_bytes, if_pairs, metrics_all, source_count, tables_of, metrics_in, metrics_of}
 use Rattle.subsetter.proofs.HmtxLaws.Back.{metric_small, metric_back, length-hmtx, count_back, header_before, header_after}
 use Rattle.subsetter.proofs.HmtxLaws.Kept.{Steps, steps, no_metrics}
 use Rattle.subsetter.proofs.HmtxLaws.Written.{metrics-length, metrics_at, least_count-le, least_count_pos, advances_agree}
 use Rattle.subsetter_again.proofs.Places.{AreAt}
 
-abbrev zeros : Metric
+abbrev zeros : LongHorMetric
 zeros = record { advance = 0; bearing = 0 }
 
 -- metrics, one by one
-all_metrics : (hmtx : List ℕ) (count : ℕ) (gs : List ℕ) (ms : List Metric) → length ms ≡ length gs → ((i : ℕ) → i < length gs → metric_in hmtx count (get_or gs i 0) ≡ Some (get_or ms i zeros)) → metrics_all hmtx count gs ≡ Ok ms
+all_metrics : (hmtx : List ℕ) (count : ℕ) (gs : List ℕ) (ms : List LongHorMetric) → length ms ≡ length gs → ((i : ℕ) → i < length gs → metric_in hmtx count (get_or gs i 0) ≡ Some (get_or ms i zeros)) → metrics_all hmtx count gs ≡ Ok ms
 all_metrics hmtx count [] [] len h = refl
 all_metrics hmtx count [] (m ∷ ms) len h = absurd (omega (arith, len))
 all_metrics hmtx count (g ∷ gs) [] len h = absurd (omega (arith, len))
@@ -42,7 +43,7 @@ header_twice : (k n : ℕ) (hhea : List ℕ) → 36 ≤ length hhea → hhea_byt
 header_twice k n hhea le = header_whole k (hhea_bytes n hhea) hhea (header_before n hhea le) (header_after n hhea le)
 
 -- a count of pairs that are there
-count_there : (hhea hmtx : List ℕ) (count advance : ℕ) → number_of_metrics hhea ≡ Some count → 1 ≤ count → number hmtx (4 * (count - 1)) 2 ≡ Some advance → source_count hhea hmtx ≡ Ok count
+count_there : (hhea hmtx : List ℕ) (count advance : ℕ) → number_of_h_metrics hhea ≡ Some count → 1 ≤ count → number hmtx (4 * (count - 1)) 2 ≡ Some advance → source_count hhea hmtx ≡ Ok count
 unfolding source_count
 count_there hhea hmtx count advance is positive last =
     ap (λ o. ok_or o MalformedFont >>= λ found. if_pairs found >>= λ n. ok_or (number hmtx (4 * (n - 1)) 2) MalformedFont >>= λ a. Ok n) is
@@ -80,10 +81,10 @@ module _ (find : List ℕ → Option (List ℕ)) (L M order : List ℕ) (t : Met
       metric_back s.metrics n i zeros positive at_most within fits agree
 
   -- the metrics of the glyphs, either way
-  abbrev ms : List Metric
+  abbrev ms : List LongHorMetric
   ms = map (λ i. get_or s.metrics i zeros) M
 
-  abbrev whole : List ℕ → List Metric → Result MetricBytes Error
+  abbrev whole : List ℕ → List LongHorMetric → Result MetricBytes Error
   whole header found = let k = least_count found in Ok (record { hhea = hhea_bytes k header; hmtx = hmtx_bytes k found })
 
   nth_metric : (i : ℕ) → i < length M → get_or ms i zeros ≡ get_or s.metrics (get_or M i 0) zeros

@@ -6,8 +6,9 @@ use Rattle.std.specs.List.{AllByRecursion}
 use Rattle.std.proofs.lemmas.Bool.{le-leb, eqb-true}
 use Rattle.subsetter_base.specs.Bytes.{IsBytes, range, number, ◌>>=◌}
 use Rattle.subsetter_base.specs.declared.error.Error.TheVariants.{MalformedFont, SubsetError}
-use Rattle.subsetter.specs.declared.name.NameRecord.{NameRecord}
-use Rattle.subsetter.specs.Name.Read.{NameTable, name_parts, name_table, string_of, is_kept_record, with_string, with_strings, string_place, joined, name_bytes}
+use Rattle.subsetter_sfnt.specs.declared.fields.name.NameRecord.{NameRecord}
+use Rattle.subsetter.specs.Name.Read.{NameTable, name_parts, name_table, is_kept_record, with_string, with_strings, string_place, joined, name_bytes}
+use Rattle.subsetter_sfnt.specs.Fields.Name.{string_of}
 use Rattle.subsetter.specs.Name.Plain.{Placed, placed_string, with_name, placed, few_names, subset_names, name_of_table, new_name, name_of}
 use Rattle.subsetter_base.proofs.Options.{bind_some}
 use Rattle.subsetter.proofs.NameLaws.Back.{FitsRecord, all_bytes, fits_kept, table_back}

@@ -11,7 +11,7 @@ use Rattle.subsetter_variation.specs.Varied.{in_units}
 use Rattle.subsetter_variation.specs.VariationLaws.{HasBoundTuples}
 use Rattle.subsetter_variation.proofs.Defaults.{stays_at_default}
 use Rattle.subsetter_instance.specs.Source.{Source, description, metric}
-use Rattle.subsetter_instance.specs.declared.source.Metric.{Metric}
+use Rattle.subsetter_sfnt.specs.declared.fields.hmtx.LongHorMetric.{LongHorMetric}
 use Rattle.subsetter_instance.specs.Drawn.{Drawn, drawn, levels, rounded}
 use Rattle.subsetter_instance.specs.MetricLaws.{IsDrawnAsUnvaried}
 use Rattle.subsetter_instance.specs.Unfolded.{Unfolded, moved, unfolded}
@@ -35,7 +35,7 @@ is_drawn_as_it_stands s at depth m n g u v zeros bound e f =
 
 -- the parts of what is drawn: the metric, and what the glyph unfolds to
 pub record DrawnParts (s : Source) (at : List ℤ) (steps g : ℕ) (d : Drawn) : Type 0 where
-  pub m : Metric
+  pub m : LongHorMetric
   pub m_is : metric s g ≡ Some m
   pub u : Unfolded × ℕ
   pub u_is : unfolded levels s at steps g ≡ Ok u
@@ -53,7 +53,7 @@ unfolding metric
 same_metric s g = refl
 
 -- HVAR alone decides the advance, and both have the same
-same_rounded : (s : Source) (at : List ℤ) (g : ℕ) (m : Metric) (u : Unfolded) → rounded (unvaried s) at g m u ≡ rounded s at g m u
+same_rounded : (s : Source) (at : List ℤ) (g : ℕ) (m : LongHorMetric) (u : Unfolded) → rounded (unvaried s) at g m u ≡ rounded s at g m u
 unfolding rounded
 same_rounded s at g m u = refl
 
@@ -63,4 +63,4 @@ is_drawn_as_unvaried s at m n g d e zeros bound h k =
     let b = drawn_parts (unvaried s) at n g e k in
     let metrics : a.m ≡ b.m = just_is a.m b.m (sym a.m_is ∙ sym (same_metric s g) ∙ b.m_is) in
     let outlines : a.u.0 ≡ b.u.0 = is_drawn_as_it_stands s at levels m n g a.u b.u zeros bound a.u_is b.u_is in
-    done_is d e (sym a.d_is ∙ ap (λ (x : Metric). rounded s at g x a.u.0) metrics ∙ ap (λ (u : Unfolded). rounded s at g b.m u) outlines ∙ sym (same_rounded s at g b.m b.u.0) ∙ b.d_is)
+    done_is d e (sym a.d_is ∙ ap (λ (x : LongHorMetric). rounded s at g x a.u.0) metrics ∙ ap (λ (u : Unfolded). rounded s at g b.m u) outlines ∙ sym (same_rounded s at g b.m b.u.0) ∙ b.d_is)

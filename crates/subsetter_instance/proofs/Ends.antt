@@ -10,7 +10,7 @@ use Rattle.std.proofs.lemmas.List.FromFn.{map-range_with_len_more}
 use Rattle.subsetter_points.specs.Simple.{are_ends, has, parts, points, xs_of, ys_of}
 use Rattle.subsetter_points.proofs.Sound.{points_length}
 use Rattle.subsetter_instance.specs.Source.{Source}
-use Rattle.subsetter_instance.specs.declared.source.Metric.{Metric}
+use Rattle.subsetter_sfnt.specs.declared.fields.hmtx.LongHorMetric.{LongHorMetric}
 use Rattle.subsetter_points.proofs.Back.{both, are_ends_count}
 use Rattle.subsetter_variation.specs.Varied.{AreEnds}
 use Rattle.subsetter_variation.specs.Movement.{IsOutline, spent}
@@ -73,7 +73,7 @@ on_of_points (f ∷ fs) (u ∷ us) [] a b = absurd (omega arith)
 on_of_points (f ∷ fs) (u ∷ us) (v ∷ vs) a b = ap (λ l. has f 1 ∷ l) (on_of_points fs us vs (omega arith) (omega arith))
 
 -- a simple glyph by its flags and coordinates
-pub simple_by_flags : (s : Source) (at : List ℤ) (steps g : ℕ) (bytes : List ℕ) (m : Metric) (ends fs : List ℕ) (us vs : List ℤ) → Some (ends, points fs us vs) ≡ parts bytes → length us ≡ length fs → length vs ≡ length fs
+pub simple_by_flags : (s : Source) (at : List ℤ) (steps g : ℕ) (bytes : List ℕ) (m : LongHorMetric) (ends fs : List ℕ) (us vs : List ℤ) → Some (ends, points fs us vs) ≡ parts bytes → length us ≡ length fs → length vs ≡ length fs
     → unfolded_by_flags s at steps g bytes m ends fs us vs ≡ unfolded_simple s at steps g bytes m
 unfolding unfolded_simple unfolded_by_flags
 simple_by_flags s at steps g bytes m ends fs us vs e a b =

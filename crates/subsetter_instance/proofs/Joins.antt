@@ -12,7 +12,7 @@ use Rattle.subsetter_variation.specs.Varied.{AreEnds}
 use Rattle.subsetter_variation.specs.Movement.{IsOutline, spent}
 use Rattle.subsetter_variation.proofs.Walks.{fails_on}
 use Rattle.subsetter_instance.specs.declared.components.Component.{Component}
-use Rattle.subsetter_instance.specs.declared.source.Metric.{Metric}
+use Rattle.subsetter_sfnt.specs.declared.fields.hmtx.LongHorMetric.{LongHorMetric}
 use Rattle.subsetter_instance.specs.Components.{offset_x, offset_xs, offset_y, offset_ys}
 use Rattle.subsetter_instance.specs.Source.{Source, metric}
 use Rattle.subsetter_instance.specs.Unfolded.{Child, Composite, Unfolded, composite, counted_description, is_composite, joined, no_points, unfolded, unfolded_composite, unfolded_simple, with_component, with_phantoms}
@@ -77,35 +77,35 @@ placing_fails child cs rest c k xs ys before part left steps whole e s h g f =
 -- ---- a composite glyph
 
 -- a glyph that is met, of a depth above 0
-met : (d : ℕ) (s : Source) (at : List ℤ) (steps g : ℕ) (bytes : List ℕ) (m : Metric) → counted_description s g ≡ Some bytes → metric s g ≡ Some m → is_composite bytes ≡ true
+met : (d : ℕ) (s : Source) (at : List ℤ) (steps g : ℕ) (bytes : List ℕ) (m : LongHorMetric) → counted_description s g ≡ Some bytes → metric s g ≡ Some m → is_composite bytes ≡ true
     → unfolded (suc d) s at steps g ≡ unfolded_composite (unfolded d s at) s at steps g bytes m
 unfolding unfolded
 met d s at steps g bytes m b h c = rw (b, h, c) refl
 
-pub as_composite : (depth : ℕ) (s : Source) (at : List ℤ) (steps g : ℕ) (bytes : List ℕ) (m : Metric) → 0 < depth → counted_description s g ≡ Some bytes → metric s g ≡ Some m → is_composite bytes ≡ true
+pub as_composite : (depth : ℕ) (s : Source) (at : List ℤ) (steps g : ℕ) (bytes : List ℕ) (m : LongHorMetric) → 0 < depth → counted_description s g ≡ Some bytes → metric s g ≡ Some m → is_composite bytes ≡ true
     → unfolded depth s at steps g ≡ (composite s at steps g bytes m >>= λ c. joined (unfolded (depth - 1) s at) c.components 0 c.xs c.ys (no_points c.left c.right, c.steps))
 unfolding unfolded_composite
 as_composite depth s at steps g bytes m above b h c =
     let one : depth ≡ suc (depth - 1) = omega arith in
     ap (λ n. unfolded n s at steps g) one ∙ met (depth - 1) s at steps g bytes m b h c
 
-pub composite_begins : (depth : ℕ) (s : Source) (at : List ℤ) (steps g : ℕ) (bytes : List ℕ) (m : Metric) (c : Composite) → 0 < depth → counted_description s g ≡ Some bytes → metric s g ≡ Some m → is_composite bytes ≡ true → composite s at steps g bytes m ≡ Ok c
+pub composite_begins : (depth : ℕ) (s : Source) (at : List ℤ) (steps g : ℕ) (bytes : List ℕ) (m : LongHorMetric) (c : Composite) → 0 < depth → counted_description s g ≡ Some bytes → metric s g ≡ Some m → is_composite bytes ≡ true → composite s at steps g bytes m ≡ Ok c
     → joined (unfolded (depth - 1) s at) c.components 0 c.xs c.ys (no_points c.left c.right, c.steps) ≡ unfolded depth s at steps g
 composite_begins depth s at steps g bytes m c above b h k e = sym (as_composite depth s at steps g bytes m above b h k ∙ ap (λ r. r >>= λ d. joined (unfolded (depth - 1) s at) d.components 0 d.xs d.ys (no_points d.left d.right, d.steps)) e)
 
-pub composite_fails : (depth : ℕ) (s : Source) (at : List ℤ) (steps g : ℕ) (bytes : List ℕ) (m : Metric) (e : Error) → 0 < depth → counted_description s g ≡ Some bytes → metric s g ≡ Some m → is_composite bytes ≡ true → Fails e (composite s at steps g bytes m)
+pub composite_fails : (depth : ℕ) (s : Source) (at : List ℤ) (steps g : ℕ) (bytes : List ℕ) (m : LongHorMetric) (e : Error) → 0 < depth → counted_description s g ≡ Some bytes → metric s g ≡ Some m → is_composite bytes ≡ true → Fails e (composite s at steps g bytes m)
     → Fails e (unfolded depth s at steps g)
 composite_fails depth s at steps g bytes m e above b h k f =
     fails_on (composite s at steps g bytes m) (λ d. joined (unfolded (depth - 1) s at) d.components 0 d.xs d.ys (no_points d.left d.right, d.steps)) (unfolded depth s at steps g) e (sym (as_composite depth s at steps g bytes m above b h k)) f
 
 -- ---- a simple glyph
 
-met_simple : (d : ℕ) (s : Source) (at : List ℤ) (steps g : ℕ) (bytes : List ℕ) (m : Metric) → counted_description s g ≡ Some bytes → metric s g ≡ Some m → is_composite bytes ≡ false
+met_simple : (d : ℕ) (s : Source) (at : List ℤ) (steps g : ℕ) (bytes : List ℕ) (m : LongHorMetric) → counted_description s g ≡ Some bytes → metric s g ≡ Some m → is_composite bytes ≡ false
     → unfolded (suc d) s at steps g ≡ unfolded_simple s at steps g bytes m
 unfolding unfolded
 met_simple d s at steps g bytes m b h c = rw (b, h, c) refl
 
-pub as_simple : (depth : ℕ) (s : Source) (at : List ℤ) (steps g : ℕ) (bytes : List ℕ) (m : Metric) → 0 < depth → counted_description s g ≡ Some bytes → metric s g ≡ Some m → is_composite bytes ≡ false
+pub as_simple : (depth : ℕ) (s : Source) (at : List ℤ) (steps g : ℕ) (bytes : List ℕ) (m : LongHorMetric) → 0 < depth → counted_description s g ≡ Some bytes → metric s g ≡ Some m → is_composite bytes ≡ false
     → unfolded depth s at steps g ≡ unfolded_simple s at steps g bytes m
 as_simple depth s at steps g bytes m above b h c =
     let one : depth ≡ suc (depth - 1) = omega arith in

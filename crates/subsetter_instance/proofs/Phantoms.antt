@@ -15,7 +15,7 @@ use Rattle.subsetter_points.specs.Simple.{parts, parts_fit, xs_of, ys_of}
 use Rattle.subsetter_variation.specs.Movement.{spent}
 use Rattle.subsetter_variation.specs.Varied.{in_units}
 use Rattle.subsetter_variation.proofs.Items.{nearest_is}
-use Rattle.subsetter_instance.specs.declared.source.Metric.{Metric}
+use Rattle.subsetter_sfnt.specs.declared.fields.hmtx.LongHorMetric.{LongHorMetric}
 use Rattle.subsetter_instance.specs.Drawn.{Drawn, advance, advance_or_fault, bearing, drawn_if_fit, points_or_fault, rounded, whole}
 use Rattle.subsetter_instance.specs.MetricLaws.{IsSimpleAdvanceAtDefault}
 use Rattle.subsetter_instance.specs.Source.{Source, metric}
@@ -51,14 +51,14 @@ fit_advance d es ps n h = by (parts_fit es ps) h
     by true k = ap (λ (x : Drawn). x.advance) (sym (done_is (record { ends = es; points = ps; advance = n; bearing = bearing ps }) d k))
     by false k = absurd cc
 
-rounded_advance : (s : Source) (at : List ℤ) (g : ℕ) (m : Metric) (u : Unfolded) (d : Drawn) → rounded s at g m u ≡ Ok d → advance s.hvar at g m.advance (u.right -ℤ u.left) ≡ Ok d.advance
+rounded_advance : (s : Source) (at : List ℤ) (g : ℕ) (m : LongHorMetric) (u : Unfolded) (d : Drawn) → rounded s at g m u ≡ Ok d → advance s.hvar at g m.advance (u.right -ℤ u.left) ≡ Ok d.advance
 unfolding rounded
 rounded_advance s at g m u d h =
     let a = bind_ok (advance s.hvar at g m.advance (u.right -ℤ u.left)) (λ w. points_or_fault u.left u.on u.xs u.ys >>= λ ps. drawn_if_fit u.ends ps w) d h in
     let b = bind_ok (points_or_fault u.left u.on u.xs u.ys) (λ ps. drawn_if_fit u.ends ps a.0) d a.2 in
     a.1 ∙ ap (λ (n : ℕ). Ok n) (sym (fit_advance d u.ends b.0 a.0 b.2))
 
-module _ (s : Source) (at : List ℤ) (g : ℕ) (bytes : List ℕ) (m : Metric) where
+module _ (s : Source) (at : List ℤ) (g : ℕ) (bytes : List ℕ) (m : LongHorMetric) where
   abbrev outlined : List ℕ × List Point → List ℤ × List ℤ × ℕ → Result (Unfolded × ℕ) Error
   outlined o to = near_or_fault (simple_outline bytes m o.0 o.1 to.0 to.1) to.2
 
@@ -89,7 +89,7 @@ module _ (s : Source) (at : List ℤ) (g : ℕ) (bytes : List ℕ) (m : Metric) 
   glyph_width : (depth steps : ℕ) (u : Unfolded × ℕ) → AreStill → counted_description s g ≡ Some bytes → metric s g ≡ Some m → is_composite bytes ≡ false → unfolded (suc depth) s at steps g ≡ Ok u → u.0.right -ℤ u.0.left ≡ pos (2 ^ 30) *ℤ pos m.advance
   unfolding unfolded
   glyph_width depth steps u still described measured simple h =
-      let go = λ (b : List ℕ) (k : Metric). cond (is_composite b) (unfolded_composite (unfolded depth s at) s at steps g b k) (unfolded_simple s at steps g b k) in
+      let go = λ (b : List ℕ) (k : LongHorMetric). cond (is_composite b) (unfolded_composite (unfolded depth s at) s at steps g b k) (unfolded_simple s at steps g b k) in
       let a = bind_ok (ok_or (counted_description s g) MalformedFont) (λ b. ok_or (metric s g) MalformedFont >>= go b) u h in
       let c = bind_ok (ok_or (metric s g) MalformedFont) (go a.0) u a.2 in
       let x : a.0 ≡ bytes = just_is a.0 bytes (sym (named_ok (counted_description s g) MalformedFont a.0 a.1) ∙ described) in

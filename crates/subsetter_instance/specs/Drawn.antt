@@ -12,7 +12,7 @@ use Rattle.subsetter_variation.specs.Nearest.{nearest}
 use Rattle.subsetter_variation.specs.ItemVariations.{advance_delta, whole_or_fault}
 use Rattle.subsetter_instance.specs.Source.{Source, metric}
 use Rattle.subsetter_instance.specs.Unfolded.{Unfolded, unfolded}
-use Rattle.subsetter_instance.specs.declared.source.Metric.{Metric}
+use Rattle.subsetter_sfnt.specs.declared.fields.hmtx.LongHorMetric.{LongHorMetric}
 
 -- ---- rounded, once
 
@@ -68,7 +68,7 @@ abbrev pub drawn_if_fit : List ℕ → List Point → ℕ → Result Drawn Error
 drawn_if_fit ends points width = if parts_fit ends points then Ok (record { ends = ends; points = points; advance = width; bearing = bearing points }) else Err OverflowError
 
 -- what is drawn of an unfolded glyph
-unfoldable pub rounded : Source → List ℤ → ℕ → Metric → Unfolded → Result Drawn Error
+unfoldable pub rounded : Source → List ℤ → ℕ → LongHorMetric → Unfolded → Result Drawn Error
 rounded s at g m u = do
   width ← advance s.hvar at g m.advance (u.right -ℤ u.left)
   points ← points_or_fault u.left u.on u.xs u.ys

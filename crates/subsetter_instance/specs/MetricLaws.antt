@@ -13,7 +13,7 @@ use Rattle.subsetter_instance.specs.Laws.{unvaried}
 use Rattle.subsetter_instance.specs.Lines.{Lines, lines_of, varied}
 use Rattle.subsetter_instance.specs.Source.{Source, metric}
 use Rattle.subsetter_instance.specs.Unfolded.{counted_description, is_composite}
-use Rattle.subsetter_instance.specs.declared.source.Metric.{Metric}
+use Rattle.subsetter_sfnt.specs.declared.fields.hmtx.LongHorMetric.{LongHorMetric}
 
 -- ---- items
 
@@ -50,7 +50,7 @@ IsAdvanceAtDefault = (hvar : List ℕ) (at : List ℤ) (g before a : ℕ) (width
 
 -- without HVAR too, of a simple glyph, if each tuple has such an axis
 abbrev pub IsSimpleAdvanceAtDefault : Type 0
-IsSimpleAdvanceAtDefault = (s : Source) (at : List ℤ) (steps g : ℕ) (bytes : List ℕ) (m : Metric) (d : Drawn) → All (λ c. c ≡ pos 0) at → ((t : Gvar) (h : ℕ) (o : Outline) → s.gvar ≡ Some t → HasBoundTuples t h o (length at)) → s.hvar ≡ None
+IsSimpleAdvanceAtDefault = (s : Source) (at : List ℤ) (steps g : ℕ) (bytes : List ℕ) (m : LongHorMetric) (d : Drawn) → All (λ c. c ≡ pos 0) at → ((t : Gvar) (h : ℕ) (o : Outline) → s.gvar ≡ Some t → HasBoundTuples t h o (length at)) → s.hvar ≡ None
     → counted_description s g ≡ Some bytes → is_composite bytes ≡ false → metric s g ≡ Some m → drawn s at steps g ≡ Ok d → d.advance ≡ m.advance
 
 -- ---- metrics

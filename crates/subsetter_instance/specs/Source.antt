@@ -8,7 +8,8 @@ use Rattle.subsetter_base.specs.declared.error.Error.TheVariants.{MalformedFont,
 use Rattle.subsetter_variation.specs.Tuples.{Gvar, gvar_table}
 use Rattle.subsetter_variation.specs.Coordinates.{is_other_version, normalized_or_fault}
 use Rattle.subsetter_instance.specs.Optional.{◌>>=◌}
-use Rattle.subsetter_instance.specs.declared.source.Metric.{Metric}
+use Rattle.subsetter_sfnt.specs.Fields.Hmtx.{metric_at}
+use Rattle.subsetter_sfnt.specs.declared.fields.hmtx.LongHorMetric.{LongHorMetric}
 
 -- ---- the place
 
@@ -86,15 +87,8 @@ description s g = do
   to ← offset s (g + 1)
   between_offsets s.glyf from to
 
--- an advance and a left side bearing at two places of hmtx
-abbrev pub metric_at : List ℕ → ℕ → ℕ → Option Metric
-metric_at hmtx advance_at bearing_at = do
-  advance ← number hmtx advance_at 2
-  bearing ← number hmtx bearing_at 2
-  Some (record { advance = advance; bearing = bearing })
-
 -- pairs come first, for as many glyphs as their number says, then bearings alone, which share the last pair's advance
-unfoldable pub metric : Source → ℕ → Option Metric
+unfoldable pub metric : Source → ℕ → Option LongHorMetric
 metric s g =
     if nat_lt g s.pairs then metric_at s.hmtx (4 * g) (4 * g + 2)
     else if s.pairs == 0 then None

@@ -20,7 +20,7 @@ use Rattle.subsetter_instance.specs.declared.components.Arguments.TheVariants.{O
 use Rattle.subsetter_instance.specs.declared.components.Matrix.{Matrix}
 use Rattle.subsetter_instance.specs.declared.components.Component.{Component}
 use Rattle.subsetter_instance.specs.Source.{Source, description, metric}
-use Rattle.subsetter_instance.specs.declared.source.Metric.{Metric}
+use Rattle.subsetter_sfnt.specs.declared.fields.hmtx.LongHorMetric.{LongHorMetric}
 
 -- The number of each contour's last point, which points are on the curve, where they lie, and x of the left and of the right phantom point.
 -- All coordinates are in parts of 2^30.
@@ -77,20 +77,20 @@ signed_or_zero (Some n) = cast_signed w16 n
 abbrev pub x_min : List ℕ → ℤ
 x_min bytes = signed_or_zero (number bytes 2 2)
 
-abbrev pub left_side : List ℕ → Metric → ℤ
+abbrev pub left_side : List ℕ → LongHorMetric → ℤ
 left_side bytes m = x_min bytes -ℤ cast_signed w16 m.bearing
 
 -- the left phantom point, and the right one, which is an advance from it: of the default, and moved as the first two of the points behind n
-abbrev pub left_point : List ℕ → Metric → ℕ → List ℤ → ℤ
+abbrev pub left_point : List ℕ → LongHorMetric → ℕ → List ℤ → ℤ
 left_point bytes m n xs = pos (2 ^ 30) *ℤ left_side bytes m +ℤ slice_index_or xs n (pos 0)
 
-abbrev pub right_point : List ℕ → Metric → ℕ → List ℤ → ℤ
+abbrev pub right_point : List ℕ → LongHorMetric → ℕ → List ℤ → ℤ
 right_point bytes m n xs = pos (2 ^ 30) *ℤ (left_side bytes m +ℤ pos m.advance) +ℤ slice_index_or xs (n + 1) (pos 0)
 
 -- ---- a simple glyph
 
 -- moved points, without their phantom points
-abbrev pub simple_outline : List ℕ → Metric → List ℕ → List Point → List ℤ → List ℤ → Unfolded
+abbrev pub simple_outline : List ℕ → LongHorMetric → List ℕ → List Point → List ℤ → List ℤ → Unfolded
 simple_outline bytes m ends points xs ys = record {
   ends = ends;
   on = map (λ p. p.on_curve) points;
@@ -101,7 +101,7 @@ simple_outline bytes m ends points xs ys = record {
 }
 
 -- the same by the flags of the points, of which bit 0 says whether they are on the curve
-abbrev pub outline_by_flags : List ℕ → Metric → List ℕ → List ℕ → List ℤ → List ℤ → Unfolded
+abbrev pub outline_by_flags : List ℕ → LongHorMetric → List ℕ → List ℕ → List ℤ → List ℤ → Unfolded
 outline_by_flags bytes m ends flags xs ys = record {
   ends = ends;
   on = map (λ f. has f 1) flags;
@@ -112,7 +112,7 @@ outline_by_flags bytes m ends flags xs ys = record {
 }
 
 -- a step, one for each point and four more are taken before the variations are read
-unfoldable pub unfolded_simple : Source → List ℤ → ℕ → ℕ → List ℕ → Metric → Result (Unfolded × ℕ) Error
+unfoldable pub unfolded_simple : Source → List ℤ → ℕ → ℕ → List ℕ → LongHorMetric → Result (Unfolded × ℕ) Error
 unfolded_simple s at steps g bytes m = do
   outline ← ok_or (parts bytes) MalformedFont
   left ← spent (length outline.1 + 5) steps
@@ -120,7 +120,7 @@ unfolded_simple s at steps g bytes m = do
   near_or_fault (simple_outline bytes m outline.0 outline.1 to.0 to.1) to.2
 
 -- the same of an outline of which flags and coordinates are known
-unfoldable pub unfolded_by_flags : Source → List ℤ → ℕ → ℕ → List ℕ → Metric → List ℕ → List ℕ → List ℤ → List ℤ → Result (Unfolded × ℕ) Error
+unfoldable pub unfolded_by_flags : Source → List ℤ → ℕ → ℕ → List ℕ → LongHorMetric → List ℕ → List ℕ → List ℤ → List ℤ → Result (Unfolded × ℕ) Error
 unfolded_by_flags s at steps g bytes m ends flags xs ys = do
   left ← spent (length flags + 5) steps
   to ← moved s.gvar g (with_phantoms ends xs ys) at left
@@ -249,7 +249,7 @@ pub record Composite : Type 0 where
 
 -- five steps, and one for each component, are taken before the variations are read. A component is a point of gvar, and a contour of its
 -- own. The header has ten bytes
-unfoldable pub composite : Source → List ℤ → ℕ → ℕ → List ℕ → Metric → Result Composite Error
+unfoldable pub composite : Source → List ℤ → ℕ → ℕ → List ℕ → LongHorMetric → Result Composite Error
 composite s at steps g bytes m = do
   left ← spent 5 steps
   body ← ok_or (after 10 bytes) MalformedFont
@@ -257,7 +257,7 @@ composite s at steps g bytes m = do
   to ← moved s.gvar g (with_phantoms (range_with_len 0 (length cs.0)) (offset_xs cs.0) (offset_ys cs.0)) at cs.1
   Ok (record { components = cs.0; xs = to.0; ys = to.1; left = left_point bytes m (length cs.0) to.0; right = right_point bytes m (length cs.0) to.0; steps = to.2 })
 
-unfoldable pub unfolded_composite : Child → Source → List ℤ → ℕ → ℕ → List ℕ → Metric → Result (Unfolded × ℕ) Error
+unfoldable pub unfolded_composite : Child → Source → List ℤ → ℕ → ℕ → List ℕ → LongHorMetric → Result (Unfolded × ℕ) Error
 unfolded_composite child s at steps g bytes m = do
   c ← composite s at steps g bytes m
   joined child c.components 0 c.xs c.ys (no_points c.left c.right, c.steps)

@@ -11,7 +11,7 @@ use Rattle.subsetter_variation.specs.Movement.{Outline, spent}
 use Rattle.subsetter_variation.specs.Tuples.{Gvar}
 use Rattle.subsetter_instance.specs.declared.components.Arguments.TheVariants.{Offset, Points}
 use Rattle.subsetter_instance.specs.declared.components.Component.{Component}
-use Rattle.subsetter_instance.specs.declared.source.Metric.{Metric}
+use Rattle.subsetter_sfnt.specs.declared.fields.hmtx.LongHorMetric.{LongHorMetric}
 use Rattle.subsetter_instance.specs.Components.{component_at, components_at, offset_xs, offset_ys}
 use Rattle.subsetter_instance.specs.GlyphFault.{HasDescriptionFault, HasHmtxFault}
 use Rattle.subsetter_instance.specs.Source.{Source, metric}
@@ -28,7 +28,7 @@ abbrev pub IsFar : Unfolded → Type 0
 IsFar u = (are_near u.xs && are_near u.ys) ≡ false
 
 -- of a description, these bytes
-pub data HasSimpleFault (s : Source) (at : List ℤ) (steps g : ℕ) (bytes : List ℕ) (m : Metric) : Error → Type 0 where
+pub data HasSimpleFault (s : Source) (at : List ℤ) (steps g : ℕ) (bytes : List ℕ) (m : LongHorMetric) : Error → Type 0 where
   -- the description is cut, its contours' ends don't ascend, a flag is repeated past the last point, or a coordinate has no 16 bits
   no_outline : parts bytes ≡ None → HasSimpleFault s at steps g bytes m MalformedFont
   -- fewer steps are left than it has points, four phantom points and itself
@@ -86,7 +86,7 @@ pub data HasPlacingFault (c : Component) (x y : ℤ) (before part : Unfolded) : 
 pub record IsAtComponent (s : Source) (at : List ℤ) (depth steps g : ℕ) (component : Component) (x y : ℤ) (all : Unfolded × ℕ) : Type 0 where
   pub bytes : List ℕ
   pub description_is : counted_description s g ≡ Some bytes
-  pub m : Metric
+  pub m : LongHorMetric
   pub metric_is : metric s g ≡ Some m
   pub kind : is_composite bytes ≡ true
   pub it : Composite
@@ -106,8 +106,8 @@ pub data HasWalkFault (s : Source) (at : List ℤ) : ℕ → ℕ → ℕ → Err
   in_description : (depth steps g : ℕ) → HasDescriptionFault s g → HasWalkFault s at (suc depth) steps g MalformedFont
   -- its metric: hhea and hmtx
   in_hmtx : (depth steps g : ℕ) (bytes : List ℕ) → counted_description s g ≡ Some bytes → HasHmtxFault s g → HasWalkFault s at (suc depth) steps g MalformedFont
-  in_simple : {e : Error} (depth steps g : ℕ) (bytes : List ℕ) (m : Metric) → counted_description s g ≡ Some bytes → metric s g ≡ Some m → is_composite bytes ≡ false → HasSimpleFault s at steps g bytes m e → HasWalkFault s at (suc depth) steps g e
-  in_composite : {e : Error} (depth steps g : ℕ) (bytes : List ℕ) (m : Metric) → counted_description s g ≡ Some bytes → metric s g ≡ Some m → is_composite bytes ≡ true → HasCompositeFault s at steps g bytes e → HasWalkFault s at (suc depth) steps g e
+  in_simple : {e : Error} (depth steps g : ℕ) (bytes : List ℕ) (m : LongHorMetric) → counted_description s g ≡ Some bytes → metric s g ≡ Some m → is_composite bytes ≡ false → HasSimpleFault s at steps g bytes m e → HasWalkFault s at (suc depth) steps g e
+  in_composite : {e : Error} (depth steps g : ℕ) (bytes : List ℕ) (m : LongHorMetric) → counted_description s g ≡ Some bytes → metric s g ≡ Some m → is_composite bytes ≡ true → HasCompositeFault s at steps g bytes e → HasWalkFault s at (suc depth) steps g e
   -- a component's own glyph
   in_component : {e : Error} (depth steps g : ℕ) (c : Component) (x y : ℤ) (all : Unfolded × ℕ) → IsAtComponent s at depth steps g c x y all → HasWalkFault s at depth all.1 c.glyph e → HasWalkFault s at (suc depth) steps g e
   -- a component where it is put

@@ -13,12 +13,13 @@ use crate::components::{
 };
 use crate::placing::{with_metrics, with_part};
 use crate::simple::{coordinate_at, left_point, moved, right_point};
-use crate::source::{Metric, Source};
+use crate::source::Source;
 use crate::unfolding::Unfolded;
 use std::alloc::{AllocError, Global};
 use std::marker::Model;
 use subsetter_base::Error;
 use subsetter_base::read::Reader;
+use subsetter_sfnt::fields::hmtx::LongHorMetric;
 use subsetter_variation::movement::{Outline as DefaultOutline, spent};
 use subsetter_variation::tuples::Gvar;
 
@@ -83,7 +84,7 @@ pub fn read_composite(
     steps: u32,
     glyph: u16,
     bytes: &[u8],
-    metric: Metric,
+    metric: LongHorMetric,
 ) -> Result<Composite, Error>
     requires { HasAxes source.now.gvar (length at.now) }
     ensures { Gives (λ c. c) result (composite source.now at.now steps glyph bytes.now metric) }

@@ -13,12 +13,13 @@ ghost use Rattle.subsetter_instance.specs.Plain.{drawn_if, drawn_all};
 ghost use Rattle.subsetter_instance.specs.Unfolded.{IsInReach};
 
 use crate::kept::Kept;
-use crate::source::{Metric, Source};
+use crate::source::Source;
 use crate::unfolding::{Unfolded, unfold};
 use std::alloc::Global;
 use std::marker::Model;
 use subsetter_base::{Error, GlyphRemapper};
 use subsetter_points::{Outline, Point, fits};
+use subsetter_sfnt::fields::hmtx::LongHorMetric;
 use subsetter_variation::item_variations::advance_delta;
 
 /// The unit of unfolded coordinates.
@@ -206,7 +207,7 @@ fn rounded(
     source: &Source<'_>,
     at: &[i32],
     glyph: u16,
-    metric: Metric,
+    metric: LongHorMetric,
     unfolded: Unfolded,
 ) -> Result<Drawn, Error>
     requires { IsInReach unfolded }

@@ -11,6 +11,8 @@ use std::alloc::{AllocError, Global};
 use std::marker::Model;
 use subsetter_base::{Error, Tag};
 use subsetter_sfnt::face::Face;
+use subsetter_sfnt::fields::hhea::{ADVANCE_WIDTH_MAX, ASCENDER, CARET_SLOPE_RISE, RESERVED};
+use subsetter_sfnt::fields::post::{IS_FIXED_PITCH, UNDERLINE_POSITION, UNDERLINE_THICKNESS};
 use subsetter_variation::font_metrics::metric_delta;
 use subsetter_variation::item_variations::signed_at;
 
@@ -89,11 +91,11 @@ fn moved_hhea(
     ensures { IfOk result (λ v. v.items ≡ moved_hhea hhea.now lines caret) }
 {
     let mut new = Vec::with_capacity(alloc, hhea.len())?;
-    new.extend_from_slice(&hhea[..4])?;
+    new.extend_from_slice(&hhea[..ASCENDER])?;
     write_lines(&mut new, lines)?;
-    new.extend_from_slice(&hhea[10..18])?;
+    new.extend_from_slice(&hhea[ADVANCE_WIDTH_MAX..CARET_SLOPE_RISE])?;
     write_lines(&mut new, caret)?;
-    new.extend_from_slice(&hhea[24..])?;
+    new.extend_from_slice(&hhea[RESERVED..])?;
     Ok(new)
 }
 
@@ -123,11 +125,11 @@ fn varied_hhea(
     let ascender = Tag::new(b"hasc");
     let descender = Tag::new(b"hdsc");
     let line_gap = Tag::new(b"hlgp");
-    let lines = three_lines(mvar, at, hhea, 4, ascender, descender, line_gap)?;
+    let lines = three_lines(mvar, at, hhea, ASCENDER, ascender, descender, line_gap)?;
     let rise = Tag::new(b"hcrs");
     let run = Tag::new(b"hcrn");
     let offset = Tag::new(b"hcof");
-    let caret = three_lines(mvar, at, hhea, 18, rise, run, offset)?;
+    let caret = three_lines(mvar, at, hhea, CARET_SLOPE_RISE, rise, run, offset)?;
     Ok(moved_hhea(alloc, hhea, lines, caret)?)
 }
 
@@ -142,10 +144,10 @@ fn moved_post(
     ensures { IfOk result (λ v. v.items ≡ moved_post post.now position thickness) }
 {
     let mut new = Vec::with_capacity(alloc, post.len())?;
-    new.extend_from_slice(&post[..8])?;
+    new.extend_from_slice(&post[..UNDERLINE_POSITION])?;
     new.extend_from_slice(&position.to_be_bytes())?;
     new.extend_from_slice(&thickness.to_be_bytes())?;
-    new.extend_from_slice(&post[12..])?;
+    new.extend_from_slice(&post[IS_FIXED_PITCH..])?;
     Ok(new)
 }
 
@@ -155,8 +157,8 @@ fn varied_underline(alloc: Global, mvar: &[u8], at: &[i32], post: &[u8]) -> Resu
     requires { 12 ≤ length post.now }
     ensures { Gives (λ v. v.items) result (varied_underline mvar.now at.now post.now) }
 {
-    let position = varied(mvar, at, Tag::new(b"undo"), signed_at(post, 8))?;
-    let thickness = varied(mvar, at, Tag::new(b"unds"), signed_at(post, 10))?;
+    let position = varied(mvar, at, Tag::new(b"undo"), signed_at(post, UNDERLINE_POSITION))?;
+    let thickness = varied(mvar, at, Tag::new(b"unds"), signed_at(post, UNDERLINE_THICKNESS))?;
     Ok(moved_post(alloc, post, position, thickness)?)
 }
 

@@ -8,12 +8,13 @@ ghost use Rattle.subsetter_variation.specs.Movement.{AreWithin, IsOutline};
 ghost use Rattle.subsetter_instance.specs.Source.{HasAxes};
 ghost use Rattle.subsetter_instance.specs.Unfolded.{IsInReach, are_near, left_point, left_side, moved, near_or_fault, outline_by_flags, right_point, unfolded_by_flags, unfolded_simple, with_phantoms, IsShaped, x_min};
 
-use crate::source::{Metric, Source};
+use crate::source::Source;
 use crate::unfolding::Unfolded;
 use std::alloc::{AllocError, Global};
 use subsetter_base::Error;
 use subsetter_base::read::Reader;
 use subsetter_points::{Columns, read_columns};
+use subsetter_sfnt::fields::hmtx::LongHorMetric;
 use subsetter_variation::movement::{Outline as DefaultOutline, moved_points, spent};
 use subsetter_variation::rounding::plus;
 use subsetter_variation::tuples::Gvar;
@@ -30,7 +31,7 @@ fn x_min(bytes: &[u8]) -> i16
 }
 
 /// Where the left side of the default lies.
-fn left_side(bytes: &[u8], metric: Metric) -> i32
+fn left_side(bytes: &[u8], metric: LongHorMetric) -> i32
     ensures value { result ≡ left_side bytes.now metric }
     ensures bound { unsigned_abs result ≤ 2 ^ 16 }
 {
@@ -59,7 +60,7 @@ pub fn coordinate_at(xs: &[i64], number: usize) -> i64
 }
 
 /// x of the left phantom point behind n points.
-pub fn left_point(bytes: &[u8], metric: Metric, n: usize, xs: &[i64]) -> i64
+pub fn left_point(bytes: &[u8], metric: LongHorMetric, n: usize, xs: &[i64]) -> i64
     requires { All (λ x. unsigned_abs x ≤ 2 ^ 57) xs.now }
     ensures value { result ≡ left_point bytes.now metric n xs.now }
     ensures bound { unsigned_abs result ≤ 2 ^ 58 }
@@ -68,7 +69,7 @@ pub fn left_point(bytes: &[u8], metric: Metric, n: usize, xs: &[i64]) -> i64
 }
 
 /// Where the right side of the default lies.
-fn right_side(bytes: &[u8], metric: Metric) -> i32
+fn right_side(bytes: &[u8], metric: LongHorMetric) -> i32
     ensures value { result ≡ left_side bytes.now metric +ℤ pos metric.advance }
     ensures bound { unsigned_abs result ≤ 2 ^ 18 }
 {
@@ -76,7 +77,7 @@ fn right_side(bytes: &[u8], metric: Metric) -> i32
 }
 
 /// x of the right phantom point behind n points.
-pub fn right_point(bytes: &[u8], metric: Metric, n: usize, xs: &[i64]) -> i64
+pub fn right_point(bytes: &[u8], metric: LongHorMetric, n: usize, xs: &[i64]) -> i64
     requires bound { All (λ x. unsigned_abs x ≤ 2 ^ 57) xs.now }
     requires count { n < 2 ^ 32 }
     ensures value { result ≡ right_point bytes.now metric n xs.now }
@@ -199,7 +200,7 @@ fn moved_simple(
 fn simple_outline(
     alloc: Global,
     bytes: &[u8],
-    metric: Metric,
+    metric: LongHorMetric,
     ends: Vec<u16>,
     flags: &[u8],
     xs: Vec<i64>,
@@ -240,7 +241,7 @@ fn unfold_columns(
     steps: u32,
     glyph: u16,
     bytes: &[u8],
-    metric: Metric,
+    metric: LongHorMetric,
     columns: Columns,
 ) -> Result<(Unfolded, u32), Error>
     requires xs { length columns.xs.items ≡ length columns.flags.items }
@@ -271,7 +272,7 @@ pub fn unfold_simple(
     steps: u32,
     glyph: u16,
     bytes: &[u8],
-    metric: Metric,
+    metric: LongHorMetric,
 ) -> Result<(Unfolded, u32), Error>
     requires { HasAxes source.now.gvar (length at.now) }
     ensures value { Gives (λ r. (r.0, r.1)) result (unfolded_simple source.now at.now steps glyph bytes.now metric) }

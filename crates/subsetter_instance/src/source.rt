@@ -5,24 +5,20 @@ ghost use Rattle.std.specs.Option.{ok_or, option_copied};
 ghost use Rattle.subsetter_base.specs.Gives.{Gives};
 ghost use Rattle.subsetter_base.specs.declared.error.Error.TheVariants.{MalformedFont};
 ghost use Rattle.subsetter_sfnt.specs.Read.{table_in};
-ghost use Rattle.subsetter_instance.specs.Source.{HasAxes, place, variations_in, source_in, source_or_fault, offset, between_offsets, description, metric_at, metric};
+ghost use Rattle.subsetter_instance.specs.Source.{HasAxes, place, variations_in, source_in, source_or_fault, offset, between_offsets, description, metric};
 
 use std::alloc::Global;
 use std::marker::Model;
 use subsetter_base::read::Reader;
 use subsetter_base::{Error, Tag};
 use subsetter_sfnt::face::Face;
+use subsetter_sfnt::fields::head::index_to_loc_format;
+use subsetter_sfnt::fields::hhea::number_of_h_metrics;
+use subsetter_sfnt::fields::hmtx::{LongHorMetric, glyph_metric};
+use subsetter_sfnt::fields::loca::loca_offset;
+use subsetter_sfnt::fields::maxp::num_glyphs;
 use subsetter_variation::coordinates::{coordinates, is_other_version};
 use subsetter_variation::tuples::{Gvar, gvar_table};
-
-/// The horizontal metric of a glyph, in font design units.
-#[derive(Clone, Copy, PartialEq, Eq)]
-pub struct Metric {
-    /// The advance width.
-    pub advance: u16,
-    /// The two bytes of the left side bearing, which is an int16.
-    pub bearing: u16,
-}
 
 /// The tables of outlines and metrics, and what varies.
 #[derive(Drop)]
@@ -82,11 +78,11 @@ pub fn source_in<'a>(face: &Face<'a>, axes: usize) -> Option<Source<'a>>
     let glyf = face.stored(Tag::GLYF)?;
     let loca = face.stored(Tag::LOCA)?;
     let head = face.stored(Tag::HEAD)?;
-    let format = Reader::new_at(head, 50).read::<u16>()?;
+    let format = index_to_loc_format(head)?;
     let maxp = face.stored(Tag::MAXP)?;
-    let count = Reader::new_at(maxp, 4).read::<u16>()?;
+    let count = num_glyphs(maxp)?;
     let hhea = face.stored(Tag::HHEA)?;
-    let pairs = Reader::new_at(hhea, 34).read::<u16>()?;
+    let pairs = number_of_h_metrics(hhea)?;
     let hmtx = face.stored(Tag::HMTX)?;
     let gvar = variations_in(face.stored(Tag::new(b"gvar")), axes)?;
     Some(Source {
@@ -127,15 +123,6 @@ fn between_offsets(bytes: &[u8], from: usize, to: usize) -> Option<&[u8]>
     }
 }
 
-/// An advance and a left side bearing at two places of `hmtx`.
-fn metric_at(hmtx: &[u8], advance_at: usize, bearing_at: usize) -> Option<Metric>
-    ensures { result ≡ metric_at hmtx.now advance_at bearing_at }
-{
-    let advance = Reader::new_at(hmtx, advance_at).read::<u16>()?;
-    let bearing = Reader::new_at(hmtx, bearing_at).read::<u16>()?;
-    Some(Metric { advance, bearing })
-}
-
 impl<'a> Source<'a> {
     /// How many glyphs there are.
     pub fn count(&self) -> u16
@@ -163,11 +150,7 @@ impl<'a> Source<'a> {
         requires { number ≤ 65536 }
         ensures { result ≡ offset self.now number }
     {
-        if self.long {
-            Some(Reader::new_at(self.loca, 4 * number).read::<u32>()? as usize)
-        } else {
-            Some(2 * Reader::new_at(self.loca, 2 * number).read::<u16>()? as usize)
-        }
+        loca_offset(self.loca, self.long, number)
     }
 
     /// The description of a glyph, if it is there.
@@ -181,18 +164,10 @@ impl<'a> Source<'a> {
     }
 
     /// The metric of a glyph: a pair of its own, or the last advance with a bearing of its own.
-    #[tactic(auto, unfolding(crate::specs::Source::metric))]
-    pub fn metric(&self, glyph: u16) -> Option<Metric>
+    #[tactic(auto, unfolding(crate::specs::Source::metric, subsetter_sfnt::specs::Fields::Hmtx::metric_in))]
+    pub fn metric(&self, glyph: u16) -> Option<LongHorMetric>
         ensures { result ≡ metric self.now glyph }
     {
-        let pairs = self.pairs as usize;
-        let glyph = glyph as usize;
-        if glyph < pairs {
-            metric_at(self.hmtx, 4 * glyph, 4 * glyph + 2)
-        } else if pairs == 0 {
-            None
-        } else {
-            metric_at(self.hmtx, 4 * (pairs - 1), 4 * pairs + 2 * (glyph - pairs))
-        }
+        glyph_metric(self.hmtx, self.pairs, glyph)
     }
 }

@@ -10,3 +10,4 @@ pub mod Rows
 pub mod View
 pub mod Fault
 pub mod FontAt
+pub mod Fields

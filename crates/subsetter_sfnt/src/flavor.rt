@@ -6,7 +6,7 @@ ghost use Rattle.subsetter_sfnt.specs.Extras.{asked};
 ghost use Rattle.subsetter_sfnt.specs.Plain.{flavored};
 ghost use Rattle.subsetter_sfnt.specs.Written.{kind_word};
 
-use crate::face::Face;
+use crate::face::{Face, OTTO, TRUETYPE_VERSION};
 use subsetter_base::write::{Writeable, Writer};
 use subsetter_base::{Error, Tag};
 
@@ -25,8 +25,8 @@ impl FontFlavor {
         ensures { result ≡ kind_word self }
     {
         match self {
-            FontFlavor::TrueType => 0x00010000,
-            FontFlavor::Cff => 0x4F54544F,
+            FontFlavor::TrueType => TRUETYPE_VERSION,
+            FontFlavor::Cff => OTTO,
         }
     }
 }

@@ -4,12 +4,13 @@ ghost use Rattle.std.specs.Prelude.{◌≡◌, ◌/◌, ◌<◌, ◌^◌, ◌&&�
 ghost use Rattle.std.specs.Option.{option_copied};
 ghost use Rattle.std.specs.Str.{bytes_eq};
 ghost use Rattle.subsetter_sfnt.specs.Extras.{asked, is_program};
-ghost use Rattle.subsetter_sfnt.specs.Read.{records_at, find_record, directory_records, table_in};
+ghost use Rattle.subsetter_sfnt.specs.Read.{table_in};
 ghost use Rattle.subsetter_base.specs.Bytes.{IsBytes};
 ghost use Rattle.subsetter_sfnt.specs.Plain.{opened_header, opened};
 
+use crate::directory::{records_at, table_in};
 use crate::extras::Extras;
-use crate::face::{Face, FontKind, TableRecord};
+use crate::face::{Face, FontKind};
 use subsetter_base::read::Reader;
 use subsetter_base::{Error, Tag};
 
@@ -36,18 +37,6 @@ fn header(file: &[u8], index: u32, extras: Extras) -> Result<usize, Error>
     }
 }
 
-/// The bytes of the directory's records.
-#[tactic(auto, unfolding(crate::specs::Read::records_at))]
-fn records(file: &[u8], at: usize) -> Option<&[u8]>
-    requires { at < 2 ^ 32 }
-    ensures { option_copied result ≡ records_at file.now at }
-{
-    let mut r = Reader::new_at(file, at + 4);
-    let count = r.read::<u16>()?;
-    let mut r = Reader::new_at(file, at + 12);
-    r.read_bytes(16 * (count as usize))
-}
-
 /// Parses the directory of a font, of which these extras are asked for.
 #[tactic(auto, unfolding(crate::specs::Plain::opened))]
 pub fn parse(file: &[u8], index: u32, extras: Extras) -> Result<Face<'_>, Error>
@@ -57,25 +46,12 @@ pub fn parse(file: &[u8], index: u32, extras: Extras) -> Result<Face<'_>, Error>
     ensures err { IfErr result (λ e. opened (record { bytes = file.now; index = index; extras = extras }) ≡ Err e) }
 {
     let at = header(file, index, extras)?;
-    let records = records(file, at).ok_or(Error::MalformedFont)?;
+    let records = records_at(file, at).ok_or(Error::MalformedFont)?;
     Ok(Face {
         data: file,
         records,
         extras,
     })
-}
-
-/// The first record that bears a tag.
-fn find_record(records: &[u8], tag: Tag) -> Option<TableRecord>
-    ensures { result ≡ find_record tag.0 (directory_records (length records.now / 16) records.now) }
-{
-    let mut r = Reader::new(records);
-    while let Some(record) = r.read::<TableRecord>() {
-        if record.tag == tag {
-            return Some(record);
-        }
-    }
-    None
 }
 
 impl<'a> Face<'a> {
@@ -104,7 +80,6 @@ impl<'a> Face<'a> {
     pub fn stored(&self, tag: Tag) -> Option<&'a [u8]>
         ensures { option_copied result ≡ table_in self.now.«data».now self.now.records.now tag.0 }
     {
-        let record = find_record(self.records, tag)?;
-        Reader::new_at(self.data, record.offset as usize).read_bytes(record.length as usize)
+        table_in(self.data, self.records, tag)
     }
 }

@@ -19,7 +19,7 @@ use Rattle.subsetter_variation.specs.Movement.{spent}
 use Rattle.subsetter_variation.specs.Nearest.{nearest}
 use Rattle.subsetter_variation.specs.Tuples.{Gvar}
 use Rattle.subsetter_variation.specs.Varied.{in_units}
-use Rattle.subsetter_instance.specs.declared.source.Metric.{Metric}
+use Rattle.subsetter_sfnt.specs.declared.fields.hmtx.LongHorMetric.{LongHorMetric}
 use Rattle.subsetter_instance.specs.Source.{Source, description, metric}
 use Rattle.subsetter_instance.specs.Unfolded.{Unfolded, moved, with_phantoms, near_or_fault, left_side, left_point, right_point, x_min, signed_or_zero, simple_outline, unfolded_simple, unfolded_composite, is_composite, is_below_zero, counted_description, unfolded}
 use Rattle.subsetter_instance.specs.Drawn.{Drawn, whole, word_or_fault, point_or_fault, points_or_fault, advance_or_fault, advance, bearing, drawn_if_fit, levels, rounded, drawn}
@@ -111,7 +111,7 @@ module _ (es : List ℕ) (ps : List Point) (width : ℕ) (small : cast_unsigned 
   abbrev text : List ℕ
   text = aligned 2 (parts_bytes es ps)
 
-  abbrev own : Metric
+  abbrev own : LongHorMetric
   own = record { advance = width; bearing = cast_unsigned w16 (bearing ps) }
 
   abbrev xs : List ℤ
@@ -224,7 +224,7 @@ module _ (source out : Source) (at : List ℤ) (steps g : ℕ) (k : IsDrawn sour
   metric_is : metric out g ≡ Some (record { advance = it.advance; bearing = cast_unsigned w16 (bearing it.points) })
   metric_is = k.metrics ∙ ap (λ (v : ℤ). Some (record { advance = it.advance; bearing = cast_unsigned w16 v })) same_bearing
 
-  metric_read : (m : Metric) → ok_or (metric out g) MalformedFont ≡ Ok m → m ≡ record { advance = it.advance; bearing = cast_unsigned w16 (bearing it.points) }
+  metric_read : (m : LongHorMetric) → ok_or (metric out g) MalformedFont ≡ Ok m → m ≡ record { advance = it.advance; bearing = cast_unsigned w16 (bearing it.points) }
   metric_read m h = just_is m (record { advance = it.advance; bearing = cast_unsigned w16 (bearing it.points) }) (sym (named_ok (metric out g) MalformedFont m h) ∙ metric_is)
 
   described : (b : List ℕ) → counted_description out g ≡ Some b → b ≡ bytes
@@ -237,7 +237,7 @@ module _ (source out : Source) (at : List ℤ) (steps g : ℕ) (k : IsDrawn sour
   unfolded_is : (depth more : ℕ) (u : Unfolded × ℕ) → unfolded (suc depth) out [] more g ≡ Ok u → u.0 ≡ unmoved it.ends it.points it.advance small
   unfolding unfolded
   unfolded_is depth more u h =
-      let go = λ (b : List ℕ) (m : Metric). cond (is_composite b) (unfolded_composite (unfolded depth out []) out [] more g b m) (unfolded_simple out [] more g b m) in
+      let go = λ (b : List ℕ) (m : LongHorMetric). cond (is_composite b) (unfolded_composite (unfolded depth out []) out [] more g b m) (unfolded_simple out [] more g b m) in
       let a = bind_ok (ok_or (counted_description out g) MalformedFont) (λ b. ok_or (metric out g) MalformedFont >>= go b) u h in
       let c = bind_ok (ok_or (metric out g) MalformedFont) (go a.0) u a.2 in
       let same : a.0 ≡ bytes = described a.0 (named_ok (counted_description out g) MalformedFont a.0 a.1) in
@@ -251,5 +251,5 @@ module _ (source out : Source) (at : List ℤ) (steps g : ℕ) (k : IsDrawn sour
       let a = bind_ok (ok_or (metric out g) MalformedFont) (λ m. unfolded levels out [] more g >>= λ u. rounded out [] g m u.0) d h in
       let b = bind_ok (unfolded levels out [] more g) (λ u. rounded out [] g a.0 u.0) d a.2 in
       let u = unfolded_is 64 more b.0 b.1 in
-      let r = rounded_is it.ends it.points it.advance small out still wide k.reads g d (ap (λ (m : Metric). rounded out [] g m (unmoved it.ends it.points it.advance small)) (sym (metric_read a.0 a.1)) ∙ ap (λ (v : Unfolded). rounded out [] g a.0 v) (sym u) ∙ b.2) in
+      let r = rounded_is it.ends it.points it.advance small out still wide k.reads g d (ap (λ (m : LongHorMetric). rounded out [] g m (unmoved it.ends it.points it.advance small)) (sym (metric_read a.0 a.1)) ∙ ap (λ (v : Unfolded). rounded out [] g a.0 v) (sym u) ∙ b.2) in
       r ∙ ap (λ (v : ℤ). record { ends = it.ends; points = it.points; advance = it.advance; bearing = v }) (sym same_bearing)

@@ -15,7 +15,8 @@ use Rattle.subsetter.specs.Glyf.Read.{Outlines, outlines, outlines_in, outline, 
 use Rattle.subsetter.specs.Hmtx.Read as hmtx
 use Rattle.subsetter_variation.specs.Tuples.{Gvar}
 use Rattle.subsetter_instance.specs.declared.source.Metric as drawn
-use Rattle.subsetter_instance.specs.Source.{Source, source_in, variations_in, description, metric, metric_at}
+use Rattle.subsetter_instance.specs.Source.{Source, source_in, variations_in, description, metric}
+use Rattle.subsetter_sfnt.specs.Fields.Hmtx.{metric_at}
 use Rattle.subsetter_variable.proofs.Unopened.{same_stored}
 
 -- ---- what was read

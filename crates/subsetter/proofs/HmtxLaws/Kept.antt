@@ -10,8 +10,10 @@ use Rattle.subsetter_base.specs.declared.error.Error.TheVariants.{MalformedFont,
 use Rattle.subsetter_base.proofs.ByteLemmas.{number-fits, number-short}
 use Rattle.subsetter_base.proofs.Results.{done, done_is, failed_is, bind_ok, bind_err, named_ok, named_err}
 use Rattle.subsetter_base.proofs.Options.{some_not_none, just_is, is_some_of}
-use Rattle.subsetter.specs.declared.hmtx.Metric.{Metric}
-use Rattle.subsetter.specs.Hmtx.Read.{number_of_metrics, metric_at, metric_in, metric_of, KeepsMetrics, HasMetricsFault, no_hhea, short_hhea, no_pairs, last_advance_outside, metric_outside}
+use Rattle.subsetter_sfnt.specs.declared.fields.hmtx.LongHorMetric.{LongHorMetric}
+use Rattle.subsetter.specs.Hmtx.Read.{metric_of, KeepsMetrics, HasMetricsFault, no_hhea, short_hhea, no_pairs, last_advance_outside, metric_outside}
+use Rattle.subsetter_sfnt.specs.Fields.Hmtx.{metric_at, metric_in}
+use Rattle.subsetter_sfnt.specs.Fields.Hhea.{number_of_h_metrics}
 use Rattle.subsetter.specs.Hmtx.Written.{MetricBytes, least_count, hmtx_bytes, hhea_bytes, if_pairs, metrics_all, source_count, tables_of, metrics_in, metrics_of}
 use Rattle.subsetter.proofs.HmtxLaws.Written.{metrics-length, metrics_at, metrics_missing, least_count-le, least_count_pos, advances_agree, least_count_least}
 use Rattle.subsetter.proofs.HmtxLaws.Back.{metric_small, metric_back, length-hmtx, count_back, header_length, header_before, header_after, metric_by}
@@ -37,7 +39,7 @@ last_pair hmtx count = ok_or (number hmtx (4 * (count - 1)) 2) MalformedFont >>=
 
 -- the source's number of pairs, of which the last has its advance
 pub record HasPairs (hhea hmtx : List ℕ) (count : ℕ) : Type 0 where
-  pub count_is : number_of_metrics hhea ≡ Some count
+  pub count_is : number_of_h_metrics hhea ≡ Some count
   pub positive : 0 < count
   pub advance : ℕ
   pub last : number hmtx (4 * (count - 1)) 2 ≡ Some advance
@@ -45,13 +47,13 @@ pub record HasPairs (hhea hmtx : List ℕ) (count : ℕ) : Type 0 where
 has_pairs : (hhea hmtx : List ℕ) (count : ℕ) → source_count hhea hmtx ≡ Ok count → HasPairs hhea hmtx count
 unfolding source_count
 has_pairs hhea hmtx count h =
-    let a = bind_ok (ok_or (number_of_metrics hhea) MalformedFont) (λ found. if_pairs found >>= λ c. last_pair hmtx c) count h in
+    let a = bind_ok (ok_or (number_of_h_metrics hhea) MalformedFont) (λ found. if_pairs found >>= λ c. last_pair hmtx c) count h in
     let b = bind_ok (if_pairs a.0) (λ c. last_pair hmtx c) count a.2 in
     let c = bind_ok (ok_or (number hmtx (4 * (b.0 - 1)) 2) MalformedFont) (λ advance. Ok b.0) count b.2 in
     let p = pairs_ok a.0 b.0 b.1 in
     let same : b.0 ≡ count = done_is b.0 count c.2 in
     record {
-      count_is = named_ok (number_of_metrics hhea) MalformedFont a.0 a.1 ∙ ap Some (p.0 ∙ same);
+      count_is = named_ok (number_of_h_metrics hhea) MalformedFont a.0 a.1 ∙ ap Some (p.0 ∙ same);
       positive = omega (arith, p.0, p.1, same);
       advance = c.0;
       last = ap (λ k. number hmtx (4 * (k - 1)) 2) (sym same) ∙ named_ok (number hmtx (4 * (b.0 - 1)) 2) MalformedFont c.0 c.1;
@@ -64,11 +66,11 @@ pub record Steps (find : List ℕ → Option (List ℕ)) (order : List ℕ) (t :
   pub hhea_is : find (codes "hhea") ≡ Some hhea
   pub count : ℕ
   pub pairs : HasPairs hhea hmtx count
-  pub metrics : List Metric
+  pub metrics : List LongHorMetric
   pub all : metrics_all hmtx count order ≡ Ok metrics
   pub tables : t ≡ record { hhea = hhea_bytes (least_count metrics) hhea; hmtx = hmtx_bytes (least_count metrics) metrics }
 
-abbrev laid : List ℕ → List Metric → Result MetricBytes Error
+abbrev laid : List ℕ → List LongHorMetric → Result MetricBytes Error
 laid header ms = let n = least_count ms in Ok (record { hhea = hhea_bytes n header; hmtx = hmtx_bytes n ms })
 
 steps_in : (find : List ℕ → Option (List ℕ)) (order hmtx : List ℕ) (t : MetricBytes) → find (codes "hmtx") ≡ Some hmtx → tables_of (find (codes "hhea")) hmtx order ≡ Ok t → Steps find order t
@@ -112,22 +114,22 @@ no_metrics find order h = by (find (codes "hmtx")) refl h
 
 -- ---- advances of tables
 
-advance_there : (hmtx : List ℕ) (p q : ℕ) (m : Metric) → metric_at hmtx p q ≡ Some m → number hmtx p 2 ≡ Some m.advance
+advance_there : (hmtx : List ℕ) (p q : ℕ) (m : LongHorMetric) → metric_at hmtx p q ≡ Some m → number hmtx p 2 ≡ Some m.advance
 advance_there hmtx p q m h = by (number hmtx p 2) (number hmtx q 2) h
   where
     by : (a b : Option ℕ) → metric_by a b ≡ Some m → a ≡ Some m.advance
     by None b k = absurd cc
     by (Some a) None k = absurd cc
-    by (Some a) (Some b) k = ap (λ (x : Metric). Some x.advance) (just_is (record { advance = a; bearing = b }) m k)
+    by (Some a) (Some b) k = ap (λ (x : LongHorMetric). Some x.advance) (just_is (record { advance = a; bearing = b }) m k)
 
 -- a pair has its own advance
-own_advance : (hmtx : List ℕ) (count g : ℕ) (m : Metric) → metric_in hmtx count g ≡ Some m → g < count → number hmtx (4 * g) 2 ≡ Some m.advance
+own_advance : (hmtx : List ℕ) (count g : ℕ) (m : LongHorMetric) → metric_in hmtx count g ≡ Some m → g < count → number hmtx (4 * g) 2 ≡ Some m.advance
 unfolding metric_in
 own_advance hmtx count g m h lt =
     advance_there hmtx (4 * g) (4 * g + 2) m (sym (ap (λ b. cond b (metric_at hmtx (4 * g) (4 * g + 2)) (cond (count == 0) None (metric_at hmtx (4 * (count - 1)) (4 * count + 2 * (g - count))))) (lt-ltb g count lt)) ∙ h)
 
 -- and what comes after the pairs has the last one's
-shared_advance : (hmtx : List ℕ) (count g : ℕ) (m : Metric) → metric_in hmtx count g ≡ Some m → count ≤ g → number hmtx (4 * (count - 1)) 2 ≡ Some m.advance
+shared_advance : (hmtx : List ℕ) (count g : ℕ) (m : LongHorMetric) → metric_in hmtx count g ≡ Some m → count ≤ g → number hmtx (4 * (count - 1)) 2 ≡ Some m.advance
 unfolding metric_in
 shared_advance hmtx count g m h le =
     by (count == 0) (sym (ap (λ b. cond b (metric_at hmtx (4 * g) (4 * g + 2)) (cond (count == 0) None (metric_at hmtx (4 * (count - 1)) (4 * count + 2 * (g - count))))) (le-ltb g count le)) ∙ h)
@@ -140,11 +142,11 @@ no_pairs_no_metric : (hmtx : List ℕ) (g : ℕ) → metric_in hmtx 0 g ≡ None
 unfolding metric_in
 no_pairs_no_metric hmtx g = ap (λ b. cond b (metric_at hmtx (4 * g) (4 * g + 2)) None) (le-ltb g 0 (omega arith))
 
-abbrev zeros : Metric
+abbrev zeros : LongHorMetric
 zeros = record { advance = 0; bearing = 0 }
 
 -- tables with these metrics have at least the least number of pairs
-no_fewer : (ms : List Metric) (bytes : List ℕ) (c : ℕ) → 0 < length ms → ((i : ℕ) → i < length ms → metric_in bytes c i ≡ Some (get_or ms i zeros)) → least_count ms ≤ c
+no_fewer : (ms : List LongHorMetric) (bytes : List ℕ) (c : ℕ) → 0 < length ms → ((i : ℕ) → i < length ms → metric_in bytes c i ≡ Some (get_or ms i zeros)) → least_count ms ≤ c
 no_fewer ms bytes zero some h = absurd (some_not_none (metric_in bytes 0 0) (get_or ms 0 zeros) (h 0 some) (no_pairs_no_metric bytes 0))
 no_fewer ms bytes (suc k) some h = least_count_least ms k zeros agree
   where
@@ -213,18 +215,18 @@ module _ (find : List ℕ → Option (List ℕ)) (order hmtx : List ℕ) (at : f
   count_fault : (hhea : List ℕ) (e : Error) → find (codes "hhea") ≡ Some hhea → source_count hhea hmtx ≡ Err e → HasMetricsFault find (Contains order) e
   unfolding source_count
   count_fault hhea e is h =
-      elim (bind_err (ok_or (number_of_metrics hhea) MalformedFont) (λ found. if_pairs found >>= λ c. last_pair hmtx c) e h) [
-        | inl k ↦ let n = named_err (number_of_metrics hhea) MalformedFont e k in subst (HasMetricsFault find (Contains order)) n.1 (short_hhea hhea (is_some_of (find (codes "hmtx")) hmtx at) is (number-short hhea 34 2 n.0))
-        | inr k ↦ second k.0 (named_ok (number_of_metrics hhea) MalformedFont k.0 k.1) (bind_err (if_pairs k.0) (λ c. last_pair hmtx c) e k.2)
+      elim (bind_err (ok_or (number_of_h_metrics hhea) MalformedFont) (λ found. if_pairs found >>= λ c. last_pair hmtx c) e h) [
+        | inl k ↦ let n = named_err (number_of_h_metrics hhea) MalformedFont e k in subst (HasMetricsFault find (Contains order)) n.1 (short_hhea hhea (is_some_of (find (codes "hmtx")) hmtx at) is (number-short hhea 34 2 n.0))
+        | inr k ↦ second k.0 (named_ok (number_of_h_metrics hhea) MalformedFont k.0 k.1) (bind_err (if_pairs k.0) (λ c. last_pair hmtx c) e k.2)
       ]
     where
-      third : (n c : ℕ) → number_of_metrics hhea ≡ Some n → (n ≡ c) × (0 < n) → (ok_or (number hmtx (4 * (c - 1)) 2) MalformedFont ≡ Err e) ⊎ ((x : ℕ) × (ok_or (number hmtx (4 * (c - 1)) 2) MalformedFont ≡ Ok x) × (done c ≡ Err e)) → HasMetricsFault find (Contains order) e
+      third : (n c : ℕ) → number_of_h_metrics hhea ≡ Some n → (n ≡ c) × (0 < n) → (ok_or (number hmtx (4 * (c - 1)) 2) MalformedFont ≡ Err e) ⊎ ((x : ℕ) × (ok_or (number hmtx (4 * (c - 1)) 2) MalformedFont ≡ Ok x) × (done c ≡ Err e)) → HasMetricsFault find (Contains order) e
       third n c seen p (inl k) =
           let m = named_err (number hmtx (4 * (c - 1)) 2) MalformedFont e k in
           subst (HasMetricsFault find (Contains order)) m.1 (last_advance_outside hhea hmtx c at is (seen ∙ ap Some p.0) (omega (arith, p.0, p.1)) m.0)
       third n c seen p (inr k) = absurd cc
 
-      second : (n : ℕ) → number_of_metrics hhea ≡ Some n → (if_pairs n ≡ Err e) ⊎ ((c : ℕ) × (if_pairs n ≡ Ok c) × (last_pair hmtx c ≡ Err e)) → HasMetricsFault find (Contains order) e
+      second : (n : ℕ) → number_of_h_metrics hhea ≡ Some n → (if_pairs n ≡ Err e) ⊎ ((c : ℕ) × (if_pairs n ≡ Ok c) × (last_pair hmtx c ≡ Err e)) → HasMetricsFault find (Contains order) e
       second n seen (inl k) = let z = pairs_err n e k in subst (HasMetricsFault find (Contains order)) z.1 (no_pairs hhea (is_some_of (find (codes "hmtx")) hmtx at) is (seen ∙ ap Some z.0))
       second n seen (inr k) = third n k.0 seen (pairs_ok n k.0 k.1) (bind_err (ok_or (number hmtx (4 * (k.0 - 1)) 2) MalformedFont) (λ advance. Ok k.0) e k.2)
 
@@ -236,7 +238,7 @@ module _ (find : List ℕ → Option (List ℕ)) (order hmtx : List ℕ) (at : f
         | inr k ↦ second k.0 (named_ok (find (codes "hhea")) MalformedFont k.0 k.1) (bind_err (source_count k.0 hmtx) (λ count. metrics_all hmtx count order >>= λ ms. laid k.0 ms) e k.2)
       ]
     where
-      third : (hhea : List ℕ) (count : ℕ) → find (codes "hhea") ≡ Some hhea → HasPairs hhea hmtx count → (metrics_all hmtx count order ≡ Err e) ⊎ ((ms : List Metric) × (metrics_all hmtx count order ≡ Ok ms) × (laid hhea ms ≡ Err e)) → HasMetricsFault find (Contains order) e
+      third : (hhea : List ℕ) (count : ℕ) → find (codes "hhea") ≡ Some hhea → HasPairs hhea hmtx count → (metrics_all hmtx count order ≡ Err e) ⊎ ((ms : List LongHorMetric) × (metrics_all hmtx count order ≡ Ok ms) × (laid hhea ms ≡ Err e)) → HasMetricsFault find (Contains order) e
       third hhea count is p (inl k) =
           let m = metrics_missing hmtx count order e k in
           subst (HasMetricsFault find (Contains order)) m.0 (metric_outside m.1.0 hhea hmtx count m.1.1 at is p.count_is p.positive m.1.2)
@@ -279,8 +281,8 @@ module _ (find : List ℕ → Option (List ℕ)) (order : List ℕ) where
   same_hmtx : (t : MetricBytes) (s : Steps find order t) (hmtx : List ℕ) → find (codes "hmtx") ≡ Some hmtx → s.hmtx ≡ hmtx
   same_hmtx t s hmtx h = just_is s.hmtx hmtx (sym s.hmtx_is ∙ h)
 
-  same_count : (t : MetricBytes) (s : Steps find order t) (hhea : List ℕ) (count : ℕ) → find (codes "hhea") ≡ Some hhea → number_of_metrics hhea ≡ Some count → s.count ≡ count
-  same_count t s hhea count h k = just_is s.count count (sym s.pairs.count_is ∙ ap number_of_metrics (same_header t s hhea h) ∙ k)
+  same_count : (t : MetricBytes) (s : Steps find order t) (hhea : List ℕ) (count : ℕ) → find (codes "hhea") ≡ Some hhea → number_of_h_metrics hhea ≡ Some count → s.count ≡ count
+  same_count t s hhea count h k = just_is s.count count (sym s.pairs.count_is ∙ ap number_of_h_metrics (same_header t s hhea h) ∙ k)
 
   some_clean : (t : MetricBytes) (e : Error) → Steps find order t → HasMetricsFault find (Contains order) e → ⊥
   some_clean t e s (no_hhea a b) = some_not_none (find (codes "hhea")) s.hhea s.hhea_is b

@@ -10,8 +10,8 @@ use Rattle.subsetter_base.specs.declared.error.Error.{Error}
 use Rattle.subsetter_base.specs.declared.error.Error.TheVariants.{MalformedFont}
 use Rattle.subsetter_base.proofs.Results.{done_is, bind_ok, bind_err, named_ok, named_err}
 use Rattle.subsetter_base.proofs.Lists.{and_parts}
-use Rattle.subsetter.specs.declared.hmtx.Metric.{Metric}
-use Rattle.subsetter.specs.Hmtx.Read.{metric_in}
+use Rattle.subsetter_sfnt.specs.declared.fields.hmtx.LongHorMetric.{LongHorMetric}
+use Rattle.subsetter_sfnt.specs.Fields.Hmtx.{metric_in}
 use Rattle.subsetter.specs.Hmtx.Written.{pair_bytes, bearing_bytes, hhea_bytes, hmtx_bytes, all_advance, least_count, metrics_all}
 
 -- `hhea`, written in three parts
@@ -24,15 +24,15 @@ pub length-hhea : (count : ℕ) (hhea : List ℕ) → 36 ≤ length hhea → len
 unfolding hhea_bytes
 length-hhea count hhea h = omega (arith, length-append (take 34 hhea ++ to_be_bytes w16 count) (drop 36 hhea), length-append (take 34 hhea) (to_be_bytes w16 count), length-take 34 hhea, length-drop 36 hhea)
 
-pub length-pairs : (ms : List Metric) → length (flat_map pair_bytes ms) ≡ 4 * length ms
+pub length-pairs : (ms : List LongHorMetric) → length (flat_map pair_bytes ms) ≡ 4 * length ms
 length-pairs [] = refl
 length-pairs (m ∷ ms) = omega (arith, length-append (pair_bytes m) (flat_map pair_bytes ms), length-pairs ms)
 
-pub length-bearings : (ms : List Metric) → length (flat_map bearing_bytes ms) ≡ 2 * length ms
+pub length-bearings : (ms : List LongHorMetric) → length (flat_map bearing_bytes ms) ≡ 2 * length ms
 length-bearings [] = refl
 length-bearings (m ∷ ms) = omega (arith, length-append (bearing_bytes m) (flat_map bearing_bytes ms), length-bearings ms)
 
-pub length-hmtx : (count : ℕ) (ms : List Metric) → count ≤ length ms → length (hmtx_bytes count ms) ≡ 2 * length ms + 2 * count
+pub length-hmtx : (count : ℕ) (ms : List LongHorMetric) → count ≤ length ms → length (hmtx_bytes count ms) ≡ 2 * length ms + 2 * count
 unfolding hmtx_bytes
 length-hmtx count ms h = omega (arith, length-append (flat_map pair_bytes (take count ms)) (flat_map bearing_bytes (drop count ms)), length-pairs (take count ms), length-bearings (drop count ms), length-take count ms, length-drop count ms)
 
@@ -40,26 +40,26 @@ length-hmtx count ms h = omega (arith, length-append (flat_map pair_bytes (take 
 
 -- ---- each glyph's metric
 
-abbrev more : Metric → List Metric → Result (List Metric) Error
+abbrev more : LongHorMetric → List LongHorMetric → Result (List LongHorMetric) Error
 more m ms = Ok (m ∷ ms)
 
-pub metrics-length : (hmtx : List ℕ) (count : ℕ) (gs : List ℕ) (ms : List Metric) → metrics_all hmtx count gs ≡ Ok ms → length ms ≡ length gs
+pub metrics-length : (hmtx : List ℕ) (count : ℕ) (gs : List ℕ) (ms : List LongHorMetric) → metrics_all hmtx count gs ≡ Ok ms → length ms ≡ length gs
 metrics-length hmtx count [] ms h = ap length (sym (done_is [] ms h))
 metrics-length hmtx count (g ∷ gs) ms h =
     let a = bind_ok (ok_or (metric_in hmtx count g) MalformedFont) (λ m. metrics_all hmtx count gs >>= λ xs. Ok (m ∷ xs)) ms h in
     let b = bind_ok (metrics_all hmtx count gs) (more a.0) ms a.2 in
     ap length (sym (done_is (a.0 ∷ b.0) ms b.2)) ∙ ap suc (metrics-length hmtx count gs b.0 b.1)
 
-pub metrics_at : (hmtx : List ℕ) (count : ℕ) (gs : List ℕ) (ms : List Metric) (i : ℕ) (d : Metric) → metrics_all hmtx count gs ≡ Ok ms → i < length gs → metric_in hmtx count (get_or gs i 0) ≡ Some (get_or ms i d)
+pub metrics_at : (hmtx : List ℕ) (count : ℕ) (gs : List ℕ) (ms : List LongHorMetric) (i : ℕ) (d : LongHorMetric) → metrics_all hmtx count gs ≡ Ok ms → i < length gs → metric_in hmtx count (get_or gs i 0) ≡ Some (get_or ms i d)
 metrics_at hmtx count [] ms i d h lt = absurd (omega arith)
 metrics_at hmtx count (g ∷ gs) ms zero d h lt =
     let a = bind_ok (ok_or (metric_in hmtx count g) MalformedFont) (λ m. metrics_all hmtx count gs >>= λ xs. Ok (m ∷ xs)) ms h in
     let b = bind_ok (metrics_all hmtx count gs) (more a.0) ms a.2 in
-    named_ok (metric_in hmtx count g) MalformedFont a.0 a.1 ∙ ap (λ (l : List Metric). Some (get_or l 0 d)) (done_is (a.0 ∷ b.0) ms b.2)
+    named_ok (metric_in hmtx count g) MalformedFont a.0 a.1 ∙ ap (λ (l : List LongHorMetric). Some (get_or l 0 d)) (done_is (a.0 ∷ b.0) ms b.2)
 metrics_at hmtx count (g ∷ gs) ms (suc i) d h lt =
     let a = bind_ok (ok_or (metric_in hmtx count g) MalformedFont) (λ m. metrics_all hmtx count gs >>= λ xs. Ok (m ∷ xs)) ms h in
     let b = bind_ok (metrics_all hmtx count gs) (more a.0) ms a.2 in
-    metrics_at hmtx count gs b.0 i d b.1 (omega arith) ∙ ap (λ (l : List Metric). Some (get_or l (suc i) d)) (done_is (a.0 ∷ b.0) ms b.2)
+    metrics_at hmtx count gs b.0 i d b.1 (omega arith) ∙ ap (λ (l : List LongHorMetric). Some (get_or l (suc i) d)) (done_is (a.0 ∷ b.0) ms b.2)
 
 -- the glyph whose metric isn't there
 pub metrics_missing : (hmtx : List ℕ) (count : ℕ) (gs : List ℕ) (e : Error) → metrics_all hmtx count gs ≡ Err e → (MalformedFont ≡ e) × ((g : ℕ) × Contains gs g × (metric_in hmtx count g ≡ None))
@@ -70,7 +70,7 @@ metrics_missing hmtx count (g ∷ gs) e h =
       | inr k ↦ later (λ x. metrics_missing hmtx count gs e x) k.0 (bind_err (metrics_all hmtx count gs) (more k.0) e k.2)
     ]
   where
-    later : (metrics_all hmtx count gs ≡ Err e → (MalformedFont ≡ e) × ((q : ℕ) × Contains gs q × (metric_in hmtx count q ≡ None))) → (m : Metric) → (metrics_all hmtx count gs ≡ Err e) ⊎ ((x : List Metric) × (metrics_all hmtx count gs ≡ Ok x) × (more m x ≡ Err e))
+    later : (metrics_all hmtx count gs ≡ Err e → (MalformedFont ≡ e) × ((q : ℕ) × Contains gs q × (metric_in hmtx count q ≡ None))) → (m : LongHorMetric) → (metrics_all hmtx count gs ≡ Err e) ⊎ ((x : List LongHorMetric) × (metrics_all hmtx count gs ≡ Ok x) × (more m x ≡ Err e))
         → (MalformedFont ≡ e) × ((q : ℕ) × Contains (g ∷ gs) q × (metric_in hmtx count q ≡ None))
     later rest m (inl k) = let n = rest k in (n.0, (n.1.0, (suc n.1.1.0, omega (arith, n.1.1.1), n.1.1.2), n.1.2))
     later rest m (inr k) = absurd cc
@@ -78,19 +78,19 @@ metrics_missing hmtx count (g ∷ gs) e h =
 -- ---- the least number of pairs
 
 -- each has the advance
-pub all_advance_at : (a : ℕ) (ms : List Metric) (i : ℕ) (d : Metric) → all_advance a ms ≡ true → i < length ms → (get_or ms i d).advance ≡ a
+pub all_advance_at : (a : ℕ) (ms : List LongHorMetric) (i : ℕ) (d : LongHorMetric) → all_advance a ms ≡ true → i < length ms → (get_or ms i d).advance ≡ a
 all_advance_at a [] i d h lt = absurd (omega arith)
 all_advance_at a (m ∷ ms) zero d h lt = let t = (and_parts (m.advance == a) (all_advance a ms) h).0 in grind arith
 all_advance_at a (m ∷ ms) (suc i) d h lt = all_advance_at a ms i d (and_parts (m.advance == a) (all_advance a ms) h).1 (omega arith)
 
-pub all_advance_from : (a : ℕ) (ms : List Metric) (d : Metric) → ((i : ℕ) → i < length ms → (get_or ms i d).advance ≡ a) → all_advance a ms ≡ true
+pub all_advance_from : (a : ℕ) (ms : List LongHorMetric) (d : LongHorMetric) → ((i : ℕ) → i < length ms → (get_or ms i d).advance ≡ a) → all_advance a ms ≡ true
 all_advance_from a [] d h = refl
 all_advance_from a (m ∷ ms) d h =
     let first : m.advance ≡ a = h 0 (omega arith) in
     let rest : all_advance a ms ≡ true = all_advance_from a ms d (λ i lt. h (suc i) (omega arith)) in
     grind arith
 
-pub least_count-le : (ms : List Metric) → least_count ms ≤ length ms
+pub least_count-le : (ms : List LongHorMetric) → least_count ms ≤ length ms
 least_count-le [] = omega arith
 least_count-le (m ∷ ms) = by (all_advance m.advance ms) (least_count-le ms)
   where
@@ -98,7 +98,7 @@ least_count-le (m ∷ ms) = by (all_advance m.advance ms) (least_count-le ms)
     by true h = omega arith
     by false h = omega arith
 
-pub least_count_pos : (ms : List Metric) → 0 < length ms → 1 ≤ least_count ms
+pub least_count_pos : (ms : List LongHorMetric) → 0 < length ms → 1 ≤ least_count ms
 least_count_pos [] lt = absurd (omega arith)
 least_count_pos (m ∷ ms) lt = by (all_advance m.advance ms)
   where
@@ -107,7 +107,7 @@ least_count_pos (m ∷ ms) lt = by (all_advance m.advance ms)
     by false = omega arith
 
 -- from there on all share the last pair's advance
-pub advances_agree : (ms : List Metric) (k i : ℕ) (d : Metric) → least_count ms ≡ suc k → suc k ≤ i → i < length ms → (get_or ms i d).advance ≡ (get_or ms k d).advance
+pub advances_agree : (ms : List LongHorMetric) (k i : ℕ) (d : LongHorMetric) → least_count ms ≡ suc k → suc k ≤ i → i < length ms → (get_or ms i d).advance ≡ (get_or ms k d).advance
 advances_agree [] k i d h le lt = absurd (omega arith)
 advances_agree (m ∷ ms) k zero d h le lt = absurd (omega arith)
 advances_agree (m ∷ ms) k (suc i) d h le lt = by (λ k h le. advances_agree ms k i d h le (omega arith)) (all_advance m.advance ms) k refl h le
@@ -119,7 +119,7 @@ advances_agree (m ∷ ms) k (suc i) d h le lt = by (λ k h le. advances_agree ms
     by rest false (suc k) t e le = rest k (omega arith) (omega arith)
 
 -- a lesser number would not do
-pub least_count_least : (ms : List Metric) (k : ℕ) (d : Metric) → ((i : ℕ) → suc k ≤ i → i < length ms → (get_or ms i d).advance ≡ (get_or ms k d).advance) → least_count ms ≤ suc k
+pub least_count_least : (ms : List LongHorMetric) (k : ℕ) (d : LongHorMetric) → ((i : ℕ) → suc k ≤ i → i < length ms → (get_or ms i d).advance ≡ (get_or ms k d).advance) → least_count ms ≤ suc k
 least_count_least [] k d h = omega arith
 least_count_least (m ∷ ms) zero d h =
     let t : all_advance m.advance ms ≡ true = all_advance_from m.advance ms d (λ i lt. h (suc i) (omega arith) (omega arith)) in

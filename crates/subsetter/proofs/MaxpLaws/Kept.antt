@@ -12,7 +12,8 @@ use Rattle.subsetter_base.proofs.Results.{done_is, failed_is}
 use Rattle.subsetter_base.proofs.Options.{some_not_none, just_is}
 use Rattle.subsetter_sfnt.specs.declared.flavor.FontFlavor.{FontFlavor}
 use Rattle.subsetter_sfnt.specs.declared.flavor.FontFlavor.TheVariants.{TrueType, Cff}
-use Rattle.subsetter.specs.Maxp.Read.{number_of_glyphs, version_of, further_fields, IsMaxProfile, HasMaxProfileFault, short_maxp}
+use Rattle.subsetter.specs.Maxp.Read.{version_of, further_fields, IsMaxProfile, HasMaxProfileFault, short_maxp}
+use Rattle.subsetter_sfnt.specs.Fields.Maxp.{num_glyphs}
 use Rattle.subsetter.specs.Maxp.Written.{maxp_bytes, maxp_in, maxp_of}
 
 version_small : (flavor : FontFlavor) → version_of flavor < 2 ^ 32
@@ -27,7 +28,7 @@ version_back flavor n source =
     let f = further_fields flavor source in
     number_at ((v ++ c) ++ f) [] v (c ++ f) 0 4 (version_of flavor) (append_assoc v c f) refl refl (be-u32 (version_of flavor) (version_small flavor))
 
-count_back : (flavor : FontFlavor) (n : ℕ) (source : List ℕ) → n < 2 ^ 16 → number_of_glyphs (maxp_bytes flavor n source) ≡ Some n
+count_back : (flavor : FontFlavor) (n : ℕ) (source : List ℕ) → n < 2 ^ 16 → num_glyphs (maxp_bytes flavor n source) ≡ Some n
 unfolding maxp_bytes
 count_back flavor n source small =
     let v = to_be_bytes w32 (version_of flavor) in
@@ -69,7 +70,7 @@ is_max_profile find out flavor n maxp small h at =
       maxp = maxp;
       maxp_is = at;
       version = ap (λ (l : List ℕ). number l 0 4) s.is ∙ version_back flavor n s.source;
-      count = ap number_of_glyphs s.is ∙ count_back flavor n s.source small;
+      count = ap num_glyphs s.is ∙ count_back flavor n s.source small;
       further = ap (λ (l : List ℕ). drop 6 l) s.is ∙ further_back flavor n s.source;
     }
 

@@ -8,8 +8,9 @@ use Rattle.std.proofs.lemmas.Bool.{le-leb, leb-true}
 use Rattle.std.proofs.lemmas.List.{drop_at, length-append, length-take, length-drop}
 use Rattle.subsetter_base.specs.Bytes.{IsBytes, be, range, number}
 use Rattle.subsetter_base.proofs.ByteLemmas.{range-middle, be-u16}
-use Rattle.subsetter.specs.declared.name.NameRecord.{NameRecord}
-use Rattle.subsetter.specs.Name.Read.{name_record_of, name_records_in, name_table, bytes_from, name_record_bytes, name_bytes, is_kept_record}
+use Rattle.subsetter_sfnt.specs.declared.fields.name.NameRecord.{NameRecord}
+use Rattle.subsetter.specs.Name.Read.{name_records_in, name_table, bytes_from, name_bytes, is_kept_record}
+use Rattle.subsetter_sfnt.specs.Fields.Name.{name_record_of, name_record_bytes}
 
 -- ---- bytes, numbers and ranges
 

@@ -10,8 +10,9 @@ use Rattle.subsetter_base.specs.declared.error.Error.{Error}
 use Rattle.subsetter_base.specs.declared.error.Error.TheVariants.{MalformedFont, SubsetError}
 use Rattle.subsetter_base.proofs.Results.{bind_ok, named_ok, done_is, failed_is, bind_err, named_err}
 use Rattle.subsetter_base.proofs.ByteLemmas.{number-short, range-short}
-use Rattle.subsetter.specs.declared.name.NameRecord.{NameRecord}
-use Rattle.subsetter.specs.Name.Read.{Name, NameTable, name_records_in, bytes_from, name_parts, name_table, name_records, string_of, name_of_record, name_bytes, is_kept_record, is_kept_name, with_string, with_strings, distinct, string_place, joined}
+use Rattle.subsetter_sfnt.specs.declared.fields.name.NameRecord.{NameRecord}
+use Rattle.subsetter.specs.Name.Read.{Name, NameTable, name_records_in, bytes_from, name_parts, name_table, name_records, name_of_record, name_bytes, is_kept_record, is_kept_name, with_string, with_strings, distinct, string_place, joined}
+use Rattle.subsetter_sfnt.specs.Fields.Name.{string_of}
 use Rattle.subsetter.specs.Name.Plain.{Placed, placed, placed_string, with_name, few_names, subset_names, name_of_table, new_name, name_of}
 use Rattle.subsetter.specs.Name.Fault.{HasNameFault, kept_strings, name_without_version, name_header_cut, name_records_cut, name_storage_outside, name_string_outside, too_many_names, name_string_too_far}
 use Rattle.subsetter.proofs.NameLaws.Kept.{stored, kept_alike, read_by_version}

@@ -12,8 +12,9 @@ use Rattle.subsetter_base.proofs.Results.{bind_ok, named_ok, done_is}
 use Rattle.subsetter_base.proofs.Options.{bind_some}
 use Rattle.subsetter_base.proofs.Lists.{bytes_eq_is, bytes_eq_self}
 use Rattle.subsetter_base.proofs.ByteLemmas.{range-middle}
-use Rattle.subsetter.specs.declared.name.NameRecord.{NameRecord}
-use Rattle.subsetter.specs.Name.Read.{Name, NameTable, name_records_in, bytes_from, name_parts, name_table, name_records, name_storage, string_of, name_of_record, name_bytes, is_kept_record, is_kept_name, among, with_string, with_strings, string_place, joined, HasKeptNames, KeepsNames, rewritten, copied}
+use Rattle.subsetter_sfnt.specs.declared.fields.name.NameRecord.{NameRecord}
+use Rattle.subsetter.specs.Name.Read.{Name, NameTable, name_records_in, bytes_from, name_parts, name_table, name_records, name_storage, name_of_record, name_bytes, is_kept_record, is_kept_name, among, with_string, with_strings, string_place, joined, HasKeptNames, KeepsNames, rewritten, copied}
+use Rattle.subsetter_sfnt.specs.Fields.Name.{string_of}
 use Rattle.subsetter.specs.Name.Plain.{Placed, placed, placed_string, with_name, few_names, subset_names, name_of_table, new_name, name_of}
 use Rattle.subsetter.proofs.NameLaws.Written.{among-append, place_before, place_behind, place_new}
 use Rattle.subsetter.proofs.NameLaws.Back.{AllBytes, all_bytes, all_drop, all_take, range_found, FitsRecord, fit_records, fits_kept, table_back}

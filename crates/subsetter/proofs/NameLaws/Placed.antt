@@ -7,8 +7,9 @@ use Rattle.subsetter_base.specs.Bytes.{◌>>=◌}
 use Rattle.subsetter_base.specs.declared.error.Error.{Error}
 use Rattle.subsetter_base.proofs.Results.{done}
 use Rattle.subsetter_base.specs.declared.error.Error.TheVariants.{SubsetError}
-use Rattle.subsetter.specs.declared.name.NameRecord.{NameRecord}
-use Rattle.subsetter.specs.Name.Read.{NameTable, string_of, is_kept_record, with_string, joined, name_record_bytes, name_bytes}
+use Rattle.subsetter_sfnt.specs.declared.fields.name.NameRecord.{NameRecord}
+use Rattle.subsetter.specs.Name.Read.{NameTable, is_kept_record, with_string, joined, name_bytes}
+use Rattle.subsetter_sfnt.specs.Fields.Name.{name_record_bytes, string_of}
 use Rattle.subsetter.specs.Name.Plain.{Placed, Laid, placed, placed_string, with_name, few_names, subset_names, header_bytes, laid_behind, few_laid, laid_bytes, kept_bytes}
 use Rattle.subsetter.proofs.NameLaws.Back.{length-records}
 

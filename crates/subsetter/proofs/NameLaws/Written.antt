@@ -11,8 +11,9 @@ use Rattle.std.proofs.lemmas.Grind.{flat_map-append}
 use Rattle.subsetter_base.specs.Items.{values_of}
 use Rattle.subsetter_base.specs.declared.error.Error.TheVariants.{SubsetError}
 use Rattle.subsetter_base.proofs.Lists.{five_written, bytes_eq_is, bytes_eq_self}
-use Rattle.subsetter.specs.declared.name.NameRecord.{NameRecord}
-use Rattle.subsetter.specs.Name.Read.{name_parts, name_record_of, name_records_in, name_record_bytes, name_bytes, among, string_place, joined}
+use Rattle.subsetter_sfnt.specs.declared.fields.name.NameRecord.{NameRecord}
+use Rattle.subsetter.specs.Name.Read.{name_parts, name_records_in, name_bytes, among, string_place, joined}
+use Rattle.subsetter_sfnt.specs.Fields.Name.{name_record_of, name_record_bytes}
 use Rattle.subsetter.specs.Name.Plain.{placed_string}
 use Rattle.subsetter.specs.declared.name.Table.{Table as ReadTable}
 use Rattle.subsetter.specs.Name.View.{nows, seen_parts, seen_table}

@@ -5,37 +5,24 @@ use Rattle.subsetter_base.specs.declared.error.Error.{Error}
 use Rattle.subsetter_base.specs.declared.error.Error.TheVariants.{MalformedFont, OverflowError}
 use Rattle.subsetter_sfnt.specs.Optional.{◌>>=◌}
 use Rattle.subsetter_sfnt.specs.Read.{Font, table}
-use Rattle.subsetter.specs.declared.hmtx.Metric.{Metric}
-
--- numberOfHMetrics
-abbrev pub number_of_metrics : List ℕ → Option ℕ
-number_of_metrics hhea = number hhea 34 2
-
--- an advance and a bearing at two places
-abbrev pub metric_at : List ℕ → ℕ → ℕ → Option Metric
-metric_at hmtx advance_at bearing_at = do
-  advance ← number hmtx advance_at 2
-  bearing ← number hmtx bearing_at 2
-  Some (record { advance = advance; bearing = bearing })
-
--- longHorMetric pairs come first, for as many glyphs as the count says; then bearings alone, which share the last pair's advance
-unfoldable pub metric_in : List ℕ → ℕ → ℕ → Option Metric
-metric_in hmtx count g = if nat_lt g count then metric_at hmtx (4 * g) (4 * g + 2) else (if count == 0 then None else metric_at hmtx (4 * (count - 1)) (4 * count + 2 * (g - count)))
+use Rattle.subsetter_sfnt.specs.Fields.Hhea.{number_of_h_metrics}
+use Rattle.subsetter_sfnt.specs.Fields.Hmtx.{metric_in}
+use Rattle.subsetter_sfnt.specs.declared.fields.hmtx.LongHorMetric.{LongHorMetric}
 
 -- the metric of a glyph, among the tables that a look-up finds
-unfoldable pub metric_of : (List ℕ → Option (List ℕ)) → ℕ → Option Metric
+unfoldable pub metric_of : (List ℕ → Option (List ℕ)) → ℕ → Option LongHorMetric
 metric_of find g = do
   hhea ← find (codes "hhea")
   hmtx ← find (codes "hmtx")
-  count ← number_of_metrics hhea
+  count ← number_of_h_metrics hhea
   metric_in hmtx count g
 
-abbrev pub metric : Font → ℕ → Option Metric
+abbrev pub metric : Font → ℕ → Option LongHorMetric
 metric font g = metric_of (table font) g
 
 -- both fonts have the metric of their glyph, and they are equal
 pub record SameMetric (find out : List ℕ → Option (List ℕ)) (g h : ℕ) : Type 0 where
-  pub metric : Metric
+  pub metric : LongHorMetric
   pub source : metric_of find g ≡ Some metric
   pub copy : metric_of out h ≡ Some metric
 
@@ -49,7 +36,7 @@ pub record KeepsMetrics (find : List ℕ → Option (List ℕ)) (order : List �
   pub hmtx : List ℕ
   pub hmtx_is : out (codes "hmtx") ≡ Some hmtx
   pub count : ℕ
-  pub count_is : number_of_metrics hhea ≡ Some count
+  pub count_is : number_of_h_metrics hhea ≡ Some count
   pub at_least : 1 ≤ count
   pub at_most : count ≤ length order
   -- no bytes give these metrics by a lesser count
@@ -66,6 +53,6 @@ pub data HasMetricsFault (find : List ℕ → Option (List ℕ)) (reached : ℕ 
   no_hhea : IsSome (find (codes "hmtx")) → find (codes "hhea") ≡ None → HasMetricsFault find reached MalformedFont
   -- numberOfHMetrics ends at byte 36
   short_hhea : (hhea : List ℕ) → IsSome (find (codes "hmtx")) → find (codes "hhea") ≡ Some hhea → length hhea < 36 → HasMetricsFault find reached MalformedFont
-  no_pairs : (hhea : List ℕ) → IsSome (find (codes "hmtx")) → find (codes "hhea") ≡ Some hhea → number_of_metrics hhea ≡ Some 0 → HasMetricsFault find reached OverflowError
-  last_advance_outside : (hhea hmtx : List ℕ) (count : ℕ) → find (codes "hmtx") ≡ Some hmtx → find (codes "hhea") ≡ Some hhea → number_of_metrics hhea ≡ Some count → 0 < count → number hmtx (4 * (count - 1)) 2 ≡ None → HasMetricsFault find reached MalformedFont
-  metric_outside : (g : ℕ) (hhea hmtx : List ℕ) (count : ℕ) → reached g → find (codes "hmtx") ≡ Some hmtx → find (codes "hhea") ≡ Some hhea → number_of_metrics hhea ≡ Some count → 0 < count → metric_in hmtx count g ≡ None → HasMetricsFault find reached MalformedFont
+  no_pairs : (hhea : List ℕ) → IsSome (find (codes "hmtx")) → find (codes "hhea") ≡ Some hhea → number_of_h_metrics hhea ≡ Some 0 → HasMetricsFault find reached OverflowError
+  last_advance_outside : (hhea hmtx : List ℕ) (count : ℕ) → find (codes "hmtx") ≡ Some hmtx → find (codes "hhea") ≡ Some hhea → number_of_h_metrics hhea ≡ Some count → 0 < count → number hmtx (4 * (count - 1)) 2 ≡ None → HasMetricsFault find reached MalformedFont
+  metric_outside : (g : ℕ) (hhea hmtx : List ℕ) (count : ℕ) → reached g → find (codes "hmtx") ≡ Some hmtx → find (codes "hhea") ≡ Some hhea → number_of_h_metrics hhea ≡ Some count → 0 < count → metric_in hmtx count g ≡ None → HasMetricsFault find reached MalformedFont

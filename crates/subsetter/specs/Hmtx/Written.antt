@@ -6,8 +6,9 @@ use Rattle.std.specs.Int.{w16, to_be_bytes}
 use Rattle.subsetter_base.specs.Bytes.{number, ◌>>=◌}
 use Rattle.subsetter_base.specs.declared.error.Error.{Error}
 use Rattle.subsetter_base.specs.declared.error.Error.TheVariants.{MalformedFont, OverflowError}
-use Rattle.subsetter.specs.Hmtx.Read.{number_of_metrics, metric_in}
-use Rattle.subsetter.specs.declared.hmtx.Metric.{Metric}
+use Rattle.subsetter_sfnt.specs.Fields.Hmtx.{metric_in}
+use Rattle.subsetter_sfnt.specs.Fields.Hhea.{number_of_h_metrics}
+use Rattle.subsetter_sfnt.specs.declared.fields.hmtx.LongHorMetric.{LongHorMetric}
 
 -- the bytes of the two tables
 pub record MetricBytes : Type 0 where
@@ -15,23 +16,23 @@ pub record MetricBytes : Type 0 where
   pub hmtx : List ℕ
 
 -- each has that advance
-abbrev pub all_advance : ℕ → List Metric → Bool
+abbrev pub all_advance : ℕ → List LongHorMetric → Bool
 all_advance advance [] = true
 all_advance advance (m ∷ ms) = (m.advance == advance) && all_advance advance ms
 
 -- the glyphs up to the first after which all share its advance need a pair
-abbrev pub least_count : List Metric → ℕ
+abbrev pub least_count : List LongHorMetric → ℕ
 least_count [] = 0
 least_count (m ∷ ms) = if all_advance m.advance ms then 1 else 1 + least_count ms
 
-abbrev pub pair_bytes : Metric → List ℕ
+abbrev pub pair_bytes : LongHorMetric → List ℕ
 pair_bytes m = to_be_bytes w16 m.advance ++ to_be_bytes w16 m.bearing
 
-abbrev pub bearing_bytes : Metric → List ℕ
+abbrev pub bearing_bytes : LongHorMetric → List ℕ
 bearing_bytes m = to_be_bytes w16 m.bearing
 
 -- pairs, then bearings alone
-unfoldable pub hmtx_bytes : ℕ → List Metric → List ℕ
+unfoldable pub hmtx_bytes : ℕ → List LongHorMetric → List ℕ
 hmtx_bytes count ms = flat_map pair_bytes (take count ms) ++ flat_map bearing_bytes (drop count ms)
 
 -- `hhea` with numberOfHMetrics in bytes 34..36
@@ -45,7 +46,7 @@ abbrev pub if_pairs : ℕ → Result ℕ Error
 if_pairs count = if count == 0 then Err OverflowError else Ok count
 
 -- the metrics of glyphs
-abbrev pub metrics_all : List ℕ → ℕ → List ℕ → Result (List Metric) Error
+abbrev pub metrics_all : List ℕ → ℕ → List ℕ → Result (List LongHorMetric) Error
 metrics_all hmtx count [] = Ok []
 metrics_all hmtx count (g ∷ gs) = do
   m ← ok_or (metric_in hmtx count g) MalformedFont
@@ -55,7 +56,7 @@ metrics_all hmtx count (g ∷ gs) = do
 -- how many pairs the source has, of which the last has its advance
 unfoldable pub source_count : List ℕ → List ℕ → Result ℕ Error
 source_count hhea hmtx = do
-  found ← ok_or (number_of_metrics hhea) MalformedFont
+  found ← ok_or (number_of_h_metrics hhea) MalformedFont
   count ← if_pairs found
   advance ← ok_or (number hmtx (4 * (count - 1)) 2) MalformedFont
   Ok count

@@ -3,12 +3,9 @@ use Rattle.std.specs.Prelude.{◌≡◌, ℕ, ◌<◌, List, [], length, drop, c
 use Rattle.subsetter_base.specs.Bytes.{number}
 use Rattle.subsetter_base.specs.declared.error.Error.{Error}
 use Rattle.subsetter_base.specs.declared.error.Error.TheVariants.{MalformedFont}
+use Rattle.subsetter_sfnt.specs.Fields.Maxp.{num_glyphs}
 use Rattle.subsetter_sfnt.specs.declared.flavor.FontFlavor.{FontFlavor}
 use Rattle.subsetter_sfnt.specs.declared.flavor.FontFlavor.TheVariants.{TrueType, Cff}
-
--- numGlyphs
-abbrev pub number_of_glyphs : List ℕ → Option ℕ
-number_of_glyphs maxp = number maxp 4 2
 
 -- version 1.0 for TrueType outlines, 0.5 for CFF ones
 abbrev pub version_of : FontFlavor → ℕ
@@ -28,7 +25,7 @@ pub record IsMaxProfile (find : List ℕ → Option (List ℕ)) (flavor : FontFl
   pub maxp : List ℕ
   pub maxp_is : out (codes "maxp") ≡ Some maxp
   pub version : number maxp 0 4 ≡ Some (version_of flavor)
-  pub count : number_of_glyphs maxp ≡ Some n
+  pub count : num_glyphs maxp ≡ Some n
   pub further : drop 6 maxp ≡ further_fields flavor source
 
 -- what can stand against `maxp`, under the name of its error

@@ -5,8 +5,9 @@ use Rattle.std.specs.Int.{w16, to_be_bytes}
 use Rattle.subsetter_base.specs.Bytes.{◌>>=◌, number}
 use Rattle.subsetter_base.specs.declared.error.Error.{Error}
 use Rattle.subsetter_base.specs.declared.error.Error.TheVariants.{MalformedFont, SubsetError}
-use Rattle.subsetter.specs.declared.name.NameRecord.{NameRecord}
-use Rattle.subsetter.specs.Name.Read.{NameTable, name_parts, string_of, is_kept_record, with_string, string_place, joined, name_record_bytes, name_bytes}
+use Rattle.subsetter_sfnt.specs.declared.fields.name.NameRecord.{NameRecord}
+use Rattle.subsetter.specs.Name.Read.{NameTable, name_parts, is_kept_record, with_string, string_place, joined, name_bytes}
+use Rattle.subsetter_sfnt.specs.Fields.Name.{name_record_bytes, string_of}
 
 -- records with their new offsets, and the strings that they use
 pub record Placed : Type 0 where

@@ -4,14 +4,11 @@ use Rattle.std.specs.Option.{option_and_then, option_map}
 use Rattle.std.specs.Str.{bytes_eq}
 use Rattle.std.specs.Int.{w16, to_be_bytes}
 use Rattle.subsetter_base.specs.Bytes.{be, range, number}
+use Rattle.subsetter_sfnt.specs.Fields.Name.{name_record_of, name_record_bytes, string_of, is_unicode}
 use Rattle.subsetter_sfnt.specs.Optional.{◌>>=◌}
-use Rattle.subsetter.specs.declared.name.NameRecord.{NameRecord}
+use Rattle.subsetter_sfnt.specs.declared.fields.name.NameRecord.{NameRecord}
 
 -- ---- read
-
--- a record: platform, encoding, language, name, and length and offset of a string, two bytes each
-abbrev pub name_record_of : List ℕ → NameRecord
-name_record_of b = record { platform_id = be (take 2 b); encoding_id = be (take 2 (drop 2 b)); language_id = be (take 2 (drop 4 b)); name_id = be (take 2 (drop 6 b)); length = be (take 2 (drop 8 b)); string_offset = be (take 2 (drop 10 b)) }
 
 -- that many records
 abbrev pub name_records_in : ℕ → List ℕ → List NameRecord
@@ -48,10 +45,6 @@ pub record Name : Type 0 where
   pub id : ℕ
   pub string : Option (List ℕ)
 
--- the string of a record
-abbrev pub string_of : List ℕ → NameRecord → Option (List ℕ)
-string_of storage r = range storage r.string_offset r.length
-
 abbrev pub name_of_record : List ℕ → NameRecord → Name
 name_of_record storage r = record { platform = r.platform_id; encoding = r.encoding_id; language = r.language_id; id = r.name_id; string = string_of storage r }
 
@@ -64,10 +57,6 @@ abbrev pub name_storage : List ℕ → Option (List ℕ)
 name_storage bytes = option_map (λ t. t.storage) (name_table bytes)
 
 -- ---- what is kept
-
--- strings of the platform Unicode (0), and of Windows (3) in the encodings symbol, Unicode BMP and full Unicode
-abbrev pub is_unicode : ℕ → ℕ → Bool
-is_unicode platform encoding = (platform == 0) || ((platform == 3) && ((encoding == 0) || ((encoding == 1) || (encoding == 10))))
 
 -- the names of the font, its makers, its licence and its families: all of 0 to 14 but the description, 10
 abbrev pub is_kept_id : ℕ → Bool
@@ -109,9 +98,6 @@ abbrev pub joined : List (List ℕ) → List ℕ
 joined ts = flat_map (λ (t : List ℕ). t) ts
 
 -- ---- written
-
-abbrev pub name_record_bytes : NameRecord → List ℕ
-name_record_bytes r = to_be_bytes w16 r.platform_id ++ to_be_bytes w16 r.encoding_id ++ to_be_bytes w16 r.language_id ++ to_be_bytes w16 r.name_id ++ to_be_bytes w16 r.length ++ to_be_bytes w16 r.string_offset
 
 -- a table of version 0, its storage right after its records
 unfoldable pub name_bytes : List NameRecord → List ℕ → List ℕ

@@ -5,7 +5,8 @@ use Rattle.subsetter_base.specs.Items.{values}
 use Rattle.subsetter.specs.declared.name.Table.{Table as ReadTable}
 use Rattle.subsetter.specs.declared.name.NewName.{NewName}
 use Rattle.subsetter.specs.declared.name.NewName.TheVariants.{Copied, Kept}
-use Rattle.subsetter.specs.Name.Read.{NameTable, name_record_of, name_records_in}
+use Rattle.subsetter.specs.Name.Read.{NameTable, name_records_in}
+use Rattle.subsetter_sfnt.specs.Fields.Name.{name_record_of}
 
 -- what a list of slices points to
 abbrev pub nows : List (Bor (List ℕ)) → List (List ℕ)

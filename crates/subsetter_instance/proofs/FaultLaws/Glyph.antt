@@ -11,7 +11,7 @@ use Rattle.subsetter_base.proofs.Options.{just_is, some_not_none}
 use Rattle.subsetter_base.proofs.Results.{done_is, failed_is, ok_not_err, bind_ok, bind_err, named_ok, named_err}
 use Rattle.subsetter_points.specs.declared.outline.Point.{Point}
 use Rattle.subsetter_points.specs.Simple.{parts_fit}
-use Rattle.subsetter_instance.specs.declared.source.Metric.{Metric}
+use Rattle.subsetter_sfnt.specs.declared.fields.hmtx.LongHorMetric.{LongHorMetric}
 use Rattle.subsetter_instance.specs.Source.{Source, metric}
 use Rattle.subsetter_instance.specs.Unfolded.{Unfolded, unfolded}
 use Rattle.subsetter_instance.specs.Drawn.{Drawn, advance, bearing, points_or_fault, drawn_if_fit, rounded, levels, drawn}
@@ -31,7 +31,7 @@ module _ (s : Source) (at : List ℤ) (steps g : ℕ) where
       by true t k = absurd cc
       by false t k = (refl, failed_is {A = Drawn} OverflowError e k)
 
-  unrounded : (m : Metric) (u : Unfolded × ℕ) (e : Error) → metric s g ≡ Some m → unfolded levels s at steps g ≡ Ok u → rounded s at g m u.0 ≡ Err e → HasGlyphFault s at steps g e
+  unrounded : (m : LongHorMetric) (u : Unfolded × ℕ) (e : Error) → metric s g ≡ Some m → unfolded levels s at steps g ≡ Ok u → rounded s at g m u.0 ≡ Err e → HasGlyphFault s at steps g e
   unfolding rounded
   unrounded m u e is there h =
       elim (bind_err (advance s.hvar at g m.advance (u.0.right -ℤ u.0.left)) (λ width. points_or_fault u.0.left u.0.on u.0.xs u.0.ys >>= λ points. drawn_if_fit u.0.ends points width) e h) [
@@ -83,7 +83,7 @@ not_all_drawn s at steps (g ∷ gs) e h =
 -- the steps to what is drawn
 record DrawnSteps (s : Source) (at : List ℤ) (steps g : ℕ) : Type 0 where
   counted : g < s.count
-  m : Metric
+  m : LongHorMetric
   m_is : metric s g ≡ Some m
   u : Unfolded × ℕ
   u_is : unfolded levels s at steps g ≡ Ok u
@@ -116,7 +116,7 @@ no_glyph_fault s at steps g e t (no_metric f) = some_not_none (metric s g) t.m t
 no_glyph_fault s at steps g e t (in_walk f) = ok_not_err (unfolded levels s at steps g) t.u e t.u_is (walk_stops s at levels steps g e f)
 no_glyph_fault s at steps g e t (in_advance m u m_is u_is f) =
     ok_not_err (advance s.hvar at g m.advance (u.0.right -ℤ u.0.left)) t.width e
-    (ap (λ (x : Unfolded × ℕ). advance s.hvar at g m.advance (x.0.right -ℤ x.0.left)) (sym (same_unfolded s at steps g t u u_is)) ∙ ap (λ (k : Metric). advance s.hvar at g k.advance (t.u.0.right -ℤ t.u.0.left)) (just_is m t.m (sym m_is ∙ t.m_is)) ∙ t.width_is) (advance_stops s.hvar at g m.advance (u.0.right -ℤ u.0.left) e f)
+    (ap (λ (x : Unfolded × ℕ). advance s.hvar at g m.advance (x.0.right -ℤ x.0.left)) (sym (same_unfolded s at steps g t u u_is)) ∙ ap (λ (k : LongHorMetric). advance s.hvar at g k.advance (t.u.0.right -ℤ t.u.0.left)) (just_is m t.m (sym m_is ∙ t.m_is)) ∙ t.width_is) (advance_stops s.hvar at g m.advance (u.0.right -ℤ u.0.left) e f)
 no_glyph_fault s at steps g e t (far_point u u_is f) =
     ok_not_err (points_or_fault u.0.left u.0.on u.0.xs u.0.ys) t.points e (ap (λ (x : Unfolded × ℕ). points_or_fault x.0.left x.0.on x.0.xs x.0.ys) (sym (same_unfolded s at steps g t u u_is)) ∙ t.points_is) (points_stop u.0.left u.0.on u.0.xs u.0.ys f)
 no_glyph_fault s at steps g e t (large_outline u points u_is points_is h) =

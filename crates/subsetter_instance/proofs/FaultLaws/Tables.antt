@@ -8,8 +8,9 @@ use Rattle.std.proofs.lemmas.Bool.{eqb-false, eqb-true, leb-false, leb-true, ltb
 use Rattle.subsetter_base.specs.Bytes.{number, range}
 use Rattle.subsetter_base.proofs.ByteLemmas.{number-fits, number-short, range-fits, range-short}
 use Rattle.subsetter_base.proofs.Options.{bind_some, just_is, map_none, map_some}
-use Rattle.subsetter_instance.specs.declared.source.Metric.{Metric}
-use Rattle.subsetter_instance.specs.Source.{Source, between_offsets, description, metric, metric_at, offset}
+use Rattle.subsetter_sfnt.specs.declared.fields.hmtx.LongHorMetric.{LongHorMetric}
+use Rattle.subsetter_instance.specs.Source.{Source, between_offsets, description, metric, offset}
+use Rattle.subsetter_sfnt.specs.Fields.Hmtx.{metric_at}
 use Rattle.subsetter_instance.specs.Unfolded.{counted_description}
 use Rattle.subsetter_instance.specs.Optional.{◌>>=◌}
 use Rattle.subsetter_instance.specs.GlyphFault.{HasDescriptionFault, HasHmtxFault, past_count, cut_loca, descending, past_glyf, no_pairs, cut_pair, cut_bearing}
@@ -104,29 +105,29 @@ module _ (s : Source) (g : ℕ) where
 
   -- ---- metrics
 
-  abbrev with_bearing : ℕ → ℕ → Option Metric
+  abbrev with_bearing : ℕ → ℕ → Option LongHorMetric
   with_bearing at advance = number s.hmtx at 2 >>= λ bearing. Some (record { advance = advance; bearing = bearing })
 
   pair_none : (a b : ℕ) → a ≤ b → metric_at s.hmtx a b ≡ None → length s.hmtx < b + 2
   pair_none a b le h =
       elim (bind_none (number s.hmtx a 2) (with_bearing b) h) [
         | inl k ↦ let less = number-short s.hmtx a 2 k in omega arith
-        | inr x ↦ elim (bind_none (number s.hmtx b 2) (λ bearing. let m : Metric = record { advance = x.0; bearing = bearing } in Some m) x.2) [
+        | inr x ↦ elim (bind_none (number s.hmtx b 2) (λ bearing. let m : LongHorMetric = record { advance = x.0; bearing = bearing } in Some m) x.2) [
           | inl k ↦ number-short s.hmtx b 2 k
           | inr k ↦ absurd cc
         ]
       ]
 
-  pair_some : (a b : ℕ) (m : Metric) → metric_at s.hmtx a b ≡ Some m → b + 2 ≤ length s.hmtx
+  pair_some : (a b : ℕ) (m : LongHorMetric) → metric_at s.hmtx a b ≡ Some m → b + 2 ≤ length s.hmtx
   pair_some a b m h =
       let x = bind_some (number s.hmtx a 2) (with_bearing b) m h in
-      let y = bind_some (number s.hmtx b 2) (λ bearing. let m : Metric = record { advance = x.0; bearing = bearing } in Some m) m x.2 in
+      let y = bind_some (number s.hmtx b 2) (λ bearing. let m : LongHorMetric = record { advance = x.0; bearing = bearing } in Some m) m x.2 in
       number-fits s.hmtx b 2 y.0 y.1
 
-  abbrev own_pair : Option Metric
+  abbrev own_pair : Option LongHorMetric
   own_pair = metric_at s.hmtx (4 * g) (4 * g + 2)
 
-  abbrev last_pair : Option Metric
+  abbrev last_pair : Option LongHorMetric
   last_pair = metric_at s.hmtx (4 * (s.pairs - 1)) (4 * s.pairs + 2 * (g - s.pairs))
 
   pub hmtx_refused : metric s g ≡ None → HasHmtxFault s g
@@ -142,7 +143,7 @@ module _ (s : Source) (g : ℕ) where
   unfolding metric
   hmtx_missing f = missing (metric s g) (λ m h. by m (nat_lt g s.pairs) (s.pairs == 0) refl refl h f)
     where
-      by : (m : Metric) (b c : Bool) → nat_lt g s.pairs ≡ b → (s.pairs == 0) ≡ c → cond b own_pair (cond c None last_pair) ≡ Some m → HasHmtxFault s g → ⊥
+      by : (m : LongHorMetric) (b c : Bool) → nat_lt g s.pairs ≡ b → (s.pairs == 0) ≡ c → cond b own_pair (cond c None last_pair) ≡ Some m → HasHmtxFault s g → ⊥
       by m true c t u k (no_pairs none) = let less = ltb-true g s.pairs t in omega arith
       by m true c t u k (cut_pair less cut) = let fits = pair_some (4 * g) (4 * g + 2) m k in omega arith
       by m true c t u k (cut_bearing le cut) = let less = ltb-true g s.pairs t in omega arith

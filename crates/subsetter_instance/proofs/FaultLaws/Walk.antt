@@ -16,7 +16,7 @@ use Rattle.subsetter_variation.proofs.GvarFaults.{behind, behind_error, behind_n
 use Rattle.subsetter_instance.specs.declared.components.Arguments.{Arguments}
 use Rattle.subsetter_instance.specs.declared.components.Arguments.TheVariants.{Offset, Points}
 use Rattle.subsetter_instance.specs.declared.components.Component.{Component}
-use Rattle.subsetter_instance.specs.declared.source.Metric.{Metric}
+use Rattle.subsetter_sfnt.specs.declared.fields.hmtx.LongHorMetric.{LongHorMetric}
 use Rattle.subsetter_instance.specs.Components.{component_at, components_at}
 use Rattle.subsetter_instance.specs.Source.{Source, metric}
 use Rattle.subsetter_instance.specs.Unfolded.{Child, Composite, Unfolded, are_near, composite, counted_description, is_composite, is_scaled, joined, joined_or_fault, joined_parts, left_point, matched, moved, near_or_fault, no_points, placed, point_at, right_point, shift_by, shifted, simple_outline, transformed_xs, transformed_ys, unfolded, unfolded_composite, unfolded_simple, with_component, with_metrics, with_part}
@@ -54,7 +54,7 @@ near_answer u steps r h = by (are_near u.xs && are_near u.ys) h
 
 -- ---- a simple glyph
 
-module _ (s : Source) (at : List ℤ) (steps g : ℕ) (bytes : List ℕ) (m : Metric) where
+module _ (s : Source) (at : List ℤ) (steps g : ℕ) (bytes : List ℕ) (m : LongHorMetric) where
   abbrev simply_put : List ℕ × List Point → List ℤ × List ℤ × ℕ → Result (Unfolded × ℕ) Error
   simply_put o to = near_or_fault (simple_outline bytes m o.0 o.1 to.0 to.1) to.2
 
@@ -129,7 +129,7 @@ components_stop _ _ e (later_component steps rest c is more f) =
 
 -- ---- a composite glyph before its components
 
-module _ (s : Source) (at : List ℤ) (steps g : ℕ) (bytes : List ℕ) (m : Metric) where
+module _ (s : Source) (at : List ℤ) (steps g : ℕ) (bytes : List ℕ) (m : LongHorMetric) where
   abbrev made : List Component → List ℤ × List ℤ × ℕ → Result Composite Error
   made cs to = Ok (record { components = cs; xs = to.0; ys = to.1; left = left_point bytes m (length cs) to.0; right = right_point bytes m (length cs) to.0; steps = to.2 })
 
@@ -319,7 +319,7 @@ joined_front child (c ∷ before) rest k xs ys all to h =
 -- ---- a glyph
 
 module _ (s : Source) (at : List ℤ) where
-  abbrev by_kind : ℕ → ℕ → ℕ → List ℕ → Metric → Result (Unfolded × ℕ) Error
+  abbrev by_kind : ℕ → ℕ → ℕ → List ℕ → LongHorMetric → Result (Unfolded × ℕ) Error
   by_kind depth steps g bytes m = cond (is_composite bytes) (unfolded_composite (unfolded depth s at) s at steps g bytes m) (unfolded_simple s at steps g bytes m)
 
   abbrev measured : ℕ → ℕ → ℕ → List ℕ → Result (Unfolded × ℕ) Error
@@ -328,7 +328,7 @@ module _ (s : Source) (at : List ℤ) where
   abbrev joined_of : ℕ → Composite → Result (Unfolded × ℕ) Error
   joined_of depth c = joined (unfolded depth s at) c.components 0 c.xs c.ys (no_points c.left c.right, c.steps)
 
-  in_joined : (depth steps g : ℕ) (bytes : List ℕ) (m : Metric) (c : Composite) (e : Error) → counted_description s g ≡ Some bytes → metric s g ≡ Some m → is_composite bytes ≡ true → composite s at steps g bytes m ≡ Ok c
+  in_joined : (depth steps g : ℕ) (bytes : List ℕ) (m : LongHorMetric) (c : Composite) (e : Error) → counted_description s g ≡ Some bytes → metric s g ≡ Some m → is_composite bytes ≡ true → composite s at steps g bytes m ≡ Ok c
       → ((left h : ℕ) → unfolded depth s at left h ≡ Err e → HasWalkFault s at depth left h e) → StopsAt (unfolded depth s at) c.components 0 c.xs c.ys (no_points c.left c.right, c.steps) e → HasWalkFault s at (suc depth) steps g e
   in_joined depth steps g bytes m c e is m_is kind c_is deeper t =
       let here : t.place ≡ length t.before = let p = t.place_is in omega arith in
@@ -353,7 +353,7 @@ module _ (s : Source) (at : List ℤ) where
             (part_refused t.component (slice_index_or c.xs t.place (pos 0)) (slice_index_or c.ys t.place (pos 0)) (with_metrics t.component.flags t.to.0 k.0.0) k.0.0 k.0.1 e k.2)
       ]
 
-  kind_refused : (depth steps g : ℕ) (bytes : List ℕ) (m : Metric) (e : Error) → ((left h : ℕ) → unfolded depth s at left h ≡ Err e → HasWalkFault s at depth left h e) → counted_description s g ≡ Some bytes → metric s g ≡ Some m → (b : Bool) → is_composite bytes ≡ b
+  kind_refused : (depth steps g : ℕ) (bytes : List ℕ) (m : LongHorMetric) (e : Error) → ((left h : ℕ) → unfolded depth s at left h ≡ Err e → HasWalkFault s at depth left h e) → counted_description s g ≡ Some bytes → metric s g ≡ Some m → (b : Bool) → is_composite bytes ≡ b
       → cond b (unfolded_composite (unfolded depth s at) s at steps g bytes m) (unfolded_simple s at steps g bytes m) ≡ Err e → HasWalkFault s at (suc depth) steps g e
   unfolding unfolded_composite
   kind_refused depth steps g bytes m e deeper is m_is false kind h = in_simple depth steps g bytes m is m_is kind (simple_refused s at steps g bytes m e h)

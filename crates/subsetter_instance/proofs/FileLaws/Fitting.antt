@@ -13,7 +13,7 @@ use Rattle.subsetter_points.specs.declared.outline.Point.{Point}
 use Rattle.subsetter_points.specs.Simple.{has_16_bits, deltas_fit, points_fit, parts_fit, are_ends, xs_of, ys_of, parts, parts_bytes}
 use Rattle.subsetter_points.proofs.Back.{parts_back}
 use Rattle.subsetter_variation.specs.ItemVariations.{advance_delta, whole_or_fault}
-use Rattle.subsetter_instance.specs.declared.source.Metric.{Metric}
+use Rattle.subsetter_sfnt.specs.declared.fields.hmtx.LongHorMetric.{LongHorMetric}
 use Rattle.subsetter_instance.specs.Source.{Source, metric}
 use Rattle.subsetter_instance.specs.Unfolded.{Unfolded, unfolded}
 use Rattle.subsetter_instance.specs.Drawn.{Drawn, whole, advance_or_fault, advance, bearing, points_or_fault, drawn_if_fit, rounded, levels, drawn}
@@ -103,7 +103,7 @@ if_fits es ps width d small h = by (parts_fit es ps) refl h
         subst CanBeWritten (done_is (record { ends = es; points = ps; advance = width; bearing = bearing ps }) d k) (record { fits = e; advance = small; bearing = small_bearing ps (pos 0) x.0 })
     by false e k = absurd cc
 
-rounded_fits : (s : Source) (at : List ℤ) (g : ℕ) (m : Metric) (u : Unfolded) (d : Drawn) → rounded s at g m u ≡ Ok d → CanBeWritten d
+rounded_fits : (s : Source) (at : List ℤ) (g : ℕ) (m : LongHorMetric) (u : Unfolded) (d : Drawn) → rounded s at g m u ≡ Ok d → CanBeWritten d
 unfolding rounded
 rounded_fits s at g m u d h =
     let a = bind_ok (advance s.hvar at g m.advance (u.right -ℤ u.left)) (λ width. points_or_fault u.left u.on u.xs u.ys >>= λ points. drawn_if_fit u.ends points width) d h in

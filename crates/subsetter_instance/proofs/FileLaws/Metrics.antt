@@ -7,8 +7,9 @@ use Rattle.std.proofs.lemmas.Bool.{lt-ltb}
 use Rattle.std.proofs.lemmas.List.{length-append, length-take, length-take-le, length-drop, take_at, drop_at}
 use Rattle.subsetter_base.specs.Bytes.{number}
 use Rattle.subsetter_base.proofs.ByteLemmas.{be-u16, number_at}
-use Rattle.subsetter_instance.specs.declared.source.Metric.{Metric}
-use Rattle.subsetter_instance.specs.Source.{Source, metric_at, metric}
+use Rattle.subsetter_sfnt.specs.declared.fields.hmtx.LongHorMetric.{LongHorMetric}
+use Rattle.subsetter_instance.specs.Source.{Source, metric}
+use Rattle.subsetter_sfnt.specs.Fields.Hmtx.{metric_at}
 use Rattle.subsetter_instance.specs.declared.extremes.Extents.{Extents}
 use Rattle.subsetter_instance.specs.Drawn.{Drawn}
 use Rattle.subsetter_instance.specs.Extremes.{all_extents, widest, side_bytes, extreme_bytes}
@@ -47,7 +48,7 @@ found_at (e ∷ all) (suc i) d pre bytes p at small_a small_b is place =
 two_numbers : (hmtx : List ℕ) (p q a b : ℕ) → number hmtx p 2 ≡ Some a → number hmtx q 2 ≡ Some b → metric_at hmtx p q ≡ Some (record { advance = a; bearing = b })
 two_numbers hmtx p q a b x y = rw (x, y) refl
 
-first : (b : Bool) (x y z : Option Metric) → b ≡ true → x ≡ z → cond b x y ≡ z
+first : (b : Bool) (x y z : Option LongHorMetric) → b ≡ true → x ≡ z → cond b x y ≡ z
 first b x y z e is = ap (λ t. cond t x y) e ∙ is
 
 -- the metric of a glyph that was asked for

@@ -9,7 +9,7 @@ use Rattle.subsetter_base.proofs.Results.{done_is, bind_ok}
 use Rattle.subsetter_sfnt.specs.declared.flavor.FontFlavor.TheVariants.{TrueType}
 use Rattle.subsetter_sfnt.specs.Read.{Font, stored}
 use Rattle.subsetter_sfnt.specs.Written.{file, kind_word}
-use Rattle.subsetter_instance.specs.declared.source.Metric.{Metric}
+use Rattle.subsetter_sfnt.specs.declared.fields.hmtx.LongHorMetric.{LongHorMetric}
 use Rattle.subsetter_instance.specs.Source.{Source, metric, source_in}
 use Rattle.subsetter_instance.specs.Unfolded.{Unfolded, unfolded}
 use Rattle.subsetter_instance.specs.Drawn.{Drawn, rounded, levels, drawn}
@@ -32,7 +32,7 @@ drawn_alike s at m n g a b e f =
     let q2 = bind_ok (unfolded levels s at n g) (λ u. rounded s at g q.0 u.0) b q.2 in
     let metrics : q.0 ≡ p.0 = one_answer (ok_or (metric s g) MalformedFont) q.0 p.0 q.1 p.1 in
     let glyphs = unfolded_alike levels s s at (λ h. (refl, refl)) (λ h o i j a b x y. moved_alike s.gvar h o at i j a b x y) m n g p2.0 q2.0 p2.1 q2.1 in
-    done_is a b (sym p2.2 ∙ ap (λ (u : Unfolded). rounded s at g p.0 u) glyphs ∙ ap (λ (k : Metric). rounded s at g k q2.0.0) (sym metrics) ∙ q2.2)
+    done_is a b (sym p2.2 ∙ ap (λ (u : Unfolded). rounded s at g p.0 u) glyphs ∙ ap (λ (k : LongHorMetric). rounded s at g k q2.0.0) (sym metrics) ∙ q2.2)
 
 -- all glyphs
 all_alike : (s : Source) (at : List ℤ) (m n : ℕ) (glyphs : List ℕ) (xs ys : List Drawn) → drawn_all s at m glyphs ≡ Ok xs → drawn_all s at n glyphs ≡ Ok ys → xs ≡ ys

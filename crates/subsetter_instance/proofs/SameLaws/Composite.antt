@@ -10,7 +10,7 @@ use Rattle.subsetter_base.proofs.Results.{done_is, bind_ok}
 use Rattle.subsetter_points.specs.Simple.{after, has}
 use Rattle.subsetter_variation.specs.Movement.{Outline, spent}
 use Rattle.subsetter_instance.specs.declared.components.Component.{Component}
-use Rattle.subsetter_instance.specs.declared.source.Metric.{Metric}
+use Rattle.subsetter_sfnt.specs.declared.fields.hmtx.LongHorMetric.{LongHorMetric}
 use Rattle.subsetter_instance.specs.Components.{component_at, components_at, offset_xs, offset_ys}
 use Rattle.subsetter_instance.specs.Source.{Source}
 use Rattle.subsetter_instance.specs.Unfolded.{Child, Composite, Unfolded, composite, joined, joined_or_fault, joined_parts, left_point, moved, near_or_fault, no_points, placed, right_point, unfolded_composite, with_component, with_metrics, with_part, with_phantoms}
@@ -52,16 +52,16 @@ chain_alike (suc m) (suc n) rest a b e f =
 abbrev outline : List Component → Outline
 outline cs = with_phantoms (range_with_len 0 (length cs)) (offset_xs cs) (offset_ys cs)
 
-abbrev answer : List ℕ → Metric → List Component → List ℤ × List ℤ × ℕ → Composite
+abbrev answer : List ℕ → LongHorMetric → List Component → List ℤ × List ℤ × ℕ → Composite
 answer bytes k cs to = record { components = cs; xs = to.0; ys = to.1; left = left_point bytes k (length cs) to.0; right = right_point bytes k (length cs) to.0; steps = to.2 }
 
-abbrev base : List ℕ → Metric → List Component → List ℤ → Unfolded
+abbrev base : List ℕ → LongHorMetric → List Component → List ℤ → Unfolded
 base bytes k cs xs = no_points (left_point bytes k (length cs) xs) (right_point bytes k (length cs) xs)
 
 abbrev AreSame : Composite → Composite → Type 0
 AreSame a b = (a.components ≡ b.components) × (a.xs ≡ b.xs) × (a.ys ≡ b.ys) × (no_points a.left a.right ≡ no_points b.left b.right)
 
-offsets_alike : (s z : Source) (at : List ℤ) → MoveAlike s z at → (m n g : ℕ) (bytes : List ℕ) (k : Metric) (a b : Composite) → composite s at m g bytes k ≡ Ok a → composite z at n g bytes k ≡ Ok b → AreSame a b
+offsets_alike : (s z : Source) (at : List ℤ) → MoveAlike s z at → (m n g : ℕ) (bytes : List ℕ) (k : LongHorMetric) (a b : Composite) → composite s at m g bytes k ≡ Ok a → composite z at n g bytes k ≡ Ok b → AreSame a b
 unfolding composite
 offsets_alike s z at alike m n g bytes k a b e f =
     let last = λ (cs : List Component × ℕ). moved s.gvar g (outline cs.0) at cs.1 >>= λ to. Ok (answer bytes k cs.0 to) in
@@ -126,7 +126,7 @@ joined_alike child other alike (c ∷ cs) k xs ys a b u v h e f =
     joined_alike child other alike cs (k + 1) xs ys p2.0 q2.0 u v (component_alike c x y a.0 p.0.0 p.0.1 q.0.1 p2.0 q2.0 p2.1 also) p2.2 q2.2
 
 -- a composite glyph
-pub composite_alike : (child other : Child) → IsAlike child other → (s z : Source) (at : List ℤ) → MoveAlike s z at → (m n g : ℕ) (bytes : List ℕ) (k : Metric) (u v : Unfolded × ℕ) → unfolded_composite child s at m g bytes k ≡ Ok u → unfolded_composite other z at n g bytes k ≡ Ok v → u.0 ≡ v.0
+pub composite_alike : (child other : Child) → IsAlike child other → (s z : Source) (at : List ℤ) → MoveAlike s z at → (m n g : ℕ) (bytes : List ℕ) (k : LongHorMetric) (u v : Unfolded × ℕ) → unfolded_composite child s at m g bytes k ≡ Ok u → unfolded_composite other z at n g bytes k ≡ Ok v → u.0 ≡ v.0
 unfolding unfolded_composite
 composite_alike child other alike s z at moves m n g bytes k u v e f =
     let go = λ (c : Composite). joined child c.components 0 c.xs c.ys (no_points c.left c.right, c.steps) in

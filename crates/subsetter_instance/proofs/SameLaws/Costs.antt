@@ -11,7 +11,7 @@ use Rattle.subsetter_variation.specs.Tuples.{Gvar}
 use Rattle.subsetter_variation.specs.Movement.{Outline, spent}
 use Rattle.subsetter_variation.specs.Varied.{in_units}
 use Rattle.subsetter_variation.proofs.StepCosts.{Costs, bind_with, costs_behind, costs_then, moved_points_cost, no_cost, spent_costs}
-use Rattle.subsetter_instance.specs.declared.source.Metric.{Metric}
+use Rattle.subsetter_sfnt.specs.declared.fields.hmtx.LongHorMetric.{LongHorMetric}
 use Rattle.subsetter_instance.specs.Source.{Source, metric}
 use Rattle.subsetter_instance.specs.Unfolded.{Unfolded, moved, with_phantoms, are_near, near_or_fault, simple_outline, unfolded_simple, unfolded_composite, is_composite, counted_description, unfolded}
 
@@ -37,7 +37,7 @@ near_costs v u m r e = by (are_near v.xs && are_near v.ys) e
     by false k = absurd cc
 
 -- a simple glyph
-pub simple_cost : (s : Source) (at : List ℤ) (m g : ℕ) (bytes : List ℕ) (metric : Metric) (u : Unfolded) (r : ℕ) → unfolded_simple s at m g bytes metric ≡ Ok (u, r)
+pub simple_cost : (s : Source) (at : List ℤ) (m g : ℕ) (bytes : List ℕ) (metric : LongHorMetric) (u : Unfolded) (r : ℕ) → unfolded_simple s at m g bytes metric ≡ Ok (u, r)
     → (r ≤ m) × ((n : ℕ) → unfolded_simple s at ((m - r) + n) g bytes metric ≡ Ok (u, n))
 unfolding unfolded_simple
 simple_cost s at m g bytes metric u r e =
@@ -58,7 +58,7 @@ pub unfolded_cost : (depth : ℕ) (s : Source) (at : List ℤ) (m g : ℕ) (u : 
     → (r ≤ m) × ((d n : ℕ) → unfolded (suc d) s at ((m - r) + n) g ≡ Ok (u, n))
 unfolding unfolded
 unfolded_cost depth s at m g u r plain e =
-    let go = λ (d steps : ℕ) (bytes : List ℕ) (k : Metric). cond (is_composite bytes) (unfolded_composite (unfolded d s at) s at steps g bytes k) (unfolded_simple s at steps g bytes k) in
+    let go = λ (d steps : ℕ) (bytes : List ℕ) (k : LongHorMetric). cond (is_composite bytes) (unfolded_composite (unfolded d s at) s at steps g bytes k) (unfolded_simple s at steps g bytes k) in
     let p = bind_ok (ok_or (counted_description s g) MalformedFont) (λ bytes. ok_or (metric s g) MalformedFont >>= go depth m bytes) (come_to u r) e in
     let k = bind_ok (ok_or (metric s g) MalformedFont) (go depth m p.0) (come_to u r) p.2 in
     let flat = plain p.0 (named_ok (counted_description s g) MalformedFont p.0 p.1) in

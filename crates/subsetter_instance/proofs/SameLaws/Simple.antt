@@ -12,7 +12,7 @@ use Rattle.subsetter_variation.specs.Tuples.{Gvar}
 use Rattle.subsetter_variation.specs.Movement.{Outline, spent}
 use Rattle.subsetter_variation.specs.Varied.{in_units}
 use Rattle.subsetter_variation.proofs.StepLaws.{is_same_at_any_steps}
-use Rattle.subsetter_instance.specs.declared.source.Metric.{Metric}
+use Rattle.subsetter_sfnt.specs.declared.fields.hmtx.LongHorMetric.{LongHorMetric}
 use Rattle.subsetter_instance.specs.Source.{Source}
 use Rattle.subsetter_instance.specs.Unfolded.{Unfolded, moved, with_phantoms, are_near, near_or_fault, simple_outline, unfolded_simple}
 
@@ -39,7 +39,7 @@ near_is u steps r h = by (are_near u.xs && are_near u.ys) h
     by false k = absurd cc
 
 -- a simple glyph
-pub simple_alike : (s z : Source) (at : List ℤ) → MoveAlike s z at → (m n g : ℕ) (bytes : List ℕ) (metric : Metric) (u v : Unfolded × ℕ) → unfolded_simple s at m g bytes metric ≡ Ok u → unfolded_simple z at n g bytes metric ≡ Ok v → u.0 ≡ v.0
+pub simple_alike : (s z : Source) (at : List ℤ) → MoveAlike s z at → (m n g : ℕ) (bytes : List ℕ) (metric : LongHorMetric) (u v : Unfolded × ℕ) → unfolded_simple s at m g bytes metric ≡ Ok u → unfolded_simple z at n g bytes metric ≡ Ok v → u.0 ≡ v.0
 unfolding unfolded_simple
 simple_alike s z at alike m n g bytes metric u v e f =
     let near = λ (o : List ℕ × List Point) (to : List ℤ × List ℤ × ℕ). near_or_fault (simple_outline bytes metric o.0 o.1 to.0 to.1) to.2 in

@@ -3,7 +3,8 @@ use Rattle.std.specs.Option.{ok_or}
 use Rattle.std.proofs.lemmas.Result.{err_from_is_err_and}
 use Rattle.subsetter_base.specs.declared.error.Error.TheVariants.{MalformedFont}
 use Rattle.subsetter_base.proofs.Results.{with_front}
-use Rattle.cid_embed.specs.Afresh.{measures_seen, advance_in, widths_from}
+use Rattle.cid_embed.specs.Afresh.{measures_seen, widths_from}
+use Rattle.subsetter_sfnt.specs.Fields.Hmtx.{advance_in}
 use Rattle.cid_embed.proofs.Numbers.{width_read, width_missing}
 use Rattle.cid_embed.proofs.widths.all_widths.Goals as goal
 

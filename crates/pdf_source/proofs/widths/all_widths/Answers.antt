@@ -4,7 +4,8 @@ use Rattle.std.proofs.lemmas.Result.{err_from_is_err_and}
 use Rattle.subsetter_base.specs.declared.error.Error.TheVariants.{MalformedFont}
 use Rattle.subsetter_base.proofs.Results.{with_front}
 use Rattle.pdf_source.specs.Metrics.{measures_seen}
-use Rattle.cid_embed.specs.Afresh.{advance_in, widths_from}
+use Rattle.cid_embed.specs.Afresh.{widths_from}
+use Rattle.subsetter_sfnt.specs.Fields.Hmtx.{advance_in}
 use Rattle.pdf_source.proofs.Numbers.{width_read, width_missing}
 use Rattle.pdf_source.proofs.widths.all_widths.Goals as goal
 

@@ -3,12 +3,12 @@ use Rattle.subset_font.specs.Tables.{new_rows, records_in}
 use Rattle.subset_font.proofs.Directory.{records_from}
 use Rattle.subset_font.proofs.tables.push_new_rows.Given as goal
 
-abbrev pub invariant-loop-bytes : goal.invariant-loop-bytes
-invariant-loop-bytes l = record {
+abbrev pub invariant-loop-one : goal.invariant-loop-one
+invariant-loop-one l = record {
   same : l.r.bytes ≡ l.new;
   within : l.r.place ≤ length l.new;
   rest : l.rows.items ++ new_rows (records_in l.old) (records_from l.new l.r.place) ≡ l.fn.rows.items ++ new_rows (records_in l.old) (records_in l.new);
 }
 
-abbrev pub decreases-loop-bytes : goal.decreases-loop-bytes
-decreases-loop-bytes l = length l.new - l.r.place
+abbrev pub decreases-loop-one : goal.decreases-loop-one
+decreases-loop-one l = length l.new - l.r.place

@@ -1,7 +1,7 @@
 use Rattle.std.proofs.Common.{Some, ap, sym, ◌∙◌}
 use Rattle.std.specs.Option.{option_copied}
 use Rattle.subsetter_base.specs.Items.{values}
-use Rattle.subsetter.specs.Name.Read.{name_record_of}
+use Rattle.subsetter_sfnt.specs.Fields.Name.{name_record_of}
 use Rattle.subsetter.proofs.NameLaws.Placed.{one_more}
 use Rattle.subsetter.proofs.name.collect_names.Goals as goal
 

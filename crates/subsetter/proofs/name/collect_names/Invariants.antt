@@ -1,7 +1,8 @@
 use Rattle.std.proofs.Common.{◌≡◌, [], Some}
 use Rattle.std.specs.Prelude.{filter}
 use Rattle.subsetter_base.specs.Items.{values}
-use Rattle.subsetter.specs.Name.Read.{name_record_of, is_kept_record}
+use Rattle.subsetter.specs.Name.Read.{is_kept_record}
+use Rattle.subsetter_sfnt.specs.Fields.Name.{name_record_of}
 use Rattle.subsetter.specs.Name.Plain.{placed, laid_behind}
 use Rattle.subsetter.proofs.name.collect_names.Given as goal
 

@@ -1,6 +1,6 @@
 use Rattle.std.proofs.Common.{◌≡◌, ◌+◌, ◌%◌, length, Some}
 use Rattle.subsetter_base.specs.Items.{values}
-use Rattle.subsetter.specs.Name.Read.{name_record_of}
+use Rattle.subsetter_sfnt.specs.Fields.Name.{name_record_of}
 use Rattle.subsetter.proofs.name.count_records.Given as goal
 
 abbrev pub invariant-loop-record : goal.invariant-loop-record

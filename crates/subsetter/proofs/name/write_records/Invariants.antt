@@ -1,7 +1,7 @@
 use Rattle.std.proofs.Common.{◌≡◌, ◌++◌, Some}
 use Rattle.std.specs.Prelude.{flat_map}
 use Rattle.subsetter_base.specs.Items.{values}
-use Rattle.subsetter.specs.Name.Read.{name_record_of, name_record_bytes}
+use Rattle.subsetter_sfnt.specs.Fields.Name.{name_record_of, name_record_bytes}
 use Rattle.subsetter.proofs.name.write_records.Given as goal
 
 abbrev pub invariant-loop-record : goal.invariant-loop-record

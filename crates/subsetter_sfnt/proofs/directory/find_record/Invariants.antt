@@ -1,6 +1,6 @@
 use Rattle.std.proofs.Common.{◌≡◌, ◌-◌, ◌/◌, ◌≤◌, length, drop}
 use Rattle.subsetter_sfnt.specs.Read.{directory_records, find_record}
-use Rattle.subsetter_sfnt.proofs.parse.find_record.Given as goal
+use Rattle.subsetter_sfnt.proofs.directory.find_record.Given as goal
 
 abbrev pub invariant-loop-record : goal.invariant-loop-record
 invariant-loop-record l = record {

@@ -3,7 +3,7 @@ use Rattle.std.specs.Option.{option_and_then}
 use Rattle.subsetter_base.specs.Bytes.{range}
 use Rattle.subsetter_sfnt.specs.Read.{record_of}
 use Rattle.subsetter_sfnt.proofs.Laws.Records.{reads, found_here, found_later}
-use Rattle.subsetter_sfnt.proofs.parse.find_record.Goals as goal
+use Rattle.subsetter_sfnt.proofs.directory.find_record.Goals as goal
 
 pub returns-then-eq : goal.returns-then-eq
 returns-then-eq c =

@@ -1,7 +1,7 @@
 -- The fields that are read of `OS/2` (OpenType, "OS/2 - OS/2 and Windows Metrics Table").
 use Rattle.std.specs.Prelude.{ℕ, ◌/◌, nat_le, if◌then◌else◌, List, Option, None, ℤ}
 use Rattle.std.specs.Option.{option_and_then, option_map}
-use Rattle.pdf_values.specs.Fields.{field, signed_field}
+use Rattle.subsetter_sfnt.specs.Fields.Numbers.{field, signed_field}
 
 abbrev pub version : Option (List ℕ) → Option ℕ
 version os2 = field os2 0 2
@@ -16,6 +16,9 @@ fs_type os2 = field os2 8 2
 -- the class of sFamilyClass, whose low byte is a subclass
 abbrev pub family_class : Option (List ℕ) → Option ℕ
 family_class os2 = option_map (λ n. n / 256) (field os2 30 2)
+
+abbrev pub s_family_class : Option (List ℕ) → Option ℕ
+s_family_class os2 = field os2 30 2
 
 -- the first two bytes of panose
 abbrev pub b_family_type : Option (List ℕ) → Option ℕ

@@ -1,0 +1,45 @@
+//! `hhea`, the horizontal header (OpenType, "hhea"), and `vhea`, the vertical one, which has its fields (OpenType, "vhea").
+
+ghost use Rattle.std.specs.Prelude.{◌≡◌, ◌≤◌, length, IfSome};
+ghost use Rattle.std.specs.Option.{option_copied};
+ghost use Rattle.subsetter_sfnt.specs.Fields.Hhea.{ascender, descender, number_of_h_metrics};
+
+use crate::fields::signed_in;
+use subsetter_base::read::Reader;
+
+/// ascender, and behind it descender and lineGap, two bytes each.
+pub const ASCENDER: usize = 4;
+/// descender.
+const DESCENDER: usize = 6;
+/// advanceWidthMax, and behind it minLeftSideBearing, minRightSideBearing and xMaxExtent, two bytes each.
+pub const ADVANCE_WIDTH_MAX: usize = 10;
+/// caretSlopeRise, and behind it caretSlopeRun and caretOffset, two bytes each.
+pub const CARET_SLOPE_RISE: usize = 18;
+/// Four reserved fields, two bytes each.
+pub const RESERVED: usize = 24;
+/// numberOfHMetrics, two bytes; in `vhea` numOfLongVerMetrics.
+pub const NUMBER_OF_H_METRICS: usize = 34;
+/// How many bytes the table has.
+pub const SIZE: usize = 36;
+
+/// ascender.
+pub fn ascender(hhea: Option<&[u8]>) -> Option<i16>
+    ensures { result ≡ ascender (option_copied hhea.entry) }
+{
+    signed_in(hhea, ASCENDER)
+}
+
+/// descender.
+pub fn descender(hhea: Option<&[u8]>) -> Option<i16>
+    ensures { result ≡ descender (option_copied hhea.entry) }
+{
+    signed_in(hhea, DESCENDER)
+}
+
+/// numberOfHMetrics; of `vhea` numOfLongVerMetrics.
+pub fn number_of_h_metrics(hhea: &[u8]) -> Option<u16>
+    ensures exact { result ≡ number_of_h_metrics hhea.now }
+    ensures whole { IfSome result (λ n. 36 ≤ length hhea.now) }
+{
+    Reader::new_at(hhea, NUMBER_OF_H_METRICS).read::<u16>()
+}

@@ -1,0 +1,71 @@
+//! `hmtx`, the horizontal metrics of glyphs (OpenType, "hmtx").
+//!
+//! It has pairs of an advance and a left side bearing, as many as numberOfHMetrics in `hhea` says, and then bearings alone
+//! for the glyphs after these, which share the last advance.
+
+ghost use Rattle.std.specs.Prelude.{◌≡◌, ◌<◌, ◌-◌, ◌*◌};
+ghost use Rattle.subsetter_base.specs.Bytes.{number};
+ghost use Rattle.subsetter_sfnt.specs.Fields.Hmtx.{metric_at, metric_in, advance_in};
+
+use subsetter_base::read::Reader;
+
+/// How many bytes a pair of an advance and a bearing has.
+const LONG_HOR_METRIC_SIZE: usize = 4;
+/// How many bytes a bearing has, and an advance.
+const LSB_SIZE: usize = 2;
+
+/// The horizontal metric of a glyph, in font design units.
+#[derive(Clone, Copy, PartialEq, Eq)]
+pub struct LongHorMetric {
+    /// advanceWidth.
+    pub advance: u16,
+    /// lsb, the left side bearing: the two bytes of an int16.
+    pub bearing: u16,
+}
+
+/// An advance and a bearing at two places of `hmtx`.
+fn metric_at(hmtx: &[u8], advance_at: usize, bearing_at: usize) -> Option<LongHorMetric>
+    ensures { result ≡ metric_at hmtx.now advance_at bearing_at }
+{
+    let advance = Reader::new_at(hmtx, advance_at).read::<u16>()?;
+    let bearing = Reader::new_at(hmtx, bearing_at).read::<u16>()?;
+    Some(LongHorMetric { advance, bearing })
+}
+
+/// The metric of a glyph: among the first `count` a pair of its own, after them the last advance with a bearing of its own.
+#[tactic(auto, unfolding(crate::specs::Fields::Hmtx::metric_in))]
+pub fn glyph_metric(hmtx: &[u8], count: u16, glyph: u16) -> Option<LongHorMetric>
+    ensures { result ≡ metric_in hmtx.now count glyph }
+{
+    let pairs = count as usize;
+    let glyph = glyph as usize;
+    if glyph < pairs {
+        let at = LONG_HOR_METRIC_SIZE * glyph;
+        metric_at(hmtx, at, at + LSB_SIZE)
+    } else if pairs == 0 {
+        None
+    } else {
+        let behind = LONG_HOR_METRIC_SIZE * pairs;
+        metric_at(
+            hmtx,
+            LONG_HOR_METRIC_SIZE * (pairs - 1),
+            behind + LSB_SIZE * (glyph - pairs),
+        )
+    }
+}
+
+/// The advance of the last of so many pairs.
+pub fn last_advance(hmtx: &[u8], count: u16) -> Option<u16>
+    requires { 0 < count }
+    ensures { result ≡ number hmtx.now (4 * (count - 1)) 2 }
+{
+    Reader::new_at(hmtx, LONG_HOR_METRIC_SIZE * (count as usize - 1)).read::<u16>()
+}
+
+/// The advance of a glyph, where so many pairs are said.
+pub fn glyph_advance(hmtx: &[u8], count: u16, glyph: u16) -> Option<u16>
+    ensures { result ≡ advance_in hmtx.now count glyph }
+{
+    let pair = glyph.min(count.saturating_sub(1));
+    Reader::new_at(hmtx, LONG_HOR_METRIC_SIZE * usize::from(pair)).read::<u16>()
+}

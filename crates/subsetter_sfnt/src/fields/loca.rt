@@ -1,0 +1,29 @@
+//! `loca`, the offsets of the outlines (OpenType, "loca").
+//!
+//! It has an offset into `glyf` for each glyph and one more for the end: four bytes each in the long format, or halves of
+//! them in two bytes in the short one.
+
+ghost use Rattle.std.specs.Prelude.{◌≡◌, ◌<◌, ◌^◌, IfSome};
+ghost use Rattle.subsetter_sfnt.specs.Fields.Loca.{loca_offset};
+
+use subsetter_base::read::Reader;
+
+/// How many bytes an entry has in the long format.
+pub const OFFSET32_SIZE: usize = 4;
+/// How many bytes it has in the short one.
+pub const OFFSET16_SIZE: usize = 2;
+
+/// An entry: an offset, which the short format has by half.
+pub fn loca_offset(loca: &[u8], long: bool, index: usize) -> Option<usize>
+    requires { index < 2 ^ 32 }
+    ensures exact { result ≡ loca_offset loca.now long index }
+    ensures small { IfSome result (λ n. n < 2 ^ 32) }
+{
+    if long {
+        let offset = Reader::new_at(loca, OFFSET32_SIZE * index).read::<u32>()?;
+        Some(offset as usize)
+    } else {
+        let half = Reader::new_at(loca, OFFSET16_SIZE * index).read::<u16>()?;
+        Some(2 * half as usize)
+    }
+}
