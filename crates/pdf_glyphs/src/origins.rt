@@ -17,6 +17,7 @@ const DEFAULT_VERT_ORIGIN_Y: usize = 4;
 const NUM_VERT_ORIGIN_Y_METRICS: usize = 6;
 /// Where the first record's glyphIndex is, two bytes, and behind it vertOriginY.
 const GLYPH_INDEX: usize = 8;
+
 const VERT_ORIGIN_Y: usize = 10;
 /// How many bytes a record has.
 const RECORD_SIZE: usize = 4;

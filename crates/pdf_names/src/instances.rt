@@ -13,6 +13,9 @@ use std::alloc::Global;
 use subsetter_base::read::Reader;
 use subsetter_base::{Error, Tag};
 use subsetter_variation::axes::Axis;
+use subsetter_variation::fvar::{
+    axes_array_offset, axis_count, axis_size, instance_count, instance_size,
+};
 
 /// The bytes behind the first four.
 fn after_four(bytes: &[u8]) -> &[u8]
@@ -93,11 +96,11 @@ fn record_from<'a>(
 fn record_in<'a>(axes: &[Axis], settings: &[(Tag, i32)], fvar: &'a [u8]) -> Option<&'a [u8]>
     ensures { option_copied result ≡ record_in axes.now settings.now fvar.now }
 {
-    let at = Reader::new_at(fvar, 4).read::<u16>()?;
-    let axis_count = Reader::new_at(fvar, 8).read::<u16>()?;
-    let axis_size = Reader::new_at(fvar, 10).read::<u16>()?;
-    let count = Reader::new_at(fvar, 12).read::<u16>()?;
-    let size = Reader::new_at(fvar, 14).read::<u16>()?;
+    let at = axes_array_offset(fvar)?;
+    let axis_count = axis_count(fvar)?;
+    let axis_size = axis_size(fvar)?;
+    let count = instance_count(fvar)?;
+    let size = instance_size(fvar)?;
     let start = usize::from(at) + usize::from(axis_count) * usize::from(axis_size);
     record_from(axes, settings, fvar, size, count, start)
 }

@@ -9,7 +9,6 @@ ghost use Rattle.subsetter_base.specs.declared.error.Error.TheVariants.{Malforme
 ghost use Rattle.subsetter_variation.specs.Axes.{axes};
 ghost use Rattle.subset_lines.specs.Axes.{shown, behind_blank, numbers_text, axis_line, axis_lines, records_at, instances_of, instances, coordinate_text, settings_text, instance_line, instance_lines, text_of};
 ghost use Rattle.subset_lines.specs.Fixed.{fixed_text};
-ghost use Rattle.subsetter_base.specs.Bytes.{number};
 
 use crate::entry::Unwritten;
 use crate::fixed::write_fixed;
@@ -21,6 +20,9 @@ use std::io::Write;
 use subsetter_base::read::Reader;
 use subsetter_base::{Error, Tag};
 use subsetter_variation::axes::{Axis, axes};
+use subsetter_variation::fvar::{
+    axes_array_offset, axis_count, axis_size, instance_count, instance_size,
+};
 
 // ---- reading
 
@@ -71,25 +73,16 @@ fn instances_of(
     records_at(alloc, count, size, fvar, at + axes * axis_size)
 }
 
-/// A uint16 of `fvar`.
-fn field(fvar: &[u8], at: usize) -> Result<u16, Error>
-    ensures { result ≡ ok_or (number fvar.now at 2) MalformedFont }
-{
-    Reader::new_at(fvar, at)
-        .read::<u16>()
-        .ok_or(Error::MalformedFont)
-}
-
 /// The records of the named instances.
 #[tactic(auto, unfolding(crate::specs::Axes::instances))]
 fn instances(alloc: Global, fvar: &[u8]) -> Result<Vec<&[u8]>, Error>
     ensures { Gives (λ v. map (λ bytes. bytes.now) v.items) result (ok_or (instances fvar.now) MalformedFont) }
 {
-    let at = field(fvar, 4)?;
-    let axes = field(fvar, 8)?;
-    let axis_size = field(fvar, 10)?;
-    let count = field(fvar, 12)?;
-    let size = field(fvar, 14)?;
+    let at = axes_array_offset(fvar).ok_or(Error::MalformedFont)?;
+    let axes = axis_count(fvar).ok_or(Error::MalformedFont)?;
+    let axis_size = axis_size(fvar).ok_or(Error::MalformedFont)?;
+    let count = instance_count(fvar).ok_or(Error::MalformedFont)?;
+    let size = instance_size(fvar).ok_or(Error::MalformedFont)?;
     instances_of(alloc, at, axes, axis_size, count, size, fvar)
 }
 

@@ -10,19 +10,10 @@ ghost use Rattle.subsetter_instance.specs.Components.{arguments_at, arguments_en
 use std::alloc::{AllocError, Global};
 use subsetter_base::Error;
 use subsetter_base::read::Reader;
-
-/// The arguments are two words, and not two bytes.
-const ARG_1_AND_2_ARE_WORDS: u16 = 0x0001;
-/// The arguments are an offset, and not two points.
-const ARGS_ARE_XY_VALUES: u16 = 0x0002;
-/// A scale follows.
-const WE_HAVE_A_SCALE: u16 = 0x0008;
-/// Another component follows.
-const MORE_COMPONENTS: u16 = 0x0020;
-/// Two scales follow.
-const WE_HAVE_AN_X_AND_Y_SCALE: u16 = 0x0040;
-/// A matrix of four numbers follows.
-const WE_HAVE_A_TWO_BY_TWO: u16 = 0x0080;
+use subsetter_points::component::{
+    ARG_1_AND_2_ARE_WORDS, ARGS_ARE_XY_VALUES, MORE_COMPONENTS, WE_HAVE_A_SCALE,
+    WE_HAVE_A_TWO_BY_TWO, WE_HAVE_AN_X_AND_Y_SCALE,
+};
 
 /// How a component is placed.
 #[derive(Clone, Copy)]

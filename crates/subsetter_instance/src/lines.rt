@@ -157,8 +157,18 @@ fn varied_underline(alloc: Global, mvar: &[u8], at: &[i32], post: &[u8]) -> Resu
     requires { 12 ≤ length post.now }
     ensures { Gives (λ v. v.items) result (varied_underline mvar.now at.now post.now) }
 {
-    let position = varied(mvar, at, Tag::new(b"undo"), signed_at(post, UNDERLINE_POSITION))?;
-    let thickness = varied(mvar, at, Tag::new(b"unds"), signed_at(post, UNDERLINE_THICKNESS))?;
+    let position = varied(
+        mvar,
+        at,
+        Tag::new(b"undo"),
+        signed_at(post, UNDERLINE_POSITION),
+    )?;
+    let thickness = varied(
+        mvar,
+        at,
+        Tag::new(b"unds"),
+        signed_at(post, UNDERLINE_THICKNESS),
+    )?;
     Ok(moved_post(alloc, post, position, thickness)?)
 }
 

@@ -9,14 +9,10 @@ use crate::components::{Arguments, Component, Matrix, has};
 use crate::unfolding::Unfolded;
 use std::alloc::{AllocError, Global};
 use subsetter_base::Error;
+use subsetter_points::component::{
+    SCALED_COMPONENT_OFFSET, UNSCALED_COMPONENT_OFFSET, USE_MY_METRICS,
+};
 use subsetter_variation::rounding::{minus, nearest, plus};
-
-/// The glyph has the phantom points of the component.
-const USE_MY_METRICS: u16 = 0x0200;
-/// An offset is to be scaled by the matrix.
-const SCALED_COMPONENT_OFFSET: u16 = 0x0800;
-/// It isn't, which is the default.
-const UNSCALED_COMPONENT_OFFSET: u16 = 0x1000;
 
 /// A coordinate times a scale.
 fn product(scale: i16, v: i64) -> i64

@@ -15,6 +15,7 @@
 #![tactic(auto)]
 
 mod bounds;
+pub mod component;
 mod coordinates;
 mod delta_bytes;
 mod deltas;

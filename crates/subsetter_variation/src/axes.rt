@@ -8,6 +8,7 @@ ghost use Rattle.subsetter_base.specs.Gives.{Gives};
 ghost use Rattle.subsetter_base.specs.declared.error.Error.TheVariants.{MalformedFont};
 ghost use Rattle.subsetter_variation.specs.Axes.{axis_of, fixed_at, axes_at, axes, user_coordinate, toward, below_default, above_default, default_normalized};
 
+use crate::fvar::{axes_array_offset, axis_count, axis_size};
 use crate::rounding::part;
 use std::alloc::Global;
 use subsetter_base::read::{Reader, u32_at};
@@ -70,15 +71,9 @@ fn axes_at(
 pub fn axes(alloc: Global, fvar: &[u8]) -> Result<Vec<Axis>, Error>
     ensures { Gives (λ v. v.items) result (ok_or (axes fvar.now) MalformedFont) }
 {
-    let at = Reader::new_at(fvar, 4)
-        .read::<u16>()
-        .ok_or(Error::MalformedFont)?;
-    let count = Reader::new_at(fvar, 8)
-        .read::<u16>()
-        .ok_or(Error::MalformedFont)?;
-    let size = Reader::new_at(fvar, 10)
-        .read::<u16>()
-        .ok_or(Error::MalformedFont)?;
+    let at = axes_array_offset(fvar).ok_or(Error::MalformedFont)?;
+    let count = axis_count(fvar).ok_or(Error::MalformedFont)?;
+    let size = axis_size(fvar).ok_or(Error::MalformedFont)?;
     if size < 20 {
         return Err(Error::MalformedFont);
     }

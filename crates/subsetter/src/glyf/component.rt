@@ -19,19 +19,13 @@ ghost use Rattle.subsetter.specs.Glyf.Plain.{new_number, written_behind, rewritt
 
 use subsetter_base::read::u16_at;
 use subsetter_base::{Error, GlyphRemapper};
+use subsetter_points::component::{
+    ARG_1_AND_2_ARE_WORDS, MORE_COMPONENTS, WE_HAVE_A_SCALE, WE_HAVE_A_TWO_BY_TWO,
+    WE_HAVE_AN_X_AND_Y_SCALE, WE_HAVE_INSTRUCTIONS,
+};
 
-/// Two words of arguments follow, and not two bytes.
-const ARG_1_AND_2_ARE_WORDS: u16 = 0x0001;
-/// A scale follows.
-const WE_HAVE_A_SCALE: u16 = 0x0008;
-/// Another component follows.
-const MORE_COMPONENTS: u16 = 0x0020;
-/// Two scales follow.
-const WE_HAVE_AN_X_AND_Y_SCALE: u16 = 0x0040;
-/// A matrix of four numbers follows.
-const WE_HAVE_A_TWO_BY_TWO: u16 = 0x0080;
-/// Instructions follow the last component.
-const WE_HAVE_INSTRUCTIONS: u16 = 0x0100;
+/// All flags but WE_HAVE_INSTRUCTIONS.
+const WITHOUT_INSTRUCTIONS: u16 = 0xFEFF;
 
 /// A component: its flags, its glyph, and the bytes of its arguments and its transform.
 #[derive(Clone, Copy)]
@@ -198,7 +192,11 @@ fn put_number(out: &mut Vec<u8>, at: usize, number: u16)
 fn flags_asked(hinting: bool, flags: u16) -> u16
     ensures { result ≡ flags_asked hinting flags }
 {
-    if hinting { flags } else { flags & 0xFEFF }
+    if hinting {
+        flags
+    } else {
+        flags & WITHOUT_INSTRUCTIONS
+    }
 }
 
 /// Puts a component's flags and the new number of its glyph in the place of four bytes.

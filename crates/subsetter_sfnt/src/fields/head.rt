@@ -15,8 +15,11 @@ pub const MAGIC_NUMBER: usize = 12;
 const UNITS_PER_EM: usize = 18;
 /// xMin, and behind it yMin, xMax and yMax, two bytes each.
 pub const X_MIN: usize = 36;
+
 const Y_MIN: usize = 38;
+
 const X_MAX: usize = 40;
+
 const Y_MAX: usize = 42;
 /// macStyle, two bytes.
 pub const MAC_STYLE: usize = 44;
