@@ -9,6 +9,7 @@ ghost use Rattle.subsetter_base.specs.declared.error.Error.TheVariants.{Malforme
 ghost use Rattle.subsetter_variation.specs.Axes.{axes};
 ghost use Rattle.subset_lines.specs.Axes.{shown, behind_blank, numbers_text, axis_line, axis_lines, records_at, instances_of, instances, coordinate_text, settings_text, instance_line, instance_lines, text_of};
 ghost use Rattle.subset_lines.specs.Fixed.{fixed_text};
+ghost use Rattle.subsetter_base.specs.Bytes.{number};
 
 use crate::entry::Unwritten;
 use crate::fixed::write_fixed;
