@@ -1,5 +1,5 @@
--- The texts that errors and tags print.
-use Rattle.std.specs.Prelude.{ℕ, List, if◌then◌else◌, codes}
+-- The texts that errors and tags print, and the first of two texts.
+use Rattle.std.specs.Prelude.{ℕ, List, [], ◌∷◌, if◌then◌else◌, codes}
 use Rattle.std.specs.Str.{is_utf8}
 use Rattle.subsetter_base.specs.declared.error.Error.{Error}
 use Rattle.subsetter_base.specs.declared.error.Error.TheVariants.{UnknownKind, MalformedFont, Unimplemented, SubsetError, OverflowError, CFFError, OutOfMemory}
@@ -16,3 +16,8 @@ error_text OutOfMemory = codes "out of memory"
 -- the bytes of a tag, where they are a text
 abbrev pub tag_text : List ℕ → List ℕ
 tag_text bytes = if is_utf8 bytes then bytes else codes "..."
+
+-- a text, or another where it is empty
+abbrev pub or_else : List ℕ → List ℕ → List ℕ
+or_else [] other = other
+or_else (c ∷ text) other = c ∷ text
