@@ -5,8 +5,8 @@ use Rattle.std.proofs.lemmas.Option.{some_pair_parts, none-some}
 use Rattle.std.proofs.lemmas.List.{take_at, drop_at, drop-take, drop-drop}
 use Rattle.std.specs.List.{slice_range}
 use Rattle.std.specs.Int.{bytes_high_first, from_be_bytes, w16, w32}
-use Rattle.subsetter_cffdata.specs.Bytes.{byte, card, part, ReadAgain}
-use Rattle.subsetter_base.specs.Bytes.{be}
+use Rattle.subsetter_cffdata.specs.Bytes.{card, part, ReadAgain}
+use Rattle.subsetter_base.specs.Bytes.{byte, be}
 
 some_with : (rest : List ℕ) (m n : ℕ) → m ≡ n → ◌≡◌ {A = Option (ℕ × List ℕ)} (Some (m, rest)) (Some (n, rest))
 some_with rest m n e = ap (λ (k : ℕ). Some (k, rest)) e

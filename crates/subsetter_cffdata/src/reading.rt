@@ -1,7 +1,8 @@
 //! What a reader has next: bytes, and whole numbers, the high byte first.
 
 ghost use Rattle.std.specs.Prelude.{◌≡◌, ◌≤◌, length, drop, IfSome};
-ghost use Rattle.subsetter_cffdata.specs.Bytes.{byte, card, part};
+ghost use Rattle.subsetter_cffdata.specs.Bytes.{card, part};
+ghost use Rattle.subsetter_base.specs.Bytes.{byte};
 ghost use Rattle.subsetter_cffdata.specs.Numbers.{signed16, signed32};
 ghost use Rattle.subsetter_cffdata.specs.Reading.{rest, Takes};
 

@@ -12,7 +12,7 @@ use Rattle.subsetter_base.proofs.ByteLemmas.{IsBytes-drop, IsBytes-take, be-fits
 use Rattle.subsetter_base.proofs.Options.{bind_some, just, just_is}
 use Rattle.subsetter_base.proofs.Results.{bind_ok, done, done_is}
 use Rattle.subsetter_points.specs.Simple.{has_16_bits, signed_word}
-use Rattle.subsetter_variation.specs.Optional as optional
+use Rattle.subsetter_base.specs.Options as optional
 use Rattle.subsetter_variation.specs.FontMetrics.{metric_delta, metric_store, value_delta, value_of}
 use Rattle.subsetter_variation.specs.ItemLaws.{HasBoundRegions, IsMaster}
 use Rattle.subsetter_variation.specs.ItemVariations.{Row, Store, advance_delta, advance_index, delta, in_whole_units, item_delta, item_row, signed_at, store_of, terms, whole_or_fault}

@@ -5,7 +5,8 @@ ghost use Rattle.std.specs.Option.{ok_or, option_copied};
 ghost use Rattle.subsetter_base.specs.Gives.{Gives};
 ghost use Rattle.subsetter_base.specs.declared.error.Error.TheVariants.{MalformedFont};
 ghost use Rattle.subsetter_sfnt.specs.Read.{table_in};
-ghost use Rattle.subsetter_instance.specs.Source.{HasAxes, place, variations_in, source_in, source_or_fault, offset, between_offsets, description, metric_at, metric};
+ghost use Rattle.subsetter_instance.specs.Source.{HasAxes, place, variations_in, source_in, source_or_fault, offset, description, metric_at, metric};
+ghost use Rattle.subsetter_base.specs.Bytes.{between_offsets};
 
 use std::alloc::Global;
 use std::marker::Model;

@@ -4,7 +4,7 @@ ghost use Rattle.std.specs.Prelude.{◌≡◌, ◌∷◌, ◌<◌, ◌≤◌, []
 ghost use Rattle.subsetter_type2.specs.Machine.{unended, rests_after};
 ghost use Rattle.subsetter_type2.specs.View.{rests_of};
 ghost use Rattle.subsetter_type2.specs.MachineView.{library_of, lead_of};
-ghost use Rattle.subsetter_type2.specs.Behind.{behind};
+ghost use Rattle.subsetter_base.specs.Gives.{behind};
 ghost use Rattle.subsetter_type2.specs.Flat.{flat_form};
 ghost use Rattle.subsetter_base.specs.Within.{GivesWithin};
 ghost use Rattle.subsetter_base.specs.declared.error.Error.TheVariants.{CFFError};

@@ -3,14 +3,13 @@ use Rattle.std.specs.Prelude.{ℕ, zero, suc, ◌+◌, ◌-◌, ◌*◌, ◌/◌
 use Rattle.std.specs.Int.{w8, w16, w32, cast_signed}
 use Rattle.std.specs.List.{range_with_len}
 use Rattle.std.specs.Option.{option_map}
-use Rattle.subsetter_base.specs.Bytes.{be, range, number}
+use Rattle.subsetter_base.specs.Bytes.{be, range, number, from_offset}
 use Rattle.subsetter_base.specs.Items.{Items, values}
 use Rattle.subsetter_base.specs.declared.error.Error.{Error}
 use Rattle.subsetter_base.specs.declared.error.Error.TheVariants.{MalformedFont, OverflowError}
-use Rattle.subsetter_variation.specs.Optional.{◌>>=◌}
+use Rattle.subsetter_base.specs.Options.{◌>>=◌}
 use Rattle.subsetter_variation.specs.Nearest.{nearest}
 use Rattle.subsetter_variation.specs.Region.{scalar}
-use Rattle.subsetter_variation.specs.Tuples.{tail}
 use Rattle.subsetter_variation.specs.declared.region.RegionAxis.{RegionAxis}
 
 -- an offset of 32 bits, unless it is 0, which stands for no table (OpenType, "Data Types")
@@ -167,13 +166,13 @@ mapped_index map g = do
 unfoldable pub advance_index : List ℕ → ℕ → Option (ℕ × ℕ)
 advance_index hvar g = do
   at ← number hvar 8 4
-  if at == 0 then Some (0, g) else tail hvar at >>= λ map. mapped_index map g
+  if at == 0 then Some (0, g) else from_offset hvar at >>= λ map. mapped_index map g
 
 -- the store of HVAR, whose regions have as many axes as the font
 unfoldable pub store_of : List ℕ → ℕ → Option Store
 store_of hvar axis_count = do
   at ← offset_at hvar 4
-  bytes ← tail hvar at
+  bytes ← from_offset hvar at
   s ← item_store bytes
   if s.axis_count == axis_count then Some s else None
 

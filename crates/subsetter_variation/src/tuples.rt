@@ -9,7 +9,8 @@ ghost use Rattle.std.specs.Option.{ok_or, option_copied, option_map};
 ghost use Rattle.subsetter_base.specs.Gives.{Gives};
 ghost use Rattle.subsetter_base.specs.declared.error.Error.TheVariants.{MalformedFont};
 ghost use Rattle.subsetter_variation.specs.Region.{scalar};
-ghost use Rattle.subsetter_variation.specs.Tuples.{split, tail, parts, gvar_table, offset, between_offsets, variations_of, tuple_headers, peaks_in, ends_in, region_in, next_header, both_deltas, numbers_and_deltas, tuple_size, count_of, shared_numbers};
+ghost use Rattle.subsetter_variation.specs.Tuples.{split, parts, gvar_table, offset, variations_of, tuple_headers, peaks_in, ends_in, region_in, next_header, both_deltas, numbers_and_deltas, tuple_size, count_of, shared_numbers};
+ghost use Rattle.subsetter_base.specs.Bytes.{from_offset, between_offsets};
 
 use crate::packed::{deltas, point_numbers, word_in};
 use crate::tuple_region::{TupleRegion, tuple_region};
@@ -67,7 +68,7 @@ fn split(n: usize, bytes: &[u8]) -> Option<(&[u8], &[u8])>
 
 /// The bytes from a place on, which isn't past the end.
 pub(crate) fn tail(bytes: &[u8], at: usize) -> Option<&[u8]>
-    ensures { option_copied result ≡ tail bytes.now at }
+    ensures { option_copied result ≡ from_offset bytes.now at }
 {
     bytes.get(at..)
 }
