@@ -10,7 +10,7 @@ ghost use Rattle.pdf_glyphs.specs.Vertical.{advance_at, advance_of, bearing_of, 
 use crate::boxes::{OutlineTables, glyph_box};
 use crate::heights::{HeightVariation, varied_height};
 use pdf_text::Column;
-use pdf_values::fields::{number_in, signed_in};
+use subsetter_base::fields::{number_in, signed_in};
 use pdf_values::{thousandths, units_per_em};
 
 /// The tables that vertical metrics are found by; none where the font lacks one.

@@ -2,7 +2,7 @@
 
 ghost use Rattle.std.specs.Prelude.{◌≡◌, ◌<◌, ◌≤◌, ◌^◌, IfSome, codes, unsigned_abs};
 ghost use Rattle.std.specs.Option.{option_and_then, option_copied, option_map, option_or, unwrap_or};
-ghost use Rattle.pdf_values.specs.Fields.{signed_field};
+ghost use Rattle.subsetter_base.specs.Fields.{signed_field};
 ghost use Rattle.pdf_values.specs.Heights.{above_0, box_line, counted, descent_of, first_line, line, typographic_line, windows_line};
 ghost use Rattle.pdf_values.specs.Os2.{of_version_2};
 ghost use Rattle.pdf_values.specs.Rounding.{thousandths};
@@ -11,7 +11,8 @@ ghost use Rattle.pdf_moved.specs.Lines.{line_view};
 ghost use Rattle.pdf_moved.specs.Movement.{movement_view};
 
 use crate::movement::{Movement, varied};
-use pdf_values::fields::{number_in, says_bit, signed_in};
+use pdf_values::fields::says_bit;
+use subsetter_base::fields::{number_in, signed_in};
 use pdf_values::{Heights, thousandths};
 use subsetter_base::Tag;
 

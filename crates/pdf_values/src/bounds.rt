@@ -5,7 +5,7 @@ ghost use Rattle.std.specs.Option.{option_copied, unwrap_or};
 ghost use Rattle.pdf_values.specs.Bounds.{extended, head_box, no_box, box_of, outward, bounds_of, IsAround};
 ghost use Rattle.pdf_values.specs.Rounding.{lowered, raised, IsBelow, IsAbove};
 
-use crate::fields::signed_in;
+use subsetter_base::fields::signed_in;
 use crate::rounding::{lowered, raised};
 
 /// Which glyphs FontBBox is to hold.

@@ -4,7 +4,8 @@ ghost use Rattle.std.specs.Prelude.{◌≡◌};
 ghost use Rattle.std.specs.Option.{option_copied};
 ghost use Rattle.pdf_values.specs.Flags.{is_fixed, has_serifs, is_script, is_slanted, flag, flags_of, is_serif_class, is_serif_face, is_script_face, IsFlags};
 
-use crate::fields::{byte_in, has_bit, long_in, number_in, says_bit};
+use crate::fields::{has_bit, says_bit};
+use subsetter_base::fields::{byte_in, long_in, number_in};
 
 /// Whether all advances are equal: isFixedPitch of `post`.
 fn is_fixed(post: Option<&[u8]>) -> bool

@@ -4,7 +4,7 @@ ghost use Rattle.std.specs.Prelude.{◌≡◌};
 ghost use Rattle.std.specs.Option.{option_copied};
 ghost use Rattle.pdf_values.specs.ItalicAngle.{angle};
 
-use crate::fields::long_signed_in;
+use subsetter_base::fields::long_signed_in;
 use crate::rounding::thousandths;
 
 /// ItalicAngle in thousandths of a degree, as `post` says, else 0.

@@ -4,7 +4,8 @@ ghost use Rattle.std.specs.Prelude.{◌≡◌};
 ghost use Rattle.std.specs.Option.{option_copied};
 ghost use Rattle.pdf_values.specs.Permission.{has_later_bits, is_permitted, is_usable, permission, permission_of, usage_of};
 
-use crate::fields::{has_bit, number_in};
+use crate::fields::has_bit;
+use subsetter_base::fields::number_in;
 
 /// What a document may do with a font.
 #[derive(Clone, Copy, PartialEq, Eq, Debug)]

@@ -4,7 +4,7 @@ ghost use Rattle.std.specs.Prelude.{◌≡◌, ◌<◌};
 ghost use Rattle.std.specs.Option.{option_copied};
 ghost use Rattle.pdf_values.specs.Head.{units_per_em};
 
-use crate::fields::number_in;
+use subsetter_base::fields::number_in;
 
 /// How many units `head` says to the em: above 0, else a thousand.
 pub fn units_per_em(head: Option<&[u8]>) -> u16

@@ -5,7 +5,8 @@ ghost use Rattle.std.specs.Prelude.{◌≡◌, ◌≤◌, ◌%◌, ◌*◌};
 ghost use Rattle.std.specs.Option.{option_copied};
 ghost use Rattle.pdf_values.specs.Weight.{in_hundreds, class_weight, style_weight, weight_of, font_weight, stem_of_weight, stem_v};
 
-use crate::fields::{number_in, says_bit};
+use crate::fields::says_bit;
+use subsetter_base::fields::number_in;
 
 /// Old fonts count from 1 to 9.
 fn in_hundreds(class: u16) -> u16

@@ -1,11 +1,8 @@
 //! What a glyph is at a place.
 
 ghost use Rattle.std.specs.Prelude.{◌≡◌, ◌≤◌, ◌^◌, ◌-ℤ◌, All, IfOk, length, unsigned_abs};
-ghost use Rattle.std.specs.Int.{int_min};
-ghost use Rattle.std.specs.List.{fold};
 ghost use Rattle.std.specs.Option.{option_copied};
 ghost use Rattle.subsetter_base.specs.Gives.{Gives};
-ghost use Rattle.subsetter_points.specs.Simple.{xs_of};
 ghost use Rattle.subsetter_instance.specs.Kept.{AreKept};
 ghost use Rattle.subsetter_instance.specs.Source.{HasAxes};
 ghost use Rattle.subsetter_instance.specs.Drawn.{whole, word_or_fault, point_or_fault, points_or_fault, advance_or_fault, advance, bearing, drawn_if_fit, rounded, drawn};
@@ -18,7 +15,7 @@ use crate::unfolding::{Unfolded, unfold};
 use std::alloc::Global;
 use std::marker::Model;
 use subsetter_base::{Error, GlyphRemapper};
-use subsetter_points::{Outline, Point, fits};
+use subsetter_points::{Outline, Point, fits, least_x};
 use subsetter_variation::item_variations::advance_delta;
 
 /// The unit of unfolded coordinates.
@@ -154,24 +151,6 @@ fn advance(
             advance_or_fault(i128::from(before) + i128::from(advance_delta(hvar, at, glyph)?))
         }
     }
-}
-
-/// The smaller of two numbers.
-fn smaller(a: i16, b: i16) -> i16
-    ensures { result ≡ int_min a b }
-{
-    if b < a { b } else { a }
-}
-
-/// The least x of a point's, `first`, and of others.
-fn least_x(first: i16, rest: &[Point]) -> i16
-    ensures { result ≡ fold int_min first (xs_of rest.now) }
-{
-    let mut least = first;
-    for point in rest {
-        least = smaller(least, point.x);
-    }
-    least
 }
 
 /// The left side bearing: the least x, 0 without points.

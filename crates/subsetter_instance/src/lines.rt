@@ -9,10 +9,10 @@ ghost use Rattle.subsetter_instance.specs.Lines.{varied, three_lines, line_bytes
 
 use std::alloc::{AllocError, Global};
 use std::marker::Model;
+use subsetter_base::read::signed_at;
 use subsetter_base::{Error, Tag};
 use subsetter_sfnt::face::Face;
 use subsetter_variation::font_metrics::metric_delta;
-use subsetter_variation::item_variations::signed_at;
 
 /// `hhea` and `post` with the metrics that vary.
 #[derive(Drop)]

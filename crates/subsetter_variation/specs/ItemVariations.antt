@@ -3,7 +3,7 @@ use Rattle.std.specs.Prelude.{ℕ, zero, suc, ◌+◌, ◌-◌, ◌*◌, ◌/◌
 use Rattle.std.specs.Int.{w8, w16, w32, cast_signed}
 use Rattle.std.specs.List.{range_with_len}
 use Rattle.std.specs.Option.{option_map}
-use Rattle.subsetter_base.specs.Bytes.{be, range, number, from_offset}
+use Rattle.subsetter_base.specs.Bytes.{be, range, number, from_offset, signed_at}
 use Rattle.subsetter_base.specs.Items.{Items, values}
 use Rattle.subsetter_base.specs.declared.error.Error.{Error}
 use Rattle.subsetter_base.specs.declared.error.Error.TheVariants.{MalformedFont, OverflowError}
@@ -35,10 +35,6 @@ item_store bytes = do
   region_count ← number bytes (at + 2) 2
   regions ← range bytes (at + 4) (region_count * (axis_count * 6))
   if format == 1 then Some (record { axis_count = axis_count; region_count = region_count; regions = regions; bytes = bytes }) else None
-
--- the signed number of two bytes at a place
-abbrev pub signed_at : List ℕ → ℕ → ℤ
-signed_at bytes at = cast_signed w16 (be (take 2 (drop at bytes)))
 
 -- on one axis: startCoord, peakCoord and endCoord
 abbrev pub region_axis_in : List ℕ → RegionAxis
