@@ -5,7 +5,8 @@ ghost use Rattle.std.specs.Option.{option_map};
 ghost use Rattle.std.specs.List.{slice_split};
 ghost use Rattle.std.specs.Str.{IsUtf8};
 ghost use Rattle.subset_args.specs.Lists.{counting, as_comma, in_order, is_less, parts};
-ghost use Rattle.subset_args.specs.Characters.{hex_in_32, hex_in, is_mark, marked, code_in, codes_in, codes_descend, characters_between, part_characters, parts_characters, argument_characters, file_characters, is_scalar, is_line_end, without_line_ends};
+ghost use Rattle.subset_args.specs.Characters.{hex_in_32, hex_in, is_mark, marked, code_in, codes_in, codes_descend, characters_between, part_characters, parts_characters, argument_characters, file_characters, is_line_end, without_line_ends};
+ghost use Rattle.subsetter_base.specs.Texts.{is_scalar};
 ghost use Rattle.subset_args.specs.ListView.{codes_view, list_view};
 ghost use Rattle.subset_args.specs.declared.jobs.ArgsError.TheVariants.{Usage, OutOfMemory};
 
