@@ -15,9 +15,9 @@ use crate::axes::names_of;
 use crate::face::{header_place, table};
 use crate::failure::Failure;
 use std::alloc::{AllocError, Global};
-use subset_lines::{FontAxes, after_four, name_of, read_axes, text_of_name};
+use subset_lines::{FontAxes, name_of, read_axes, text_of_name};
 use subsetter::{Error, Tag};
-use subsetter_base::read::Reader;
+use subsetter_base::read::{Reader, after_four};
 use subsetter_variation::axes::Axis;
 
 /// Whether two names are the same but for the case of ASCII letters.
