@@ -9,8 +9,7 @@ use Rattle.pdf_text.specs.Cmap.{IsLine, Line}
 use Rattle.pdf_text.specs.View.{line_view, lines_view}
 use Rattle.pdf_text.specs.declared.to_unicode.Mapping.{Mapping}
 use Rattle.pdf_codes.specs.Texts.{first_text, line_of, lines_from, lines_of_codes, limit, table_lines}
-use Rattle.subsetter_base.specs.Texts.{or_else}
-use Rattle.subsetter_base.specs.Views.{views}
+use Rattle.subsetter_base.specs.Texts.{or_else, views}
 
 no_units : (us : List ℕ) → length us ≡ 0 → us ≡ []
 no_units [] h = refl

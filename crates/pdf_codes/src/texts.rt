@@ -5,8 +5,7 @@ ghost use Rattle.subsetter_base.specs.declared.error.Error.TheVariants.{OutOfMem
 ghost use Rattle.pdf_text.specs.View.{line_view, lines_view};
 ghost use Rattle.pdf_text.specs.Cmap.{IsLine, Line, cmap_text};
 ghost use Rattle.pdf_codes.specs.Texts.{first_text, is_said, limit, lines_of_codes, says, table_lines, text_in};
-ghost use Rattle.subsetter_base.specs.Texts.{or_else};
-ghost use Rattle.subsetter_base.specs.Views.{views};
+ghost use Rattle.subsetter_base.specs.Texts.{or_else, views};
 
 use pdf_text::{Mapping, write_to_unicode};
 use std::alloc::Global;

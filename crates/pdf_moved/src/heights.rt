@@ -2,7 +2,7 @@
 
 ghost use Rattle.std.specs.Prelude.{◌≡◌, ◌<◌, ◌≤◌, ◌^◌, IfSome, codes, unsigned_abs};
 ghost use Rattle.std.specs.Option.{option_and_then, option_copied, option_map, option_or, unwrap_or};
-ghost use Rattle.subsetter_base.specs.Fields.{signed_field};
+ghost use Rattle.subsetter_base.specs.Bytes.{signed_field};
 ghost use Rattle.pdf_values.specs.Heights.{above_0, box_line, counted, descent_of, first_line, line, typographic_line, windows_line};
 ghost use Rattle.pdf_values.specs.Os2.{of_version_2};
 ghost use Rattle.pdf_values.specs.Rounding.{thousandths};

@@ -3,7 +3,7 @@ use Rattle.std.specs.Prelude.{ℕ, ◌==◌, Bool, false, if◌then◌else◌, L
 use Rattle.std.specs.Int.{w32, cast_signed}
 use Rattle.std.specs.Option.{option_and_then, option_map, option_map_or, unwrap_or}
 use Rattle.pdf_values.specs.Fields.{has_bit}
-use Rattle.subsetter_base.specs.Fields.{field, signed_field}
+use Rattle.subsetter_base.specs.Bytes.{field, signed_field}
 
 -- unitsPerEm, if it is above 0, which OpenType wants; else a thousand
 abbrev pub units_per_em : Option (List ℕ) → ℕ

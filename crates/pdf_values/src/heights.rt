@@ -3,7 +3,7 @@
 
 ghost use Rattle.std.specs.Prelude.{◌≡◌, ◌<◌, ◌≤◌, ◌^◌, ◌*◌, IfSome, unsigned_abs, pos, ◌≤ℤ◌};
 ghost use Rattle.std.specs.Option.{option_copied, option_and_then, option_map, unwrap_or};
-ghost use Rattle.subsetter_base.specs.Fields.{signed_field};
+ghost use Rattle.subsetter_base.specs.Bytes.{signed_field};
 ghost use Rattle.pdf_values.specs.Rounding.{thousandths};
 ghost use Rattle.pdf_values.specs.Os2.{of_version_2};
 ghost use Rattle.pdf_values.specs.Heights.{counted, line, horizontal_line, typographic_line, windows_line, box_line, uses_typographic, first_line, line_of, above_0, height, descent_of, heights_of, IsSmall};

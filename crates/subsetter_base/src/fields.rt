@@ -3,7 +3,7 @@
 ghost use Rattle.std.specs.Prelude.{◌≡◌};
 ghost use Rattle.std.specs.Option.{option_copied, option_map};
 ghost use Rattle.std.specs.Int.{w32, cast_signed};
-ghost use Rattle.subsetter_base.specs.Fields.{field, signed_field};
+ghost use Rattle.subsetter_base.specs.Bytes.{field, signed_field};
 
 use crate::read::Reader;
 

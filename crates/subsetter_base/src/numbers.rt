@@ -4,7 +4,7 @@ ghost use Rattle.std.specs.Prelude.{◌≡◌, ◌≤◌, ◌*◌, length, take,
 ghost use Rattle.subsetter_base.specs.Bytes.{be};
 
 /// The number that at most four bytes are, the high byte first.
-#[tactic(auto, using(crate::proofs::FewBytes::be_cases))]
+#[tactic(auto, using(crate::proofs::ByteLemmas::be_cases))]
 pub fn number_of(bytes: &[u8]) -> u32
     requires { length bytes.now ≤ 4 }
     ensures { result ≡ be bytes.now }
@@ -29,7 +29,7 @@ pub struct TwoNumbers {
 
 /// The numbers that the two halves of these bytes are, each of at most four bytes.
 #[inline]
-#[tactic(auto, using(crate::proofs::FewBytes::be_cases))]
+#[tactic(auto, using(crate::proofs::ByteLemmas::be_cases))]
 pub fn two_numbers(bytes: &[u8], size: usize) -> TwoNumbers
     requires halves { length bytes.now ≡ 2 * size }
     requires few { size ≤ 4 }

@@ -1,8 +1,7 @@
 use Rattle.std.proofs.Common.{◌≡◌, ◌≤◌, ℕ, length, drop, get_or, []}
 use Rattle.pdf_text.specs.View.{lines_view}
 use Rattle.pdf_codes.specs.Texts.{first_text, limit}
-use Rattle.subsetter_base.specs.Texts.{or_else}
-use Rattle.subsetter_base.specs.Views.{views}
+use Rattle.subsetter_base.specs.Texts.{or_else, views}
 use Rattle.pdf_codes.proofs.texts.first_texts.Given as goal
 
 abbrev pub invariant-loop-line : goal.invariant-loop-line

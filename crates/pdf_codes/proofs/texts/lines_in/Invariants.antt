@@ -3,7 +3,7 @@ use Rattle.std.specs.Prelude.{All}
 use Rattle.pdf_text.specs.Cmap.{IsLine}
 use Rattle.pdf_text.specs.View.{lines_view}
 use Rattle.pdf_codes.specs.Texts.{table_lines}
-use Rattle.subsetter_base.specs.Views.{views}
+use Rattle.subsetter_base.specs.Texts.{views}
 use Rattle.pdf_codes.proofs.texts.lines_in.Given as goal
 
 abbrev pub invariant-loop-place : goal.invariant-loop-place

@@ -1,5 +1,5 @@
 use Rattle.std.proofs.Common.{◌≡◌, replicate, []}
-use Rattle.subsetter_base.specs.Views.{views}
+use Rattle.subsetter_base.specs.Texts.{views}
 use Rattle.pdf_codes.proofs.texts.no_texts.Given as goal
 
 abbrev pub invariant-loop-place : goal.invariant-loop-place

@@ -1,6 +1,6 @@
 use Rattle.std.proofs.Common.{rules, arith, ◌≡◌, length, get_or, []}
 use Rattle.std.proofs.lemmas.Grind.{common_steps}
-use Rattle.subsetter_base.specs.Views.{views}
+use Rattle.subsetter_base.specs.Texts.{views}
 use Rattle.pdf_codes.proofs.TextSteps.{empty_at, written_at}
 use Rattle.pdf_codes.proofs.texts.put.Goals as goal
 

@@ -1,4 +1,4 @@
-use Rattle.subsetter_base.proofs.Spaced.{decimals_begun}
+use Rattle.subsetter_base.proofs.TextLemmas.{decimals_begun}
 use Rattle.subsetter_base.proofs.decimals.write_decimals.Goals as goal
 
 pub loop-number-init : goal.loop-number-init

@@ -1,6 +1,6 @@
 use Rattle.std.proofs.Common.{◌≡◌, ◌++◌, map, decimal, drop}
 use Rattle.std.specs.List.{join_with_byte}
-use Rattle.subsetter_base.proofs.Spaced.{spaced}
+use Rattle.subsetter_base.proofs.TextLemmas.{spaced}
 use Rattle.subsetter_base.proofs.decimals.write_decimals.Given as goal
 
 abbrev pub invariant-loop-number : goal.invariant-loop-number
