@@ -10,8 +10,8 @@ ghost use Rattle.pdf_glyphs.specs.Vertical.{advance_at, advance_of, bearing_of, 
 use crate::boxes::{OutlineTables, glyph_box};
 use crate::heights::{HeightVariation, varied_height};
 use pdf_text::Column;
-use subsetter_base::fields::{number_in, signed_in};
 use pdf_values::{thousandths, units_per_em};
+use subsetter_base::fields::{number_in, signed_in};
 
 /// The tables that vertical metrics are found by; none where the font lacks one.
 #[derive(Clone, Copy)]

@@ -6,8 +6,8 @@ ghost use Rattle.subsetter_base.specs.declared.error.Error.TheVariants.{OutOfMem
 ghost use Rattle.pdf_glyphs.specs.Origins.{filled, origin_seen};
 ghost use Rattle.pdf_glyphs.specs.Vertical.{by_record, origin_at, origin_of, record_count};
 
-use subsetter_base::fields::{number_in, signed_in};
 use std::alloc::Global;
+use subsetter_base::fields::{number_in, signed_in};
 use subsetter_base::{Error, GlyphRemapper};
 
 /// The y of a glyph's origin, in the font's units.

@@ -12,9 +12,9 @@ ghost use Rattle.pdf_moved.specs.Movement.{movement_view};
 
 use crate::movement::{Movement, varied};
 use pdf_values::fields::says_bit;
-use subsetter_base::fields::{number_in, signed_in};
 use pdf_values::{Heights, thousandths};
 use subsetter_base::Tag;
+use subsetter_base::fields::{number_in, signed_in};
 
 /// How far a line of text reaches above the baseline, and, as a number below 0, below it, in the font's units.
 #[derive(Clone, Copy)]

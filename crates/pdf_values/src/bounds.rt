@@ -5,8 +5,8 @@ ghost use Rattle.std.specs.Option.{option_copied, unwrap_or};
 ghost use Rattle.pdf_values.specs.Bounds.{extended, head_box, no_box, box_of, outward, bounds_of, IsAround};
 ghost use Rattle.pdf_values.specs.Rounding.{lowered, raised, IsBelow, IsAbove};
 
-use subsetter_base::fields::signed_in;
 use crate::rounding::{lowered, raised};
+use subsetter_base::fields::signed_in;
 
 /// Which glyphs FontBBox is to hold.
 #[derive(Clone, Copy, PartialEq, Eq)]

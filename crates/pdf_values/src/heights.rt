@@ -9,8 +9,8 @@ ghost use Rattle.pdf_values.specs.Os2.{of_version_2};
 ghost use Rattle.pdf_values.specs.Heights.{counted, line, horizontal_line, typographic_line, windows_line, box_line, uses_typographic, first_line, line_of, above_0, height, descent_of, heights_of, IsSmall};
 
 use crate::fields::says_bit;
-use subsetter_base::fields::{number_in, signed_in};
 use crate::rounding::thousandths;
+use subsetter_base::fields::{number_in, signed_in};
 
 /// How far a line of text reaches above the baseline, and, as a number below 0, below it, in the font's units.
 #[derive(Clone, Copy)]

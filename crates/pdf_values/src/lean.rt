@@ -4,8 +4,8 @@ ghost use Rattle.std.specs.Prelude.{◌≡◌};
 ghost use Rattle.std.specs.Option.{option_copied};
 ghost use Rattle.pdf_values.specs.ItalicAngle.{angle};
 
-use subsetter_base::fields::long_signed_in;
 use crate::rounding::thousandths;
+use subsetter_base::fields::long_signed_in;
 
 /// ItalicAngle in thousandths of a degree, as `post` says, else 0.
 pub fn italic_angle(post: Option<&[u8]>) -> i32
