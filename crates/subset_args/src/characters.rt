@@ -11,7 +11,7 @@ ghost use Rattle.subset_args.specs.ListView.{codes_view, list_view};
 ghost use Rattle.subset_args.specs.declared.jobs.ArgsError.TheVariants.{Usage, OutOfMemory};
 
 use crate::jobs::ArgsError;
-use crate::lists::{GlyphList, is_blank, with_commas};
+use crate::lists::{GlyphList, is_blank, is_less, with_commas};
 use std::alloc::{AllocError, Global};
 use subsetter_words::parts_of;
 
@@ -97,17 +97,6 @@ fn codes_in(part: &str) -> Option<Codes>
                 last: code,
             })
         }
-    }
-}
-
-/// Whether of two codes the one is less.
-fn is_less(one: Option<u32>, other: Option<u32>) -> bool
-    ensures { result ≡ is_less one other }
-{
-    match (one, other) {
-        (Some(one), Some(other)) => one < other,
-        (Some(_), None) => false,
-        (None, _) => false,
     }
 }
 

@@ -61,8 +61,8 @@ fn whole(value: i64) -> i64
     (above / UNIT) as i64 - ABOVE_UNITS
 }
 
-/// A coordinate, `OverflowError` where it has no 16 bits.
-fn word_or_fault(value: i64) -> Result<i16, Error>
+/// A number of 16 bits, `OverflowError` where it has more.
+pub fn word_or_fault(value: i128) -> Result<i16, Error>
     ensures { result ≡ word_or_fault value }
 {
     if value >= -32768 && value < 32768 {
@@ -89,8 +89,8 @@ fn point_or_fault(left: i64, on_curve: bool, x: i64, y: i64) -> Result<Point, Er
     requires y { unsigned_abs y ≤ 2 ^ 58 }
     ensures { result ≡ point_or_fault left on_curve x y }
 {
-    let across = word_or_fault(whole(distance(left, x)))?;
-    let up = word_or_fault(whole(y))?;
+    let across = word_or_fault(i128::from(whole(distance(left, x))))?;
+    let up = word_or_fault(i128::from(whole(y)))?;
     Ok(Point {
         x: across,
         y: up,

@@ -1,5 +1,5 @@
 -- The axes of a variable font (OpenType, "fvar"), and where a coordinate lies on one. Coordinates are in 65536ths.
-use Rattle.std.specs.Prelude.{ℕ, zero, suc, ◌+◌, List, [], ◌∷◌, take, Option, Some, None, nat_lt, int_lt, int_le, if◌then◌else◌, ℤ, pos, neg_ℤ, ◌-ℤ◌, unsigned_abs}
+use Rattle.std.specs.Prelude.{ℕ, zero, suc, ◌+◌, List, [], ◌∷◌, take, find, Option, Some, None, nat_lt, int_lt, int_le, if◌then◌else◌, ℤ, pos, neg_ℤ, ◌-ℤ◌, unsigned_abs}
 use Rattle.std.specs.Str.{bytes_eq}
 use Rattle.subsetter_base.specs.Bytes.{range, number, long_signed_at}
 use Rattle.subsetter_base.specs.declared.tag.Tag.{Tag}
@@ -26,6 +26,10 @@ axes fvar = do
   count ← number fvar 8 2
   size ← number fvar 10 2
   if nat_lt size 20 then None else axes_at count size fvar at
+
+-- the first axis of a tag
+abbrev pub find_axis : List ℕ → List Axis → Option Axis
+find_axis tag axes = find (λ a. bytes_eq a.tag.0 tag) axes
 
 -- the last setting of a tag, else what there was
 abbrev pub user_coordinate_from : ℤ → List ℕ → List (Tag × ℤ) → ℤ

@@ -6,7 +6,7 @@ ghost use Rattle.std.specs.Prelude.{◌≡◌, ◌<◌, ◌≤◌, ◌-ℤ◌, �
 ghost use Rattle.std.specs.Option.{ok_or};
 ghost use Rattle.subsetter_base.specs.Gives.{Gives};
 ghost use Rattle.subsetter_base.specs.declared.error.Error.TheVariants.{MalformedFont};
-ghost use Rattle.subsetter_variation.specs.Axes.{axis_of, axes_at, axes, user_coordinate, toward, below_default, above_default, default_normalized};
+ghost use Rattle.subsetter_variation.specs.Axes.{axis_of, find_axis, axes_at, axes, user_coordinate, toward, below_default, above_default, default_normalized};
 ghost use Rattle.subsetter_base.specs.Bytes.{long_signed_at};
 
 use crate::rounding::part;
@@ -35,6 +35,18 @@ fn axis_of(bytes: &[u8]) -> Axis
         default: long_signed_at(bytes, 8),
         maximum: long_signed_at(bytes, 12),
     }
+}
+
+/// The first axis of a tag.
+pub fn find_axis(axes: &[Axis], tag: Tag) -> Option<Axis>
+    ensures { result ≡ find_axis tag.0 axes.now }
+{
+    for axis in axes {
+        if axis.tag == tag {
+            return Some(*axis);
+        }
+    }
+    None
 }
 
 /// So many axes, of size bytes each.
