@@ -57,11 +57,13 @@ zero_run (suc n) control bytes h = run_step n n control bytes bytes (pos 0) (rw 
 
 -- signed numbers of one byte
 pub byte_run : (n control : ℕ) (bytes : List ℕ) → nat_le 128 control ≡ false → nat_le 64 control ≡ false → n ≤ length bytes → deltas_from n (run_of n control bytes) ≡ Some (map (cast_signed w8) (take n bytes), drop n bytes)
+unfolding byte
 byte_run zero control bytes h g l = refl
 byte_run (suc n) control [] h g l = absurd (omega arith)
 byte_run (suc n) control (b ∷ bytes) h g l = run_step n n control (b ∷ bytes) bytes (cast_signed w8 b) (rw (h, g) refl) ∙ ap (onto (cast_signed w8 b)) (byte_run n control bytes h g (omega arith))
 
 pub byte_run_cut : (n control : ℕ) (bytes : List ℕ) → nat_le 128 control ≡ false → nat_le 64 control ≡ false → length bytes < n → deltas_from n (run_of n control bytes) ≡ None
+unfolding byte
 byte_run_cut zero control bytes h g l = absurd (omega arith)
 byte_run_cut (suc n) control [] h g l = run_cut n n control [] (rw (h, g) refl)
 byte_run_cut (suc n) control (b ∷ bytes) h g l = run_step n n control (b ∷ bytes) bytes (cast_signed w8 b) (rw (h, g) refl) ∙ ap (onto (cast_signed w8 b)) (byte_run_cut n control bytes h g (omega arith))

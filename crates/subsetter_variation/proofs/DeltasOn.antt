@@ -16,10 +16,12 @@ byte_list None = []
 byte_list (Some x) = x.0 ∷ x.1
 
 pub byte_is : (bytes : List ℕ) (b : ℕ) (rest : List ℕ) → byte bytes ≡ Some (b, rest) → bytes ≡ b ∷ rest
+unfolding byte
 byte_is [] b rest e = absurd (cc)
 byte_is (x ∷ xs) b rest e = ap byte_list e
 
 pub no_byte : (bytes : List ℕ) → byte bytes ≡ None → bytes ≡ []
+unfolding byte
 no_byte [] e = refl
 no_byte (x ∷ xs) e = absurd (cc)
 
