@@ -142,7 +142,7 @@ class Comparison:
     def run(self):
         roots, taken = self.old.roots(), set()
         for id in roots:
-            new = self.find(id)
+            new = None if id in self.names.gone else self.find(id)
             if new is None:
                 if id not in self.names.gone:
                     self.differ(f"{id}: it isn't in the new checkout", self.shown(self.old, id))

@@ -136,7 +136,7 @@ class Tree:
 
     # ---- paths of code
 
-    def path(self, module, segments):
+    def path(self, module, segments, seen=None):
         """What a path of code means: ("def", id), ("con", id, name), ("mod", module), ("lib", path), or None; with what is left of it."""
         if not segments:
             return None
@@ -151,7 +151,7 @@ class Tree:
             # (a crate, of which an item of the same name is brought in)
             found = ("mod", self.crates[first])
         else:
-            found = self.look(module, first, set())
+            found = self.look(module, first, set() if seen is None else seen)
             if found is None and first in self.crates:
                 found = ("mod", self.crates[first])
             elif found is None and (first in PRELUDE or first in ("std", "core", "alloc") or len(segments) > 1):
@@ -193,7 +193,7 @@ class Tree:
 
     def used(self, module, path, seen):
         if path[0] in ("crate", "self", "super") or path[0] in self.crates or path[0] in module.modules or path[0] in module.uses:
-            return self.path(module, path)
+            return self.path(module, path, seen)
         return ("lib", "::".join(path))
 
     # ---- names of antt

@@ -1,31 +1,14 @@
 -- Widths and CIDs that are written one after another.
-use Rattle.std.proofs.Common.{◌≡◌, ℕ, suc, ◌+◌, ◌-◌, ◌≤◌, List, [], ◌∷◌, ◌++◌, length, get_or, map, take, drop, decimal, Result, Ok, Err, refl, sym, ap, subst, ◌∙◌, append_assoc, append-nil, arith}
+use Rattle.std.proofs.Common.{◌≡◌, ℕ, suc, ◌+◌, List, [], ◌∷◌, ◌++◌, Result, Ok, Err, refl, sym, ap, subst, ◌∙◌, append_assoc}
 use Rattle.std.specs.Option.{ok_or}
-use Rattle.std.specs.List.{join_with_byte}
 use Rattle.subsetter_base.specs.Bytes.{◌>>=◌}
 use Rattle.subsetter_base.specs.Gives.{Gives}
 use Rattle.subsetter_base.specs.declared.error.Error.{Error}
 use Rattle.subsetter_base.specs.declared.error.Error.TheVariants.{MalformedFont}
-use Rattle.subsetter_base.proofs.Lists.{rest_of}
 use Rattle.subsetter_base.proofs.Results.{with_front, named_err}
 use Rattle.cid_embed.specs.Afresh.{Measures, widths_from}
 use Rattle.subsetter_sfnt.specs.Fields.Hmtx.{advance_in}
 use Rattle.cid_embed.specs.Width.{thousandths}
-
--- each width with a space in front
-abbrev pub spaced : List ℕ → List ℕ
-spaced [] = []
-spaced (w ∷ ws) = (32 ∷ decimal w) ++ spaced ws
-
-pub joined : (w : ℕ) (ws : List ℕ) → join_with_byte 32 (map decimal (w ∷ ws)) ≡ decimal w ++ spaced ws
-joined w [] = sym (append-nil (decimal w))
-joined w (v ∷ ws) = ap (λ (l : List ℕ). decimal w ++ (32 ∷ l)) (joined v ws)
-
--- the first width is written without a space
-pub list_begun : (old new ws : List ℕ) → 1 ≤ length ws → new ≡ old ++ decimal (get_or ws 0 0) → new ++ spaced (take (length ws - 1) (drop 1 ws)) ≡ old ++ join_with_byte 32 (map decimal ws)
-list_begun old new [] h e = absurd (omega arith)
-list_begun old new (w ∷ ws) h e =
-    ap (λ (l : List ℕ). new ++ spaced l) (rest_of 1 (w ∷ ws)) ∙ ap (λ (l : List ℕ). l ++ spaced ws) e ∙ append_assoc old (decimal w) (spaced ws) ∙ ap (λ (l : List ℕ). old ++ l) (sym (joined w ws))
 
 -- ---- widths that are read one after another
 

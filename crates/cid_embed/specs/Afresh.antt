@@ -1,10 +1,9 @@
 -- Widths as they are read of a file that holds one font (OpenType, "Organization of an OpenType Font", "head", "hhea" and "hmtx").
 use Rattle.std.specs.Prelude.{ℕ, zero, suc, ◌+◌, ◌-◌, ◌*◌, min, List, [], ◌∷◌, codes, Option, Result, Ok, Err, ◌==◌, if◌then◌else◌}
-use Rattle.std.specs.Option.{ok_or}
+use Rattle.std.specs.Option.{ok_or, option_and_then}
 use Rattle.subsetter_base.specs.Bytes.{range, number, ◌>>=◌}
 use Rattle.subsetter_base.specs.declared.error.Error.{Error}
 use Rattle.subsetter_base.specs.declared.error.Error.TheVariants.{MalformedFont}
-use Rattle.std.specs.Option.{option_and_then}
 use Rattle.subsetter_sfnt.specs.Read.{table_in}
 use Rattle.subsetter_sfnt.specs.Fields.Hhea.{number_of_h_metrics}
 use Rattle.subsetter_sfnt.specs.Fields.Hmtx.{advance_in}

@@ -17,5 +17,7 @@ mod widths;
 
 pub use array::write_widths;
 pub use embedding::{Embedded, embed, embed_with_limits, embed_with_options, mapper_for};
+pub use reader::Metrics;
 pub use shrinking::shrink;
 pub use subsetter_again::shrink_font;
+pub use widths::all_widths;

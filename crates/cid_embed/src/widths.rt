@@ -21,7 +21,7 @@ fn thousandths(length: u16, units_per_em: u16) -> u32
 }
 
 /// The widths of so many glyphs, from glyph 0 on. An advance that isn't there is `MalformedFont`.
-fn all_widths(alloc: Global, metrics: &Metrics<'_>, count: u16) -> Result<Vec<u32>, Error>
+pub fn all_widths(alloc: Global, metrics: &Metrics<'_>, count: u16) -> Result<Vec<u32>, Error>
     requires { 0 < metrics.now.units }
     ensures { Gives (λ v. v.items) result (widths_from (measures_seen metrics.now) 0 count) }
 {

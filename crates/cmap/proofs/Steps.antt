@@ -5,7 +5,8 @@ use Rattle.std.specs.Option.{option_and_then}
 use Rattle.subsetter_base.specs.Bytes.{range}
 use Rattle.cmap.specs.Groups.{group_of, has, in_range, by_groups}
 use Rattle.cmap.specs.Segments.{end_code, in_segment, by_segments}
-use Rattle.cmap.specs.Subtable.{unicode_table, first_of, table_from}
+use Rattle.cmap.specs.Subtable.{unicode_table, table_from}
+use Rattle.subsetter_base.specs.Options.{first_of}
 
 -- how many are left
 left : (n i : ℕ) → i < n → n - i ≡ suc (n - (i + 1))

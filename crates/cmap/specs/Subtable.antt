@@ -1,17 +1,14 @@
 -- The table that is used of a `cmap`, and the glyph of a character by it (OpenType, "cmap", "'cmap' Header" and "Encoding records").
-use Rattle.std.specs.Prelude.{ℕ, zero, suc, ◌+◌, ◌^◌, ◌==◌, ◌&&◌, ◌||◌, nat_le, nat_lt, Bool, if◌then◌else◌, List, length, drop, Option, Some, None}
+use Rattle.std.specs.Prelude.{ℕ, zero, suc, ◌+◌, ◌^◌, ◌==◌, ◌&&◌, ◌||◌, nat_lt, Bool, if◌then◌else◌, List, Option, Some, None}
 use Rattle.std.specs.Option.{option_and_then, option_map, unwrap_or}
-use Rattle.subsetter_base.specs.Bytes.{number}
+use Rattle.subsetter_base.specs.Bytes.{number, from_offset}
 use Rattle.cmap.specs.Groups.{glyph_by_groups}
 use Rattle.cmap.specs.Segments.{glyph_by_segments}
+use Rattle.subsetter_base.specs.Options.{first_of}
 
 -- platform 0 is Unicode, and so is platform 3 with encoding 1 or 10
 abbrev pub is_unicode : ℕ → ℕ → Bool
 is_unicode platform encoding = platform == 0 || (platform == 3 && (encoding == 1 || encoding == 10))
-
--- the bytes from a place on, if it isn't past the end
-abbrev pub from_place : List ℕ → ℕ → Option (List ℕ)
-from_place bytes at = if nat_le at (length bytes) then Some (drop at bytes) else None
 
 -- a table of a format, which its first two bytes say
 abbrev pub of_format : ℕ → List ℕ → Option (List ℕ)
@@ -23,13 +20,8 @@ unicode_table format cmap at =
     option_and_then (λ platform.
     option_and_then (λ encoding.
     option_and_then (λ offset.
-    if is_unicode platform encoding then option_and_then (of_format format) (from_place cmap offset) else None)
+    if is_unicode platform encoding then option_and_then (of_format format) (from_offset cmap offset) else None)
     (number cmap (at + 4) 4)) (number cmap (at + 2) 2)) (number cmap at 2)
-
--- the first value that is there
-abbrev pub first_of : Option (List ℕ) → Option (List ℕ) → Option (List ℕ)
-first_of (Some table) other = Some table
-first_of None other = other
 
 -- the first such table of that many encoding records from a place on
 unfoldable pub table_from : ℕ → List ℕ → ℕ → ℕ → Option (List ℕ)

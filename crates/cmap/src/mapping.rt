@@ -2,7 +2,8 @@
 
 ghost use Rattle.std.specs.Prelude.{◌≡◌, ◌≤◌, ◌<◌, ◌^◌};
 ghost use Rattle.std.specs.Option.{option_copied, option_map};
-ghost use Rattle.cmap.specs.Subtable.{is_unicode, from_place, of_format, unicode_table, table_from, table_of_format, mapping, glyph_in, glyph_of};
+ghost use Rattle.cmap.specs.Subtable.{is_unicode, of_format, unicode_table, table_from, table_of_format, mapping, glyph_in, glyph_of};
+ghost use Rattle.subsetter_base.specs.Bytes.{from_offset};
 ghost use Rattle.cmap.specs.View.{mapping_view};
 
 use crate::groups::glyph_by_groups;

@@ -1,17 +1,9 @@
 //! Tables of format 4.
 
 ghost use Rattle.std.specs.Prelude.{◌≡◌, ◌≤◌, ◌<◌, ◌+◌, ◌*◌, ◌^◌};
-ghost use Rattle.subsetter_base.specs.Bytes.{number};
 ghost use Rattle.cmap.specs.Segments.{segment_count, end_code, start_code, id_delta, range_place, shifted, listed, glyph_at, in_segment, by_segments, glyph_by_segments};
 
-use subsetter_base::read::Reader;
-
-/// The number of 16 bits at a place.
-fn number_at(table: &[u8], at: usize) -> Option<u16>
-    ensures { result ≡ number table.now at 2 }
-{
-    Reader::new_at(table, at).read::<u16>()
-}
+use subsetter_base::read::number_at;
 
 /// A glyph and a delta, modulo 65536.
 fn shifted(glyph: u16, delta: u16) -> u16

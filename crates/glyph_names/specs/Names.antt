@@ -1,12 +1,9 @@
 -- The names of glyphs.
-use Rattle.std.specs.Prelude.{ℕ, List, [], ◌∷◌}
+use Rattle.std.specs.Prelude.{ℕ, List}
 use Rattle.glyph_names.specs.Post.{post_name}
 use Rattle.glyph_names.specs.Strings.{cff_name}
-
-abbrev pub or_name : List ℕ → List ℕ → List ℕ
-or_name [] other = other
-or_name (b ∷ name) other = b ∷ name
+use Rattle.subsetter_base.specs.Texts.{or_else}
 
 -- the name of a glyph: by `post`, or else by `CFF `; an empty one where neither has one
 unfoldable pub glyph_name : List ℕ → List ℕ → ℕ → List ℕ
-glyph_name post cff glyph = or_name (post_name post glyph) (cff_name cff glyph)
+glyph_name post cff glyph = or_else (post_name post glyph) (cff_name cff glyph)

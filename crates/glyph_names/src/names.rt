@@ -1,7 +1,8 @@
 //! The names of glyphs.
 
 ghost use Rattle.std.specs.Prelude.{◌≡◌, map, IfOk};
-ghost use Rattle.glyph_names.specs.Names.{or_name, glyph_name};
+ghost use Rattle.glyph_names.specs.Names.{glyph_name};
+ghost use Rattle.subsetter_base.specs.Texts.{or_else};
 ghost use Rattle.glyph_names.specs.Sources.{IsSources};
 
 use crate::post::{own_names, post_name};
@@ -24,7 +25,7 @@ pub struct Sources<'a> {
 
 /// A name, or another one where it is empty.
 fn or_name<'a>(name: &'a [u8], other: &'a [u8]) -> &'a [u8]
-    ensures { result.now ≡ or_name name.now other.now }
+    ensures { result.now ≡ or_else name.now other.now }
 {
     if name.is_empty() { other } else { name }
 }

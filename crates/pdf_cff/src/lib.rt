@@ -8,4 +8,4 @@
 mod said;
 mod stems;
 
-pub use said::{Said, said_in};
+pub use said::{Said, said_in, unless_memory};

@@ -8,7 +8,8 @@ use Rattle.std.specs.Prelude.{All}
 use Rattle.pdf_text.specs.Cmap.{IsLine, Line}
 use Rattle.pdf_text.specs.View.{line_view, lines_view}
 use Rattle.pdf_text.specs.declared.to_unicode.Mapping.{Mapping}
-use Rattle.pdf_codes.specs.Texts.{or_else, first_text, line_of, lines_from, lines_of_codes, limit, table_lines, texts_view}
+use Rattle.pdf_codes.specs.Texts.{first_text, line_of, lines_from, lines_of_codes, limit, table_lines}
+use Rattle.subsetter_base.specs.Texts.{or_else, views}
 
 no_units : (us : List ℕ) → length us ≡ 0 → us ≡ []
 no_units [] h = refl
@@ -122,17 +123,17 @@ same_first ls k = elim (cases_lt k (limit ls)) [
 
 -- ---- with the references that the code has
 
-view_set : (ts : List (Bor (List ℕ))) (c : ℕ) (u : Bor (List ℕ)) → texts_view (set ts c u) ≡ set (texts_view ts) c u.now
+view_set : (ts : List (Bor (List ℕ))) (c : ℕ) (u : Bor (List ℕ)) → views (set ts c u) ≡ set (views ts) c u.now
 view_set ts c u = map-set (λ (t : Bor (List ℕ)). t.now) ts c u
 
-pub written_in : (ts : List (Bor (List ℕ))) (m : Mapping) (rest : List Line) (k : ℕ) → m.code < length ts → length (get_or (texts_view ts) m.code []) ≡ 0
-    → or_else (get_or (texts_view (set ts m.code m.units)) k []) (first_text rest k) ≡ or_else (get_or (texts_view ts) k []) (first_text (line_view m ∷ rest) k)
+pub written_in : (ts : List (Bor (List ℕ))) (m : Mapping) (rest : List Line) (k : ℕ) → m.code < length ts → length (get_or (views ts) m.code []) ≡ 0
+    → or_else (get_or (views (set ts m.code m.units)) k []) (first_text rest k) ≡ or_else (get_or (views ts) k []) (first_text (line_view m ∷ rest) k)
 written_in ts m rest k lt none =
     ap (λ (l : List (List ℕ)). or_else (get_or l k []) (first_text rest k)) (view_set ts m.code m.units)
-    ∙ text_written (texts_view ts) (line_view m) rest k (omega (arith, lt, length-map ts (λ (t : Bor (List ℕ)). t.now))) (no_units (get_or (texts_view ts) m.code []) none)
+    ∙ text_written (views ts) (line_view m) rest k (omega (arith, lt, length-map ts (λ (t : Bor (List ℕ)). t.now))) (no_units (get_or (views ts) m.code []) none)
 
-pub kept_in : (ts : List (Bor (List ℕ))) (m : Mapping) (rest : List Line) (k : ℕ) → 1 ≤ length (get_or (texts_view ts) m.code []) → or_else (get_or (texts_view ts) k []) (first_text rest k) ≡ or_else (get_or (texts_view ts) k []) (first_text (line_view m ∷ rest) k)
-kept_in ts m rest k some = text_kept (texts_view ts) (line_view m) rest k some
+pub kept_in : (ts : List (Bor (List ℕ))) (m : Mapping) (rest : List Line) (k : ℕ) → 1 ≤ length (get_or (views ts) m.code []) → or_else (get_or (views ts) k []) (first_text rest k) ≡ or_else (get_or (views ts) k []) (first_text (line_view m ∷ rest) k)
+kept_in ts m rest k some = text_kept (views ts) (line_view m) rest k some
 
 -- ---- lines that can be written
 
@@ -142,19 +143,19 @@ line_added ls after m is are one =
     subst P (sym (map-append line_view ls (m ∷ [])) ∙ sym (ap lines_view is)) (All-append IsLine (lines_view ls) (line_view m ∷ []) are (only one))
 
 -- the text that a table of first texts has for a code
-pub text_found : (ts : List (Bor (List ℕ))) (ls : List Line) (c : ℕ) (d : Bor (List ℕ)) → ((k : ℕ) → k < length ts → get_or (texts_view ts) k [] ≡ first_text ls k) → c < length ts → (get_or ts c d).now ≡ first_text ls c
+pub text_found : (ts : List (Bor (List ℕ))) (ls : List Line) (c : ℕ) (d : Bor (List ℕ)) → ((k : ℕ) → k < length ts → get_or (views ts) k [] ≡ first_text ls k) → c < length ts → (get_or ts c d).now ≡ first_text ls c
 text_found ts ls c d h lt = sym (get_or-map (λ (t : Bor (List ℕ)). t.now) ts c d [] lt) ∙ h c lt
 
-pub lines_are : (ls : List Line) (ts : List (Bor (List ℕ))) (n : ℕ) → n ≡ limit ls → length ts ≡ n → ((k : ℕ) → k < n → get_or (texts_view ts) k [] ≡ first_text ls k) → table_lines 0 (texts_view ts) ≡ lines_of_codes ls
+pub lines_are : (ls : List Line) (ts : List (Bor (List ℕ))) (n : ℕ) → n ≡ limit ls → length ts ≡ n → ((k : ℕ) → k < n → get_or (views ts) k [] ≡ first_text ls k) → table_lines 0 (views ts) ≡ lines_of_codes ls
 lines_are ls ts n is many h =
-    table_is ls (texts_view ts) 0 (limit ls) (length-map ts (λ (t : Bor (List ℕ)). t.now) ∙ many ∙ is) (λ i lt. let here : i ≡ 0 + i = omega arith in h i (omega (arith, lt, is)) ∙ ap (first_text ls) here)
+    table_is ls (views ts) 0 (limit ls) (length-map ts (λ (t : Bor (List ℕ)). t.now) ∙ many ∙ is) (λ i lt. let here : i ≡ 0 + i = omega arith in h i (omega (arith, lt, is)) ∙ ap (first_text ls) here)
 
-pub written_at : (ts : List (Bor (List ℕ))) (m : Mapping) (code : ℕ) → code ≡ m.code → m.code < length ts → length (get_or (texts_view ts) code []) ≡ 0 → (k : ℕ) (rest : List Line)
-    → or_else (get_or (texts_view (set ts code m.units)) k []) (first_text rest k) ≡ or_else (get_or (texts_view ts) k []) (first_text (line_view m ∷ rest) k)
+pub written_at : (ts : List (Bor (List ℕ))) (m : Mapping) (code : ℕ) → code ≡ m.code → m.code < length ts → length (get_or (views ts) code []) ≡ 0 → (k : ℕ) (rest : List Line)
+    → or_else (get_or (views (set ts code m.units)) k []) (first_text rest k) ≡ or_else (get_or (views ts) k []) (first_text (line_view m ∷ rest) k)
 written_at ts m code is lt none k rest =
-    ap (λ (c : ℕ). or_else (get_or (texts_view (set ts c m.units)) k []) (first_text rest k)) is
-    ∙ written_in ts m rest k lt (let P : ℕ → Type 0 = λ c. length (get_or (texts_view ts) c []) ≡ 0 in subst P is none)
+    ap (λ (c : ℕ). or_else (get_or (views (set ts c m.units)) k []) (first_text rest k)) is
+    ∙ written_in ts m rest k lt (let P : ℕ → Type 0 = λ c. length (get_or (views ts) c []) ≡ 0 in subst P is none)
 
 -- what is empty in the table is so in its view
-pub empty_at : (ts : List (Bor (List ℕ))) (c : ℕ) (d : Bor (List ℕ)) → c < length ts → length (get_or ts c d).now ≡ 0 → length (get_or (texts_view ts) c []) ≡ 0
+pub empty_at : (ts : List (Bor (List ℕ))) (c : ℕ) (d : Bor (List ℕ)) → c < length ts → length (get_or ts c d).now ≡ 0 → length (get_or (views ts) c []) ≡ 0
 empty_at ts c d lt none = ap length (get_or-map (λ (t : Bor (List ℕ)). t.now) ts c d [] lt) ∙ none

@@ -19,3 +19,7 @@ has_long_text us = list_any (λ u. is_long_text u.units) us
 abbrev pub all_units : List Used → List ℕ
 all_units [] = []
 all_units (u ∷ us) = u.units ++ all_units us
+
+-- the text of each glyph
+abbrev pub texts_of : List Shown → List (List ℕ)
+texts_of shown = map (λ (s : Shown). s.text.now) shown

@@ -1,14 +1,9 @@
 -- The text of each code (ISO 32000-1, 9.10.3).
-use Rattle.std.specs.Prelude.{ℕ, zero, suc, ◌+◌, max, Bool, ◌==◌, ◌&&◌, nat_le, nat_eq, if◌then◌else◌, List, [], ◌∷◌, ◌++◌, length, map, Option}
-use Rattle.std.specs.Borrow.{Bor}
+use Rattle.std.specs.Prelude.{ℕ, zero, suc, ◌+◌, max, Bool, ◌==◌, ◌&&◌, nat_le, nat_eq, if◌then◌else◌, List, [], ◌∷◌, ◌++◌, length, Option}
 use Rattle.std.specs.Cmp.Lexicographic.{pointwise}
 use Rattle.std.specs.Option.{option_map}
 use Rattle.pdf_text.specs.Cmap.{Line, mapping_in}
-
--- a text, or another where it is empty
-abbrev pub or_else : List ℕ → List ℕ → List ℕ
-or_else [] other = other
-or_else (u ∷ us) other = u ∷ us
+use Rattle.subsetter_base.specs.Texts.{or_else}
 
 -- the first text of a code that isn't empty
 abbrev pub first_text : List Line → ℕ → List ℕ
@@ -46,9 +41,6 @@ abbrev pub is_said : List Line → Line → Bool
 is_said ls l = says (first_text ls l.code) l.units
 
 -- ---- a table of texts by code
-
-abbrev pub texts_view : List (Bor (List ℕ)) → List (List ℕ)
-texts_view texts = map (λ t. t.now) texts
 
 -- the lines of a table, whose first text is that of a code
 abbrev pub table_lines : ℕ → List (List ℕ) → List Line

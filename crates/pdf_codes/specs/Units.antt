@@ -1,9 +1,6 @@
 -- Text as UTF-16 (Unicode, 3.9, "Unicode Encoding Forms"), which a ToUnicode CMap has (ISO 32000-1, 9.10.3).
-use Rattle.std.specs.Prelude.{ℕ, ◌+◌, ◌-◌, ◌/◌, ◌%◌, ◌==◌, ◌||◌, nat_lt, Bool, if◌then◌else◌, List, [], ◌∷◌, ◌++◌, length}
-
--- a character below 65,536 is one unit, and another is a high surrogate and a low one
-abbrev pub utf16 : ℕ → List ℕ
-utf16 c = if nat_lt c 65536 then c ∷ [] else (55296 + (c - 65536) / 1024) ∷ (56320 + (c - 65536) % 1024) ∷ []
+use Rattle.std.specs.Prelude.{ℕ, ◌==◌, ◌||◌, nat_lt, Bool, if◌then◌else◌, List, [], ◌∷◌, ◌++◌, length}
+use Rattle.subsetter_base.specs.Texts.{utf16}
 
 -- U+0000, U+FEFF and U+FFFE, which no code may have as its text (ISO 19005-2, 6.2.11.7.2)
 abbrev pub is_left_out : ℕ → Bool

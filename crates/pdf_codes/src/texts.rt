@@ -4,7 +4,8 @@ ghost use Rattle.std.specs.Prelude.{◌≡◌, ◌≤◌, ◌<◌, ◌∷◌, �
 ghost use Rattle.subsetter_base.specs.declared.error.Error.TheVariants.{OutOfMemory};
 ghost use Rattle.pdf_text.specs.View.{line_view, lines_view};
 ghost use Rattle.pdf_text.specs.Cmap.{IsLine, Line, cmap_text};
-ghost use Rattle.pdf_codes.specs.Texts.{first_text, is_said, limit, lines_of_codes, or_else, says, table_lines, text_in, texts_view};
+ghost use Rattle.pdf_codes.specs.Texts.{first_text, is_said, limit, lines_of_codes, says, table_lines, text_in};
+ghost use Rattle.subsetter_base.specs.Texts.{or_else, views};
 
 use pdf_text::{Mapping, write_to_unicode};
 use std::alloc::Global;
@@ -24,7 +25,7 @@ fn limit_of(lines: &[Mapping<'_>]) -> usize
 
 /// A table in which no code has a text.
 fn no_texts<'a>(alloc: Global, count: usize) -> Result<Vec<&'a [u16]>, Error>
-    ensures ok { IfOk result (λ texts. texts_view texts.items ≡ replicate count []) }
+    ensures ok { IfOk result (λ texts. views texts.items ≡ replicate count []) }
     ensures err { IfErr result (λ e. e ≡ OutOfMemory) }
 {
     let empty: &'a [u16] = &[];
@@ -40,7 +41,7 @@ fn no_texts<'a>(alloc: Global, count: usize) -> Result<Vec<&'a [u16]>, Error>
 fn put<'a>(texts: &mut Vec<&'a [u16]>, line: Mapping<'a>)
     requires { line.code < length texts.old.items }
     ensures len { length texts.new.items ≡ length texts.old.items }
-    ensures put { (k : ℕ) (rest : List Line) → or_else (slice_index_or (texts_view texts.new.items) k []) (first_text rest k) ≡ or_else (slice_index_or (texts_view texts.old.items) k []) (first_text (line_view line.entry ∷ rest) k) }
+    ensures put { (k : ℕ) (rest : List Line) → or_else (slice_index_or (views texts.new.items) k []) (first_text rest k) ≡ or_else (slice_index_or (views texts.old.items) k []) (first_text (line_view line.entry ∷ rest) k) }
 {
     let code = usize::from(line.code);
     if texts[code].is_empty() {
@@ -57,7 +58,7 @@ fn first_texts<'a>(
 ) -> Result<Vec<&'a [u16]>, Error>
     requires { bound ≡ limit (lines_view lines.now) }
     ensures len { IfOk result (λ texts. length texts.items ≡ bound) }
-    ensures ok { IfOk result (λ texts. (k : ℕ) → k < bound → slice_index_or (texts_view texts.items) k [] ≡ first_text (lines_view lines.now) k) }
+    ensures ok { IfOk result (λ texts. (k : ℕ) → k < bound → slice_index_or (views texts.items) k [] ≡ first_text (lines_view lines.now) k) }
     ensures err { IfErr result (λ e. e ≡ OutOfMemory) }
 {
     let mut texts = no_texts(alloc, bound)?;
@@ -84,7 +85,7 @@ fn line_of(code: usize, units: &[u16]) -> Mapping<'_>
 #[tactic(auto, using(crate::proofs::TextSteps::line_added, crate::proofs::TextSteps::line_none, crate::proofs::TextSteps::line_is))]
 fn lines_in<'a>(alloc: Global, texts: &[&'a [u16]]) -> Result<Vec<Mapping<'a>>, Error>
     requires { length texts.now ≤ 65536 }
-    ensures ok { IfOk result (λ lines. lines_view lines.items ≡ table_lines 0 (texts_view texts.now)) }
+    ensures ok { IfOk result (λ lines. lines_view lines.items ≡ table_lines 0 (views texts.now)) }
     ensures are_lines { IfOk result (λ lines. All IsLine (lines_view lines.items)) }
     ensures err { IfErr result (λ e. e ≡ OutOfMemory) }
 {
@@ -109,7 +110,7 @@ fn says(text: &[u16], units: &[u16]) -> bool
 #[tactic(auto, using(crate::proofs::TextSteps::text_found))]
 fn all_said(alloc: Global, lines: &[Mapping<'_>], texts: &[&[u16]]) -> Result<Vec<bool>, Error>
     requires len { length texts.now ≡ limit (lines_view lines.now) }
-    requires are { (k : ℕ) → k < length texts.now → slice_index_or (texts_view texts.now) k [] ≡ first_text (lines_view lines.now) k }
+    requires are { (k : ℕ) → k < length texts.now → slice_index_or (views texts.now) k [] ≡ first_text (lines_view lines.now) k }
     ensures ok { IfOk result (λ said. said.items ≡ map (is_said (lines_view lines.now)) (lines_view lines.now)) }
     ensures err { IfErr result (λ e. e ≡ OutOfMemory) }
 {

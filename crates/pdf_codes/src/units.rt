@@ -2,7 +2,8 @@
 
 ghost use Rattle.std.specs.Prelude.{◌≡◌, ◌≤◌, ◌<◌, ◌+◌, ◌/◌, ◌%◌, ◌++◌, ◌∷◌, [], length, IfOk, IfErr, OnOk};
 ghost use Rattle.subsetter_base.specs.declared.error.Error.TheVariants.{OutOfMemory};
-ghost use Rattle.pdf_codes.specs.Units.{is_left_out, is_long_text, units_of, units_of_character, utf16};
+ghost use Rattle.pdf_codes.specs.Units.{is_left_out, is_long_text, units_of, units_of_character};
+ghost use Rattle.subsetter_base.specs.Texts.{utf16};
 
 use subsetter_base::Error;
 

@@ -1,14 +1,14 @@
 //! The boxes of glyphs (OpenType, "glyf", "Glyph headers"; "loca").
 
 ghost use Rattle.std.specs.Prelude.{◌≡◌, ◌≤◌, ◌<◌, ◌^◌, IfSome};
-ghost use Rattle.std.specs.Int.{int_max, int_min};
 ghost use Rattle.std.specs.Option.{option_copied};
 ghost use Rattle.pdf_glyphs.specs.Boxes.{around, box_at, boxes_from, entry, glyph_box, is_short, joined, outlines_view};
 
 use pdf_values::GlyphBox;
+use subsetter_base::compare::{larger, smaller};
+use subsetter_base::fields::signed_in;
 use subsetter_sfnt::fields::head::index_to_loc_format;
 use subsetter_sfnt::fields::loca::loca_offset;
-use subsetter_sfnt::fields::signed_in;
 
 /// The tables that outlines are found by; none where the font lacks one.
 #[derive(Clone, Copy)]
@@ -73,29 +73,15 @@ pub fn glyph_box(tables: OutlineTables<'_>, glyph: u16) -> Option<GlyphBox>
     None
 }
 
-/// The lower of two.
-fn lower(a: i16, b: i16) -> i16
-    ensures { result ≡ int_min a b }
-{
-    a.min(b)
-}
-
-/// The higher of two.
-fn higher(a: i16, b: i16) -> i16
-    ensures { result ≡ int_max a b }
-{
-    a.max(b)
-}
-
 /// The least box around two.
 fn around(a: GlyphBox, b: GlyphBox) -> GlyphBox
     ensures { result ≡ around a b }
 {
     GlyphBox {
-        x_min: lower(a.x_min, b.x_min),
-        y_min: lower(a.y_min, b.y_min),
-        x_max: higher(a.x_max, b.x_max),
-        y_max: higher(a.y_max, b.y_max),
+        x_min: smaller(a.x_min, b.x_min),
+        y_min: smaller(a.y_min, b.y_min),
+        x_max: larger(a.x_max, b.x_max),
+        y_max: larger(a.y_max, b.y_max),
     }
 }
 

@@ -12,9 +12,9 @@ use crate::heights::{HeightVariation, varied_height};
 use crate::origins::default_origin;
 use pdf_text::Column;
 use pdf_values::{thousandths, units_per_em};
+use subsetter_base::fields::signed_in;
 use subsetter_sfnt::fields::hhea::number_of_h_metrics;
 use subsetter_sfnt::fields::hmtx::glyph_advance;
-use subsetter_sfnt::fields::signed_in;
 
 /// The tables that vertical metrics are found by; none where the font lacks one.
 #[derive(Clone, Copy)]

@@ -3,13 +3,14 @@
 ghost use Rattle.std.specs.Prelude.{◌≡◌, ◌<◌, ℕ, ℤ, length, IfErr, IfOk, None, Option, Some, replicate, slice_index, slice_index_or};
 ghost use Rattle.std.specs.Option.{option_copied, option_map, option_or};
 ghost use Rattle.subsetter_base.specs.declared.error.Error.TheVariants.{OutOfMemory};
-ghost use Rattle.subsetter_sfnt.specs.Fields.Numbers.{signed_field};
+ghost use Rattle.subsetter_base.specs.Bytes.{signed_field};
 ghost use Rattle.pdf_glyphs.specs.Origins.{filled, origin_seen};
 ghost use Rattle.pdf_glyphs.specs.Vertical.{by_record, origin_at, origin_of, record_count};
 
 use std::alloc::Global;
+use subsetter_base::fields::{number_in, signed_in};
 use subsetter_base::{Error, GlyphRemapper};
-use subsetter_sfnt::fields::{number_in, signed_in};
+use subsetter_base::fields::{number_in, signed_in};
 
 /// defaultVertOriginY, two bytes.
 const DEFAULT_VERT_ORIGIN_Y: usize = 4;

@@ -1,11 +1,10 @@
 -- Where a font is moved to along its axes (OpenType, "fvar", "MVAR").
-use Rattle.std.specs.Prelude.{ℕ, ◌&&◌, if◌then◌else◌, int_le, List, find, Option, ℤ, pos, neg_ℤ, ◌+ℤ◌}
+use Rattle.std.specs.Prelude.{ℕ, ◌&&◌, if◌then◌else◌, int_le, List, Option, ℤ, pos, neg_ℤ, ◌+ℤ◌}
 use Rattle.std.specs.Int.{int_max, int_min}
 use Rattle.std.specs.Option.{option_copied, option_map, option_map_or}
 use Rattle.std.specs.Result.{result_unwrap_or}
-use Rattle.std.specs.Str.{bytes_eq}
 use Rattle.subsetter_base.specs.declared.tag.Tag.{Tag}
-use Rattle.subsetter_variation.specs.Axes.{user_coordinate}
+use Rattle.subsetter_variation.specs.Axes.{user_coordinate, find_axis}
 use Rattle.subsetter_variation.specs.FontMetrics.{metric_delta}
 use Rattle.subsetter_variation.specs.ItemVariations.{whole_or_fault}
 use Rattle.subsetter_variation.specs.declared.axes.Axis.{Axis}
@@ -31,13 +30,9 @@ within greatest least c = int_max (int_min c greatest) least
 abbrev pub clamped : Axis → List (Tag × ℤ) → ℤ
 clamped a settings = within (int_max a.maximum a.default) (int_min a.minimum a.default) (user_coordinate a settings)
 
--- the first axis of a tag
-abbrev pub axis_of : List ℕ → List Axis → Option Axis
-axis_of tag axes = find (λ a. bytes_eq a.tag.0 tag) axes
-
 -- that on this axis, if there is one
 abbrev pub coordinate_on : List ℕ → Movement → Option ℤ
-coordinate_on tag m = option_map (λ a. clamped a m.settings) (axis_of tag m.axes)
+coordinate_on tag m = option_map (λ a. clamped a m.settings) (find_axis tag m.axes)
 
 -- ---- metrics
 

@@ -1,10 +1,11 @@
 //! Where a font is moved to along its axes (OpenType, "fvar", "MVAR").
 
 ghost use Rattle.std.specs.Prelude.{◌≡◌, ◌≤◌, ◌^◌, unsigned_abs};
-ghost use Rattle.pdf_moved.specs.Movement.{axis_of, clamped, coordinate_on, delta_of, if_small, movement_view, varied, within};
+ghost use Rattle.pdf_moved.specs.Movement.{clamped, coordinate_on, delta_of, if_small, movement_view, varied, within};
+ghost use Rattle.subsetter_variation.specs.Axes.{find_axis};
 
 use subsetter_base::Tag;
-use subsetter_variation::axes::{Axis, user_coordinate};
+use subsetter_variation::axes::{Axis, find_axis, user_coordinate};
 use subsetter_variation::font_metrics::metric_delta;
 
 /// Where a font is moved to.
@@ -36,23 +37,11 @@ pub fn clamped(axis: Axis, settings: &[(Tag, i32)]) -> i32
     within(greatest, least, user_coordinate(&axis, settings))
 }
 
-/// The first axis of a tag.
-fn axis_of(axes: &[Axis], tag: Tag) -> Option<Axis>
-    ensures { result ≡ axis_of tag.0 axes.now }
-{
-    for axis in axes {
-        if axis.tag == tag {
-            return Some(*axis);
-        }
-    }
-    None
-}
-
 /// The user coordinate on the first axis of a tag, clamped to it, if there is such an axis.
 pub fn coordinate_on(movement: Movement<'_>, tag: Tag) -> Option<i32>
     ensures { result ≡ coordinate_on tag.0 (movement_view movement.entry) }
 {
-    let axis = axis_of(movement.axes, tag)?;
+    let axis = find_axis(movement.axes, tag)?;
     Some(clamped(axis, movement.settings))
 }
 

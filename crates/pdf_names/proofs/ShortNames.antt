@@ -12,7 +12,8 @@ use Rattle.std.proofs.lemmas.Bool.Decides.{nat_tests}
 use Rattle.pdf_moved.specs.Movement.{clamped, Movement}
 use Rattle.pdf_text.specs.Numbers.{sign}
 use Rattle.pdf_text.specs.SubsetName.{or_font, tag_of}
-use Rattle.pdf_values.specs.Name.{or_else, postscript_name, table_name}
+use Rattle.pdf_values.specs.Name.{postscript_name, table_name}
+use Rattle.subsetter_base.specs.Texts.{or_else}
 use Rattle.pdf_values.proofs.Characters.{table_passes}
 use Rattle.pdf_names.specs.AxisTexts.{axes_text, axis_text, setting_text}
 use Rattle.pdf_names.specs.Decimal.{decimal_text, decimals, digits, fraction, rounded, size_text, value_text}

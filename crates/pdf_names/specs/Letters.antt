@@ -2,7 +2,8 @@
 use Rattle.std.specs.Prelude.{ℕ, List, filter, Option}
 use Rattle.std.specs.Char.{is_ascii_alphanumeric}
 use Rattle.pdf_text.specs.SubsetName.{or_font}
-use Rattle.pdf_values.specs.Name.{or_else, postscript_name, table_name}
+use Rattle.pdf_values.specs.Name.{postscript_name, table_name}
+use Rattle.subsetter_base.specs.Texts.{or_else}
 
 -- the letters and digits of ASCII in a text
 abbrev pub letters_and_digits : List ℕ → List ℕ

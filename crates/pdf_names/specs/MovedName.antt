@@ -5,7 +5,8 @@ use Rattle.pdf_names.specs.AxisTexts.{axes_text}
 use Rattle.pdf_names.specs.Instances.{instance_name}
 use Rattle.pdf_names.specs.Letters.{prefix}
 use Rattle.pdf_text.specs.SubsetName.{tag_of}
-use Rattle.pdf_values.specs.Name.{or_else, IsNameText}
+use Rattle.pdf_values.specs.Name.{IsNameText}
+use Rattle.subsetter_base.specs.Texts.{or_else}
 
 -- the name of the named instance at the coordinates, else the prefix with each coordinate that is off its default
 unfoldable pub whole_name : List ℕ → Option (List ℕ) → Option (List ℕ) → Movement → List ℕ

@@ -2,9 +2,9 @@
 
 ghost use Rattle.std.specs.Prelude.{◌≡◌, ◌+◌, ◌<◌, ◌≤◌, ◌^◌, ◌++◌, IfErr, decimal, OnOk, unsigned_abs};
 ghost use Rattle.subsetter_base.specs.declared.error.Error.TheVariants.{OutOfMemory};
-ghost use Rattle.pdf_text.specs.Numbers.{sign};
 ghost use Rattle.pdf_names.specs.Decimal.{back, decimal_text, decimals, digits, fraction, nearest_even, rounded, rounds_back, size_text, value_text};
 
+use pdf_text::write_sign;
 use std::io::Write;
 use subsetter_base::Error;
 
@@ -136,17 +136,6 @@ fn write_decimal(text: &mut Vec<u8>, k: u32, m: u64) -> Result<(), Error>
 {
     write_whole(text, m / power(k))?;
     write_fraction(text, k, m)
-}
-
-/// Writes the sign of a number.
-fn write_sign(text: &mut Vec<u8>, value: i32) -> Result<(), Error>
-    ensures ok { OnOk result (text.new.items ≡ text.old.items ++ sign value) }
-    ensures err { IfErr result (λ e. e ≡ OutOfMemory) }
-{
-    if value < 0 {
-        text.extend_from_slice(b"-")?;
-    }
-    Ok(())
 }
 
 /// Writes a number of 65536ths.

@@ -1,6 +1,6 @@
 //! The named instance at a font's coordinates (OpenType, "fvar"), and its name (Technical Note 5902).
 
-ghost use Rattle.std.specs.Prelude.{◌≡◌, ◌++◌, [], drop, is_some, IfOk, IfErr};
+ghost use Rattle.std.specs.Prelude.{◌≡◌, ◌++◌, is_some, IfOk, IfErr};
 ghost use Rattle.std.specs.Option.{option_and_then, option_copied};
 ghost use Rattle.subsetter_base.specs.Bytes.{number};
 ghost use Rattle.subsetter_base.specs.declared.error.Error.TheVariants.{OutOfMemory};
@@ -10,22 +10,12 @@ use crate::letters::plain_name;
 use pdf_moved::clamped;
 use pdf_values::table_name;
 use std::alloc::Global;
-use subsetter_base::read::Reader;
+use subsetter_base::read::{Reader, after_four};
 use subsetter_base::{Error, Tag};
 use subsetter_variation::axes::Axis;
 use subsetter_variation::fvar::{
     axes_array_offset, axis_count, axis_size, instance_count, instance_size,
 };
-
-/// The bytes behind the first four.
-fn after_four(bytes: &[u8]) -> &[u8]
-    ensures { result.now ≡ drop 4 bytes.now }
-{
-    match bytes {
-        [_, _, _, _, rest @ ..] => rest,
-        _ => &[],
-    }
-}
 
 /// Whether bytes begin with the coordinate of an axis.
 fn is_coordinate(axis: Axis, settings: &[(Tag, i32)], bytes: &[u8]) -> bool

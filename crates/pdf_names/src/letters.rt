@@ -5,7 +5,8 @@ ghost use Rattle.std.specs.Char.{is_ascii_alphanumeric};
 ghost use Rattle.std.specs.Option.{option_copied};
 ghost use Rattle.subsetter_base.specs.declared.error.Error.TheVariants.{OutOfMemory};
 ghost use Rattle.pdf_text.specs.SubsetName.{or_font};
-ghost use Rattle.pdf_values.specs.Name.{or_else, postscript_name};
+ghost use Rattle.pdf_values.specs.Name.{postscript_name};
+ghost use Rattle.subsetter_base.specs.Texts.{or_else};
 ghost use Rattle.pdf_names.specs.Letters.{family, letters_and_digits, plain_name, prefix};
 
 use pdf_values::{postscript_name, table_name};

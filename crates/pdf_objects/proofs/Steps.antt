@@ -11,7 +11,8 @@ use Rattle.pdf_sheet.specs.File.{AreInTable, body_of, file_of}
 use Rattle.pdf_sheet.specs.Pages.{IsTooLarge, sheet_values}
 use Rattle.pdf_sheet.specs.declared.frame.Layout.{Layout}
 use Rattle.pdf_sheet.specs.declared.glyphs.SheetGlyph.{SheetGlyph}
-use Rattle.pdf_objects.specs.Glyphs.{AreGlyphsOf, IsSheetOf, IsTooLargeFor, texts_of}
+use Rattle.pdf_objects.specs.Glyphs.{AreGlyphsOf, IsSheetOf, IsTooLargeFor}
+use Rattle.pdf_codes.specs.Shown.{texts_of}
 use Rattle.pdf_objects.specs.Values.{AreValuesOf, HasManyColumns}
 
 pub one_more : {X Y : Type 0} (f : X → Y) (gs gs1 : List X) (g : X) (ys : List Y) (i : ℕ) (d : Y) → i < length ys → gs1 ≡ gs ++ g ∷ [] → f g ≡ get_or ys i d → map f gs ≡ take i ys → map f gs1 ≡ take (i + 1) ys

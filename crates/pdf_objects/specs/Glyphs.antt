@@ -10,6 +10,7 @@ use Rattle.pdf_sheet.specs.declared.frame.Layout.{Layout}
 use Rattle.pdf_sheet.specs.declared.glyphs.SheetGlyph.{SheetGlyph}
 use Rattle.pdf_text.specs.Columns.{no_column}
 use Rattle.pdf_text.specs.declared.values.FontValues.{FontValues}
+use Rattle.pdf_codes.specs.Shown.{texts_of}
 
 -- the advance of a CID in vertical writing
 abbrev pub column_advance : Columns → ℕ → ℕ
@@ -22,9 +23,6 @@ advance_by (Some c) widths cid = column_advance c cid
 
 abbrev pub advance_of : PdfFont → ℕ → ℕ
 advance_of f cid = advance_by f.columns f.widths.items cid
-
-abbrev pub texts_of : List Shown → List (List ℕ)
-texts_of shown = map (λ (s : Shown). s.text.now) shown
 
 -- as many as have a code, a CID, a text, and whether it is said
 abbrev pub size_of : PdfFont → List Shown → ℕ

@@ -10,11 +10,11 @@ use Rattle.pdf_text.specs.declared.objects.FontDictionaries.{FontDictionaries}
 use Rattle.pdf_text.specs.declared.objects.FontObjects.{FontObjects}
 use Rattle.pdf_text.specs.declared.values.Descriptor.{Descriptor}
 use Rattle.pdf_text.specs.declared.values.FontValues.{FontValues}
-use Rattle.pdf_text.specs.declared.values.OwnCmap.{OwnCmap}
 use Rattle.pdf_text.specs.declared.values.References.{References}
 use Rattle.pdf_text.specs.declared.named.NamedCmap.{NamedCmap}
 use Rattle.pdf_glyphs.specs.declared.columns.Columns.{Columns}
 use Rattle.pdf_font.specs.declared.font.PdfFont.{PdfFont}
+use Rattle.pdf_text.specs.View.{name_of, text_of}
 
 -- ---- arrays
 
@@ -49,12 +49,6 @@ pub record IsDescriptorOf (f : PdfFont) (d : Descriptor) : Type 0 where
   pub x_height : d.x_height ≡ f.descriptor.values.heights.x_height
   pub stem_v : d.stem_v ≡ f.descriptor.values.stem_v
   pub font_weight : d.font_weight ≡ f.descriptor.values.font_weight
-
-abbrev pub name_of : OwnCmap → List ℕ
-name_of cmap = cmap.name.now
-
-abbrev pub text_of : OwnCmap → List ℕ
-text_of cmap = cmap.text.now
 
 -- the values of a font's objects
 pub record AreValuesOf (f : PdfFont) (v : FontValues) : Type 0 where

@@ -2,10 +2,11 @@
 
 ghost use Rattle.std.specs.Prelude.{◌≡◌, ◌≤◌, ◌<◌, [], false, None, length, get_or, min, IfOk, IfErr};
 ghost use Rattle.subsetter_base.specs.declared.error.Error.TheVariants.{OutOfMemory};
-ghost use Rattle.pdf_objects.specs.Glyphs.{AreGlyphsOf, advance_by, advance_of, column_advance, size_of, texts_of};
+ghost use Rattle.pdf_objects.specs.Glyphs.{AreGlyphsOf, advance_of, column_advance, size_of};
+ghost use Rattle.pdf_codes.specs.Shown.{texts_of};
 
 use pdf_font::{Columns, PdfFont, Shown};
-use pdf_sheet::SheetGlyph;
+use pdf_sheet::{SheetGlyph, width_of};
 use std::alloc::Global;
 use subsetter_base::Error;
 
@@ -16,17 +17,6 @@ fn column_advance(columns: &Columns, cid: u16) -> u32
     let place = cid as usize;
     if place < columns.each.len() {
         return columns.each[place].advance.unsigned_abs();
-    }
-    0
-}
-
-/// The width of a CID.
-fn width_of(widths: &[u32], cid: u16) -> u32
-    ensures { result ≡ advance_by None widths.now cid }
-{
-    let place = cid as usize;
-    if place < widths.len() {
-        return widths[place];
     }
     0
 }

@@ -4,7 +4,8 @@ ghost use Rattle.std.specs.Prelude.{◌≡◌, ◌<◌, ◌≤◌, ◌⊎◌, �
 ghost use Rattle.std.specs.Option.{option_copied, option_map};
 ghost use Rattle.subsetter_base.specs.declared.error.Error.TheVariants.{OutOfMemory, OverflowError};
 ghost use Rattle.pdf_text.specs.Arrays.{value_in};
-ghost use Rattle.pdf_objects.specs.Values.{AreValuesOf, HasManyColumns, IsDescriptorOf, default_column, name_of, text_of, w2_text, w_text};
+ghost use Rattle.pdf_objects.specs.Values.{AreValuesOf, HasManyColumns, IsDescriptorOf, default_column, w2_text, w_text};
+ghost use Rattle.pdf_text.specs.View.{name_of, text_of};
 
 use pdf_font::{Columns, DefaultColumn, NamedCmap, PdfFont};
 use pdf_text::{Descriptor, FontValues, OwnCmap, write_columns, write_widths};

@@ -7,7 +7,7 @@ ghost use Rattle.pdf_text.specs.Objects.{object_text, objects_from, offsets_from
 ghost use Rattle.pdf_sheet.specs.File.{header, body_of, offsets_of, digits, row, rows, table_front, trailer, table_and_trailer};
 ghost use Rattle.pdf_sheet.specs.View.{texts_view};
 
-use crate::hex::write_count;
+use pdf_text::write_count;
 use std::alloc::Global;
 use subsetter_base::Error;
 

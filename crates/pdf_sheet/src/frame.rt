@@ -5,7 +5,7 @@ ghost use Rattle.subsetter_base.specs.declared.error.Error.TheVariants.{OutOfMem
 ghost use Rattle.pdf_sheet.specs.Content.{place_text, cell_x, cell_y, line_place, glyph_place, advance_of, line_extent, frame_of};
 
 use crate::glyphs::SheetGlyph;
-use crate::hex::write_count;
+use pdf_text::write_count;
 use subsetter_base::Error;
 
 /// How a sheet shows its glyphs.

@@ -1,6 +1,6 @@
 //! Glyphs by their codes (ISO 32000-1, 9.4.3 and 14.9.4).
 
-ghost use Rattle.std.specs.Prelude.{◌≡◌, ◌++◌, ◌∷◌, [], IfErr, OnOk, codes};
+ghost use Rattle.std.specs.Prelude.{◌≡◌, ◌++◌, ◌∷◌, [], IfErr, OnOk, codes, get_or};
 ghost use Rattle.subsetter_base.specs.declared.error.Error.TheVariants.{OutOfMemory};
 ghost use Rattle.pdf_text.specs.Cmap.{hex_string, words};
 ghost use Rattle.pdf_sheet.specs.Units.{units_of};
@@ -18,6 +18,17 @@ pub struct SheetGlyph<'a> {
     pub text: &'a [char],
     /// How far a line goes on with it, in thousandths of the em.
     pub advance: u32,
+}
+
+/// The width of a CID, 0 where there is none.
+pub fn width_of(widths: &[u32], cid: u16) -> u32
+    ensures { result ≡ get_or widths.now cid 0 }
+{
+    let place = cid as usize;
+    if place < widths.len() {
+        return widths[place];
+    }
+    0
 }
 
 /// Writes the operator that shows a code.

@@ -1,35 +1,13 @@
-//! Numbers and hexadecimal strings, as PDF writes them (ISO 32000-1, 7.3).
+//! Hexadecimal strings, as PDF writes them (ISO 32000-1, 7.3).
 
-ghost use Rattle.std.specs.Prelude.{◌≡◌, ◌<◌, ◌+◌, ◌/◌, ◌%◌, ◌++◌, ◌∷◌, [], IfErr, OnOk, decimal};
+ghost use Rattle.std.specs.Prelude.{◌≡◌, ◌<◌, ◌+◌, ◌/◌, ◌%◌, ◌++◌, ◌∷◌, [], IfErr, OnOk};
 ghost use Rattle.subsetter_base.specs.declared.error.Error.TheVariants.{OutOfMemory};
-ghost use Rattle.pdf_text.specs.Cmap.{digit, word, words, hex_string};
-ghost use Rattle.pdf_sheet.specs.Units.{utf16, units_of};
+ghost use Rattle.pdf_text.specs.Cmap.{word, words, hex_string};
+ghost use Rattle.pdf_sheet.specs.Units.{units_of};
+ghost use Rattle.subsetter_base.specs.Texts.{utf16};
 
-use std::io::Write;
+use pdf_text::write_word;
 use subsetter_base::Error;
-
-/// A digit of base 16.
-fn digit(n: u16) -> u8
-    requires { n < 16 }
-    ensures { result ≡ digit n }
-{
-    if n < 10 { 48 + n as u8 } else { 55 + n as u8 }
-}
-
-/// Writes four digits of base 16.
-fn write_word(text: &mut Vec<u8>, n: u16) -> Result<(), Error>
-    ensures ok { OnOk result (text.new.items ≡ text.old.items ++ word n) }
-    ensures err { IfErr result (λ e. e ≡ OutOfMemory) }
-{
-    let digits = [
-        digit(n / 4096 % 16),
-        digit(n / 256 % 16),
-        digit(n / 16 % 16),
-        digit(n % 16),
-    ];
-    text.extend_from_slice(&digits)?;
-    Ok(())
-}
 
 /// Writes a character above U+FFFF as a high surrogate and a low one.
 #[tactic(auto, using(pdf_text::proofs::Pieces::two_written))]
@@ -75,12 +53,4 @@ pub fn write_code_string(text: &mut Vec<u8>, code: u16) -> Result<(), Error>
     write_word(text, code)?;
     text.extend_from_slice(b">")?;
     Ok(())
-}
-
-/// Writes a number in decimal.
-pub fn write_count(text: &mut Vec<u8>, count: usize) -> Result<(), Error>
-    ensures ok { OnOk result (text.new.items ≡ text.old.items ++ decimal count) }
-    ensures err { IfErr result (λ e. e ≡ OutOfMemory) }
-{
-    write!(text, "{count}").map_err(|_| Error::OutOfMemory)
 }

@@ -17,5 +17,5 @@ mod pages;
 mod sheet;
 
 pub use frame::Layout;
-pub use glyphs::SheetGlyph;
+pub use glyphs::{SheetGlyph, width_of};
 pub use sheet::{glyphs_are_shown, objects_are_in_table, write_sheet};

@@ -11,7 +11,7 @@ ghost use Rattle.pdf_sheet.specs.View.{texts_view};
 use crate::content::content_of;
 use crate::frame::{Frame, Layout};
 use crate::glyphs::SheetGlyph;
-use crate::hex::write_count;
+use pdf_text::write_count;
 use std::alloc::Global;
 use subsetter_base::Error;
 

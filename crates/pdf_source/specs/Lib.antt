@@ -3,7 +3,6 @@ pub mod Chosen
 pub mod Frequent
 pub mod Counted
 pub mod Made
-pub mod Metrics
 pub mod Moved
 pub mod Named
 pub mod Program

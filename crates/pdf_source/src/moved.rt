@@ -1,15 +1,15 @@
 //! Where a font is off its default (OpenType, "fvar", "avar").
 
-ghost use Rattle.std.specs.Prelude.{◌≡◌, ◌≢◌, codes, IfErr, Ok, OnOk};
+ghost use Rattle.std.specs.Prelude.{◌≡◌, codes, Ok};
 ghost use Rattle.std.specs.Option.{option_copied, option_map};
 ghost use Rattle.std.specs.Result.{result_ok};
 ghost use Rattle.subsetter_base.specs.Gives.{Gives};
-ghost use Rattle.subsetter_base.specs.declared.error.Error.TheVariants.{OutOfMemory};
 ghost use Rattle.subsetter_sfnt.specs.Read.{table_in};
 ghost use Rattle.subsetter_instance.specs.Source.{place};
 ghost use Rattle.pdf_moved.specs.Movement.{movement_view};
 ghost use Rattle.pdf_source.specs.Moved.{are_zero, axes_in, movement_of, location_by, location_in, location_seen, unless_zero};
 
+use pdf_cff::unless_memory;
 use pdf_moved::Movement;
 use std::alloc::Global;
 use subsetter_base::{Error, Tag};
@@ -23,17 +23,6 @@ pub struct Location {
     /// The normalized coordinates, in 16384ths.
     pub at: Vec<i32>,
     pub axes: Vec<Axis>,
-}
-
-/// The error, where memory ran out; another one is passed over.
-fn unless_memory(error: Error) -> Result<(), Error>
-    ensures ok { OnOk result (error ≢ OutOfMemory) }
-    ensures err { IfErr result (λ e. e ≡ OutOfMemory) }
-{
-    match error {
-        Error::OutOfMemory => Err(Error::OutOfMemory),
-        _ => Ok(()),
-    }
 }
 
 /// The normalized coordinates, if they can be read.

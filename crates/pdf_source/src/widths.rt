@@ -1,34 +1,21 @@
 //! The widths of all glyphs of a new font (ISO 32000-1, 9.7.4.3).
 
-ghost use Rattle.std.specs.Prelude.{◌≡◌, ◌<◌, ◌≤◌, ◌+◌, ◌^◌, ◌*◌, ℕ, length, Ok, Err, IfOk, IfErr, OnOk, nat_eq, nat_lt, if◌then◌else◌, slice_index};
+ghost use Rattle.std.specs.Prelude.{◌≡◌, ◌<◌, ◌≤◌, ◌+◌, ◌^◌, ℕ, length, Ok, Err, IfOk, IfErr, OnOk, nat_eq, nat_lt, if◌then◌else◌, slice_index};
 ghost use Rattle.std.specs.HashMap.{get};
 ghost use Rattle.subsetter_base.specs.Gives.{Gives};
 ghost use Rattle.subsetter_base.specs.declared.error.Error.TheVariants.{OutOfMemory};
 ghost use Rattle.subsetter_sfnt.specs.Read.{table_in};
-ghost use Rattle.cid_embed.specs.Afresh.{measures_of, widths_from, widths_of};
-ghost use Rattle.subsetter_sfnt.specs.Fields.Hmtx.{advance_in};
-ghost use Rattle.cid_embed.specs.Width.{thousandths};
+ghost use Rattle.cid_embed.specs.Afresh.{measures_of, widths_of, measures_seen};
 ghost use Rattle.pdf_source.specs.Counted.{counted};
 ghost use Rattle.pdf_source.specs.Frequent.{IsMostFrequent, count_of};
-ghost use Rattle.pdf_source.specs.Metrics.{measures_seen};
 
+use cid_embed::{Metrics, all_widths};
 use std::alloc::Global;
 use std::collections::HashMap;
 use subsetter_base::{Error, Tag};
 use subsetter_sfnt::face::Face;
 use subsetter_sfnt::fields::head::units_per_em;
 use subsetter_sfnt::fields::hhea::number_of_h_metrics;
-use subsetter_sfnt::fields::hmtx::glyph_advance;
-
-/// What advances and widths are found by.
-#[derive(Clone, Copy)]
-pub struct Metrics<'a> {
-    pub hmtx: &'a [u8],
-    /// numberOfHMetrics of `hhea`.
-    pub pairs: u16,
-    /// unitsPerEm of `head`, above 0.
-    pub units: u16,
-}
 
 /// The metrics of a font. What is missing or cut, and a unitsPerEm of 0, is `MalformedFont`.
 #[tactic(auto, unfolding(cid_embed::specs::Afresh::measures_of))]
@@ -46,37 +33,6 @@ fn metrics_of<'a>(face: &Face<'a>) -> Result<Metrics<'a>, Error>
     let hhea = face.stored(Tag::HHEA).ok_or(Error::MalformedFont)?;
     let pairs = number_of_h_metrics(hhea).ok_or(Error::MalformedFont)?;
     Ok(Metrics { hmtx, pairs, units })
-}
-
-impl Metrics<'_> {
-    /// The advance of a glyph, in font design units.
-    fn advance(&self, glyph: u16) -> Option<u16>
-        ensures { result ≡ advance_in self.now.hmtx.now self.now.pairs glyph }
-    {
-        glyph_advance(self.hmtx, self.pairs, glyph)
-    }
-}
-
-/// A length in thousandths of the em, rounded half up.
-fn thousandths(length: u16, units_per_em: u16) -> u32
-    requires { 0 < units_per_em }
-    ensures { result ≡ thousandths length units_per_em }
-{
-    let units = u32::from(units_per_em);
-    (2 * (u32::from(length) * 1000) + units) / (2 * units)
-}
-
-/// The widths of so many glyphs, from glyph 0 on. An advance that isn't there is `MalformedFont`.
-fn all_widths(alloc: Global, metrics: &Metrics<'_>, count: u16) -> Result<Vec<u32>, Error>
-    requires { 0 < metrics.now.units }
-    ensures { Gives (λ v. v.items) result (widths_from (measures_seen metrics.now) 0 count) }
-{
-    let mut widths = Vec::with_capacity(alloc, usize::from(count))?;
-    for glyph in 0..count {
-        let advance = metrics.advance(glyph).ok_or(Error::MalformedFont)?;
-        widths.push(thousandths(advance, metrics.units))?;
-    }
-    Ok(widths)
 }
 
 /// The widths of so many glyphs of a font, from glyph 0 on. What is missing is `MalformedFont`.

@@ -3,7 +3,8 @@ use Rattle.std.proofs.Common.{refl, ◌≡◌, ℕ, ◌-◌, ◌≤◌, List, []
 use Rattle.std.proofs.lemmas.List.{take_all}
 use Rattle.std.specs.List.{join_with_byte}
 use Rattle.std.proofs.lemmas.Int.{to_z-of_z}
-use Rattle.pdf_text.proofs.Written.{spaced, list_begun, three_written, four_written}
+use Rattle.pdf_text.proofs.Written.{three_written, four_written}
+use Rattle.subsetter_base.proofs.TextLemmas.{spaced, list_begun}
 
 pub two_written : (w a b w1 w2 : List ℕ) → w1 ≡ w ++ a → w2 ≡ w1 ++ b → w2 ≡ w ++ (a ++ b)
 two_written w a b w1 w2 f g = rw (g, f) (append_assoc w a b)

@@ -67,7 +67,7 @@ fn write_fraction(text: &mut Vec<u8>, n: u32) -> Result<(), Error>
 }
 
 /// Writes the sign of a number.
-fn write_sign(text: &mut Vec<u8>, z: i32) -> Result<(), Error>
+pub fn write_sign(text: &mut Vec<u8>, z: i32) -> Result<(), Error>
     ensures ok { OnOk result (text.new.items ≡ text.old.items ++ sign z) }
     ensures err { IfErr result (λ e. e ≡ OutOfMemory) }
 {

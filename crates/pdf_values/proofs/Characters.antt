@@ -3,7 +3,8 @@ use Rattle.std.proofs.Common.{◌≡◌, ℕ, Bool, true, false, List, [], ◌�
 use Rattle.std.specs.Prelude.{◌&&◌, ◌==◌, if◌then◌else◌, All, Option, Some, None}
 use Rattle.std.specs.Option.{option_and_then, option_map_or}
 use Rattle.std.proofs.lemmas.List.Elements.{All-nil, All-cons, filter_passes}
-use Rattle.pdf_values.specs.Name.{is_name_character, plain_text, wide_text, text_of, string_of, text_in, or_else, table_name, postscript_name, IsNameText}
+use Rattle.pdf_values.specs.Name.{is_name_character, plain_text, wide_text, text_of, string_of, text_in, table_name, postscript_name, IsNameText}
+use Rattle.subsetter_base.specs.Texts.{or_else}
 use Rattle.pdf_values.specs.declared.naming.Kind.{Kind}
 use Rattle.pdf_values.specs.declared.naming.Kind.TheVariants.{WindowsEnglish, Windows, Unicode, MacintoshRoman}
 

@@ -2,7 +2,8 @@
 use Rattle.std.proofs.Common.{◌≡◌, ℕ, suc, ◌+◌, ◌-◌, ◌*◌, ◌<◌, ◌≤◌, List, [], ◌∷◌, length, Some, None, refl, ap, ◌∙◌, arith}
 use Rattle.std.specs.Option.{option_or}
 use Rattle.pdf_values.specs.declared.naming.Kind.{Kind}
-use Rattle.pdf_values.specs.Name.{string_at, string_from, or_else}
+use Rattle.pdf_values.specs.Name.{string_at, string_from}
+use Rattle.subsetter_base.specs.Texts.{or_else}
 
 module _ (kind : Kind) (id : ℕ) (name : List ℕ) (storage n i : ℕ) where
   strings_step : i < n → string_from kind id name storage (n - i) (6 + 12 * i) ≡ option_or (string_at kind id name storage (6 + 12 * i)) (string_from kind id name storage (n - (i + 1)) (6 + 12 * (i + 1)))

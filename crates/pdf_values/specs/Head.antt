@@ -2,8 +2,8 @@
 use Rattle.std.specs.Prelude.{ℕ, ◌==◌, Bool, false, if◌then◌else◌, List, Option, Some, None, ℤ}
 use Rattle.std.specs.Int.{w32, cast_signed}
 use Rattle.std.specs.Option.{option_and_then, option_map, option_map_or, unwrap_or}
-use Rattle.subsetter_sfnt.specs.Fields.Numbers.{field}
 use Rattle.pdf_values.specs.Fields.{has_bit}
+use Rattle.subsetter_base.specs.Bytes.{field}
 
 -- unitsPerEm, if it is above 0, which OpenType wants; else a thousand
 abbrev pub units_per_em : Option (List ℕ) → ℕ

@@ -3,11 +3,12 @@ use Rattle.std.specs.Prelude.{◌≡◌, ◌<◌, true, All, ℕ, zero, suc, ◌
 use Rattle.std.specs.List.{list_any}
 use Rattle.std.specs.Option.{option_and_then, option_map_or, option_or}
 use Rattle.subsetter_base.specs.Bytes.{be, range, number}
-use Rattle.subsetter_variation.specs.Optional.{◌>>=◌}
+use Rattle.subsetter_base.specs.Options.{◌>>=◌}
 use Rattle.pdf_values.specs.declared.naming.Kind.{Kind}
 use Rattle.pdf_values.specs.declared.naming.Kind.TheVariants.{WindowsEnglish, Windows, Unicode, MacintoshRoman}
 use Rattle.subsetter_sfnt.specs.Fields.Name.{name_record_of}
 use Rattle.subsetter_sfnt.specs.declared.fields.name.NameRecord.{NameRecord}
+use Rattle.subsetter_base.specs.Texts.{or_else}
 
 -- platform 0 is Unicode, 1 is Macintosh, whose encoding 0 is Roman, and 3 is Windows, whose language 1033 is English of the United States
 abbrev pub is_of : Kind → NameRecord → Bool
@@ -52,11 +53,6 @@ text_of kind bytes = wide_text bytes
 
 abbrev pub text_in : Kind → ℕ → Option (List ℕ) → List ℕ
 text_in kind id name = option_map_or (text_of kind) (option_and_then (string_of kind id) name) []
-
--- the first text that isn't empty
-abbrev pub or_else : List ℕ → List ℕ → List ℕ
-or_else [] other = other
-or_else (b ∷ bytes) other = b ∷ bytes
 
 -- the name of an ID in `name`: of Windows in English, else of Windows, else of Unicode, else of Macintosh
 abbrev pub table_name : ℕ → Option (List ℕ) → List ℕ

@@ -1,4 +1,4 @@
-//! Bits of a field that may be missing.
+//! Bits of the fields of a table.
 
 ghost use Rattle.std.specs.Prelude.{◌≡◌, ◌<◌};
 ghost use Rattle.pdf_values.specs.Fields.{has_bit};

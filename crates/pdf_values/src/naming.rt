@@ -4,8 +4,9 @@
 ghost use Rattle.std.specs.Prelude.{◌≡◌, ◌≤◌, ◌<◌, ◌^◌, [], length, IfOk, IfErr};
 ghost use Rattle.std.specs.Option.{option_copied, option_map_or};
 ghost use Rattle.subsetter_base.specs.declared.error.Error.TheVariants.{OutOfMemory};
-ghost use Rattle.pdf_values.specs.Name.{is_of, string_at, string_from, string_of, is_name_character, plain_text, wide_text, text_of, text_in, or_else, table_name, postscript_name, IsNameText};
+ghost use Rattle.pdf_values.specs.Name.{is_of, string_at, string_from, string_of, is_name_character, plain_text, wide_text, text_of, text_in, table_name, postscript_name, IsNameText};
 ghost use Rattle.subsetter_sfnt.specs.Fields.Name.{name_record_of};
+ghost use Rattle.subsetter_base.specs.Texts.{or_else};
 
 use std::alloc::Global;
 use subsetter_base::Error;

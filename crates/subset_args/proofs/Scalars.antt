@@ -2,7 +2,7 @@
 use Rattle.std.proofs.Common.{◌≡◌, ℕ, ◌+◌, ◌-◌, ◌<◌, Bool, true, false, List, [], ◌∷◌, ◌++◌, filter, refl, sym, ap, ◌∙◌, append_assoc}
 use Rattle.std.specs.Prelude.{if◌then◌else◌}
 use Rattle.subset_args.specs.Lists.{counting}
-use Rattle.subset_args.specs.Characters.{is_scalar}
+use Rattle.subsetter_base.specs.Texts.{is_scalar}
 use Rattle.subset_args.proofs.Counting.{counting_step}
 
 kept : (b : Bool) (x : ℕ) (rest : List ℕ) → (if b then x ∷ rest else rest) ≡ (if b then x ∷ [] else []) ++ rest

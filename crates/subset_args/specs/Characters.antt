@@ -1,11 +1,12 @@
 -- The characters that an argument or a file lists, as `U+0041-005A,20AC`.
-use Rattle.std.specs.Prelude.{ℕ, ◌==◌, ◌^◌, ◌&&◌, ◌||◌, not, nat_lt, nat_le, Bool, true, false, if◌then◌else◌, List, [], ◌∷◌, ◌++◌, filter, length, Option, Some, None, codes}
+use Rattle.std.specs.Prelude.{ℕ, ◌==◌, ◌^◌, ◌&&◌, ◌||◌, not, nat_lt, Bool, true, false, if◌then◌else◌, List, [], ◌∷◌, ◌++◌, filter, length, Option, Some, None, codes}
 use Rattle.std.specs.Option.{option_map, option_and_then}
 use Rattle.std.specs.List.{slice_split, before_first, after_first, position_or_len}
 use Rattle.std.specs.Char.{digit_value}
 use Rattle.std.specs.Str.{bytes_eq}
 use Rattle.std.specs.Str.Parse.{digits_value}
 use Rattle.subset_args.specs.Lists.{Ends, is_dash, in_order, is_less, between, parts, FileList, characters, text_of}
+use Rattle.subsetter_base.specs.Texts.{is_scalar}
 
 -- ---- a code of Unicode, in hexadecimal digits
 
@@ -47,10 +48,6 @@ codes_in part = if nat_lt (position_or_len is_dash part) (length part) then code
 -- a range whose ends are codes, and not in order
 abbrev pub codes_descend : List ℕ → Bool
 codes_descend part = if nat_lt (position_or_len is_dash part) (length part) then is_less (code_in (after_first is_dash part)) (code_in (before_first is_dash part)) else false
-
--- surrogates (D800 to DFFF) are no characters
-abbrev pub is_scalar : ℕ → Bool
-is_scalar code = nat_lt code 0xD800 || (nat_le 0xE000 code && nat_lt code 0x110000)
 
 -- the characters between two ends, and these
 abbrev pub characters_between : Ends → List ℕ

@@ -5,12 +5,13 @@ ghost use Rattle.std.specs.Option.{option_map};
 ghost use Rattle.std.specs.List.{slice_split};
 ghost use Rattle.std.specs.Str.{IsUtf8};
 ghost use Rattle.subset_args.specs.Lists.{counting, as_comma, in_order, is_less, parts};
-ghost use Rattle.subset_args.specs.Characters.{hex_in_32, hex_in, is_mark, marked, code_in, codes_in, codes_descend, characters_between, part_characters, parts_characters, argument_characters, file_characters, is_scalar, is_line_end, without_line_ends};
+ghost use Rattle.subset_args.specs.Characters.{hex_in_32, hex_in, is_mark, marked, code_in, codes_in, codes_descend, characters_between, part_characters, parts_characters, argument_characters, file_characters, is_line_end, without_line_ends};
+ghost use Rattle.subsetter_base.specs.Texts.{is_scalar};
 ghost use Rattle.subset_args.specs.ListView.{codes_view, list_view};
 ghost use Rattle.subset_args.specs.declared.jobs.ArgsError.TheVariants.{Usage, OutOfMemory};
 
 use crate::jobs::ArgsError;
-use crate::lists::{GlyphList, is_blank, with_commas};
+use crate::lists::{GlyphList, is_blank, is_less, with_commas};
 use std::alloc::{AllocError, Global};
 use subsetter_words::parts_of;
 
@@ -96,17 +97,6 @@ fn codes_in(part: &str) -> Option<Codes>
                 last: code,
             })
         }
-    }
-}
-
-/// Whether of two codes the one is less.
-fn is_less(one: Option<u32>, other: Option<u32>) -> bool
-    ensures { result ≡ is_less one other }
-{
-    match (one, other) {
-        (Some(one), Some(other)) => one < other,
-        (Some(_), None) => false,
-        (None, _) => false,
     }
 }
 

@@ -112,7 +112,7 @@ fn ends_in(part: &str) -> Option<Ends>
 }
 
 /// Whether of two numbers the one is less.
-fn is_less(one: Option<u16>, other: Option<u16>) -> bool
+pub fn is_less(one: Option<u32>, other: Option<u32>) -> bool
     ensures { result ≡ is_less one other }
 {
     match (one, other) {
@@ -122,12 +122,22 @@ fn is_less(one: Option<u16>, other: Option<u16>) -> bool
     }
 }
 
+/// A number of 16 bits in 32.
+fn wide(number: Option<u16>) -> Option<u32>
+    ensures { result ≡ number }
+{
+    match number {
+        Some(number) => Some(u32::from(number)),
+        None => None,
+    }
+}
+
 /// Whether a part of a list is a range whose ends are numbers, and not in order.
 pub fn descends(part: &str) -> bool
     ensures { result ≡ descends part.now }
 {
     match part.split_once('-') {
-        Some((first, last)) => is_less(u16_of(last), u16_of(first)),
+        Some((first, last)) => is_less(wide(u16_of(last)), wide(u16_of(first))),
         None => false,
     }
 }

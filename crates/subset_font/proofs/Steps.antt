@@ -1,12 +1,15 @@
 -- One more step of a list that is made.
-use Rattle.std.proofs.Common.{◌≡◌, ℕ, ℤ, suc, ◌+◌, ◌<◌, List, ◌∷◌, ◌++◌, Bool, length, map, drop, get_or, drop-cons, append_assoc, sym, ap, ◌∙◌, arith}
+use Rattle.std.proofs.Common.{◌≡◌, ℕ, ℤ, suc, ◌+◌, ◌<◌, List, [], ◌∷◌, ◌++◌, Bool, cond, Option, Some, refl, length, map, drop, get_or, drop-cons, append_assoc, sym, ap, ◌∙◌, arith}
 use Rattle.std.specs.Prelude.{is_some}
 use Rattle.std.specs.Borrow.{Bor}
+use Rattle.std.specs.Str.{bytes_eq}
 use Rattle.subsetter_base.specs.Bytes.{number}
 use Rattle.subset_lines.specs.Names.{name_of}
 use Rattle.subset_font.specs.Named.{name_behind, before_next, names_behind}
 use Rattle.subsetter_base.specs.declared.tag.Tag.{Tag}
+use Rattle.subsetter_variation.specs.Axes.{find_axis as first_axis}
 use Rattle.subsetter_variation.specs.declared.axes.Axis.{Axis}
+use Rattle.subset_font.specs.Axes.{find_axis}
 use Rattle.subset_lines.specs.declared.notes.Note.{Note}
 use Rattle.subset_font.specs.Notes.{note_of, if_noted, notes_of}
 
@@ -26,3 +29,8 @@ name_later names before after records i d found old new total lt n f a t =
     let rest = map (λ (b : Bor (List ℕ)). b.now) (drop (i + 1) records) in
     let before_is : after ≡ before_next before (is_some name) = a ∙ ap (λ (f : Bool). before_next before f) f in
     ap (λ (v : List ℕ). v ++ names_behind after names rest) n ∙ (append_assoc old (name_behind before name) (names_behind after names rest) ∙ (ap (λ (b : List ℕ). old ++ (name_behind before name ++ names_behind b names rest)) before_is ∙ (ap (λ (l : List (Bor (List ℕ))). old ++ names_behind before names (map (λ (b : Bor (List ℕ)). b.now) l)) (sym cut) ∙ t)))
+
+-- the first axis of a tag, as both say it
+pub axis_is : (axes : List Axis) (tag : Tag) → first_axis tag.0 axes ≡ find_axis axes tag
+axis_is [] tag = refl
+axis_is (a ∷ axes) tag = ap (λ (o : Option Axis). cond (bytes_eq a.tag.0 tag.0) (Some a) o) (axis_is axes tag)

@@ -1,13 +1,10 @@
 -- The characters that a face has no glyph for.
-use Rattle.std.specs.Prelude.{◌≡◌, ℕ, ◌==◌, ◌&&◌, nat_lt, not, Bool, if◌then◌else◌, List, [], ◌∷◌, ◌++◌, drop, length, Option, Some, None}
-use Rattle.std.specs.List.{list_any}
+use Rattle.std.specs.Prelude.{◌≡◌, ℕ, ◌==◌, ◌&&◌, nat_lt, not, if◌then◌else◌, List, [], ◌∷◌, ◌++◌, drop, length, Option, Some, None}
 use Rattle.subsetter_sfnt.specs.Read.{Font}
-use Rattle.subset_lines.specs.Text.{first}
+use Rattle.subsetter_base.specs.Bytes.{first_number}
 use Rattle.subset_font.specs.Asked.{IsAsked}
 use Rattle.subset_font.specs.declared.task.Asked.{Asked}
-
-abbrev pub is_listed : List ℕ → ℕ → Bool
-is_listed found c = list_any (λ x. x == c) found
+use Rattle.subsetter_base.specs.Places.{is_listed}
 
 -- a character that is shown by glyph 0 is listed once; a note names three, so a fourth is the last that is listed
 abbrev pub with_missing : List ℕ → Option ℕ → ℕ → List ℕ
@@ -17,7 +14,7 @@ with_missing found (Some c) g = if g == 0 && nat_lt (length found) 4 && not (is_
 -- those of characters with these glyphs, behind others
 abbrev pub missing_behind : List ℕ → List ℕ → List ℕ → List ℕ
 missing_behind found characters [] = found
-missing_behind found characters (g ∷ glyphs) = missing_behind (with_missing found (first characters) g) (drop 1 characters) glyphs
+missing_behind found characters (g ∷ glyphs) = missing_behind (with_missing found (first_number characters) g) (drop 1 characters) glyphs
 
 abbrev pub missing : List ℕ → List ℕ → List ℕ
 missing characters glyphs = missing_behind [] characters glyphs

@@ -4,7 +4,7 @@ ghost use Rattle.std.specs.Prelude.{◌≡◌, ◌⊎◌, ◌≢◌, IfOk, IfErr
 ghost use Rattle.subsetter_base.specs.declared.error.Error.TheVariants.{OutOfMemory, MalformedFont};
 ghost use Rattle.subsetter_sfnt.specs.Extras.{all_extras};
 ghost use Rattle.subsetter_sfnt.specs.Read.{stored};
-ghost use Rattle.subset_font.specs.Axes.{axes_shown, text_of_axes, IsAxesTold, IsAxesFault, axes_or_none, find_axis};
+ghost use Rattle.subset_font.specs.Axes.{axes_shown, text_of_axes, IsAxesTold, IsAxesFault, axes_or_none};
 ghost use Rattle.subset_font.specs.Tables.{bytes_or_none};
 ghost use Rattle.subset_font.specs.declared.failure.Failure.TheVariants.{Error as Refused, Read as CannotRead, Output, Usage};
 ghost use Rattle.std.specs.Io.KnownBytes.{Appends};
@@ -137,16 +137,4 @@ pub fn axes_there(alloc: Global, font: &[u8], index: u32) -> Result<Vec<Axis>, E
         Some(fvar) => axes(alloc, fvar),
         None => Ok(Vec::new(alloc)),
     }
-}
-
-/// The first axis that bears a tag.
-pub fn find_axis(axes: &[Axis], tag: Tag) -> Option<Axis>
-    ensures { result ≡ find_axis axes.now tag }
-{
-    for axis in axes {
-        if axis.tag == tag {
-            return Some(*axis);
-        }
-    }
-    None
 }

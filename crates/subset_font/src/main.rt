@@ -32,7 +32,7 @@ mod tables;
 mod task;
 
 pub use asked::{Picked, pick};
-pub use axes::{axes_there, carry_axes, find_axis};
+pub use axes::{axes_there, carry_axes};
 pub use carried::carry_out;
 pub use failure::{Failure, Told, status_of_run};
 pub use help::{HELP, VERSION_LINE};

@@ -2,7 +2,8 @@
 
 ghost use Rattle.std.specs.Prelude.{◌≡◌, OnOk, IfOk, IfSome};
 ghost use Rattle.subsetter_sfnt.specs.Extras.{all_extras};
-ghost use Rattle.subset_font.specs.Missing.{is_listed, with_missing, missing, IsMissing};
+ghost use Rattle.subset_font.specs.Missing.{with_missing, missing, IsMissing};
+ghost use Rattle.subsetter_base.specs.Places.{is_listed};
 
 use crate::asked::pick;
 use crate::task::Asked;

@@ -14,9 +14,9 @@ ghost use Rattle.subset_font.specs.declared.failure.Failure.TheVariants.{Error a
 use crate::axes::names_of;
 use crate::failure::Failure;
 use std::alloc::{AllocError, Global};
-use subset_lines::{FontAxes, after_four, name_of, read_axes, text_of_name};
+use subset_lines::{FontAxes, name_of, read_axes, text_of_name};
 use subsetter::{Error, Tag};
-use subsetter_base::read::Reader;
+use subsetter_base::read::{Reader, after_four};
 use subsetter_sfnt::directory::{header_offset, table};
 use subsetter_variation::axes::Axis;
 

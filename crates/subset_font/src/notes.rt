@@ -6,11 +6,11 @@ ghost use Rattle.subsetter_sfnt.specs.Extras.{all_extras};
 ghost use Rattle.subset_font.specs.Axes.{axes_known};
 ghost use Rattle.subset_font.specs.Notes.{least, greatest, clamped, note_of, if_noted, notes_of, notes_for};
 
-use crate::axes::{axes_there, find_axis};
+use crate::axes::axes_there;
 use std::alloc::{AllocError, Global};
 use subset_lines::Note;
 use subsetter::{Error, Tag};
-use subsetter_variation::axes::Axis;
+use subsetter_variation::axes::{Axis, find_axis};
 
 /// The least coordinate of an axis, which is its default where that is less.
 fn least(axis: &Axis) -> i32
@@ -49,6 +49,7 @@ fn clamped(axis: &Axis, setting: (Tag, i32)) -> Option<Note>
 }
 
 /// What is noted of a coordinate.
+#[tactic(auto, using(crate::proofs::Steps::axis_is))]
 fn note_of(axes: &[Axis], setting: (Tag, i32)) -> Option<Note>
     ensures { result ≡ note_of axes.now setting }
 {

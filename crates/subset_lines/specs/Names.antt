@@ -5,6 +5,7 @@ use Rattle.std.specs.Char.{encode_utf8}
 use Rattle.subsetter_base.specs.Bytes.{be, range, number}
 use Rattle.subset_lines.specs.declared.names.Kind.{Kind}
 use Rattle.subset_lines.specs.declared.names.Kind.TheVariants.{English, Windows, Unicode}
+use Rattle.subsetter_base.specs.Options.{first_of}
 
 -- ---- which record
 
@@ -30,13 +31,9 @@ abbrev pub first_name : Kind → ℕ → ℕ → List ℕ → ℕ → Option (Li
 first_name kind id zero table at = None
 first_name kind id (suc n) table at = option_and_then (λ bytes. if is_name kind id bytes then Some bytes else first_name kind id n table (at + 12)) (range table at 12)
 
-abbrev pub or_else : Option (List ℕ) → Option (List ℕ) → Option (List ℕ)
-or_else (Some bytes) other = Some bytes
-or_else None other = other
-
 -- the records begin at byte 6: the best kind that there is
 abbrev pub best_name : ℕ → ℕ → List ℕ → Option (List ℕ)
-best_name id count table = or_else (first_name English id count table 6) (or_else (first_name Windows id count table 6) (first_name Unicode id count table 6))
+best_name id count table = first_of (first_name English id count table 6) (first_of (first_name Windows id count table 6) (first_name Unicode id count table 6))
 
 -- ---- its text
 

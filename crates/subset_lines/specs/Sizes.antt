@@ -3,8 +3,8 @@ use Rattle.std.specs.Prelude.{ℕ, List, [], ◌∷◌, ◌++◌, map, Option, S
 use Rattle.subsetter_base.specs.declared.tag.Tag.{Tag}
 use Rattle.subset_lines.specs.Axes.{shown}
 use Rattle.subset_lines.specs.Json.{number_or_null}
-use Rattle.subset_lines.specs.Quoted.{quoted}
 use Rattle.subset_lines.specs.declared.sizes.TableSize.{TableSize}
+use Rattle.subset_lines.specs.AxesJson.{tag_open}
 
 abbrev pub size_or_none : Option ℕ → List ℕ
 size_or_none None = codes "none"
@@ -32,9 +32,6 @@ abbrev pub sizes_text : List TableSize → ℕ → ℕ → List ℕ
 sizes_text tables old new = table_lines tables ++ font_line old new
 
 -- ---- as members of a JSON object
-
-abbrev pub tag_open : Tag → List ℕ
-tag_open tag = codes "{\"tag\":" ++ quoted (map shown tag.0)
 
 abbrev pub sizes_close : TableSize → List ℕ
 sizes_close t = (codes ",\"old\":" ++ number_or_null t.old) ++ (codes ",\"new\":" ++ number_or_null t.new) ++ codes "}"

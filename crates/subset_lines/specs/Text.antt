@@ -1,5 +1,5 @@
 -- Parts of the text that tells the new numbers.
-use Rattle.std.specs.Prelude.{ℕ, false, true, ◌^◌, ◌-◌, List, [], ◌∷◌, Option, Some, None}
+use Rattle.std.specs.Prelude.{ℕ, false, true, ◌^◌, ◌-◌, List, [], ◌∷◌}
 use Rattle.std.specs.Fmt.{digits, padded_integral, format_spec}
 
 -- the glyphs whose new numbers are printed, with the characters that they stand for and their names, as far as there are any, and the old numbers in the order of the new ones
@@ -8,11 +8,6 @@ pub record Numbers : Type 0 where
   pub names : List (List ℕ)
   pub glyphs : List ℕ
   pub order : List ℕ
-
--- the first member
-abbrev pub first : List ℕ → Option ℕ
-first [] = None
-first (x ∷ xs) = Some x
 
 -- the first name, an empty one where there is none
 abbrev pub first_name : List (List ℕ) → List ℕ

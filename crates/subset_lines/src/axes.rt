@@ -1,6 +1,6 @@
 //! The axes of a variable font and its named instances (OpenType, "fvar"), as lines.
 
-ghost use Rattle.std.specs.Prelude.{◌≡◌, ◌⊎◌, ◌++◌, [], codes, map, drop, OnOk, IfOk, IfErr, Some, None};
+ghost use Rattle.std.specs.Prelude.{◌≡◌, ◌⊎◌, ◌++◌, [], codes, map, OnOk, IfOk, IfErr, Some, None};
 ghost use Rattle.std.specs.Io.KnownBytes.{Appends};
 ghost use Rattle.std.specs.Option.{ok_or, option_copied};
 ghost use Rattle.subset_lines.specs.Names.{name_of};
@@ -18,7 +18,7 @@ use crate::plain::flush;
 use crate::text::write_text;
 use std::alloc::Global;
 use std::io::Write;
-use subsetter_base::read::Reader;
+use subsetter_base::read::{Reader, after_four};
 use subsetter_base::{Error, Tag};
 use subsetter_variation::axes::{Axis, axes};
 use subsetter_variation::fvar::{
@@ -200,16 +200,6 @@ fn write_setting<W: Write>(
     write_tag(tag, out)?;
     write_text(b"=", out)?;
     write_coordinate(bytes, out)
-}
-
-/// The bytes behind the first four.
-pub fn after_four(bytes: &[u8]) -> &[u8]
-    ensures { result.now ≡ drop 4 bytes.now }
-{
-    match bytes {
-        [_, _, _, _, rest @ ..] => rest,
-        _ => &[],
-    }
 }
 
 /// Writes each axis with its coordinate, as `--at` takes them.

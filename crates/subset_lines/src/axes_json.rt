@@ -10,7 +10,7 @@ ghost use Rattle.subset_lines.specs.Names.{name_of, text_of_units};
 ghost use Rattle.subset_lines.specs.Quoted.{quoted};
 ghost use Rattle.subsetter_base.specs.Bytes.{number};
 
-use crate::axes::{FontAxes, after_four, name_of, tag_bytes, write_coordinate};
+use crate::axes::{FontAxes, name_of, tag_bytes, write_coordinate};
 use crate::entry::Unwritten;
 use crate::fixed::write_labelled;
 use crate::names::write_units;
@@ -20,6 +20,7 @@ use crate::text::write_text;
 use std::alloc::Global;
 use std::io::Write;
 use subsetter_base::Tag;
+use subsetter_base::read::after_four;
 use subsetter_variation::axes::Axis;
 
 /// Writes the tag of an axis, which opens its object.

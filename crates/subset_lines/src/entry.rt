@@ -1,7 +1,8 @@
 //! What is printed.
 
 ghost use Rattle.std.specs.Prelude.{◌≡◌, drop, map};
-ghost use Rattle.subset_lines.specs.Text.{first, first_name};
+ghost use Rattle.subset_lines.specs.Text.{first_name};
+ghost use Rattle.subsetter_base.specs.Bytes.{first_number};
 
 use subsetter_base::GlyphRemapper;
 
@@ -24,7 +25,7 @@ pub struct Unwritten;
 
 /// The first character, and the others.
 pub fn take_first(characters: &[char]) -> (Option<char>, &[char])
-    ensures first { result.0 ≡ first characters.now }
+    ensures first { result.0 ≡ first_number characters.now }
     ensures others { result.1.now ≡ drop 1 characters.now }
 {
     match characters {

@@ -25,7 +25,7 @@ mod quoted;
 mod sizes;
 mod text;
 
-pub use axes::{FontAxes, after_four, name_of, read_axes, write_axes};
+pub use axes::{FontAxes, name_of, read_axes, write_axes};
 pub use axes_json::{text_of_name, write_axes_json};
 pub use entry::{Numbering, Unwritten, take_first};
 pub use info::{Info, Outlines, write_info, write_info_json};

@@ -5,7 +5,8 @@ ghost use Rattle.std.specs.Io.KnownBytes.{Appends};
 ghost use Rattle.subset_lines.specs.Axes.{shown};
 ghost use Rattle.subset_lines.specs.Quoted.{quoted};
 ghost use Rattle.subset_lines.specs.Json.{number_or_null};
-ghost use Rattle.subset_lines.specs.Sizes.{size_or_none, table_front, change_text, tag_open, sizes_close, tables_open, table_line, table_lines, font_line, sizes_text, table_object, table_objects, sizes_member, tables_member};
+ghost use Rattle.subset_lines.specs.Sizes.{size_or_none, table_front, change_text, sizes_close, tables_open, table_line, table_lines, font_line, sizes_text, table_object, table_objects, sizes_member, tables_member};
+ghost use Rattle.subset_lines.specs.AxesJson.{tag_open};
 
 use crate::axes::{tag_bytes, write_tag};
 use crate::entry::Unwritten;

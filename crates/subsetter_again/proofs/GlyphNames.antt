@@ -6,13 +6,12 @@ use Rattle.std.specs.List.{AllByRecursion}
 use Rattle.std.specs.Int.{w32, to_be_bytes}
 use Rattle.std.proofs.lemmas.Bool.{leb-true, le-leb, lt-leb, cases_lt}
 use Rattle.std.proofs.lemmas.List.{length-map, get_or-map, drop-take}
-use Rattle.subsetter_base.specs.Bytes.{IsBytes, be, range, number, ◌>>=◌}
+use Rattle.subsetter_base.specs.Bytes.{IsBytes, be, range, number, ◌>>=◌, from_offset}
 use Rattle.subsetter_base.specs.declared.error.Error.TheVariants.{MalformedFont, OverflowError}
 use Rattle.subsetter_base.proofs.ByteLemmas.{range-fits, range-take_drop}
 use Rattle.subsetter_base.proofs.Options.{just, just_is, bind_some}
 use Rattle.subsetter_base.proofs.Results.{named_ok, done_is, bind_ok}
 use Rattle.subsetter_sfnt.specs.Extras.{without_glyph_names}
-use Rattle.subsetter.specs.Name.Read.{bytes_from}
 use Rattle.subsetter.specs.Post.Read.{GlyphName, Standard, PostTable, names_in, post_parts, post_table, glyph_index, name_of_index, index_bytes, entry_bytes, post_bytes}
 use Rattle.subsetter.specs.Post.Plain.{indexes_of, custom_count, post_of_indexes, subset_glyph_names, post_of_table, new_post, post_of}
 use Rattle.subsetter.proofs.NameLaws.Back.{AllBytes, all_bytes, all_drop}
@@ -33,7 +32,7 @@ all_indexes t (g ∷ gs) (x ∷ is) len h =
     ∙ ap (λ r. r >>= λ rest. Ok (x ∷ rest)) (all_indexes t gs is (omega (arith, len)) (λ i lt. h (suc i) (omega arith)))
 
 -- the bytes that hold the names
-tail_bytes : (source x : List ℕ) (at : ℕ) → AllBytes source → bytes_from source at ≡ Some x → AllBytes x
+tail_bytes : (source x : List ℕ) (at : ℕ) → AllBytes source → from_offset source at ≡ Some x → AllBytes x
 tail_bytes source x at all k = by (leb at (length source)) k
   where
     by : (b : Bool) → cond b (Some (drop at source)) None ≡ Some x → AllBytes x
@@ -42,10 +41,10 @@ tail_bytes source x at all k = by (leb at (length source)) k
 
 names_bytes : (source : List ℕ) (t : PostTable) → AllBytes source → post_parts source ≡ Some t → AllBytes t.names_data
 names_bytes source t all h =
-    let a = bind_some (range source 0 32) (λ header. option_and_then (λ count. option_and_then (λ indexes. option_and_then (λ names. Some (record { header = header; indexes = record { bytes = indexes; count = count }; names_data = names })) (bytes_from source (34 + count * 2))) (range source 34 (count * 2))) (number source 32 2)) t h in
-    let b = bind_some (number source 32 2) (λ count. option_and_then (λ indexes. option_and_then (λ names. Some (record { header = a.0; indexes = record { bytes = indexes; count = count }; names_data = names })) (bytes_from source (34 + count * 2))) (range source 34 (count * 2))) t a.2 in
-    let c = bind_some (range source 34 (b.0 * 2)) (λ indexes. option_and_then (λ names. Some (record { header = a.0; indexes = record { bytes = indexes; count = b.0 }; names_data = names })) (bytes_from source (34 + b.0 * 2))) t b.2 in
-    let d = bind_some (bytes_from source (34 + b.0 * 2)) (λ names. Some (record { header = a.0; indexes = record { bytes = c.0; count = b.0 }; names_data = names })) t c.2 in
+    let a = bind_some (range source 0 32) (λ header. option_and_then (λ count. option_and_then (λ indexes. option_and_then (λ names. Some (record { header = header; indexes = record { bytes = indexes; count = count }; names_data = names })) (from_offset source (34 + count * 2))) (range source 34 (count * 2))) (number source 32 2)) t h in
+    let b = bind_some (number source 32 2) (λ count. option_and_then (λ indexes. option_and_then (λ names. Some (record { header = a.0; indexes = record { bytes = indexes; count = count }; names_data = names })) (from_offset source (34 + count * 2))) (range source 34 (count * 2))) t a.2 in
+    let c = bind_some (range source 34 (b.0 * 2)) (λ indexes. option_and_then (λ names. Some (record { header = a.0; indexes = record { bytes = indexes; count = b.0 }; names_data = names })) (from_offset source (34 + b.0 * 2))) t b.2 in
+    let d = bind_some (from_offset source (34 + b.0 * 2)) (λ names. Some (record { header = a.0; indexes = record { bytes = c.0; count = b.0 }; names_data = names })) t c.2 in
     let same : d.0 ≡ t.names_data = cc in
     subst AllBytes {x = d.0} same (tail_bytes source d.0 (34 + b.0 * 2) all d.1)
 

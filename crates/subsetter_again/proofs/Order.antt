@@ -4,12 +4,12 @@ use Rattle.std.specs.Prelude.{Contains, map}
 use Rattle.std.specs.Option.{unwrap_or}
 use Rattle.std.proofs.lemmas.List.{length-map, get_or-map, get_or_default, map-append}
 use Rattle.subsetter_base.specs.Bytes.{IsBytes}
-use Rattle.subsetter_base.specs.Places.{place}
+use Rattle.subsetter_base.specs.Places.{place, new_index}
 use Rattle.subsetter_sfnt.specs.Read.{Font, as_font}
 use Rattle.subsetter.specs.Glyf.Read.{Outlines, outline}
 use Rattle.subsetter.specs.Glyf.Bare.{parts_asked}
 use Rattle.subsetter.specs.Glyf.Parts.{component_numbers, outline_parts}
-use Rattle.subsetter.specs.Glyf.Plain.{new_number, renumbered}
+use Rattle.subsetter.specs.Glyf.Plain.{renumbered}
 use Rattle.subsetter.specs.Glyf.Reach.{IsReachable, given, step, IsGlyphOrder}
 use Rattle.subsetter.specs.Glyf.Unfold.{padded}
 use Rattle.subsetter.proofs.GlyfLaws.Unfold.{EachGlyph, each_weaker, padded_parts, components_of, are_numbered, asked_numbered, outline_is, has_number}
@@ -71,7 +71,7 @@ module _ (font : Font) (glyphs out : List ℕ) (bytes : IsBytes font.bytes) (fir
 
   -- a component's glyph is in the first order, at its new number
   abbrev pub IsNumbered : ℕ → Type 0
-  IsNumbered g = (new_number L g < length L) × (origin (new_number L g) ≡ g)
+  IsNumbered g = (new_index L g < length L) × (origin (new_index L g) ≡ g)
 
   numbered : (g : ℕ) → Contains L g → IsNumbered g
   numbered g c = let k = has_number L g c in (omega (arith, k.1, k.3), ap origin k.3 ∙ k.2)
@@ -81,7 +81,7 @@ module _ (font : Font) (glyphs out : List ℕ) (bytes : IsBytes font.bytes) (fir
 
   -- and in the second, where it is a component of a glyph there
   abbrev pub IsComposed : ℕ → Type 0
-  IsComposed g = (k : ℕ) × (k < length M) × (get_or M k 0 ≡ new_number L g) × (origin (new_number L g) ≡ g)
+  IsComposed g = (k : ℕ) × (k < length M) × (get_or M k 0 ≡ new_index L g) × (origin (new_index L g) ≡ g)
 
   pub each_composed : (i : ℕ) (lt : i < length M) → EachGlyph IsComposed (components_of (glyph (get_or M i 0) (inside i lt)).parts)
   each_composed i lt =
@@ -91,15 +91,15 @@ module _ (font : Font) (glyphs out : List ℕ) (bytes : IsBytes font.bytes) (fir
       let mine : Contains M j = (i, lt, get_or_default M i j 0 lt) in
       let copies = each_weaker (λ h. Contains (component_numbers b) h) (λ h. Contains M h) (components_of (padded_parts u.long (renumbered L k.parts))) (λ h c. (second.members h).1 (step j h b ((second.members j).0 mine) (copy_outline j (inside i lt)) c))
       (are_numbered b (padded_parts u.long (renumbered L k.parts)) k.copy_parts) in
-      each_weaker (λ g. Contains (component_numbers k.bytes) g × Contains M (new_number L g)) IsComposed (components_of k.parts)
-      (λ g both. (both.1.0, both.1.1, get_or_default M both.1.0 0 (new_number L g) both.1.1 ∙ both.1.2, (numbered g (component_reached j (inside i lt) g both.0)).1))
-      (each_both (λ g. Contains (component_numbers k.bytes) g) (λ g. Contains M (new_number L g)) (components_of k.parts) (asked_numbered t.hinting k.bytes k.parts k.parts_are) (from_copy (λ h. Contains M h) u.long L k.parts copies))
+      each_weaker (λ g. Contains (component_numbers k.bytes) g × Contains M (new_index L g)) IsComposed (components_of k.parts)
+      (λ g both. (both.1.0, both.1.1, get_or_default M both.1.0 0 (new_index L g) both.1.1 ∙ both.1.2, (numbered g (component_reached j (inside i lt) g both.0)).1))
+      (each_both (λ g. Contains (component_numbers k.bytes) g) (λ g. Contains M (new_index L g)) (components_of k.parts) (asked_numbered t.hinting k.bytes k.parts k.parts_are) (from_copy (λ h. Contains M h) u.long L k.parts copies))
 
   -- its number by both orders is its number by the composed one
-  pub number_composed : (g : ℕ) → IsComposed g → new_number M (new_number L g) ≡ new_number order g
+  pub number_composed : (g : ℕ) → IsComposed g → new_index M (new_index L g) ≡ new_index order g
   number_composed g (k, lt, at, is) =
       let by : Option ℕ → ℕ = λ o. unwrap_or o 0 in
-      let a : place M (new_number L g) ≡ Some k = place_at M (new_number L g) k (apart M second.once) lt at in
+      let a : place M (new_index L g) ≡ Some k = place_at M (new_index L g) k (apart M second.once) lt at in
       let b : place order g ≡ Some k = place_at order g k apart_order (omega (arith, lt, size)) (nth k lt ∙ ap origin at ∙ is) in
       ap by a ∙ sym (ap by b)
 
@@ -120,7 +120,7 @@ module _ (font : Font) (glyphs out : List ℕ) (bytes : IsBytes font.bytes) (fir
       let same : b ≡ padded u.long (get_or (Laid.m font glyphs out first).outlines j []) = one_found (outline (as_font out) j) b (padded u.long (get_or (Laid.m font glyphs out first).outlines j [])) o (copy_outline j before.0) in
       let q = padded_parts u.long (renumbered L k.parts) in
       let numbers = part_numbers b q (ap outline_parts same ∙ k.copy_parts) in
-      let each = each_weaker (λ g. Contains (component_numbers k.bytes) g) (λ g. IsForth (new_number L g)) (components_of k.parts)
+      let each = each_weaker (λ g. Contains (component_numbers k.bytes) g) (λ g. IsForth (new_index L g)) (components_of k.parts)
       (λ g d. let n = numbered g (component_reached j before.0 g d) in (n.0, subst (IsReachable font (map origin more)) (sym n.1) (step (origin j) g k.bytes before.1 (source_outline j before.0) d))) (asked_numbered t.hinting k.bytes k.parts k.parts_are) in
       each_among IsForth (components_of q) h (to_copy IsForth u.long L k.parts each) (subst (λ (l : List ℕ). Contains l h) numbers c)
 

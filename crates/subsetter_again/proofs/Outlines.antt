@@ -11,7 +11,8 @@ use Rattle.subsetter_base.proofs.ByteLemmas.{IsBytes-drop}
 use Rattle.subsetter_base.proofs.Results.{bind_ok, done_is}
 use Rattle.subsetter.specs.Glyf.Bare.{parts_asked}
 use Rattle.subsetter.specs.Glyf.Parts.{Component, Parts, Empty, Simple, Composite, outline_parts, parts_bytes, spelled, Chain}
-use Rattle.subsetter.specs.Glyf.Plain.{new_number, renumbered_component, renumbered, rewritten, kept, kept_all}
+use Rattle.subsetter.specs.Glyf.Plain.{renumbered_component, renumbered, rewritten, kept, kept_all}
+use Rattle.subsetter_base.specs.Places.{new_index}
 use Rattle.subsetter.specs.Glyf.Read.{Outlines, outline_in}
 use Rattle.subsetter.specs.Glyf.Unfold.{padded}
 use Rattle.subsetter.specs.Glyf.Written.{even_size, is_long, glyf_bytes, offset_bytes, loca_bytes}
@@ -57,12 +58,12 @@ all_kept t order (g ∷ gs) (b ∷ bs) len h =
 
 -- ---- numbers given twice
 
-components_composed : (L M order : List ℕ) (cs : List Component) → EachGlyph (λ g. new_number M (new_number L g) ≡ new_number order g) cs → map (renumbered_component M) (map (renumbered_component L) cs) ≡ map (renumbered_component order) cs
+components_composed : (L M order : List ℕ) (cs : List Component) → EachGlyph (λ g. new_index M (new_index L g) ≡ new_index order g) cs → map (renumbered_component M) (map (renumbered_component L) cs) ≡ map (renumbered_component order) cs
 components_composed L M order [] h = refl
 components_composed L M order (c ∷ cs) h =
     ap (λ (g : ℕ). record { flags = c.flags; glyph = g; rest = c.rest } ∷ map (renumbered_component M) (map (renumbered_component L) cs)) h.0 ∙ ap (λ (l : List Component). renumbered_component order c ∷ l) (components_composed L M order cs h.1)
 
-pub parts_composed : (long : Bool) (L M order : List ℕ) (p : Parts) → EachGlyph (λ g. new_number M (new_number L g) ≡ new_number order g) (components_of p) → renumbered M (padded_parts long (renumbered L p)) ≡ padded_parts long (renumbered order p)
+pub parts_composed : (long : Bool) (L M order : List ℕ) (p : Parts) → EachGlyph (λ g. new_index M (new_index L g) ≡ new_index order g) (components_of p) → renumbered M (padded_parts long (renumbered L p)) ≡ padded_parts long (renumbered order p)
 parts_composed long L M order Empty h = refl
 parts_composed long L M order (Simple bytes) h = refl
 parts_composed long L M order (Composite head chain) h = ap (λ (cs : List Component). Composite head (record { components = cs; tail = padded long chain.tail })) (components_composed L M order chain.components h)
@@ -82,7 +83,7 @@ length-renumbered a b (Composite head chain) =
 
 -- ---- padding stands behind the parts
 
-pub padded_bytes : (hint long : Bool) (order bytes : List ℕ) (p : Parts) → ((g : ℕ) → new_number order g < 2 ^ 16) → IsBytes bytes → parts_asked hint (outline_parts bytes) ≡ Some p → parts_bytes (padded_parts long (renumbered order p)) ≡ padded long (parts_bytes (renumbered order p))
+pub padded_bytes : (hint long : Bool) (order bytes : List ℕ) (p : Parts) → ((g : ℕ) → new_index order g < 2 ^ 16) → IsBytes bytes → parts_asked hint (outline_parts bytes) ≡ Some p → parts_bytes (padded_parts long (renumbered order p)) ≡ padded long (parts_bytes (renumbered order p))
 padded_bytes hint long order bytes p small fit h = by p (asked_can hint bytes p fit h)
   where
     by : (q : Parts) → CanBeWritten q → parts_bytes (padded_parts long (renumbered order q)) ≡ padded long (parts_bytes (renumbered order q))

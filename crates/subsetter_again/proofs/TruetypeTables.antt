@@ -12,7 +12,8 @@ use Rattle.subsetter_sfnt.specs.Read.{Font, as_font, table}
 use Rattle.subsetter_sfnt.specs.Rows.{rows, present}
 use Rattle.subsetter_sfnt.specs.Written.{Table}
 use Rattle.subsetter.specs.Glyf.Parts.{parts_bytes}
-use Rattle.subsetter.specs.Glyf.Plain.{new_number, renumbered, kept, kept_all}
+use Rattle.subsetter.specs.Glyf.Plain.{renumbered, kept, kept_all}
+use Rattle.subsetter_base.specs.Places.{new_index}
 use Rattle.subsetter.specs.Glyf.Reach.{IsGlyphOrder}
 use Rattle.subsetter.specs.Glyf.Read.{Outlines}
 use Rattle.subsetter.specs.Glyf.Unfold.{padded}
@@ -100,7 +101,7 @@ module _ (font : Font) (glyphs out : List ℕ) (bytes : IsBytes font.bytes) (fir
       let k = places.glyph font glyphs out bytes first more M second inside j (inside i lt) in
       let q = padded_parts u.long (renumbered L k.parts) in
       let b = padded u.long (get_or m.outlines j []) in
-      let each = each_weaker (places.IsComposed font glyphs out bytes first more M second inside) (λ g. new_number M (new_number L g) ≡ new_number order g) (components_of k.parts) (λ g c. places.number_composed font glyphs out bytes first more M second inside g c)
+      let each = each_weaker (places.IsComposed font glyphs out bytes first more M second inside) (λ g. new_index M (new_index L g) ≡ new_index order g) (components_of k.parts) (λ g c. places.number_composed font glyphs out bytes first more M second inside g c)
       (places.each_composed font glyphs out bytes first more M second inside i lt) in
       kept_is u M j b q k.copy_is k.copy_parts
       ∙ ap (λ p. Ok (parts_bytes p)) (parts_composed u.long L M order k.parts each) ∙ ap (λ (l : List ℕ). Ok l) (padded_bytes t.hinting u.long order k.bytes k.parts (small_numbers order few_order) k.fit k.parts_are)

@@ -12,7 +12,7 @@
 --   IsBytes-take, IsBytes-drop, IsBytes-range, number-small
 --                                parts of bytes are bytes, and two of them spell a number below 2 ^ 16
 --   flat_map-bytes               an array of bytes, as it is written
-use Rattle.std.proofs.Common.{◌≡◌, ℕ, suc, ◌+◌, ◌*◌, ◌^◌, ◌<◌, ◌≤◌, Bool, true, false, cond, leb, List, [], ◌∷◌, ◌++◌, length, take, drop, Option, Some, None, refl, sym, ap, subst, ◌∙◌, inl, inr, lit<, add_assoc, arith}
+use Rattle.std.proofs.Common.{◌≡◌, ℕ, suc, ◌+◌, ◌*◌, ◌^◌, ◌<◌, ◌≤◌, Bool, true, false, cond, leb, get_or, List, [], ◌∷◌, ◌++◌, length, take, drop, Option, Some, None, refl, sym, ap, subst, ◌∙◌, inl, inr, lit<, add_assoc, arith}
 use Rattle.std.specs.Prelude.{flat_map}
 use Rattle.std.specs.Prelude.{is_some, if◌then◌else◌}
 use Rattle.std.specs.Option.{option_map, option_and_then}
@@ -184,3 +184,36 @@ number-small bytes at n h e =
     let part = map_some be (range bytes at 2) n e in
     let fits : be part.0 < 256 ^ 2 = subst (λ k. be part.0 < 256 ^ k) (range-length bytes part.0 at 2 part.1) (be-fits part.0 (IsBytes-range bytes part.0 at 2 h part.1)) in
     omega (arith, part.2, fits)
+
+-- ---- the number of a few bytes, by their places
+pub be_one : (bytes : List ℕ) → length bytes ≡ 1 → be bytes ≡ get_or bytes 0 0
+be_one [] e = absurd (omega arith)
+be_one (a ∷ []) e = omega arith
+be_one (a ∷ b ∷ bytes) e = absurd (omega arith)
+
+pub be_two : (bytes : List ℕ) → length bytes ≡ 2 → be bytes ≡ get_or bytes 0 0 * 256 + get_or bytes 1 0
+be_two [] e = absurd (omega arith)
+be_two (a ∷ []) e = absurd (omega arith)
+be_two (a ∷ b ∷ []) e = omega arith
+be_two (a ∷ b ∷ c ∷ bytes) e = absurd (omega arith)
+
+pub be_three : (bytes : List ℕ) → length bytes ≡ 3 → be bytes ≡ (get_or bytes 0 0 * 256 + get_or bytes 1 0) * 256 + get_or bytes 2 0
+be_three [] e = absurd (omega arith)
+be_three (a ∷ []) e = absurd (omega arith)
+be_three (a ∷ b ∷ []) e = absurd (omega arith)
+be_three (a ∷ b ∷ c ∷ []) e = omega arith
+be_three (a ∷ b ∷ c ∷ d ∷ bytes) e = absurd (omega arith)
+
+pub be_four : (bytes : List ℕ) → length bytes ≡ 4 → be bytes ≡ ((get_or bytes 0 0 * 256 + get_or bytes 1 0) * 256 + get_or bytes 2 0) * 256 + get_or bytes 3 0
+be_four [] e = absurd (omega arith)
+be_four (a ∷ []) e = absurd (omega arith)
+be_four (a ∷ b ∷ []) e = absurd (omega arith)
+be_four (a ∷ b ∷ c ∷ []) e = absurd (omega arith)
+be_four (a ∷ b ∷ c ∷ d ∷ []) e = omega arith
+be_four (a ∷ b ∷ c ∷ d ∷ f ∷ bytes) e = absurd (omega arith)
+
+pub be_none : (bytes : List ℕ) → length bytes ≡ 0 → be bytes ≡ 0
+be_none [] e = refl
+be_none (a ∷ bytes) e = absurd (omega arith)
+
+pub ruleset be_cases = (be_none, be_one, be_two, be_three, be_four)

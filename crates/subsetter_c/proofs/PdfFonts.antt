@@ -11,7 +11,7 @@ use Rattle.pdf_source.specs.Chosen.{extras_of}
 use Rattle.subsetter_sfnt.specs.Read.{Font, stored}
 use Rattle.cid_embed_at.proofs.AtPlace.{opening_fault, opening_final}
 use Rattle.pdf_codes.specs.Codes.{Used, glyphs_of}
-use Rattle.pdf_codes.specs.Shown.{has_long_text, uses_of}
+use Rattle.pdf_codes.specs.Shown.{has_long_text, uses_of, texts_of}
 use Rattle.pdf_codes.specs.declared.shown.Shown.{Shown}
 use Rattle.pdf_values.specs.Permission.{is_permitted, permission}
 use Rattle.pdf_source.specs.declared.choice.FontOptions.{FontOptions}
@@ -20,7 +20,7 @@ use Rattle.pdf_font.specs.PdfFont.{HasFontFault, HasNoPdfFont, IsPdfFont, font_o
 use Rattle.pdf_font.specs.declared.error.FontError.{FontError}
 use Rattle.pdf_font.specs.declared.error.FontError.TheVariants.{Subset, NotPermitted, TextTooLong}
 use Rattle.pdf_font.specs.declared.font.PdfFont.{PdfFont}
-use Rattle.subsetter_pdf_c.specs.Entries.{texts_from, texts_of, uses_in, uses_with}
+use Rattle.subsetter_pdf_c.specs.Entries.{texts_from, uses_in, uses_with}
 use Rattle.subsetter_pdf_c.specs.declared.made.PdfMade.{PdfMade}
 use Rattle.subsetter_pdf_c.proofs.Steps.{uses_split}
 use Rattle.subsetter_c.specs.PdfFonts.{IsFontRefused, IsHandedBy, whole, refused}

@@ -34,7 +34,7 @@ use Rattle.pdf_text.specs.declared.values.ProgramKind.{ProgramKind}
 use Rattle.pdf_text.specs.declared.values.ProgramKind.TheVariants.{TrueType, BareCff, OpenType}
 use Rattle.pdf_values.specs.Weight.{font_weight, weight_of as weight_said}
 use Rattle.pdf_values.specs.declared.bounds.Bounds.{Bounds}
-use Rattle.subsetter_pdf_c.specs.Entries.{texts_of}
+use Rattle.pdf_codes.specs.Shown.{texts_of}
 use Rattle.subsetter_pdf_c.specs.Made.{AreValuesOf, IsDescriptorOf, column_of, columns_text_of, default_column as default_by, is_yes, kind_of, no_column, unless_empty, weight_of}
 use Rattle.subsetter_pdf_c.specs.Written.{AreGlyphsOf, advance_by, advance_of, size_of}
 use Rattle.subsetter_pdf_c.specs.declared.made.PdfColumn.{PdfColumn}

@@ -11,7 +11,7 @@ use Rattle.pdf_objects.specs.Values.{AreValuesOf as AreValuesOfFont}
 use Rattle.pdf_sheet.specs.declared.glyphs.SheetGlyph.{SheetGlyph}
 use Rattle.pdf_source.specs.declared.choice.FontOptions.{FontOptions}
 use Rattle.pdf_text.specs.declared.values.FontValues.{FontValues}
-use Rattle.subsetter_pdf_c.specs.Entries.{texts_of}
+use Rattle.pdf_codes.specs.Shown.{texts_of}
 use Rattle.subsetter_pdf_c.specs.Made.{AreValuesOf}
 use Rattle.subsetter_pdf_c.specs.Written.{AreGlyphsOf}
 use Rattle.subsetter_pdf_c.specs.declared.made.PdfMade.{PdfMade}

@@ -9,7 +9,8 @@ ghost use Rattle.pdf_codes.specs.declared.shown.Shown.{Shown as SpecShown};
 ghost use Rattle.pdf_font.specs.PdfFont.{IsPdfFont, font_of};
 ghost use Rattle.pdf_font.specs.declared.error.FontError.TheVariants.{Subset};
 ghost use Rattle.pdf_font.specs.declared.font.PdfFont.{PdfFont as SpecPdfFont};
-ghost use Rattle.subsetter_pdf_c.specs.Entries.{AreTexts, are_ascending, are_scalars, texts_from, texts_of, uses_in};
+ghost use Rattle.subsetter_pdf_c.specs.Entries.{AreTexts, are_ascending, are_scalars, texts_from, uses_in};
+ghost use Rattle.pdf_codes.specs.Shown.{texts_of};
 ghost use Rattle.subsetter_c.specs.PdfFonts.{AreNumbersOf, IsEmpty, IsFontRefused, IsHandedBy, IsLaidOut, bytes_of, c_column, cmap_name, cmap_text, columns_of, default_column, is_there, kind_number, no_numbers, number_of, or_zero, refusal_status, usage_number, vertical_number};
 ghost use Rattle.subsetter_c.specs.Settings.{settings_of};
 

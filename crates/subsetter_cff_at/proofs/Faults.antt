@@ -16,7 +16,7 @@ use Rattle.subsetter_cff.specs.Read.Matrices.{thousandth_matrix, unit_matrix}
 use Rattle.subsetter_cff.specs.Read.Operators.{char_strings_operator, font_dicts_operator, font_dict_select_operator}
 use Rattle.subsetter_cff.specs.Write.Layout.{Parts, char_strings_place}
 use Rattle.subsetter_cff.specs.Write.Plain.{limited}
-use Rattle.subsetter_cff.specs.Write.UsedFontDicts.{is_used}
+use Rattle.subsetter_base.specs.Places.{is_listed}
 use Rattle.subsetter_cff.specs.Write.WrittenNumbers.{any_long, entry_numbers, font_dict_numbers, written_numbers}
 use Rattle.subsetter_cff.proofs.ReadLaws.Refusals.{bind_err, none_of, failed, none_or}
 use Rattle.subsetter_cff.proofs.ReadLaws.Results.{bind_ok, same_Ok, some_of}
@@ -180,7 +180,7 @@ record PresentAt (numbers : List (Option ℕ)) (n : ℕ) : Type 0 where
 present_later : (one : Option ℕ) (numbers : List (Option ℕ)) (n : ℕ) → PresentAt numbers n → PresentAt (one ∷ numbers) n
 present_later one numbers n p = record { index = suc p.index; is = p.is }
 
-present_at : (numbers : List (Option ℕ)) (n : ℕ) → is_used (present numbers) n ≡ true → PresentAt numbers n
+present_at : (numbers : List (Option ℕ)) (n : ℕ) → is_listed (present numbers) n ≡ true → PresentAt numbers n
 present_at [] n e = absurd cc
 present_at (None ∷ numbers) n e = present_later None numbers n (present_at numbers n e)
 present_at (Some m ∷ numbers) n e =
@@ -192,7 +192,7 @@ present_at (Some m ∷ numbers) n e =
 used_in : (bound : ℕ) (numbers : List (Option ℕ)) (used : List ℕ) (i n : ℕ) → counted_dicts bound (present numbers) ≡ Ok used → slice_get used i ≡ Some n → PresentAt numbers n
 unfolding used_dicts
 used_in bound numbers used i n e at =
-    present_at numbers n (filter_at (is_used (present numbers)) 0 bound i n (ap (λ (l : List ℕ). slice_get l i) (sym (few_used bound (present numbers) used e).0) ∙ at))
+    present_at numbers n (filter_at (is_listed (present numbers)) 0 bound i n (ap (λ (l : List ℕ). slice_get l i) (sym (few_used bound (present numbers) used e).0) ∙ at))
 
 requested_by : (cff : Cff2) (glyph n : ℕ) (a : Option ℕ) → number_if cff glyph a ≡ Ok (Some n) → (advance : ℕ) × ((a ≡ Some advance) × (dict_number cff glyph ≡ Ok n))
 requested_by cff glyph n None e = absurd (let bad : ◌≡◌ {A = Result (Option ℕ) Error} (Ok None) (Ok (Some n)) = e in cc)

@@ -6,9 +6,8 @@ use Rattle.std.specs.Option.{ok_or}
 use Rattle.std.proofs.lemmas.Bool.{cases_Bool, cases_eq, eq-eqb, ltb-true}
 use Rattle.std.proofs.lemmas.Option.{none-some, same_Some, slice_get_within}
 use Rattle.subsetter_base.specs.Bytes.{◌>>=◌}
-use Rattle.subsetter_base.specs.Places.{place}
+use Rattle.subsetter_base.specs.Places.{place, is_listed}
 use Rattle.subsetter_base.specs.declared.error.Error.TheVariants.{MalformedFont, OverflowError}
-use Rattle.subsetter_cff.specs.Write.UsedFontDicts.{is_used}
 use Rattle.subsetter_cff.proofs.ReadLaws.Results.{bind_ok, same_Ok, some_of, passed, In, in_head, in_tail, number_there}
 use Rattle.subsetter_cff2.specs.Cff2.{Cff2}
 use Rattle.subsetter_cff2.specs.Made2.{NewDict, new_dict, new_dicts}
@@ -193,19 +192,19 @@ in_filter p k (suc n) i low high is =
           )
     ]
 
-pub in_used : (bound : ℕ) (numbers : List ℕ) (n : ℕ) → n < bound → is_used numbers n ≡ true → In (used_dicts bound numbers) n
+pub in_used : (bound : ℕ) (numbers : List ℕ) (n : ℕ) → n < bound → is_listed numbers n ≡ true → In (used_dicts bound numbers) n
 unfolding used_dicts
-in_used bound numbers n below is = in_filter (is_used numbers) 0 bound n (omega arith) (omega arith) is
+in_used bound numbers n below is = in_filter (is_listed numbers) 0 bound n (omega arith) (omega arith) is
 
 or_after : (b : Bool) → (b || true) ≡ true
 or_after true = refl
 or_after false = refl
 
-used_after : (one : Option ℕ) (ns : List ℕ) (n : ℕ) → is_used ns n ≡ true → is_used (with_number one ns) n ≡ true
+used_after : (one : Option ℕ) (ns : List ℕ) (n : ℕ) → is_listed ns n ≡ true → is_listed (with_number one ns) n ≡ true
 used_after None ns n is = is
 used_after (Some m) ns n is = rw is (or_after (eqb m n))
 
-pub used_of : (numbers : List (Option ℕ)) (i n : ℕ) → slice_get numbers i ≡ Some (Some n) → is_used (present numbers) n ≡ true
+pub used_of : (numbers : List (Option ℕ)) (i n : ℕ) → slice_get numbers i ≡ Some (Some n) → is_listed (present numbers) n ≡ true
 used_of [] i n at = absurd (none-some (Some n) at)
 used_of (m ∷ numbers) zero n at = rw (same_Some m (Some n) at, eq-eqb n n refl) refl
 used_of (m ∷ numbers) (suc i) n at = used_after m (present numbers) n (used_of numbers i n at)

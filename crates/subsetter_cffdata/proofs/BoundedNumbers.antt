@@ -9,7 +9,8 @@ use Rattle.std.proofs.lemmas.Bool.{cases_Bool, ltb-true}
 use Rattle.std.proofs.lemmas.Int.{ints}
 use Rattle.std.proofs.lemmas.Int.Digits.{length-digits_of-le}
 use Rattle.std.proofs.lemmas.Option.{none-some, same_Some}
-use Rattle.subsetter_cffdata.specs.Bytes.{byte, card}
+use Rattle.subsetter_cffdata.specs.Bytes.{card}
+use Rattle.subsetter_base.specs.Bytes.{byte}
 use Rattle.subsetter_cffdata.specs.Decimals.{Decimal, real_at}
 use Rattle.subsetter_cffdata.specs.Numbers.{Number, Integer, Real, Fixed, in_i32, signed16, signed32, short_integer, integer_from, dict_number_from}
 use Rattle.subsetter_cffdata.specs.ReadNumbers.{Within, IsBounded, HasBounded}

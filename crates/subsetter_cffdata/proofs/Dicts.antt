@@ -5,7 +5,8 @@ use Rattle.std.specs.List.{flat_map, AllByRecursion}
 use Rattle.std.proofs.lemmas.Bool.{lt-ltb, le-ltb, ne_eqb, cases_eq, cases_Bool, or_cases, ltb-true, eqb-true}
 use Rattle.std.proofs.lemmas.Option.{none-some}
 use Rattle.std.proofs.lemmas.List.{take_all, length-map}
-use Rattle.subsetter_cffdata.specs.Bytes.{byte, ReadAgain}
+use Rattle.subsetter_cffdata.specs.Bytes.{ReadAgain}
+use Rattle.subsetter_base.specs.Bytes.{byte}
 use Rattle.subsetter_cffdata.specs.Decimals.{Decimal, real_at, real_text, packed}
 use Rattle.subsetter_cffdata.specs.Numbers.{Number, Integer, Real, Fixed, integer, offset, short_integer, integer_from, integer_at, dict_number_from, dict_number_at, number, FitsDict}
 use Rattle.subsetter_cffdata.specs.Dict.{Entry, is_operator, entry_in, entry_at, kept, entries_in, entries, operand_limit, Written, Plain, Long, operand, value, NewEntry, entry_bytes, dict, meaning, IsOperator, FitsOperand, FitsNewEntry}

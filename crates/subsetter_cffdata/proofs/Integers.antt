@@ -4,7 +4,8 @@ use Rattle.std.specs.Prelude.{ℤ, pos, negsuc, neg_ℤ, ◌-ℤ◌, FitsSigned}
 use Rattle.std.specs.Int.{w16, w32, cast_unsigned, to_be_bytes}
 use Rattle.std.proofs.lemmas.Bool.{cases_lt, lt-ltb, le-ltb, ne_eqb}
 use Rattle.std.proofs.lemmas.Int.{ints, to_z-of_z}
-use Rattle.subsetter_cffdata.specs.Bytes.{byte, ReadAgain}
+use Rattle.subsetter_cffdata.specs.Bytes.{ReadAgain}
+use Rattle.subsetter_base.specs.Bytes.{byte}
 use Rattle.subsetter_cffdata.specs.Numbers.{integer, offset, integer_from, signed16, signed32, integer_at, short_integer}
 use Rattle.subsetter_cffdata.proofs.Cards.{byte_again, card_again, be_bytes2, be_bytes4}
 

@@ -1,7 +1,8 @@
 -- Worked examples, computed.
 use Rattle.std.proofs.Common.{◌≡◌, [], ◌∷◌, ◌++◌, replicate, Some, None, refl}
 use Rattle.std.specs.Prelude.{pos, negsuc}
-use Rattle.subsetter_cffdata.specs.Bytes.{byte, card, part}
+use Rattle.subsetter_cffdata.specs.Bytes.{card, part}
+use Rattle.subsetter_base.specs.Bytes.{byte}
 use Rattle.subsetter_cffdata.specs.Decimals.{decimal_digits, unsigned_real, real_of, text_at, real_at, real_text, packed}
 use Rattle.subsetter_cffdata.specs.Numbers.{Integer, Real, in_i32, integer, integer_from, signed16, signed32, integer_at, dict_number_from, short_integer}
 use Rattle.subsetter_cffdata.specs.Values.{value, thousand, by_1000}

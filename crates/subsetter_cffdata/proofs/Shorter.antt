@@ -6,8 +6,9 @@ use Rattle.std.proofs.lemmas.Bool.{cases_Bool, false≢true}
 use Rattle.std.specs.Int.{w16, w32, cast_signed}
 use Rattle.std.proofs.lemmas.List.{length-drop}
 use Rattle.std.proofs.lemmas.Option.{none-some, some_pair_parts}
-use Rattle.subsetter_cffdata.specs.Bytes.{◌>>=◌, byte, part, card}
-use Rattle.subsetter_base.specs.Bytes.{be}
+use Rattle.subsetter_cffdata.specs.Bytes.{part, card}
+use Rattle.subsetter_base.specs.Options.{◌>>=◌}
+use Rattle.subsetter_base.specs.Bytes.{byte, be}
 use Rattle.subsetter_cffdata.specs.Decimals.{characters, with_text, text_at, real_of, real_at}
 use Rattle.subsetter_cffdata.specs.Numbers.{Number, Integer, Real, short_integer, signed16, signed32, integer_from, dict_number_from}
 use Rattle.subsetter_cffdata.specs.Dict.{Token, Operand, Operator, token_at, Entry, is_operator, operator_from, entry_in, entry_at}

@@ -2,7 +2,8 @@
 use Rattle.std.specs.Prelude.{◌≡◌, ◌≢◌, ℕ, zero, suc, ◌<◌, ◌≤◌, IsTrue, Bool, ◌==◌, ◌||◌, nat_lt, if◌then◌else◌, List, [], ◌∷◌, ◌++◌, take, length, map, pos, ◌^◌, Option, Some, None}
 use Rattle.std.specs.Option.{option_map_or}
 use Rattle.std.specs.List.{flat_map, AllByRecursion}
-use Rattle.subsetter_cffdata.specs.Bytes.{◌>>=◌, byte}
+use Rattle.subsetter_base.specs.Options.{◌>>=◌}
+use Rattle.subsetter_base.specs.Bytes.{byte}
 use Rattle.subsetter_cffdata.specs.Numbers.{Number, Integer, FitsDict, dict_number_from, number, offset}
 
 -- the bytes of an operator, and its operands

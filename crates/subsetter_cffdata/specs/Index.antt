@@ -2,8 +2,9 @@
 use Rattle.std.specs.Prelude.{ℕ, Bool, ◌+◌, ◌-◌, ◌*◌, ◌==◌, ◌||◌, nat_lt, if◌then◌else◌, List, [], ◌∷◌, ◌++◌, take, drop, length, map, Option, Some, None}
 use Rattle.std.specs.Int.{is_in_range, bytes_high_first}
 use Rattle.std.specs.List.{flat_map, concat, range_with_len}
-use Rattle.subsetter_base.specs.Bytes.{be}
-use Rattle.subsetter_cffdata.specs.Bytes.{◌>>=◌, byte, card, part}
+use Rattle.subsetter_base.specs.Bytes.{be, byte}
+use Rattle.subsetter_cffdata.specs.Bytes.{card, part}
+use Rattle.subsetter_base.specs.Options.{◌>>=◌}
 
 -- ---- reading
 -- offset i, of offsets of size bytes each

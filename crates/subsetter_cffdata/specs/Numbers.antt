@@ -1,7 +1,9 @@
 -- The numbers of a DICT and of a charstring.
 use Rattle.std.specs.Prelude.{ℕ, ◌+◌, ◌-◌, ◌*◌, ◌/◌, ◌%◌, Bool, false, length, FitsSigned, ℤ, pos, negsuc, neg_ℤ, ◌-ℤ◌, ◌==◌, nat_lt, if◌then◌else◌, List, [], ◌∷◌, Option, Some, None}
 use Rattle.std.specs.Int.{w16, w32, cast_signed, cast_unsigned, to_be_bytes}
-use Rattle.subsetter_cffdata.specs.Bytes.{◌>>=◌, byte, card}
+use Rattle.subsetter_cffdata.specs.Bytes.{card}
+use Rattle.subsetter_base.specs.Options.{◌>>=◌}
+use Rattle.subsetter_base.specs.Bytes.{byte}
 use Rattle.subsetter_cffdata.specs.Decimals.{Decimal, HasText, real_at, real_text, packed, whole, text_limit}
 
 -- A number with its kind: an integer, an exact decimal, or a Fixed in 65536ths.

@@ -3,7 +3,7 @@ use Rattle.std.specs.Prelude.{◌*◌, ℤ, pos, negsuc, ◌+ℤ◌, if◌then�
 use Rattle.std.specs.Option.{option_map}
 use Rattle.std.specs.Int.{is_negative}
 use Rattle.std.specs.Int.Digits.{digits_of}
-use Rattle.subsetter_cffdata.specs.Bytes.{◌>>=◌}
+use Rattle.subsetter_base.specs.Options.{◌>>=◌}
 use Rattle.subsetter_cffdata.specs.Decimals.{Decimal, is_zero, decimal}
 use Rattle.subsetter_cffdata.specs.Numbers.{Number, Integer, Real, Fixed, in_i32}
 

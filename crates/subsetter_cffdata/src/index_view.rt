@@ -3,9 +3,9 @@
 ghost use Rattle.std.specs.Prelude.{◌≤◌, ◌*◌, length};
 ghost use Rattle.subsetter_cffdata.specs.OffsetSizes.{size_of};
 
-use crate::card::{TwoNumbers, number_of, two_numbers};
 use crate::index_iter::IndexIter;
 use crate::offset_size::OffsetSize;
+use subsetter_base::numbers::{TwoNumbers, number_of, two_numbers};
 
 /// The offsets of an INDEX, of one size each.
 #[derive(Clone, Copy, Debug)]

@@ -11,7 +11,6 @@
 //! ```
 #![tactic(auto)]
 
-mod card;
 pub mod charstring_number;
 pub mod dict;
 pub mod index;

@@ -1,11 +1,12 @@
 //! What a reader has next: bytes, and whole numbers, the high byte first.
 
 ghost use Rattle.std.specs.Prelude.{◌≡◌, ◌≤◌, length, drop, IfSome};
-ghost use Rattle.subsetter_cffdata.specs.Bytes.{byte, card, part};
+ghost use Rattle.subsetter_cffdata.specs.Bytes.{card, part};
+ghost use Rattle.subsetter_base.specs.Bytes.{byte};
 ghost use Rattle.subsetter_cffdata.specs.Numbers.{signed16, signed32};
 ghost use Rattle.subsetter_cffdata.specs.Reading.{rest, Takes};
 
-use subsetter_base::read::Reader;
+use subsetter_base::read::{Reader, u16_of, u32_of};
 
 /// The next bytes, where there are as many.
 #[tactic(auto, unfolding(crate::specs::Bytes::part))]
@@ -37,7 +38,7 @@ pub fn next_u16(r: &mut Reader<'_>) -> Option<u16>
     ensures same { r.new.bytes ≡ r.old.bytes }
 {
     let bytes = next_bytes(r, 2)?;
-    Some(u16::from_be_bytes([bytes[0], bytes[1]]))
+    Some(u16_of(bytes))
 }
 
 /// The next four bytes, as an unsigned number.
@@ -47,7 +48,7 @@ pub fn next_u32(r: &mut Reader<'_>) -> Option<u32>
     ensures same { r.new.bytes ≡ r.old.bytes }
 {
     let bytes = next_bytes(r, 4)?;
-    Some(u32::from_be_bytes([bytes[0], bytes[1], bytes[2], bytes[3]]))
+    Some(u32_of(bytes))
 }
 
 /// The next two bytes, in two's complement.
@@ -57,7 +58,7 @@ pub fn next_i16(r: &mut Reader<'_>) -> Option<i16>
     ensures same { r.new.bytes ≡ r.old.bytes }
 {
     let bytes = next_bytes(r, 2)?;
-    Some(i16::from_be_bytes([bytes[0], bytes[1]]))
+    Some(u16_of(bytes).cast_signed())
 }
 
 /// The next four bytes, in two's complement.
@@ -67,7 +68,7 @@ pub fn next_i32(r: &mut Reader<'_>) -> Option<i32>
     ensures same { r.new.bytes ≡ r.old.bytes }
 {
     let bytes = next_bytes(r, 4)?;
-    Some(i32::from_be_bytes([bytes[0], bytes[1], bytes[2], bytes[3]]))
+    Some(u32_of(bytes).cast_signed())
 }
 
 /// What is left.

@@ -1,18 +1,17 @@
 //! Reading an INDEX (Technical Note 5176, section 5 "INDEX Data").
 
 ghost use Rattle.std.specs.Prelude.{◌≡◌, ◌≤◌, ◌<◌, ◌+◌, ◌*◌};
-ghost use Rattle.subsetter_cffdata.specs.Bytes.{card};
 ghost use Rattle.subsetter_cffdata.specs.IndexView.{items};
 ghost use Rattle.subsetter_cffdata.specs.Index.{index_at, index_of, index_data, index_body};
 ghost use Rattle.subsetter_cffdata.specs.OffsetSizes.{size_of};
 ghost use Rattle.subsetter_cffdata.specs.Reading.{rest, Takes};
 ghost use Rattle.std.specs.Option.{option_map};
 
-use crate::card::number_of;
 use crate::index_size::IndexSize;
 use crate::index_view::{Index, VarOffsets};
 use crate::offset_size::OffsetSize;
 use crate::reading;
+use subsetter_base::numbers::number_of;
 use subsetter_base::read::Reader;
 
 /// Reads an INDEX with a count of this type; None where its count, offset size, offsets or data aren't all there, or its offset size isn't 1 to 4.

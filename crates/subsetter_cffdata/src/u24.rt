@@ -4,8 +4,8 @@ ghost use Rattle.std.specs.Prelude.{◌≡◌, ◌%◌, Some};
 ghost use Rattle.std.specs.Int.{bytes_high_first};
 ghost use Rattle.subsetter_base.specs.Bytes.{be};
 
-use crate::card::number_of;
 use subsetter_base::error::Error;
+use subsetter_base::numbers::number_of;
 use subsetter_base::read::{Readable, Reader};
 use subsetter_base::write::{Writeable, Writer};
 

@@ -1,9 +1,8 @@
 -- The components of a composite glyph, one after another.
 use Rattle.std.proofs.Common.{◌≡◌, ℕ, suc, ◌+◌, ◌-◌, ◌<◌, List, [], ◌∷◌, ◌++◌, Some, None, Result, Ok, Err, true, false, refl, ap, sym, append_assoc, arith}
-use Rattle.subsetter_base.specs.Bytes.{◌>>=◌}
+use Rattle.subsetter_base.specs.Bytes.{◌>>=◌, has_flag}
 use Rattle.subsetter_base.specs.declared.error.Error.{Error}
 use Rattle.subsetter_base.specs.declared.error.Error.TheVariants.{MalformedFont, OverflowError}
-use Rattle.subsetter_points.specs.Simple.{has}
 use Rattle.subsetter_instance.specs.Components.{component_at, components_at}
 use Rattle.subsetter_instance.specs.declared.components.Component.{Component}
 
@@ -15,13 +14,13 @@ behind_more : (front : List Component) (c : Component) (rest : Result (List Comp
 behind_more front c (Ok r) = ap (λ l. Ok (l, r.1)) (sym (append_assoc front (c ∷ []) r.0))
 behind_more front c (Err e) = refl
 
-pub chain_goes_on : (front : List Component) (n k : ℕ) (rest : List ℕ) (c : Component) (after : List ℕ) → k < n → component_at rest ≡ Some (c, after) → has c.flags 0x0020 ≡ true → behind front (components_at (n - k) rest) ≡ behind (front ++ c ∷ []) (components_at (n - (k + 1)) after)
+pub chain_goes_on : (front : List Component) (n k : ℕ) (rest : List ℕ) (c : Component) (after : List ℕ) → k < n → component_at rest ≡ Some (c, after) → has_flag c.flags 0x0020 ≡ true → behind front (components_at (n - k) rest) ≡ behind (front ++ c ∷ []) (components_at (n - (k + 1)) after)
 unfolding components_at
 chain_goes_on front n k rest c after less h more =
     let one : n - k ≡ suc (n - (k + 1)) = omega arith in
     rw (one, h, more) (behind_more front c (components_at (n - (k + 1)) after))
 
-pub chain_ends : (front : List Component) (n k : ℕ) (rest : List ℕ) (c : Component) (after : List ℕ) → k < n → component_at rest ≡ Some (c, after) → has c.flags 0x0020 ≡ false → behind front (components_at (n - k) rest) ≡ Ok (front ++ c ∷ [], n - k - 1)
+pub chain_ends : (front : List Component) (n k : ℕ) (rest : List ℕ) (c : Component) (after : List ℕ) → k < n → component_at rest ≡ Some (c, after) → has_flag c.flags 0x0020 ≡ false → behind front (components_at (n - k) rest) ≡ Ok (front ++ c ∷ [], n - k - 1)
 unfolding components_at
 chain_ends front n k rest c after less h last =
     let one : n - k ≡ suc (n - (k + 1)) = omega arith in

@@ -7,7 +7,8 @@ use Rattle.std.proofs.lemmas.List.Elements.{All-nil, All-cons}
 use Rattle.subsetter_base.specs.declared.error.Error.TheVariants.{OverflowError}
 use Rattle.std.specs.List.{range_with_len}
 use Rattle.std.proofs.lemmas.List.FromFn.{map-range_with_len_more}
-use Rattle.subsetter_points.specs.Simple.{are_ends, has, parts, points, xs_of, ys_of}
+use Rattle.subsetter_points.specs.Simple.{are_ends, parts, points, xs_of, ys_of}
+use Rattle.subsetter_base.specs.Bytes.{has_flag}
 use Rattle.subsetter_points.proofs.Sound.{points_length}
 use Rattle.subsetter_instance.specs.Source.{Source}
 use Rattle.subsetter_sfnt.specs.declared.fields.hmtx.LongHorMetric.{LongHorMetric}
@@ -65,12 +66,12 @@ ys_of_points (f ∷ fs) [] vs a b = absurd (omega arith)
 ys_of_points (f ∷ fs) (u ∷ us) [] a b = absurd (omega arith)
 ys_of_points (f ∷ fs) (u ∷ us) (v ∷ vs) a b = ap (λ l. v ∷ l) (ys_of_points fs us vs (omega arith) (omega arith))
 
-pub on_of_points : (fs : List ℕ) (us vs : List ℤ) → length us ≡ length fs → length vs ≡ length fs → map (λ p. p.on_curve) (points fs us vs) ≡ map (λ f. has f 1) fs
+pub on_of_points : (fs : List ℕ) (us vs : List ℤ) → length us ≡ length fs → length vs ≡ length fs → map (λ p. p.on_curve) (points fs us vs) ≡ map (λ f. has_flag f 1) fs
 unfolding points
 on_of_points [] us vs a b = refl
 on_of_points (f ∷ fs) [] vs a b = absurd (omega arith)
 on_of_points (f ∷ fs) (u ∷ us) [] a b = absurd (omega arith)
-on_of_points (f ∷ fs) (u ∷ us) (v ∷ vs) a b = ap (λ l. has f 1 ∷ l) (on_of_points fs us vs (omega arith) (omega arith))
+on_of_points (f ∷ fs) (u ∷ us) (v ∷ vs) a b = ap (λ l. has_flag f 1 ∷ l) (on_of_points fs us vs (omega arith) (omega arith))
 
 -- a simple glyph by its flags and coordinates
 pub simple_by_flags : (s : Source) (at : List ℤ) (steps g : ℕ) (bytes : List ℕ) (m : LongHorMetric) (ends fs : List ℕ) (us vs : List ℤ) → Some (ends, points fs us vs) ≡ parts bytes → length us ≡ length fs → length vs ≡ length fs

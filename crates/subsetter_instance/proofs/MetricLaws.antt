@@ -6,16 +6,16 @@ use Rattle.std.proofs.lemmas.Bool.{ltb-false}
 use Rattle.std.proofs.lemmas.Int.{ints, of_z-to_z}
 use Rattle.std.proofs.lemmas.List.{drop-drop, length-drop, length-take-le, take-append-drop}
 use Rattle.std.proofs.lemmas.Nat.{be_bytes_2}
-use Rattle.subsetter_base.specs.Bytes.{IsBytes, be}
+use Rattle.subsetter_base.specs.Bytes.{IsBytes, be, signed_at}
 use Rattle.subsetter_base.specs.declared.error.Error.TheVariants.{OverflowError}
 use Rattle.subsetter_base.proofs.ByteLemmas.{IsBytes-drop, IsBytes-take, be-fits}
 use Rattle.subsetter_base.proofs.Options.{bind_some, just, just_is}
 use Rattle.subsetter_base.proofs.Results.{bind_ok, done, done_is}
 use Rattle.subsetter_points.specs.Simple.{has_16_bits, signed_word}
-use Rattle.subsetter_variation.specs.Optional as optional
+use Rattle.subsetter_base.specs.Options as optional
 use Rattle.subsetter_variation.specs.FontMetrics.{metric_delta, metric_store, value_delta, value_of}
 use Rattle.subsetter_variation.specs.ItemLaws.{HasBoundRegions, IsMaster}
-use Rattle.subsetter_variation.specs.ItemVariations.{Row, Store, advance_delta, advance_index, delta, in_whole_units, item_delta, item_row, signed_at, store_of, terms, whole_or_fault}
+use Rattle.subsetter_variation.specs.ItemVariations.{Row, Store, advance_delta, advance_index, delta, in_whole_units, item_delta, item_row, store_of, terms, whole_or_fault}
 use Rattle.subsetter_variation.specs.Nearest.{nearest}
 use Rattle.subsetter_variation.specs.Region.{unit}
 use Rattle.subsetter_variation.proofs.Items.{is_item_at_default, is_item_at_master, nearest_is}

@@ -6,7 +6,7 @@ use Rattle.std.proofs.lemmas.List.Sums.{AllPass-from_list_all}
 use Rattle.std.proofs.lemmas.Int.{to_z-of_z, fits_signed_from_abs}
 use Rattle.std.proofs.lemmas.List.{append-nil, drop_all, drop_more, length-append, length-map}
 use Rattle.std.proofs.lemmas.List.Elements.{All-append, All-cons, All-map, All-nil, All-weaker}
-use Rattle.subsetter_points.specs.Simple.{has}
+use Rattle.subsetter_base.specs.Bytes.{has_flag}
 use Rattle.subsetter_instance.specs.Unfolded.{Unfolded, IsInReach, are_near, joined_parts, moved_part, shifted, with_metrics}
 
 wide_47 : (x : ℤ) → unsigned_abs x ≤ 2 ^ 45 → unsigned_abs x ≤ 2 ^ 47
@@ -40,7 +40,7 @@ joined_reach a b h g =
 
 -- the phantom points of one and all else of another
 pub metrics_reach : (flags : ℕ) (a b : Unfolded) → IsInReach a → IsInReach b → IsInReach (with_metrics flags a b)
-metrics_reach flags a b h g = by (has flags 0x0200)
+metrics_reach flags a b h g = by (has_flag flags 0x0200)
   where
     by : (t : Bool) → IsInReach (if t then record a { left = b.left; right = b.right } else a)
     by true = record { shape = record { xs = h.shape.xs; ys = h.shape.ys; ends = h.shape.ends; left = g.shape.left; right = g.shape.right }; xs = h.xs; ys = h.ys }

@@ -3,11 +3,11 @@ use Rattle.std.specs.Prelude.{ℕ, zero, suc, ◌+◌, List, [], ◌∷◌, Opti
 use Rattle.std.specs.Int.{w8, w16, cast_signed}
 use Rattle.std.specs.Option.{ok_or, option_map}
 use Rattle.subsetter_base.specs.Bytes as bytes
-use Rattle.subsetter_base.specs.Bytes.{number}
+use Rattle.subsetter_base.specs.Bytes.{number, has_flag}
 use Rattle.subsetter_base.specs.declared.error.Error.{Error}
 use Rattle.subsetter_base.specs.declared.error.Error.TheVariants.{MalformedFont, OverflowError}
-use Rattle.subsetter_points.specs.Simple.{after, has}
-use Rattle.subsetter_instance.specs.Optional.{◌>>=◌}
+use Rattle.subsetter_points.specs.Simple.{after}
+use Rattle.subsetter_base.specs.Options.{◌>>=◌}
 use Rattle.subsetter_instance.specs.declared.components.Arguments.{Arguments}
 use Rattle.subsetter_instance.specs.declared.components.Arguments.TheVariants.{Offset, Points}
 use Rattle.subsetter_instance.specs.declared.components.Matrix.{Matrix}
@@ -49,13 +49,13 @@ word_points bytes = do
 -- two words where the flags have ARG_1_AND_2_ARE_WORDS, else two bytes; an offset where they have ARGS_ARE_XY_VALUES, else two points
 abbrev pub arguments_at : ℕ → List ℕ → Option Arguments
 arguments_at flags bytes =
-    if has flags 0x0001
-    then (if has flags 0x0002 then word_offset bytes else word_points bytes)
-    else (if has flags 0x0002 then byte_offset bytes else byte_points bytes)
+    if has_flag flags 0x0001
+    then (if has_flag flags 0x0002 then word_offset bytes else word_points bytes)
+    else (if has_flag flags 0x0002 then byte_offset bytes else byte_points bytes)
 
 -- where they end
 abbrev pub arguments_end : ℕ → ℕ
-arguments_end flags = if has flags 0x0001 then 8 else 6
+arguments_end flags = if has_flag flags 0x0001 then 8 else 6
 
 -- ---- the matrix, of F2DOT14
 
@@ -84,14 +84,14 @@ two_by_two_at bytes at = do
 -- WE_HAVE_A_SCALE, WE_HAVE_AN_X_AND_Y_SCALE, WE_HAVE_A_TWO_BY_TWO, or no matrix
 abbrev pub matrix_at : ℕ → List ℕ → ℕ → Option (Option Matrix)
 matrix_at flags bytes at =
-    if has flags 0x0008 then scale_at bytes at
-    else if has flags 0x0040 then scales_at bytes at
-    else if has flags 0x0080 then two_by_two_at bytes at
+    if has_flag flags 0x0008 then scale_at bytes at
+    else if has_flag flags 0x0040 then scales_at bytes at
+    else if has_flag flags 0x0080 then two_by_two_at bytes at
     else Some None
 
 -- where it ends
 abbrev pub matrix_end : ℕ → ℕ → ℕ
-matrix_end flags at = at + (if has flags 0x0008 then 2 else if has flags 0x0040 then 4 else if has flags 0x0080 then 8 else 0)
+matrix_end flags at = at + (if has_flag flags 0x0008 then 2 else if has_flag flags 0x0040 then 4 else if has_flag flags 0x0080 then 8 else 0)
 
 -- ---- components
 
@@ -109,7 +109,7 @@ component_at bytes = do
 unfoldable pub components_at : ℕ → List ℕ → Result (List Component × ℕ) Error
 components_at zero rest = Err OverflowError
 components_at (suc steps) rest = bytes.◌>>=◌ (ok_or (component_at rest) MalformedFont) (λ c.
-    if has c.0.flags 0x0020 then bytes.◌>>=◌ (components_at steps c.1) (λ more. Ok (c.0 ∷ more.0, more.1)) else Ok (c.0 ∷ [], steps))
+    if has_flag c.0.flags 0x0020 then bytes.◌>>=◌ (components_at steps c.1) (λ more. Ok (c.0 ∷ more.0, more.1)) else Ok (c.0 ∷ [], steps))
 
 -- ---- offsets, as gvar varies them: 0 and 0 where points are matched
 

@@ -11,7 +11,6 @@ pub mod Laws
 pub mod Lines
 pub mod LinesFault
 pub mod MetricLaws
-pub mod Optional
 pub mod PlaceFault
 pub mod Plain
 pub mod RoundedFault

@@ -2,12 +2,12 @@
 use Rattle.std.specs.Prelude.{ℕ, ◌+◌, List, ◌++◌, length, take, drop, slice_range, codes, Option, Some, None, Result, Ok, nat_lt, if◌then◌else◌, ℤ, ◌+ℤ◌}
 use Rattle.std.specs.Option.{ok_or}
 use Rattle.std.specs.Str.{bytes_eq}
-use Rattle.subsetter_base.specs.Bytes.{◌>>=◌}
+use Rattle.subsetter_base.specs.Bytes.{◌>>=◌, signed_at}
 use Rattle.subsetter_base.specs.declared.error.Error.{Error}
 use Rattle.subsetter_base.specs.declared.error.Error.TheVariants.{MalformedFont}
 use Rattle.subsetter_points.specs.Simple.{signed_word}
 use Rattle.subsetter_variation.specs.FontMetrics.{metric_delta}
-use Rattle.subsetter_variation.specs.ItemVariations.{signed_at, whole_or_fault}
+use Rattle.subsetter_variation.specs.ItemVariations.{whole_or_fault}
 use Rattle.subsetter_instance.specs.Drawn.{word_or_fault}
 
 -- a number with what MVAR varies the metric of a tag by, which has 16 bits

@@ -5,7 +5,8 @@ use Rattle.subsetter_base.specs.declared.error.Error.{Error}
 use Rattle.subsetter_base.specs.declared.error.Error.TheVariants.{MalformedFont, OverflowError}
 use Rattle.subsetter_points.specs.Simple.{has_16_bits}
 use Rattle.subsetter_variation.specs.FontMetrics.{metric_delta}
-use Rattle.subsetter_variation.specs.ItemVariations.{signed_at, whole_or_fault}
+use Rattle.subsetter_variation.specs.ItemVariations.{whole_or_fault}
+use Rattle.subsetter_base.specs.Bytes.{signed_at}
 use Rattle.subsetter_instance.specs.ItemFault.{HasMvarFault}
 
 -- the metrics of hhea that vary: their tags, and their offsets in the table

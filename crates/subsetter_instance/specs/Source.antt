@@ -1,13 +1,13 @@
 -- The tables that an instance is made from (OpenType, "head", "hhea", "hmtx", "maxp", "loca", "glyf", "fvar", "avar", "gvar" and "HVAR").
-use Rattle.std.specs.Prelude.{◌≡◌, IfSome, ℕ, ◌+◌, ◌-◌, ◌*◌, Bool, not, ◌||◌, List, [], codes, Option, Some, None, Result, Ok, Err, nat_le, nat_lt, ◌==◌, if◌then◌else◌, ℤ}
+use Rattle.std.specs.Prelude.{◌≡◌, IfSome, ℕ, ◌+◌, ◌-◌, ◌*◌, Bool, not, ◌||◌, List, [], codes, Option, Some, None, Result, Ok, Err, nat_lt, ◌==◌, if◌then◌else◌, ℤ}
 use Rattle.std.specs.Option.{ok_or, option_map}
-use Rattle.subsetter_base.specs.Bytes.{range, number}
+use Rattle.subsetter_base.specs.Bytes.{number, between_offsets}
 use Rattle.subsetter_base.specs.declared.tag.Tag.{Tag}
 use Rattle.subsetter_base.specs.declared.error.Error.{Error}
 use Rattle.subsetter_base.specs.declared.error.Error.TheVariants.{MalformedFont, Unimplemented}
 use Rattle.subsetter_variation.specs.Tuples.{Gvar, gvar_table}
 use Rattle.subsetter_variation.specs.Coordinates.{is_other_version, normalized_or_fault}
-use Rattle.subsetter_instance.specs.Optional.{◌>>=◌}
+use Rattle.subsetter_base.specs.Options.{◌>>=◌}
 use Rattle.subsetter_sfnt.specs.Fields.Hmtx.{metric_at}
 use Rattle.subsetter_sfnt.specs.declared.fields.hmtx.LongHorMetric.{LongHorMetric}
 
@@ -75,10 +75,6 @@ HasAxes gvar axes = IfSome gvar (λ t. axes ≡ t.axis_count)
 -- an offset of loca: of four bytes, or half of it of two
 abbrev pub offset : Source → ℕ → Option ℕ
 offset s g = if s.long then number s.loca (4 * g) 4 else option_map (λ half. 2 * half) (number s.loca (2 * g) 2)
-
--- the bytes between two offsets
-abbrev pub between_offsets : List ℕ → ℕ → ℕ → Option (List ℕ)
-between_offsets glyf from to = if nat_le from to then range glyf from (to - from) else None
 
 -- the description of a glyph: the bytes between its offset and the next
 unfoldable pub description : Source → ℕ → Option (List ℕ)

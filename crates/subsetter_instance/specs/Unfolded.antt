@@ -4,12 +4,12 @@ use Rattle.std.specs.Int.{w16, cast_signed}
 use Rattle.std.specs.List.{list_all, range_with_len}
 use Rattle.std.specs.Option.{ok_or}
 use Rattle.std.specs.Ordering.{int_eq}
-use Rattle.subsetter_base.specs.Bytes.{number, ◌>>=◌}
+use Rattle.subsetter_base.specs.Bytes.{number, ◌>>=◌, has_flag}
 use Rattle.subsetter_base.specs.declared.error.Error.{Error}
 use Rattle.subsetter_base.specs.declared.error.Error.TheVariants.{MalformedFont, Unimplemented, OverflowError}
-use Rattle.subsetter_instance.specs.Optional as optional
+use Rattle.subsetter_base.specs.Options as optional
 use Rattle.subsetter_points.specs.declared.outline.Point.{Point}
-use Rattle.subsetter_points.specs.Simple.{after, has, parts, xs_of, ys_of}
+use Rattle.subsetter_points.specs.Simple.{after, parts, xs_of, ys_of}
 use Rattle.subsetter_variation.specs.Nearest.{nearest}
 use Rattle.subsetter_variation.specs.Tuples.{Gvar}
 use Rattle.subsetter_variation.specs.Movement.{Outline, spent, moved_points}
@@ -104,7 +104,7 @@ simple_outline bytes m ends points xs ys = record {
 abbrev pub outline_by_flags : List ℕ → LongHorMetric → List ℕ → List ℕ → List ℤ → List ℤ → Unfolded
 outline_by_flags bytes m ends flags xs ys = record {
   ends = ends;
-  on = map (λ f. has f 1) flags;
+  on = map (λ f. has_flag f 1) flags;
   xs = take (length flags) xs;
   ys = take (length flags) ys;
   left = left_point bytes m (length flags) xs;
@@ -154,7 +154,7 @@ is_identity m = int_eq m.xx (pos 16384) && (int_eq m.yx (pos 0) && (int_eq m.xy 
 -- UNSCALED_COMPONENT_OFFSET, which is the default, it doesn't count.
 abbrev pub is_scaled : ℕ → Option Matrix → Bool
 is_scaled flags None = false
-is_scaled flags (Some m) = has flags 0x0800 && not (has flags 0x1000 || is_identity m)
+is_scaled flags (Some m) = has_flag flags 0x0800 && not (has_flag flags 0x1000 || is_identity m)
 
 -- a point by its number
 abbrev pub point_at : List ℤ → List ℤ → ℕ → Option (ℤ × ℤ)
@@ -215,7 +215,7 @@ with_points c x y before part xs ys steps = do
 -- USE_MY_METRICS: the phantom points of a component, as it is at the place, before its matrix and its offset, take the place of the glyph's
 -- own and of those of the components before it
 abbrev pub with_metrics : ℕ → Unfolded → Unfolded → Unfolded
-with_metrics flags before part = if has flags 0x0200 then record before { left = part.left; right = part.right } else before
+with_metrics flags before part = if has_flag flags 0x0200 then record before { left = part.left; right = part.right } else before
 
 abbrev pub with_component : Component → ℤ → ℤ → Unfolded → Unfolded → ℕ → Result (Unfolded × ℕ) Error
 with_component c x y before part steps = with_part c x y (with_metrics c.flags before part) part steps

@@ -5,7 +5,8 @@ use Rattle.std.specs.List.{range_with_len}
 use Rattle.subsetter_base.specs.declared.error.Error.{Error}
 use Rattle.subsetter_base.specs.declared.error.Error.TheVariants.{MalformedFont, Unimplemented, OverflowError}
 use Rattle.subsetter_points.specs.declared.outline.Point.{Point}
-use Rattle.subsetter_points.specs.Simple.{after, has, parts, xs_of, ys_of}
+use Rattle.subsetter_points.specs.Simple.{after, parts, xs_of, ys_of}
+use Rattle.subsetter_base.specs.Bytes.{has_flag}
 use Rattle.subsetter_variation.specs.GvarFault.{HasVariationFault}
 use Rattle.subsetter_variation.specs.Movement.{Outline, spent}
 use Rattle.subsetter_variation.specs.Tuples.{Gvar}
@@ -49,7 +50,7 @@ pub data HasComponentFault : ℕ → List ℕ → Error → Type 0 where
   -- it is cut
   cut_component : (steps : ℕ) (rest : List ℕ) → component_at rest ≡ None → HasComponentFault (suc steps) rest MalformedFont
   -- one behind it, as MORE_COMPONENTS says that there is one
-  later_component : {e : Error} (steps : ℕ) (rest : List ℕ) (c : Component × List ℕ) → component_at rest ≡ Some c → has c.0.flags 0x0020 ≡ true → HasComponentFault steps c.1 e → HasComponentFault (suc steps) rest e
+  later_component : {e : Error} (steps : ℕ) (rest : List ℕ) (c : Component × List ℕ) → component_at rest ≡ Some c → has_flag c.0.flags 0x0020 ≡ true → HasComponentFault steps c.1 e → HasComponentFault (suc steps) rest e
 
 -- the offsets of components as gvar counts them, phantom points last
 abbrev pub default_offsets : List Component → Outline

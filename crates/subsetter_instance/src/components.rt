@@ -4,7 +4,7 @@ ghost use Rattle.std.specs.Prelude.{◌≡◌, ◌+◌, ◌≤◌, ◌<◌, ◌^
 ghost use Rattle.std.specs.List.{range_with_len};
 ghost use Rattle.std.specs.Option.{option_map};
 ghost use Rattle.subsetter_base.specs.Gives.{Gives};
-ghost use Rattle.subsetter_points.specs.Simple.{has};
+ghost use Rattle.subsetter_base.specs.Bytes.{has_flag};
 ghost use Rattle.subsetter_instance.specs.Components.{arguments_at, arguments_end, byte_offset, byte_points, component_at, components_at, matrix_at, matrix_end, offset_x, offset_xs, offset_y, offset_ys, scale_at, scales_at, signed_byte, signed_word, two_by_two_at, word_offset, word_points};
 
 use std::alloc::{AllocError, Global};
@@ -44,7 +44,7 @@ pub struct Component {
 
 /// Whether a flag is set.
 pub fn has(flags: u16, flag: u16) -> bool
-    ensures { result ≡ has flags flag }
+    ensures { result ≡ has_flag flags flag }
 {
     flags & flag != 0
 }

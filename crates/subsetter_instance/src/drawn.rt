@@ -1,11 +1,8 @@
 //! What a glyph is at a place.
 
 ghost use Rattle.std.specs.Prelude.{◌≡◌, ◌≤◌, ◌^◌, ◌-ℤ◌, All, IfOk, length, unsigned_abs};
-ghost use Rattle.std.specs.Int.{int_min};
-ghost use Rattle.std.specs.List.{fold};
 ghost use Rattle.std.specs.Option.{option_copied};
 ghost use Rattle.subsetter_base.specs.Gives.{Gives};
-ghost use Rattle.subsetter_points.specs.Simple.{xs_of};
 ghost use Rattle.subsetter_instance.specs.Kept.{AreKept};
 ghost use Rattle.subsetter_instance.specs.Source.{HasAxes};
 ghost use Rattle.subsetter_instance.specs.Drawn.{whole, word_or_fault, point_or_fault, points_or_fault, advance_or_fault, advance, bearing, drawn_if_fit, rounded, drawn};
@@ -18,7 +15,7 @@ use crate::unfolding::{Unfolded, unfold};
 use std::alloc::Global;
 use std::marker::Model;
 use subsetter_base::{Error, GlyphRemapper};
-use subsetter_points::{Outline, Point, fits};
+use subsetter_points::{Outline, Point, fits, least_x};
 use subsetter_sfnt::fields::hmtx::LongHorMetric;
 use subsetter_variation::item_variations::advance_delta;
 
@@ -65,8 +62,8 @@ fn whole(value: i64) -> i64
     (above / UNIT) as i64 - ABOVE_UNITS
 }
 
-/// A coordinate, `OverflowError` where it has no 16 bits.
-fn word_or_fault(value: i64) -> Result<i16, Error>
+/// A number of 16 bits, `OverflowError` where it has more.
+pub fn word_or_fault(value: i128) -> Result<i16, Error>
     ensures { result ≡ word_or_fault value }
 {
     if value >= -32768 && value < 32768 {
@@ -93,8 +90,8 @@ fn point_or_fault(left: i64, on_curve: bool, x: i64, y: i64) -> Result<Point, Er
     requires y { unsigned_abs y ≤ 2 ^ 58 }
     ensures { result ≡ point_or_fault left on_curve x y }
 {
-    let across = word_or_fault(whole(distance(left, x)))?;
-    let up = word_or_fault(whole(y))?;
+    let across = word_or_fault(i128::from(whole(distance(left, x))))?;
+    let up = word_or_fault(i128::from(whole(y)))?;
     Ok(Point {
         x: across,
         y: up,
@@ -155,24 +152,6 @@ fn advance(
             advance_or_fault(i128::from(before) + i128::from(advance_delta(hvar, at, glyph)?))
         }
     }
-}
-
-/// The smaller of two numbers.
-fn smaller(a: i16, b: i16) -> i16
-    ensures { result ≡ int_min a b }
-{
-    if b < a { b } else { a }
-}
-
-/// The least x of a point's, `first`, and of others.
-fn least_x(first: i16, rest: &[Point]) -> i16
-    ensures { result ≡ fold int_min first (xs_of rest.now) }
-{
-    let mut least = first;
-    for point in rest {
-        least = smaller(least, point.x);
-    }
-    least
 }
 
 /// The left side bearing: the least x, 0 without points.

@@ -1,11 +1,11 @@
 //! The extremes of the glyphs that are drawn (OpenType, "head" and "hhea").
 
 ghost use Rattle.std.specs.Prelude.{◌≡◌, ◌++◌, ◌-ℤ◌, OnOk, pos};
-ghost use Rattle.std.specs.Int.{int_min, int_max};
 ghost use Rattle.subsetter_instance.specs.Extremes.{with_point, box_around, extents_of, glyph_extents, both, joined, all_extents, widest, box_bytes, saturated, side_bytes, extreme_bytes};
 
 use crate::drawn::Drawn;
 use std::alloc::AllocError;
+use subsetter_base::compare::{larger, smaller};
 use subsetter_points::Point;
 
 /// A box around points.
@@ -28,20 +28,6 @@ pub struct Extents {
     pub bounds: Bounds,
     /// The least right side bearing, at most 32767.
     pub right: i16,
-}
-
-/// The smaller of two numbers.
-fn smaller(a: i16, b: i16) -> i16
-    ensures { result ≡ int_min a b }
-{
-    if b < a { b } else { a }
-}
-
-/// The larger of two numbers.
-fn larger(a: i16, b: i16) -> i16
-    ensures { result ≡ int_max a b }
-{
-    if b < a { a } else { b }
 }
 
 /// The least box around a box and a point.

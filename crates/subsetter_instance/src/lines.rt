@@ -4,17 +4,17 @@ ghost use Rattle.std.specs.Prelude.{◌≡◌, ◌≤◌, ◌+◌, ◌++◌, IfO
 ghost use Rattle.std.specs.Option.{option_copied, option_map};
 ghost use Rattle.subsetter_base.specs.Gives.{Gives};
 ghost use Rattle.subsetter_sfnt.specs.Read.{table_in};
-ghost use Rattle.subsetter_instance.specs.Drawn.{word_or_fault};
 ghost use Rattle.subsetter_instance.specs.Lines.{varied, three_lines, line_bytes, moved_hhea, varied_hhea, moved_post, varied_underline, varied_post, varied_post_if, lines_of};
 
+use crate::drawn::word_or_fault;
 use std::alloc::{AllocError, Global};
 use std::marker::Model;
+use subsetter_base::read::signed_at;
 use subsetter_base::{Error, Tag};
 use subsetter_sfnt::face::Face;
 use subsetter_sfnt::fields::hhea::{ADVANCE_WIDTH_MAX, ASCENDER, CARET_SLOPE_RISE, RESERVED};
 use subsetter_sfnt::fields::post::{IS_FIXED_PITCH, UNDERLINE_POSITION, UNDERLINE_THICKNESS};
 use subsetter_variation::font_metrics::metric_delta;
-use subsetter_variation::item_variations::signed_at;
 
 /// `hhea` and `post` with the metrics that vary.
 #[derive(Drop)]
@@ -30,17 +30,6 @@ impl Model for Lines {
     ghost Value = { Lines };
 
     ghost view = { λ l. record { hhea = l.hhea.items; post = option_map (λ v. v.items) l.post } };
-}
-
-/// A number of 16 bits, `OverflowError` where it has more.
-fn word_or_fault(value: i128) -> Result<i16, Error>
-    ensures { result ≡ word_or_fault value }
-{
-    if value >= -32768 && value < 32768 {
-        Ok(value as i16)
-    } else {
-        Err(Error::OverflowError)
-    }
 }
 
 /// A number with what the metric of a tag varies by.

@@ -3,7 +3,8 @@
 ghost use Rattle.std.specs.Prelude.{◌≡◌, ◌≤◌, ◌<◌, ◌^◌, ◌+◌, ◌++◌, ◌∷◌, [], ◌*ℤ◌, ◌+ℤ◌, ℕ, pos, length, map, take, slice_index_or, unsigned_abs, All, IsTrue, IfOk};
 ghost use Rattle.std.specs.Option.{option_copied};
 ghost use Rattle.subsetter_base.specs.Gives.{Gives};
-ghost use Rattle.subsetter_points.specs.Simple.{are_ends, has};
+ghost use Rattle.subsetter_points.specs.Simple.{are_ends};
+ghost use Rattle.subsetter_base.specs.Bytes.{has_flag};
 ghost use Rattle.subsetter_variation.specs.Movement.{AreWithin, IsOutline};
 ghost use Rattle.subsetter_instance.specs.Source.{HasAxes};
 ghost use Rattle.subsetter_instance.specs.Unfolded.{IsInReach, are_near, left_point, left_side, moved, near_or_fault, outline_by_flags, right_point, unfolded_by_flags, unfolded_simple, with_phantoms, IsShaped, x_min};
@@ -158,7 +159,7 @@ fn ends_with_phantoms(alloc: Global, ends: &[u16], n: usize) -> Result<Vec<usize
 
 /// Whether each point is on the curve, by bit 0 of its flag.
 fn on_curve(alloc: Global, flags: &[u8]) -> Result<Vec<bool>, AllocError>
-    ensures { IfOk result (λ v. v.items ≡ map (λ f. has f 1) flags.now) }
+    ensures { IfOk result (λ v. v.items ≡ map (λ f. has_flag f 1) flags.now) }
 {
     let mut on = Vec::with_capacity(alloc, flags.len())?;
     for flag in flags {

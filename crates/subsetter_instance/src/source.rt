@@ -5,11 +5,11 @@ ghost use Rattle.std.specs.Option.{ok_or, option_copied};
 ghost use Rattle.subsetter_base.specs.Gives.{Gives};
 ghost use Rattle.subsetter_base.specs.declared.error.Error.TheVariants.{MalformedFont};
 ghost use Rattle.subsetter_sfnt.specs.Read.{table_in};
-ghost use Rattle.subsetter_instance.specs.Source.{HasAxes, place, variations_in, source_in, source_or_fault, offset, between_offsets, description, metric};
+ghost use Rattle.subsetter_instance.specs.Source.{HasAxes, place, variations_in, source_in, source_or_fault, offset, description, metric};
 
 use std::alloc::Global;
 use std::marker::Model;
-use subsetter_base::read::Reader;
+use subsetter_base::read::{Reader, between_offsets};
 use subsetter_base::{Error, Tag};
 use subsetter_sfnt::face::Face;
 use subsetter_sfnt::fields::head::index_to_loc_format;
@@ -110,17 +110,6 @@ pub fn source_or_fault<'a>(face: &Face<'a>, axes: usize) -> Result<Source<'a>, E
         return Err(Error::Unimplemented);
     }
     source_in(face, axes).ok_or(Error::MalformedFont)
-}
-
-/// The bytes between two offsets.
-fn between_offsets(bytes: &[u8], from: usize, to: usize) -> Option<&[u8]>
-    ensures { option_copied result ≡ between_offsets bytes.now from to }
-{
-    if from <= to {
-        Reader::new_at(bytes, from).read_bytes(to - from)
-    } else {
-        None
-    }
 }
 
 impl<'a> Source<'a> {

@@ -5,14 +5,15 @@ use Rattle.std.proofs.lemmas.List.{map-append, take_more}
 use Rattle.subsetter_base.specs.declared.error.Error.{Error}
 use Rattle.subsetter_base.specs.declared.error.Error.TheVariants.{OutOfMemory, OverflowError}
 use Rattle.pdf_codes.specs.Codes.{Used}
-use Rattle.pdf_codes.specs.Shown.{use_of, uses_of}
+use Rattle.pdf_codes.specs.Shown.{use_of, uses_of, texts_of}
 use Rattle.pdf_codes.specs.declared.shown.Shown.{Shown}
 use Rattle.pdf_text.specs.declared.values.FontValues.{FontValues}
 use Rattle.pdf_sheet.specs.File.{AreInTable, body_of, file_of}
 use Rattle.pdf_sheet.specs.Pages.{IsTooLarge, sheet_values}
 use Rattle.pdf_sheet.specs.declared.frame.Layout.{Layout}
 use Rattle.pdf_sheet.specs.declared.glyphs.SheetGlyph.{SheetGlyph}
-use Rattle.subsetter_pdf_c.specs.Entries.{AreTexts, are_ascending, are_scalars, are_texts, is_scalar, text_between, texts_from, texts_of, uses_with}
+use Rattle.subsetter_pdf_c.specs.Entries.{AreTexts, are_ascending, are_scalars, are_texts, text_between, texts_from, uses_with}
+use Rattle.subsetter_base.specs.Texts.{is_scalar}
 use Rattle.subsetter_pdf_c.specs.Made.{AreValuesOf, column_of}
 use Rattle.subsetter_pdf_c.specs.Written.{AreGlyphsOf, HasManyColumns, IsSheetOf, IsTooLargeFor}
 use Rattle.subsetter_pdf_c.specs.declared.made.PdfColumn.{PdfColumn}

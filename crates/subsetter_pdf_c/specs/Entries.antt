@@ -1,13 +1,9 @@
 -- How glyphs with their texts come from C: as 32-bit characters, and where the text of each glyph ends among them. It begins where the one before ends.
-use Rattle.std.specs.Prelude.{◌≡◌, ℕ, true, ◌-◌, ◌==◌, ◌&&◌, ◌||◌, nat_le, nat_lt, Bool, List, [], ◌∷◌, length, map, take, drop}
+use Rattle.std.specs.Prelude.{◌≡◌, ℕ, true, ◌-◌, ◌==◌, ◌&&◌, nat_le, Bool, List, [], ◌∷◌, length, take, drop}
 use Rattle.std.specs.List.{list_all}
 use Rattle.pdf_codes.specs.Codes.{Used}
 use Rattle.pdf_codes.specs.Units.{units_of}
-use Rattle.pdf_codes.specs.declared.shown.Shown.{Shown}
-
--- a Unicode scalar value: no surrogate, and at most U+10FFFF (Unicode, 3.9, D76)
-abbrev pub is_scalar : ℕ → Bool
-is_scalar n = nat_lt n 0xD800 || (nat_le 0xE000 n && nat_lt n 0x110000)
+use Rattle.subsetter_base.specs.Texts.{is_scalar}
 
 abbrev pub are_scalars : List ℕ → Bool
 are_scalars text = list_all is_scalar text
@@ -43,6 +39,3 @@ uses_with (g ∷ glyphs) (t ∷ texts) = record { glyph = g; units = units_of t 
 
 abbrev pub uses_in : List ℕ → List ℕ → List ℕ → List Used
 uses_in glyphs text ends = uses_with glyphs (texts_from text 0 ends)
-
-abbrev pub texts_of : List Shown → List (List ℕ)
-texts_of shown = map (λ (s : Shown). s.text.now) shown

@@ -8,12 +8,12 @@ use Rattle.pdf_text.specs.declared.columns.Column.{Column}
 use Rattle.pdf_text.specs.declared.columns.DefaultColumn.{DefaultColumn}
 use Rattle.pdf_text.specs.declared.values.Descriptor.{Descriptor}
 use Rattle.pdf_text.specs.declared.values.FontValues.{FontValues}
-use Rattle.pdf_text.specs.declared.values.OwnCmap.{OwnCmap}
 use Rattle.pdf_text.specs.declared.values.ProgramKind.{ProgramKind}
 use Rattle.pdf_text.specs.declared.values.ProgramKind.TheVariants.{TrueType, BareCff, OpenType}
 use Rattle.subsetter_pdf_c.specs.declared.made.PdfColumn.{PdfColumn}
 use Rattle.subsetter_pdf_c.specs.declared.made.PdfMade.{PdfMade}
 use Rattle.subsetter_pdf_c.specs.declared.made.PdfNumbers.{PdfNumbers}
+use Rattle.pdf_text.specs.View.{name_of, text_of}
 
 -- ---- numbers
 
@@ -77,12 +77,6 @@ pub record IsDescriptorOf (made : PdfMade) (d : Descriptor) : Type 0 where
 -- an empty list stands for none
 abbrev pub unless_empty : {A : Type 0} → List ℕ → A → Option A
 unless_empty bytes value = if length bytes == 0 then None else Some value
-
-abbrev pub name_of : OwnCmap → List ℕ
-name_of cmap = cmap.name.now
-
-abbrev pub text_of : OwnCmap → List ℕ
-text_of cmap = cmap.text.now
 
 -- the values of the objects
 pub record AreValuesOf (made : PdfMade) (v : FontValues) : Type 0 where

@@ -3,7 +3,9 @@
 ghost use Rattle.std.specs.Prelude.{◌≡◌, ◌≤◌, IfOk, IfErr, length, map, true};
 ghost use Rattle.subsetter_base.specs.declared.error.Error.TheVariants.{OutOfMemory};
 ghost use Rattle.pdf_codes.specs.declared.shown.Shown.{Shown as SpecShown};
-ghost use Rattle.subsetter_pdf_c.specs.Entries.{are_ascending, are_scalars, are_texts, is_scalar, text_between, texts_from, texts_of};
+ghost use Rattle.subsetter_pdf_c.specs.Entries.{are_ascending, are_scalars, are_texts, text_between, texts_from};
+ghost use Rattle.subsetter_base.specs.Texts.{is_scalar};
+ghost use Rattle.pdf_codes.specs.Shown.{texts_of};
 
 use pdf_codes::Shown;
 use std::alloc::Global;

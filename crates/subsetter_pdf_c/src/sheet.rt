@@ -2,7 +2,8 @@
 
 ghost use Rattle.std.specs.Prelude.{◌≡◌, ◌<◌, ◌⊎◌, [], false, length, get_or, min, unsigned_abs, IfOk, IfErr};
 ghost use Rattle.subsetter_base.specs.declared.error.Error.TheVariants.{OutOfMemory, OverflowError};
-ghost use Rattle.subsetter_pdf_c.specs.Entries.{AreTexts, texts_from, texts_of};
+ghost use Rattle.subsetter_pdf_c.specs.Entries.{AreTexts, texts_from};
+ghost use Rattle.pdf_codes.specs.Shown.{texts_of};
 ghost use Rattle.subsetter_pdf_c.specs.Made.{no_column};
 ghost use Rattle.subsetter_pdf_c.specs.Written.{AreGlyphsOf, HasManyColumns, IsSheetOf, IsTooLargeFor, advance_of, size_of};
 
@@ -10,7 +11,7 @@ use crate::entries::{characters_of, shown_of};
 use crate::made::{PdfColumn, PdfMade};
 use crate::values::{arrays_of, values_of};
 use pdf_codes::Shown;
-use pdf_sheet::{Layout, SheetGlyph};
+use pdf_sheet::{Layout, SheetGlyph, width_of};
 use std::alloc::Global;
 use subsetter_base::Error;
 
@@ -21,17 +22,6 @@ fn column_advance(columns: &[PdfColumn], cid: u16) -> u32
     let place = cid as usize;
     if place < columns.len() {
         return columns[place].advance.unsigned_abs();
-    }
-    0
-}
-
-/// The width of a CID.
-fn width_of(widths: &[u32], cid: u16) -> u32
-    ensures { result ≡ get_or widths.now cid 0 }
-{
-    let place = cid as usize;
-    if place < widths.len() {
-        return widths[place];
     }
     0
 }

@@ -8,12 +8,13 @@ use Rattle.std.proofs.lemmas.List.{take_at, drop_at, length-append, append-nil}
 use Rattle.std.proofs.lemmas.Int.{to_z-of_z, to_z_pos, ints}
 use mir.Val.{SFits}
 use Rattle.subsetter_base.proofs.ByteLemmas.{be-u8, be-u16, number_at}
-use Rattle.subsetter_points.specs.Optional.{◌>>=◌}
+use Rattle.subsetter_base.specs.Options.{◌>>=◌}
 use Rattle.subsetter_points.specs.declared.outline.Point.{Point}
 use Rattle.subsetter_points.specs.declared.flags.Run.{Run}
 use Rattle.subsetter_points.specs.declared.deltas.Encoding.{Encoding}
 use Rattle.subsetter_points.specs.declared.deltas.Encoding.TheVariants.{Same, Positive, Negative, Word}
-use Rattle.subsetter_points.specs.Simple.{Outline, all_points, has_16_bits, byte, word, end_at, ends, count, contours, has, repeats_at, next, flags, encoding_of, delta_at, in_16_bits, coordinate, coordinates, xs, ys, points, points_at, body_at, after, parts_at, description_at, header_at, parts, simple, shortest_encoding, encoded_delta, flag_of, flag_bytes, delta_bytes, xs_of, ys_of, box, end_bytes, point_bytes, parts_bytes, ends_of, simple_bytes, deltas_fit, points_fit, fits, are_ends}
+use Rattle.subsetter_points.specs.Simple.{Outline, all_points, has_16_bits, byte, word, end_at, ends, count, contours, repeats_at, next, flags, encoding_of, delta_at, in_16_bits, coordinate, coordinates, xs, ys, points, points_at, body_at, after, parts_at, description_at, header_at, parts, simple, shortest_encoding, encoded_delta, flag_of, flag_bytes, delta_bytes, xs_of, ys_of, box, end_bytes, point_bytes, parts_bytes, ends_of, simple_bytes, deltas_fit, points_fit, fits, are_ends}
+use Rattle.subsetter_base.specs.Bytes.{has_flag}
 use Rattle.subsetter_points.proofs.ReadLemmas.{onto, flags_suc, ends_suc, coordinates_cons, parts_of_bytes}
 
 -- ---- tests
@@ -55,8 +56,8 @@ delta_back (negsuc n) rest e = negative_back n rest (nat_lt n 255) (fits_16 (neg
 
 -- what a flag that was written says
 pub record Says (flag : ℕ) (on : Bool) (x y : Encoding) : Type 0 where
-  pub single : has flag 0x08 ≡ false
-  pub curve : has flag 0x01 ≡ on
+  pub single : has_flag flag 0x08 ≡ false
+  pub curve : has_flag flag 0x01 ≡ on
   pub x_encoding : encoding_of 0x02 0x10 flag ≡ x
   pub y_encoding : encoding_of 0x04 0x20 flag ≡ y
 
@@ -126,7 +127,7 @@ flag_back false false Word Positive = record { single = refl; curve = refl; x_en
 flag_back false false Word Negative = record { single = refl; curve = refl; x_encoding = refl; y_encoding = refl }
 flag_back false false Word Word = record { single = refl; curve = refl; x_encoding = refl; y_encoding = refl }
 
-next_back : (old flag : ℕ) (rest : List ℕ) → has flag 0x08 ≡ false → next (record { flag = old; repeats = 0 }) (flag ∷ rest) ≡ Some (record { flag = flag; repeats = 0 }, rest)
+next_back : (old flag : ℕ) (rest : List ℕ) → has_flag flag 0x08 ≡ false → next (record { flag = old; repeats = 0 }) (flag ∷ rest) ≡ Some (record { flag = flag; repeats = 0 }, rest)
 next_back old flag rest e =
     ap (λ o. o >>= λ f. repeats_at f.0 f.1 >>= λ a. Some (record { flag = f.0; repeats = a.0 }, a.1)) (byte_back flag rest)
     ∙ ap (λ b. (if b then byte rest else Some (0, rest)) >>= λ a. Some (record { flag = flag; repeats = a.0 }, a.1)) e

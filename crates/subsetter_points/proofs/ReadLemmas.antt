@@ -4,10 +4,11 @@ use Rattle.std.specs.Prelude.{Result, Ok, Err, IfOk, ◌==◌, if◌then◌else�
 use Rattle.std.proofs.lemmas.List.{append-nil}
 use Rattle.std.proofs.lemmas.Bool.{ne_eqb}
 use Rattle.std.specs.Option.{option_map}
-use Rattle.subsetter_points.specs.Optional.{◌>>=◌}
+use Rattle.subsetter_base.specs.Options.{◌>>=◌}
 use Rattle.subsetter_points.specs.declared.outline.Point.{Point}
 use Rattle.subsetter_points.specs.declared.flags.Run.{Run}
-use Rattle.subsetter_points.specs.Simple.{next, flags, end_at, ends, count, has, coordinate, coordinates, points, contours, header_at, description_at, parts, simple}
+use Rattle.subsetter_points.specs.Simple.{next, flags, end_at, ends, count, coordinate, coordinates, points, contours, header_at, description_at, parts, simple}
+use Rattle.subsetter_base.specs.Bytes.{has_flag}
 use Rattle.subsetter_points.specs.View.{parts_of, contours_of}
 use Rattle.subsetter_points.specs.declared.outline.Outline as code
 
@@ -96,14 +97,14 @@ coordinates_end front short same v all bytes e = ap (λ l. with_front front (coo
 
 -- ---- points
 
-pub points_cons : (flag : ℕ) (x y : ℤ) (flags : List ℕ) (xs ys : List ℤ) → points (flag ∷ flags) (x ∷ xs) (y ∷ ys) ≡ record { x = x; y = y; on_curve = has flag 0x01 } ∷ points flags xs ys
+pub points_cons : (flag : ℕ) (x y : ℤ) (flags : List ℕ) (xs ys : List ℤ) → points (flag ∷ flags) (x ∷ xs) (y ∷ ys) ≡ record { x = x; y = y; on_curve = has_flag flag 0x01 } ∷ points flags xs ys
 unfolding points
 points_cons flag x y flags xs ys = refl
 
 pub points_more : (front : List Point) (flag : ℕ) (x y : ℤ) (fs gs : List ℕ) (us bs cs ds : List ℤ) → fs ≡ flag ∷ gs → us ≡ x ∷ bs → cs ≡ y ∷ ds
-    → front ++ points fs us cs ≡ (front ++ record { x = x; y = y; on_curve = has flag 0x01 } ∷ []) ++ points gs bs ds
+    → front ++ points fs us cs ≡ (front ++ record { x = x; y = y; on_curve = has_flag flag 0x01 } ∷ []) ++ points gs bs ds
 points_more front flag x y fs gs us bs cs ds p q r =
-    let one : Point = record { x = x; y = y; on_curve = has flag 0x01 } in
+    let one : Point = record { x = x; y = y; on_curve = has_flag flag 0x01 } in
     let e : points fs us cs ≡ one ∷ points gs bs ds = rw (p, q, r) (points_cons flag x y gs bs ds) in
     ap (λ l. front ++ l) e ∙ sym (append_assoc front (one ∷ []) (points gs bs ds))
 

@@ -1,10 +1,10 @@
 -- A simple glyph description as points, and points as a simple glyph description (OpenType, chapter "glyf").
 -- A Point of the code is x and y, whole numbers, and whether it is on the curve.
-use Rattle.std.specs.Prelude.{ℕ, zero, suc, ◌+◌, ◌-◌, Bool, true, false, not, ◌&&◌, List, [], ◌∷◌, ◌++◌, length, take, drop, map, flat_map, Option, Some, None, bit_and, nat_lt, nat_le, ◌==◌, if◌then◌else◌, ℤ, pos, negsuc, ◌+ℤ◌, ◌-ℤ◌, neg_ℤ, unsigned_abs}
+use Rattle.std.specs.Prelude.{ℕ, zero, suc, ◌+◌, ◌-◌, Bool, true, false, ◌&&◌, List, [], ◌∷◌, ◌++◌, length, take, drop, map, flat_map, Option, Some, None, nat_lt, nat_le, ◌==◌, if◌then◌else◌, ℤ, pos, negsuc, ◌+ℤ◌, ◌-ℤ◌, neg_ℤ, unsigned_abs}
 use Rattle.std.specs.List.{fold, list_all}
 use Rattle.std.specs.Int.{w16, to_be_bytes, cast_signed, cast_unsigned, int_min, int_max}
-use Rattle.subsetter_base.specs.Bytes.{number}
-use Rattle.subsetter_points.specs.Optional.{◌>>=◌}
+use Rattle.subsetter_base.specs.Bytes.{number, has_flag}
+use Rattle.subsetter_base.specs.Options.{◌>>=◌}
 use Rattle.subsetter_points.specs.declared.outline.Point.{Point}
 use Rattle.subsetter_points.specs.declared.deltas.Encoding.{Encoding}
 use Rattle.subsetter_points.specs.declared.deltas.Encoding.TheVariants.{Same, Positive, Negative, Word}
@@ -70,13 +70,9 @@ contours from (end ∷ ends) points = take (end + 1 - from) points ∷ contours 
 
 -- ---- flags
 
--- a flag has a bit set
-abbrev pub has : ℕ → ℕ → Bool
-has flag bit = not (bit_and flag bit == 0)
-
 -- the number of additional times that a flag is to be repeated: the next byte where REPEAT_FLAG is set, else 0
 abbrev pub repeats_at : ℕ → List ℕ → Option (ℕ × List ℕ)
-repeats_at flag bytes = if has flag 0x08 then byte bytes else Some (0, bytes)
+repeats_at flag bytes = if has_flag flag 0x08 then byte bytes else Some (0, bytes)
 
 -- a flag that stands in the bytes, and how often it is to be repeated
 abbrev pub run_at : List ℕ → Option (Run × List ℕ)
@@ -103,7 +99,7 @@ flags (suc n) run bytes = do
 -- one byte, and the same bit (X_IS_SAME_OR_POSITIVE_X_SHORT_VECTOR) is its sign, set for plus; without the short bit it is
 -- nothing where the same bit is set, as the coordinate is the same as before, and else int16
 abbrev pub encoding_of : ℕ → ℕ → ℕ → Encoding
-encoding_of short same flag = if has flag short then (if has flag same then Positive else Negative) else (if has flag same then Same else Word)
+encoding_of short same flag = if has_flag flag short then (if has_flag flag same then Positive else Negative) else (if has_flag flag same then Same else Word)
 
 -- a delta in an encoding
 abbrev pub delta_at : Encoding → List ℕ → Option (ℤ × List ℕ)
@@ -147,7 +143,7 @@ ys flags bytes = coordinates 0x04 0x20 (pos 0) flags bytes
 
 -- a point from each flag, which has ON_CURVE_POINT set or not, and its coordinates
 unfoldable pub points : List ℕ → List ℤ → List ℤ → List Point
-points (flag ∷ flags) (x ∷ xs) (y ∷ ys) = record { x = x; y = y; on_curve = has flag 0x01 } ∷ points flags xs ys
+points (flag ∷ flags) (x ∷ xs) (y ∷ ys) = record { x = x; y = y; on_curve = has_flag flag 0x01 } ∷ points flags xs ys
 points _ _ _ = []
 
 -- ---- a simple glyph description

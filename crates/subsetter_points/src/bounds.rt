@@ -8,23 +8,10 @@ ghost use Rattle.subsetter_points.specs.Simple.{signed_word, xs_of, ys_of, box};
 
 use crate::outline::Point;
 use subsetter_base::Error;
-
-/// The smaller of two numbers.
-fn smaller(a: i16, b: i16) -> i16
-    ensures { result ≡ int_min a b }
-{
-    if b < a { b } else { a }
-}
-
-/// The larger of two numbers.
-fn larger(a: i16, b: i16) -> i16
-    ensures { result ≡ int_max a b }
-{
-    if b < a { a } else { b }
-}
+use subsetter_base::compare::{larger, smaller};
 
 /// The least x of a point's, `first`, and of others.
-fn least_x(first: i16, rest: &[Point]) -> i16
+pub fn least_x(first: i16, rest: &[Point]) -> i16
     ensures { result ≡ fold int_min first (xs_of rest.now) }
 {
     let mut least = first;

@@ -2,7 +2,8 @@
 
 ghost use Rattle.std.specs.Prelude.{◌≡◌, ◌<◌, ◌≤◌, ◌+◌, ◌++◌, ◌+ℤ◌, ◌-ℤ◌, vec_len, vec_capacity, IsTrue, OnOk, IfErr};
 ghost use Rattle.std.specs.Option.{option_map};
-ghost use Rattle.subsetter_points.specs.Simple.{has, encoding_of, delta_at, in_16_bits, coordinate, shortest_encoding, encoded_delta, has_16_bits};
+ghost use Rattle.subsetter_points.specs.Simple.{encoding_of, delta_at, in_16_bits, coordinate, shortest_encoding, encoded_delta, has_16_bits};
+ghost use Rattle.subsetter_base.specs.Bytes.{has_flag};
 ghost use Rattle.subsetter_base.specs.declared.error.Error.TheVariants.{OutOfMemory};
 
 use crate::front::{read_byte, read_word};
@@ -23,7 +24,7 @@ pub enum Encoding {
 
 /// Whether a flag has a bit set.
 pub fn has(flag: u8, bit: u8) -> bool
-    ensures { result ≡ has flag bit }
+    ensures { result ≡ has_flag flag bit }
 {
     flag & bit != 0
 }

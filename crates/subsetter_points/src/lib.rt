@@ -31,6 +31,7 @@ mod points;
 mod reading;
 mod writing;
 
+pub use bounds::least_x;
 pub use fitting::fits;
 pub use outline::{Columns, Outline, Point};
 pub use reading::{read_columns, read_simple};

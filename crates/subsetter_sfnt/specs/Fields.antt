@@ -1,5 +1,4 @@
 -- Fields of tables, by the names of the standard.
-pub mod Numbers
 pub mod Head
 pub mod Hhea
 pub mod Hmtx

@@ -1,4 +1,3 @@
-pub mod Optional
 pub mod Extras
 pub mod Read
 pub mod Plain

@@ -5,10 +5,10 @@ use Rattle.std.proofs.lemmas.Bool.{ltb-true}
 use Rattle.std.proofs.lemmas.Grind.{flat_map-append}
 use Rattle.std.proofs.lemmas.List.{length-append}
 use Rattle.subsetter_base.specs.Within.{is_past, IsTooLong}
-use Rattle.subsetter_base.specs.Gives.{Fails as FailsWith}
+use Rattle.subsetter_base.specs.Gives.{Fails as FailsWith, behind}
 use Rattle.subsetter_base.specs.declared.error.Error.{Error}
 use Rattle.subsetter_base.specs.declared.error.Error.TheVariants.{UnknownKind, MalformedFont, Unimplemented, SubsetError, OverflowError, CFFError, OutOfMemory}
-use Rattle.subsetter_type2.specs.Behind.{behind, ReachedBehind}
+use Rattle.subsetter_type2.specs.Behind.{ReachedBehind}
 use Rattle.subsetter_type2.specs.Flat.{flat_event, flat_events, flat_operands, bytes_of}
 use Rattle.subsetter_type2.specs.Machine.{Library, Registers, State, Event, Act, Does, Fails, Lead, Step, Goes, Faults, Trace, Outcome, Finishes, Stops, unended, want, follow, said_also, move, act_at, rests_after, run, outcome}
 use Rattle.subsetter_type2.specs.Reached.{Reached}

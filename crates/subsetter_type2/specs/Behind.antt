@@ -1,13 +1,7 @@
 -- How far a run has come whose bytes stand behind others.
-use Rattle.std.specs.Prelude.{◌≡◌, ℕ, List, ◌++◌, Result, Ok}
-use Rattle.subsetter_base.specs.Bytes.{◌>>=◌}
-use Rattle.subsetter_base.specs.declared.error.Error.{Error}
+use Rattle.std.specs.Prelude.{◌≡◌, ℕ, List, ◌++◌}
 use Rattle.subsetter_type2.specs.Machine.{Library, State, Outcome}
 use Rattle.subsetter_type2.specs.Reached.{Reached}
-
--- bytes behind a front, where they are there
-abbrev pub behind : List ℕ → Result (List ℕ) Error → Result (List ℕ) Error
-behind front bytes = bytes >>= λ more. Ok (front ++ more)
 
 -- the settled bytes of the run stand behind the front
 pub record ReachedBehind (front : List ℕ) (o : Outcome) (library : Library) (depth tokens : ℕ) (s : State) (settled : List ℕ) : Type 0 where

@@ -1,9 +1,8 @@
 //! Type 2 charstrings (Technical Note 5177).
 
 ghost use Rattle.std.specs.Prelude.{◌≡◌, None, length};
-ghost use Rattle.subsetter_base.specs.Gives.{Gives};
+ghost use Rattle.subsetter_base.specs.Gives.{Gives, behind};
 ghost use Rattle.subsetter_base.specs.Within.{GivesWithin};
-ghost use Rattle.subsetter_type2.specs.Behind.{behind};
 ghost use Rattle.subsetter_type2.specs.Flat.{flat_form};
 ghost use Rattle.subsetter_type2.specs.ProgramView.{program_bytes};
 

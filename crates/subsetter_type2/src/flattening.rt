@@ -1,10 +1,10 @@
 //! The run of a charstring with a stack of its callers' rests, which writes bytes.
 
-ghost use Rattle.std.specs.Prelude.{◌≡◌, ◌∷◌, ◌<◌, ◌≤◌, [], length, OnOk, OnSome, IfOk, IfErr, MatchOption};
+ghost use Rattle.std.specs.Prelude.{◌≡◌, ◌∷◌, ◌<◌, ◌≤◌, [], length, OnOk, IfOk, IfErr};
 ghost use Rattle.subsetter_type2.specs.Machine.{unended, rests_after};
 ghost use Rattle.subsetter_type2.specs.View.{rests_of};
 ghost use Rattle.subsetter_type2.specs.MachineView.{library_of, lead_of};
-ghost use Rattle.subsetter_type2.specs.Behind.{behind};
+ghost use Rattle.subsetter_base.specs.Gives.{behind};
 ghost use Rattle.subsetter_type2.specs.Flat.{flat_form};
 ghost use Rattle.subsetter_base.specs.Within.{GivesWithin};
 ghost use Rattle.subsetter_base.specs.declared.error.Error.TheVariants.{CFFError};
@@ -13,36 +13,8 @@ use crate::fixed_stack::FixedStack;
 use crate::limits::Limits;
 use crate::machine::{Flow, Machine, Subroutines};
 use crate::output::Output;
+use crate::rests::innermost;
 use subsetter_base::error::Error;
-
-/// What is left of the innermost charstring that is not at its end, taken off the stack.
-#[inline(always)]
-fn next_rest<'a, const N: usize>(rests: &mut FixedStack<&'a [u8], N>) -> Option<&'a [u8]>
-    ensures rest { MatchOption result (unended (rests_of rests.old) ≡ []) (λ bytes. unended (rests_of rests.old) ≡ bytes.now ∷ rests_of rests.new) }
-    ensures room { OnSome result (length rests.new < length rests.old) }
-{
-    while let Some(rest) = rests.pop() {
-        if !rest.is_empty() {
-            return Some(rest);
-        }
-    }
-    None
-}
-
-/// The innermost charstring that is not at its end: the running one, or else one of its callers.
-#[inline(always)]
-fn innermost<'a, const N: usize>(
-    running: &'a [u8],
-    rests: &mut FixedStack<&'a [u8], N>,
-) -> Option<&'a [u8]>
-    ensures rest { MatchOption result (unended (running.now ∷ rests_of rests.old) ≡ []) (λ bytes. unended (running.now ∷ rests_of rests.old) ≡ bytes.now ∷ rests_of rests.new) }
-    ensures room { OnSome result (length rests.new ≤ length rests.old) }
-{
-    if !running.is_empty() {
-        return Some(running);
-    }
-    next_rest(rests)
-}
 
 /// What runs after a token that leads there; nothing, where a charstring is at its end.
 #[inline(always)]

@@ -23,6 +23,7 @@ mod output;
 mod plain;
 mod program;
 mod recursion;
+pub mod rests;
 mod scanning;
 mod sink;
 mod stretch;

@@ -3,7 +3,8 @@
 ghost use Rattle.std.specs.Prelude.{◌≡◌, ◌+ℤ◌, pos, length, slice_get};
 ghost use Rattle.std.specs.Option.{option_copied};
 ghost use Rattle.subsetter_cffdata.specs.IndexView.{items};
-ghost use Rattle.subsetter_type2.specs.Subroutines.{bias_of, natural_of, entry_at, biased_entry};
+ghost use Rattle.subsetter_type2.specs.Subroutines.{bias_of, entry_at, biased_entry};
+ghost use Rattle.subsetter_cffdata.specs.Numbers.{not_negative};
 
 use crate::charstring::CharString;
 use std::marker::Model;
@@ -126,7 +127,7 @@ fn bias(count: u32) -> u16
 
 /// The place in the INDEX that an operand names; none where the sum with the bias is below 0.
 pub fn unapply_bias(index: i32, bias: u16) -> Option<u32>
-    ensures { result ≡ natural_of (index +ℤ pos bias) }
+    ensures { result ≡ not_negative (index +ℤ pos bias) }
 {
     let sum = index as i64 + bias as i64;
     if sum < 0 {

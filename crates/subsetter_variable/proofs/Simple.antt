@@ -6,7 +6,7 @@ use Rattle.std.specs.Int.{w16, to_be_bytes}
 use Rattle.std.proofs.lemmas.Bool.{le-leb, ltb-true, ltb-false}
 use Rattle.std.proofs.lemmas.List.{append-nil, length-append, length-replicate}
 use Rattle.std.proofs.Math.Seq.{drop-append-add, take-append_seam}
-use Rattle.subsetter_base.specs.Bytes.{number, aligned}
+use Rattle.subsetter_base.specs.Bytes.{number, aligned, from_offset}
 use Rattle.subsetter_base.proofs.ByteLemmas.{be-u16, number_at}
 use Rattle.subsetter_base.proofs.Options.{just_is, bind_some}
 use Rattle.subsetter_points.specs.declared.outline.Point.{Point}
@@ -14,7 +14,6 @@ use Rattle.subsetter_points.specs.Simple.{after, box, description_at, end_bytes,
 use Rattle.subsetter.specs.Glyf.Bare.{bare_at, bare_simple, parts_asked}
 use Rattle.subsetter.specs.Glyf.Parts.{Parts, Empty, Simple, component_numbers, outline_parts}
 use Rattle.subsetter.specs.Glyf.Unfold.{padded, SameParts}
-use Rattle.subsetter.specs.Name.Read.{bytes_from}
 use Rattle.subsetter.proofs.GlyfLaws.Unfold.{PartsAre, parts_are, is_empty, is_simple, is_composite}
 
 -- ---- empty, or begins as a simple glyph does
@@ -70,7 +69,7 @@ bare_around bytes front behind n is contours long =
     let before : take (10 + 2 * n) bytes ≡ front = ap (λ (k : ℕ). take k bytes) (sym long) ∙ ap (take (length front)) is ∙ take-append_seam front (0 ∷ 0 ∷ behind) in
     let rest : drop (10 + 2 * n + 2 + 0) bytes ≡ behind = ap (λ (k : ℕ). drop k bytes) (omega arith) ∙ ap (drop (length front + 2)) is ∙ drop-append-add front (0 ∷ 0 ∷ behind) 2 in
     ap (λ (o : Option ℕ). unwrap_or (option_and_then (λ contours. bare_at bytes (10 + 2 * contours)) o) bytes) contours
-    ∙ ap (λ (o : Option ℕ). unwrap_or (option_and_then (λ size. option_and_then (λ behind. Some (take (10 + 2 * n) bytes ++ 0 ∷ 0 ∷ behind)) (bytes_from bytes (10 + 2 * n + 2 + size))) o) bytes) size
+    ∙ ap (λ (o : Option ℕ). unwrap_or (option_and_then (λ size. option_and_then (λ behind. Some (take (10 + 2 * n) bytes ++ 0 ∷ 0 ∷ behind)) (from_offset bytes (10 + 2 * n + 2 + size))) o) bytes) size
     ∙ ap (λ (q : Bool). unwrap_or (option_and_then (λ behind. Some (take (10 + 2 * n) bytes ++ 0 ∷ 0 ∷ behind)) (cond q (Some (drop (10 + 2 * n + 2 + 0) bytes)) None)) bytes) enough
     ∙ ap (λ (l : List ℕ). l ++ 0 ∷ 0 ∷ drop (10 + 2 * n + 2 + 0) bytes) before ∙ ap (λ (l : List ℕ). front ++ 0 ∷ 0 ∷ l) rest ∙ sym is
 

@@ -5,7 +5,7 @@ use Rattle.subsetter_base.specs.Bytes.{◌>>=◌}
 use Rattle.subsetter_base.specs.Gives.{Gives}
 use Rattle.subsetter_base.specs.declared.error.Error.{Error}
 use Rattle.subsetter_base.specs.declared.error.Error.TheVariants.{UnknownKind, MalformedFont, Unimplemented, SubsetError, OverflowError, CFFError, OutOfMemory}
-use Rattle.subsetter_variation.specs.Optional as optional
+use Rattle.subsetter_base.specs.Options as optional
 use Rattle.subsetter_variation.specs.Packed.{point_numbers}
 use Rattle.subsetter_variation.specs.Tuples.{Tuple, TupleHeader, both_deltas, count_of, numbers_and_deltas, tuple_of}
 use Rattle.subsetter_variation.specs.Movement.{Outline, Walk, spent, moved_by, counted_walk}

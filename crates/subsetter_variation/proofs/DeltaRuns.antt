@@ -3,8 +3,9 @@ use Rattle.std.proofs.Common.{◌≡◌, ℕ, zero, suc, ◌+◌, ◌-◌, ◌*�
 use Rattle.std.specs.Int.{w8, w16, cast_signed}
 use Rattle.std.specs.Option.{option_map}
 use Rattle.std.proofs.lemmas.Bool.{ne_eqb}
-use Rattle.subsetter_variation.specs.Optional.{◌>>=◌}
-use Rattle.subsetter_variation.specs.Packed.{Run, byte_in, word_in, runs, run_in, begun, delta_in, next_delta, deltas_from}
+use Rattle.subsetter_base.specs.Options.{◌>>=◌}
+use Rattle.subsetter_variation.specs.Packed.{Run, word_in, runs, run_in, begun, delta_in, next_delta, deltas_from}
+use Rattle.subsetter_base.specs.Bytes.{byte}
 
 -- a run of so many deltas, behind its first byte
 abbrev pub run_of : ℕ → ℕ → List ℕ → Run
@@ -12,7 +13,7 @@ run_of n control bytes = record { left = n; control = control; bytes = bytes }
 
 -- the delta that a run has next, and the bytes behind it
 abbrev delta_bytes : ℕ → List ℕ → Option (ℤ × List ℕ)
-delta_bytes control bytes = cond (nat_le 128 control) (Some (pos 0, bytes)) (cond (nat_le 64 control) (option_map (λ w. (cast_signed w16 w.0, w.1)) (word_in bytes)) (option_map (λ b. (cast_signed w8 b.0, b.1)) (byte_in bytes)))
+delta_bytes control bytes = cond (nat_le 128 control) (Some (pos 0, bytes)) (cond (nat_le 64 control) (option_map (λ w. (cast_signed w16 w.0, w.1)) (word_in bytes)) (option_map (λ b. (cast_signed w8 b.0, b.1)) (byte bytes)))
 
 -- with those behind it
 abbrev pub onto : ℤ → Option (List ℤ × List ℕ) → Option (List ℤ × List ℕ)
@@ -32,7 +33,7 @@ next_in_run : (n control : ℕ) (bytes : List ℕ) → next_delta (run_of (suc n
 unfolding next_delta
 next_in_run n control bytes =
     let one : suc n - 1 ≡ n = omega arith in
-    ap (λ o. o >>= delta_in) (begun_on n control bytes) ∙ rw one (with_run (nat_le 128 control) (nat_le 64 control) n control bytes (word_in bytes) (byte_in bytes))
+    ap (λ o. o >>= delta_in) (begun_on n control bytes) ∙ rw one (with_run (nat_le 128 control) (nat_le 64 control) n control bytes (word_in bytes) (byte bytes))
 
 -- a delta that is read, and so many behind it
 abbrev pub next_then : ℕ → Option (ℤ × Run) → Option (List ℤ × List ℕ)
@@ -56,11 +57,13 @@ zero_run (suc n) control bytes h = run_step n n control bytes bytes (pos 0) (rw 
 
 -- signed numbers of one byte
 pub byte_run : (n control : ℕ) (bytes : List ℕ) → nat_le 128 control ≡ false → nat_le 64 control ≡ false → n ≤ length bytes → deltas_from n (run_of n control bytes) ≡ Some (map (cast_signed w8) (take n bytes), drop n bytes)
+unfolding byte
 byte_run zero control bytes h g l = refl
 byte_run (suc n) control [] h g l = absurd (omega arith)
 byte_run (suc n) control (b ∷ bytes) h g l = run_step n n control (b ∷ bytes) bytes (cast_signed w8 b) (rw (h, g) refl) ∙ ap (onto (cast_signed w8 b)) (byte_run n control bytes h g (omega arith))
 
 pub byte_run_cut : (n control : ℕ) (bytes : List ℕ) → nat_le 128 control ≡ false → nat_le 64 control ≡ false → length bytes < n → deltas_from n (run_of n control bytes) ≡ None
+unfolding byte
 byte_run_cut zero control bytes h g l = absurd (omega arith)
 byte_run_cut (suc n) control [] h g l = run_cut n n control [] (rw (h, g) refl)
 byte_run_cut (suc n) control (b ∷ bytes) h g l = run_step n n control (b ∷ bytes) bytes (cast_signed w8 b) (rw (h, g) refl) ∙ ap (onto (cast_signed w8 b)) (byte_run_cut n control bytes h g (omega arith))

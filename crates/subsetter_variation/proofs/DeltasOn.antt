@@ -3,7 +3,8 @@ use Rattle.std.proofs.Common.{◌≡◌, ℕ, zero, suc, ◌+◌, ◌-◌, ◌%�
 use Rattle.std.specs.Option.{option_map}
 use Rattle.std.proofs.lemmas.List.{drop-drop, get_or-drop, get_or_append_left}
 use Rattle.std.proofs.Math.Seq.{drop-append_seam}
-use Rattle.subsetter_variation.specs.Packed.{Run, byte_in, runs, ended, next_delta, deltas_from}
+use Rattle.subsetter_variation.specs.Packed.{Run, runs, ended, next_delta, deltas_from}
+use Rattle.subsetter_base.specs.Bytes.{byte}
 use Rattle.subsetter_variation.proofs.DeltaRuns.{run_of, onto, next_then, then_deltas, run_begins, no_run, run_then, run_past}
 
 -- what is read from a place on
@@ -14,11 +15,13 @@ abbrev byte_list : Option (ℕ × List ℕ) → List ℕ
 byte_list None = []
 byte_list (Some x) = x.0 ∷ x.1
 
-pub byte_is : (bytes : List ℕ) (b : ℕ) (rest : List ℕ) → byte_in bytes ≡ Some (b, rest) → bytes ≡ b ∷ rest
+pub byte_is : (bytes : List ℕ) (b : ℕ) (rest : List ℕ) → byte bytes ≡ Some (b, rest) → bytes ≡ b ∷ rest
+unfolding byte
 byte_is [] b rest e = absurd (cc)
 byte_is (x ∷ xs) b rest e = ap byte_list e
 
-pub no_byte : (bytes : List ℕ) → byte_in bytes ≡ None → bytes ≡ []
+pub no_byte : (bytes : List ℕ) → byte bytes ≡ None → bytes ≡ []
+unfolding byte
 no_byte [] e = refl
 no_byte (x ∷ xs) e = absurd (cc)
 
@@ -82,17 +85,17 @@ none_of : (at : ℕ) (whole : Option (List ℤ × List ℕ)) → None ≡ option
 none_of at None e = refl
 none_of at (Some d) e = absurd (cc)
 
-pub cut_here : (n at : ℕ) (bytes : List ℕ) (whole : Option (List ℤ × List ℕ)) → at < n → byte_in bytes ≡ None → deltas_from (n - at) (runs bytes) ≡ option_map (from_place at) whole → whole ≡ None
+pub cut_here : (n at : ℕ) (bytes : List ℕ) (whole : Option (List ℤ × List ℕ)) → at < n → byte bytes ≡ None → deltas_from (n - at) (runs bytes) ≡ option_map (from_place at) whole → whole ≡ None
 cut_here n at bytes whole l e read = none_of at whole (sym (ap (λ b. deltas_from (n - at) (runs b)) (no_byte bytes e) ∙ no_run (n - at) (omega arith)) ∙ read)
 
-pub past_here : (n at control : ℕ) (bytes more : List ℕ) (whole : Option (List ℤ × List ℕ)) → at < n → n < at + (control % 64) + 1 → byte_in bytes ≡ Some (control, more) → deltas_from (n - at) (runs bytes) ≡ option_map (from_place at) whole → whole ≡ None
+pub past_here : (n at control : ℕ) (bytes more : List ℕ) (whole : Option (List ℤ × List ℕ)) → at < n → n < at + (control % 64) + 1 → byte bytes ≡ Some (control, more) → deltas_from (n - at) (runs bytes) ≡ option_map (from_place at) whole → whole ≡ None
 past_here n at control bytes more whole l h e read = none_of at whole (sym (ap (λ b. deltas_from (n - at) (runs b)) (byte_is bytes control more e) ∙ run_begins (n - at) control more (omega arith) ∙ run_past (n - at) (control % 64 + 1) control more (omega arith)) ∙ read)
 
 no_run_read : (o : Option (List ℤ × List ℕ)) → None ≡ option_map (λ d. d.1) o → o ≡ None
 no_run_read None e = refl
 no_run_read (Some d) e = absurd (cc)
 
-pub cut_run : (n at c past control : ℕ) (bytes more : List ℕ) (whole : Option (List ℤ × List ℕ)) → past ≡ at + c → past ≤ n → c ≡ control % 64 + 1 → byte_in bytes ≡ Some (control, more) → None ≡ option_map (λ d. d.1) (deltas_from c (run_of c control more)) → deltas_from (n - at) (runs bytes) ≡ option_map (from_place at) whole → whole ≡ None
+pub cut_run : (n at c past control : ℕ) (bytes more : List ℕ) (whole : Option (List ℤ × List ℕ)) → past ≡ at + c → past ≤ n → c ≡ control % 64 + 1 → byte bytes ≡ Some (control, more) → None ≡ option_map (λ d. d.1) (deltas_from c (run_of c control more)) → deltas_from (n - at) (runs bytes) ≡ option_map (from_place at) whole → whole ≡ None
 cut_run n at c past control bytes more whole p l h e none read = none_of at whole (sym (ap (λ b. deltas_from (n - at) (runs b)) (byte_is bytes control more e) ∙ run_read n at c past control more p l h ∙ ap (then_deltas (n - past)) (no_run_read (deltas_from c (run_of c control more)) none)) ∙ read)
 
 -- ---- what is said of what is read

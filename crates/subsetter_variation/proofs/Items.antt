@@ -8,7 +8,7 @@ use Rattle.subsetter_base.specs.Items.{Items}
 use Rattle.subsetter_base.specs.declared.error.Error.TheVariants.{OverflowError}
 use Rattle.subsetter_base.proofs.Results.{done}
 use Rattle.subsetter_base.proofs.Options.{bind_some, just, just_is}
-use Rattle.subsetter_variation.specs.Optional.{◌>>=◌}
+use Rattle.subsetter_base.specs.Options.{◌>>=◌}
 use Rattle.subsetter_variation.specs.Nearest.{nearest}
 use Rattle.subsetter_variation.specs.Region.{scalar, unit}
 use Rattle.subsetter_variation.specs.ItemVariations.{Row, Store, delta, item_delta, item_row, region_items, region_of, term, terms}

@@ -6,7 +6,7 @@ use Rattle.subsetter_base.specs.Items.{Items}
 use Rattle.subsetter_base.specs.declared.error.Error.{Error}
 use Rattle.subsetter_base.specs.declared.tag.Tag.{Tag}
 use Rattle.subsetter_base.proofs.Results.{with_front}
-use Rattle.subsetter_variation.specs.Optional.{◌>>=◌}
+use Rattle.subsetter_base.specs.Options.{◌>>=◌}
 use Rattle.subsetter_variation.specs.Axes.{axis_of, axes_at}
 use Rattle.subsetter_variation.specs.Segments.{segment_map_at, axis_value_maps}
 use Rattle.subsetter_variation.specs.Coordinates.{coordinate, coordinates_at}

@@ -1,20 +1,15 @@
 -- The axes of a variable font (OpenType, "fvar"), and where a coordinate lies on one. Coordinates are in 65536ths.
-use Rattle.std.specs.Prelude.{ℕ, zero, suc, ◌+◌, List, [], ◌∷◌, take, drop, Option, Some, None, nat_lt, int_lt, int_le, if◌then◌else◌, ℤ, pos, neg_ℤ, ◌-ℤ◌, unsigned_abs}
-use Rattle.std.specs.Int.{w32, cast_signed}
+use Rattle.std.specs.Prelude.{ℕ, zero, suc, ◌+◌, List, [], ◌∷◌, take, find, Option, Some, None, nat_lt, int_lt, int_le, if◌then◌else◌, ℤ, pos, neg_ℤ, ◌-ℤ◌, unsigned_abs}
 use Rattle.std.specs.Str.{bytes_eq}
-use Rattle.subsetter_base.specs.Bytes.{be, range, number}
+use Rattle.subsetter_base.specs.Bytes.{range, number, long_signed_at}
 use Rattle.subsetter_base.specs.declared.tag.Tag.{Tag}
-use Rattle.subsetter_variation.specs.Optional.{◌>>=◌}
+use Rattle.subsetter_base.specs.Options.{◌>>=◌}
 use Rattle.subsetter_variation.specs.Nearest.{part}
 use Rattle.subsetter_variation.specs.declared.axes.Axis.{Axis}
 
--- the signed number of four bytes at a place
-abbrev pub fixed_at : List ℕ → ℕ → ℤ
-fixed_at bytes at = cast_signed w32 (be (take 4 (drop at bytes)))
-
 -- the record of an axis begins with its tag, and its least, its default and its greatest coordinate
 abbrev pub axis_of : List ℕ → Axis
-axis_of bytes = record { tag = record { 0 = take 4 bytes }; minimum = fixed_at bytes 4; default = fixed_at bytes 8; maximum = fixed_at bytes 12 }
+axis_of bytes = record { tag = record { 0 = take 4 bytes }; minimum = long_signed_at bytes 4; default = long_signed_at bytes 8; maximum = long_signed_at bytes 12 }
 
 -- so many records of one size each, one behind the other
 abbrev pub axes_at : ℕ → ℕ → List ℕ → ℕ → Option (List Axis)
@@ -31,6 +26,10 @@ axes fvar = do
   count ← number fvar 8 2
   size ← number fvar 10 2
   if nat_lt size 20 then None else axes_at count size fvar at
+
+-- the first axis of a tag
+abbrev pub find_axis : List ℕ → List Axis → Option Axis
+find_axis tag axes = find (λ a. bytes_eq a.tag.0 tag) axes
 
 -- the last setting of a tag, else what there was
 abbrev pub user_coordinate_from : ℤ → List ℕ → List (Tag × ℤ) → ℤ

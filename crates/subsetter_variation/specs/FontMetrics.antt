@@ -1,10 +1,9 @@
 -- Metrics of a whole font that vary (OpenType, "MVAR").
 use Rattle.std.specs.Prelude.{ℕ, zero, suc, ◌+◌, ◌*◌, ◌==◌, List, length, take, drop, Option, Some, None, nat_lt, if◌then◌else◌, ℤ, pos}
 use Rattle.std.specs.Str.{bytes_eq}
-use Rattle.subsetter_base.specs.Bytes.{be, range, number}
-use Rattle.subsetter_variation.specs.Optional.{◌>>=◌}
+use Rattle.subsetter_base.specs.Bytes.{be, range, number, from_offset}
+use Rattle.subsetter_base.specs.Options.{◌>>=◌}
 use Rattle.subsetter_variation.specs.ItemVariations.{Store, item_delta, item_store}
-use Rattle.subsetter_variation.specs.Tuples.{tail}
 
 -- the outer and the inner index of a value record, which stand behind its tag
 abbrev pub value_indexes : List ℕ → ℕ × ℕ
@@ -32,7 +31,7 @@ store_for axis_count s = if s.axis_count == axis_count then Some s else None
 unfoldable pub metric_store : List ℕ → ℕ → Option Store
 metric_store mvar axis_count = do
   at ← number mvar 10 2
-  bytes ← if at == 0 then None else tail mvar at
+  bytes ← if at == 0 then None else from_offset mvar at
   s ← item_store bytes
   store_for axis_count s
 

@@ -3,14 +3,13 @@ use Rattle.std.specs.Prelude.{ℕ, zero, suc, ◌+◌, ◌-◌, ◌*◌, ◌/◌
 use Rattle.std.specs.Int.{w8, w16, w32, cast_signed}
 use Rattle.std.specs.List.{range_with_len}
 use Rattle.std.specs.Option.{option_map}
-use Rattle.subsetter_base.specs.Bytes.{be, range, number}
+use Rattle.subsetter_base.specs.Bytes.{be, range, number, from_offset, signed_at}
 use Rattle.subsetter_base.specs.Items.{Items, values}
 use Rattle.subsetter_base.specs.declared.error.Error.{Error}
 use Rattle.subsetter_base.specs.declared.error.Error.TheVariants.{MalformedFont, OverflowError}
-use Rattle.subsetter_variation.specs.Optional.{◌>>=◌}
+use Rattle.subsetter_base.specs.Options.{◌>>=◌}
 use Rattle.subsetter_variation.specs.Nearest.{nearest}
 use Rattle.subsetter_variation.specs.Region.{scalar}
-use Rattle.subsetter_variation.specs.Tuples.{tail}
 use Rattle.subsetter_variation.specs.declared.region.RegionAxis.{RegionAxis}
 
 -- an offset of 32 bits, unless it is 0, which stands for no table (OpenType, "Data Types")
@@ -36,10 +35,6 @@ item_store bytes = do
   region_count ← number bytes (at + 2) 2
   regions ← range bytes (at + 4) (region_count * (axis_count * 6))
   if format == 1 then Some (record { axis_count = axis_count; region_count = region_count; regions = regions; bytes = bytes }) else None
-
--- the signed number of two bytes at a place
-abbrev pub signed_at : List ℕ → ℕ → ℤ
-signed_at bytes at = cast_signed w16 (be (take 2 (drop at bytes)))
 
 -- on one axis: startCoord, peakCoord and endCoord
 abbrev pub region_axis_in : List ℕ → RegionAxis
@@ -167,13 +162,13 @@ mapped_index map g = do
 unfoldable pub advance_index : List ℕ → ℕ → Option (ℕ × ℕ)
 advance_index hvar g = do
   at ← number hvar 8 4
-  if at == 0 then Some (0, g) else tail hvar at >>= λ map. mapped_index map g
+  if at == 0 then Some (0, g) else from_offset hvar at >>= λ map. mapped_index map g
 
 -- the store of HVAR, whose regions have as many axes as the font
 unfoldable pub store_of : List ℕ → ℕ → Option Store
 store_of hvar axis_count = do
   at ← offset_at hvar 4
-  bytes ← tail hvar at
+  bytes ← from_offset hvar at
   s ← item_store bytes
   if s.axis_count == axis_count then Some s else None
 

@@ -8,7 +8,6 @@ pub mod ItemVariations
 pub mod Movement
 pub mod Moves
 pub mod Nearest
-pub mod Optional
 pub mod Packed
 pub mod PlaceLaws
 pub mod Region

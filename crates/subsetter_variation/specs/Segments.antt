@@ -4,7 +4,7 @@ use Rattle.std.specs.Int.{w16, cast_signed}
 use Rattle.std.specs.Ordering.{int_eq}
 use Rattle.subsetter_base.specs.Bytes.{be, range, number}
 use Rattle.subsetter_base.specs.Items.{Items, values}
-use Rattle.subsetter_variation.specs.Optional.{◌>>=◌}
+use Rattle.subsetter_base.specs.Options.{◌>>=◌}
 use Rattle.subsetter_variation.specs.Nearest.{part}
 use Rattle.subsetter_variation.specs.declared.segments.AxisValueMap.{AxisValueMap}
 

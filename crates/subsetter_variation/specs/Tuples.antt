@@ -2,18 +2,14 @@
 use Rattle.std.specs.Prelude.{ℕ, zero, suc, ◌+◌, ◌-◌, ◌*◌, ◌%◌, ◌==◌, Bool, true, false, List, [], ◌∷◌, length, take, drop, Option, Some, None, nat_lt, nat_le, int_lt, if◌then◌else◌, ℤ, pos}
 use Rattle.std.specs.Int.{w16, cast_signed}
 use Rattle.std.specs.Option.{option_map}
-use Rattle.subsetter_base.specs.Bytes.{be, range, number}
-use Rattle.subsetter_variation.specs.Optional.{◌>>=◌}
+use Rattle.subsetter_base.specs.Bytes.{be, range, number, from_offset, between_offsets}
+use Rattle.subsetter_base.specs.Options.{◌>>=◌}
 use Rattle.subsetter_variation.specs.Packed.{word_in, deltas, point_numbers}
 use Rattle.subsetter_variation.specs.declared.region.RegionAxis.{RegionAxis}
 
 -- the first bytes and those behind them, if there are as many
 abbrev pub split : ℕ → List ℕ → Option (List ℕ × List ℕ)
 split n bytes = if nat_le n (length bytes) then Some (take n bytes, drop n bytes) else None
-
--- the bytes from a place on, which isn't past the end
-abbrev pub tail : List ℕ → ℕ → Option (List ℕ)
-tail bytes at = if nat_le at (length bytes) then Some (drop at bytes) else None
 
 -- ---- the table
 -- How many axes and glyphs there are, the bytes of the shared tuples, the offsets of the glyphs' variations, of two or four bytes each, and the bytes that these count in.
@@ -37,7 +33,7 @@ parts gvar axis_count glyph_count long = do
   from ← number gvar 16 4
   shared ← range gvar shared_at (shared_count * tuple_size axis_count)
   offsets ← range gvar 20 ((glyph_count + 1) * (if long then 4 else 2))
-  variations ← tail gvar from
+  variations ← from_offset gvar from
   Some (record { axis_count = axis_count; glyph_count = glyph_count; long = long; shared = shared; offsets = offsets; variations = variations })
 
 -- offsets are long where bit 0 of the flags is set
@@ -51,10 +47,6 @@ gvar_table gvar = do
 -- an offset, or half of it
 abbrev pub offset : Gvar → ℕ → Option ℕ
 offset t g = if t.long then number t.offsets (g * 4) 4 else option_map (λ half. 2 * half) (number t.offsets (g * 2) 2)
-
--- the bytes between two offsets
-abbrev pub between_offsets : List ℕ → ℕ → ℕ → Option (List ℕ)
-between_offsets bytes from to = if nat_le from to then range bytes from (to - from) else None
 
 -- the variations of a glyph: the bytes between its offset and the next
 unfoldable pub variations_of : Gvar → ℕ → Option (List ℕ)
@@ -75,7 +67,7 @@ unfoldable pub tuple_headers : List ℕ → Option (Bool × TupleHeaders)
 tuple_headers bytes = do
   count ← number bytes 0 2
   at ← number bytes 2 2
-  serialized ← tail bytes at
+  serialized ← from_offset bytes at
   Some (nat_le 32768 count, record { left = count % 4096; headers = drop 4 bytes; serialized = serialized })
 
 -- ---- regions

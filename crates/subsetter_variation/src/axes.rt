@@ -2,16 +2,17 @@
 //!
 //! An axis whose least coordinate lies above its default, which OpenType doesn't allow, has nothing below its default.
 
-ghost use Rattle.std.specs.Prelude.{◌≡◌, ◌+◌, ◌<◌, ◌≤◌, ◌-ℤ◌, ◌<ℤ◌, length, unsigned_abs};
+ghost use Rattle.std.specs.Prelude.{◌≡◌, ◌<◌, ◌≤◌, ◌-ℤ◌, ◌<ℤ◌, length, unsigned_abs};
 ghost use Rattle.std.specs.Option.{ok_or};
 ghost use Rattle.subsetter_base.specs.Gives.{Gives};
 ghost use Rattle.subsetter_base.specs.declared.error.Error.TheVariants.{MalformedFont};
-ghost use Rattle.subsetter_variation.specs.Axes.{axis_of, fixed_at, axes_at, axes, user_coordinate, toward, below_default, above_default, default_normalized};
+ghost use Rattle.subsetter_variation.specs.Axes.{axis_of, find_axis, axes_at, axes, user_coordinate, toward, below_default, above_default, default_normalized};
+ghost use Rattle.subsetter_base.specs.Bytes.{long_signed_at};
 
 use crate::fvar::{axes_array_offset, axis_count, axis_size};
 use crate::rounding::part;
 use std::alloc::Global;
-use subsetter_base::read::{Reader, u32_at};
+use subsetter_base::read::{Reader, long_signed_at};
 use subsetter_base::{Error, Tag};
 
 /// An axis: its name, and its coordinates in 65536ths.
@@ -24,14 +25,6 @@ pub struct Axis {
     pub maximum: i32,
 }
 
-/// The signed number of four bytes.
-fn fixed_at(bytes: &[u8], at: usize) -> i32
-    requires { at + 4 ≤ length bytes.now }
-    ensures { result ≡ fixed_at bytes.now at }
-{
-    u32_at(bytes, at).cast_signed()
-}
-
 /// The axis whose record these bytes begin.
 fn axis_of(bytes: &[u8]) -> Axis
     requires { 20 ≤ length bytes.now }
@@ -39,10 +32,22 @@ fn axis_of(bytes: &[u8]) -> Axis
 {
     Axis {
         tag: Tag::new(&[bytes[0], bytes[1], bytes[2], bytes[3]]),
-        minimum: fixed_at(bytes, 4),
-        default: fixed_at(bytes, 8),
-        maximum: fixed_at(bytes, 12),
+        minimum: long_signed_at(bytes, 4),
+        default: long_signed_at(bytes, 8),
+        maximum: long_signed_at(bytes, 12),
     }
+}
+
+/// The first axis of a tag.
+pub fn find_axis(axes: &[Axis], tag: Tag) -> Option<Axis>
+    ensures { result ≡ find_axis tag.0 axes.now }
+{
+    for axis in axes {
+        if axis.tag == tag {
+            return Some(*axis);
+        }
+    }
+    None
 }
 
 /// So many axes, of size bytes each.

@@ -9,8 +9,7 @@ ghost use Rattle.subsetter_variation.specs.ItemVariations.{whole_or_fault};
 ghost use Rattle.subsetter_variation.specs.FontMetrics.{value_indexes, value_from, value_of, store_for, metric_store, value_delta, metric_delta};
 
 use crate::item_variations::{Store, in_whole_units, item_delta, item_store};
-use crate::tuples::tail;
-use subsetter_base::read::{Reader, u16_at};
+use subsetter_base::read::{Reader, from_offset, u16_at};
 use subsetter_base::{Error, Tag};
 
 /// The indexes of a value record.
@@ -76,7 +75,7 @@ fn metric_store(mvar: &[u8], axis_count: usize) -> Option<Store<'_>>
     if at == 0 {
         return None;
     }
-    store_for(axis_count, item_store(tail(mvar, at as usize)?)?)
+    store_for(axis_count, item_store(from_offset(mvar, at as usize)?)?)
 }
 
 /// What a metric varies by, by its indexes, in parts of 2^30.

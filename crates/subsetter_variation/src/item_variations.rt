@@ -8,17 +8,17 @@
 
 ghost use Rattle.std.specs.Prelude.{[], ◌∷◌, MatchOption, ◌≡◌, ◌+◌, ◌*◌, ◌<◌, ◌≤◌, ◌^◌, Some, IfSome, length, pos, ◌*ℤ◌, ◌≤ℤ◌, unsigned_abs};
 ghost use Rattle.std.specs.Option.{ok_or, option_copied};
-ghost use Rattle.subsetter_base.specs.Bytes.{be};
+ghost use Rattle.subsetter_base.specs.Bytes.{signed_at};
 ghost use Rattle.subsetter_base.specs.declared.error.Error.TheVariants.{MalformedFont};
 ghost use Rattle.subsetter_variation.specs.Region.{scalar};
-ghost use Rattle.subsetter_variation.specs.ItemVariations.{offset_at, item_store, region_axis_in, region_items, region_of, data_place, data_regions, row_size, row_at, row_in, item_row, word_delta, byte_delta, delta, term, terms, item_delta, map_head, split_index, mapped_index, advance_index, store_of, advance_delta, in_whole_units, whole_or_fault, signed_at, entry_place};
+ghost use Rattle.subsetter_variation.specs.ItemVariations.{offset_at, item_store, region_axis_in, region_items, region_of, data_place, data_regions, row_size, row_at, row_in, item_row, word_delta, byte_delta, delta, term, terms, item_delta, map_head, split_index, mapped_index, advance_index, store_of, advance_delta, in_whole_units, whole_or_fault, entry_place};
 
 use crate::region::{RegionAxis, counted};
 use crate::rounding::{nearest, scaled, wide_plus};
-use crate::tuples::tail;
 use std::marker::Model;
 use subsetter_base::Error;
-use subsetter_base::read::{LazyArray16, Readable, Reader, u16_at};
+use subsetter_base::numbers::number_of;
+use subsetter_base::read::{LazyArray16, Readable, Reader, from_offset, signed_at};
 
 /// An offset of 32 bits, unless it is 0, which stands for no table.
 fn offset_at(bytes: &[u8], at: usize) -> Option<u32>
@@ -77,14 +77,6 @@ impl<'a> Model for Row<'a> {
     ghost Value = { Row };
 
     ghost view = { λ r. record { count = r.count; words = r.words; long = r.long; indexes = r.indexes.now; deltas = r.deltas.now } };
-}
-
-/// The signed number of two bytes.
-pub fn signed_at(bytes: &[u8], at: usize) -> i16
-    requires { at + 2 ≤ length bytes.now }
-    ensures { result ≡ signed_at bytes.now at }
-{
-    u16_at(bytes, at).cast_signed()
 }
 
 /// A region on one axis.
@@ -353,20 +345,6 @@ fn map_head(map: &[u8]) -> Option<(u32, usize)>
     }
 }
 
-/// The number of up to four bytes.
-fn be(bytes: &[u8]) -> u32
-    requires { length bytes.now ≤ 4 }
-    ensures { result ≡ be bytes.now }
-{
-    match bytes {
-        [] => 0,
-        [a] => u32::from(*a),
-        [a, b] => u32::from_be_bytes([0, 0, *a, *b]),
-        [a, b, c] => u32::from_be_bytes([0, *a, *b, *c]),
-        [a, b, c, d, ..] => u32::from_be_bytes([*a, *b, *c, *d]),
-    }
-}
-
 /// An entry's outer and inner index.
 fn split_index(bits: u8, entry: u32) -> (u32, u32)
     requires { bits ≤ 16 }
@@ -401,7 +379,7 @@ fn mapped_index(map: &[u8], glyph: u16) -> Option<(u32, u32)>
     let size = (form / 16 % 4 + 1) as usize;
     let place = entry_place(count, glyph);
     let bytes = Reader::new_at(map, from + place as usize * size).read_bytes(size)?;
-    Some(split_index(form % 16 + 1, be(bytes)))
+    Some(split_index(form % 16 + 1, number_of(bytes)))
 }
 
 /// The indexes of a glyph's advance.
@@ -413,7 +391,7 @@ fn advance_index(hvar: &[u8], glyph: u16) -> Option<(u32, u32)>
     if at == 0 {
         return Some((0, u32::from(glyph)));
     }
-    mapped_index(tail(hvar, at as usize)?, glyph)
+    mapped_index(from_offset(hvar, at as usize)?, glyph)
 }
 
 /// The store of `HVAR`, if its regions have as many axes as the font.
@@ -422,7 +400,7 @@ fn store_of(hvar: &[u8], axis_count: usize) -> Option<Store<'_>>
     ensures { result ≡ store_of hvar.now axis_count }
 {
     let at = offset_at(hvar, 4)?;
-    let s = item_store(tail(hvar, at as usize)?)?;
+    let s = item_store(from_offset(hvar, at as usize)?)?;
     if s.axis_count as usize == axis_count {
         Some(s)
     } else {

@@ -7,7 +7,7 @@ ghost use Rattle.std.specs.Prelude.{◌≡◌, ◌+◌, ◌*◌, ◌<◌, ◌≤
 ghost use Rattle.subsetter_variation.specs.Segments.{axis_value_map_of, segment_map_at, axis_value_maps, fine, passed, on_segment, is_on, by_segments, keeps, follows, ascends, is_segment_map, mapped};
 
 use crate::rounding::{minus, part, plus};
-use subsetter_base::read::{LazyArray16, Readable, Reader};
+use subsetter_base::read::{LazyArray16, Readable, Reader, signed_at};
 
 /// The end of a segment: a number and its new one, in 16384ths.
 #[derive(Clone, Copy, PartialEq, Eq)]
@@ -26,8 +26,8 @@ impl Readable<'_> for AxisValueMap {
     fn read(r: &mut Reader<'_>) -> Option<Self> {
         let b = r.read_bytes(4)?;
         Some(AxisValueMap {
-            from: i16::from_be_bytes([b[0], b[1]]),
-            to: i16::from_be_bytes([b[2], b[3]]),
+            from: signed_at(b, 0),
+            to: signed_at(b, 2),
         })
     }
 }

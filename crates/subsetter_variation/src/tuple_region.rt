@@ -6,6 +6,7 @@ ghost use Rattle.subsetter_variation.specs.Tuples.{short, plain_region_axis, reg
 
 use crate::region::{RegionAxis, counted};
 use std::marker::Model;
+use subsetter_base::read::signed_at;
 
 /// Where a tuple counts: of each axis the two bytes of its peak, and those of its start and its end where the header has them.
 #[derive(Drop)]
@@ -34,7 +35,7 @@ fn short(bytes: &[u8]) -> i16
     requires { 2 ≤ length bytes.now }
     ensures { result ≡ short bytes.now }
 {
-    i16::from_be_bytes([bytes[0], bytes[1]])
+    signed_at(bytes, 0)
 }
 
 /// A peak without ends of its own.

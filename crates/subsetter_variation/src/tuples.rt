@@ -9,14 +9,14 @@ ghost use Rattle.std.specs.Option.{ok_or, option_copied, option_map};
 ghost use Rattle.subsetter_base.specs.Gives.{Gives};
 ghost use Rattle.subsetter_base.specs.declared.error.Error.TheVariants.{MalformedFont};
 ghost use Rattle.subsetter_variation.specs.Region.{scalar};
-ghost use Rattle.subsetter_variation.specs.Tuples.{split, tail, parts, gvar_table, offset, between_offsets, variations_of, tuple_headers, peaks_in, ends_in, region_in, next_header, both_deltas, numbers_and_deltas, tuple_size, count_of, shared_numbers};
+ghost use Rattle.subsetter_variation.specs.Tuples.{split, parts, gvar_table, offset, variations_of, tuple_headers, peaks_in, ends_in, region_in, next_header, both_deltas, numbers_and_deltas, tuple_size, count_of, shared_numbers};
 
 use crate::packed::{deltas, point_numbers, word_in};
 use crate::tuple_region::{TupleRegion, tuple_region};
 use std::alloc::Global;
 use std::marker::Model;
 use subsetter_base::Error;
-use subsetter_base::read::Reader;
+use subsetter_base::read::{Reader, between_offsets, from_offset};
 
 /// The table `gvar`.
 #[derive(Drop)]
@@ -65,13 +65,6 @@ fn split(n: usize, bytes: &[u8]) -> Option<(&[u8], &[u8])>
     }
 }
 
-/// The bytes from a place on, which isn't past the end.
-pub(crate) fn tail(bytes: &[u8], at: usize) -> Option<&[u8]>
-    ensures { option_copied result ≡ tail bytes.now at }
-{
-    bytes.get(at..)
-}
-
 /// The parts of the table, for these numbers of its header.
 fn parts(gvar: &[u8], axis_count: u16, glyph_count: u16, long: bool) -> Option<Gvar<'_>>
     ensures { result ≡ parts gvar.now axis_count glyph_count long }
@@ -83,7 +76,7 @@ fn parts(gvar: &[u8], axis_count: u16, glyph_count: u16, long: bool) -> Option<G
     let shared = Reader::new_at(gvar, shared_at as usize).read_bytes(size)?;
     let entry = if long { 4 } else { 2 };
     let offsets = Reader::new_at(gvar, 20).read_bytes((glyph_count as usize + 1) * entry)?;
-    let variations = tail(gvar, from as usize)?;
+    let variations = from_offset(gvar, from as usize)?;
     Some(Gvar {
         axis_count,
         glyph_count,
@@ -139,17 +132,6 @@ impl<'a> Gvar<'a> {
     }
 }
 
-/// The bytes between two offsets.
-fn between_offsets(bytes: &[u8], from: usize, to: usize) -> Option<&[u8]>
-    ensures { option_copied result ≡ between_offsets bytes.now from to }
-{
-    if from <= to {
-        Reader::new_at(bytes, from).read_bytes(to - from)
-    } else {
-        None
-    }
-}
-
 /// Whether point numbers are shared, and the tuples of a glyph, by the bytes of its variations.
 #[tactic(auto, unfolding(crate::specs::Tuples::tuple_headers))]
 pub fn tuple_headers(bytes: &[u8]) -> Option<(bool, TupleHeaders<'_>)>
@@ -158,7 +140,7 @@ pub fn tuple_headers(bytes: &[u8]) -> Option<(bool, TupleHeaders<'_>)>
 {
     let count = Reader::new(bytes).read::<u16>()?;
     let at = Reader::new_at(bytes, 2).read::<u16>()?;
-    let serialized = tail(bytes, at as usize)?;
+    let serialized = from_offset(bytes, at as usize)?;
     Some((
         count >= 32768,
         TupleHeaders {

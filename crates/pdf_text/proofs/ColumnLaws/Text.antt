@@ -15,7 +15,7 @@ use Rattle.pdf_text.specs.Tokens.{tokens, number_in}
 use Rattle.pdf_text.specs.Arrays.{spread}
 use Rattle.pdf_text.specs.Columns.{Span, listed_columns, same_columns, column_text, span_text, columns_text, integer_in, between_spans, behind_first, behind_last, behind_advance, behind_x, on_list, on_advance, on_x, spans_in, spans_of}
 use Rattle.pdf_text.proofs.TokenLaws.Tokens.{IsDark, dark, first_token, digits_dark, decimal_digits, decimal_some, number_read, no_word}
-use Rattle.pdf_text.proofs.Written.{spaced, joined}
+use Rattle.subsetter_base.proofs.TextLemmas.{spaced, joined}
 
 -- ---- integers
 

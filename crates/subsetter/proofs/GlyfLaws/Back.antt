@@ -7,10 +7,10 @@ use Rattle.std.proofs.lemmas.List.{append-nil, length-append, length-replicate}
 use Rattle.std.proofs.lemmas.List.Sums.{sum_by-cons}
 use Rattle.std.proofs.lemmas.List.Concat.{flat_map-cons}
 use Rattle.std.specs.Prelude.{replicate}
-use Rattle.subsetter_base.specs.Bytes.{be, range, number, aligned}
+use Rattle.subsetter_base.specs.Bytes.{be, range, number, aligned, between_offsets}
 use Rattle.subsetter_base.proofs.ByteLemmas.{be-u16, be-u32, range-middle, number-fits}
 use Rattle.subsetter_base.proofs.Options.{bind_some}
-use Rattle.subsetter.specs.Glyf.Read.{Outlines, entry_size, offset, between, outline_in}
+use Rattle.subsetter.specs.Glyf.Read.{Outlines, entry_size, offset, outline_in}
 use Rattle.subsetter.specs.Glyf.Unfold.{padded}
 use Rattle.subsetter.specs.Glyf.Written.{even_size, is_long, glyf_bytes, offset_bytes, loca_bytes}
 
@@ -98,7 +98,7 @@ outline_back t bs i is glyf_is lt fit =
     let more : to ≡ from + length b = place_more t.long bs i lt in
     let order : leb from to ≡ true = le-leb _ _ (omega arith) in
     let part : range t.glyf from (to - from) ≡ Some b = range-middle t.glyf (glyf_bytes t.long (take i bs)) b (glyf_bytes t.long (drop (suc i) bs)) from (to - from) (glyf_is ∙ split_at t.long bs i lt) refl (omega arith) in
-    ap (λ o. option_and_then (λ m. option_and_then (λ n. between t.glyf m n) (offset t (i + 1))) o) starts ∙ ap (λ o. option_and_then (λ n. between t.glyf from n) o) ends
+    ap (λ o. option_and_then (λ m. option_and_then (λ n. between_offsets t.glyf m n) (offset t (i + 1))) o) starts ∙ ap (λ o. option_and_then (λ n. between_offsets t.glyf from n) o) ends
     ∙ ap (λ c. cond c (range t.glyf from (to - from)) None) order ∙ part
 
 -- ---- tables that were written from a list of outlines
@@ -139,6 +139,6 @@ within_entries false loca n g to len h = by (number loca (2 * (g + 1)) 2) refl h
 pub has_entry : (t : Outlines) (n g : ℕ) (bytes : List ℕ) → length t.loca ≡ entry_size t.long * (n + 1) → outline_in t g ≡ Some bytes → g < n
 unfolding outline_in
 has_entry t n g bytes len h =
-    let a = bind_some (offset t g) (λ from. option_and_then (λ to. between t.glyf from to) (offset t (g + 1))) bytes h in
-    let b = bind_some (offset t (g + 1)) (λ to. between t.glyf a.0 to) bytes a.2 in
+    let a = bind_some (offset t g) (λ from. option_and_then (λ to. between_offsets t.glyf from to) (offset t (g + 1))) bytes h in
+    let b = bind_some (offset t (g + 1)) (λ to. between_offsets t.glyf a.0 to) bytes a.2 in
     within_entries t.long t.loca n g b.0 len b.1

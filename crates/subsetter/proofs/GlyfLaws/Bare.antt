@@ -3,10 +3,9 @@ use Rattle.std.proofs.Common.{◌≡◌, ℕ, ◌+◌, ◌*◌, ◌≤◌, cond,
 use Rattle.std.specs.Option.{option_and_then, option_map, unwrap_or}
 use Rattle.std.proofs.lemmas.Bool.{le-leb}
 use Rattle.std.proofs.lemmas.List.{take-append-drop, length-drop, drop-drop}
-use Rattle.subsetter_base.specs.Bytes.{be, number}
+use Rattle.subsetter_base.specs.Bytes.{be, number, from_offset}
 use Rattle.subsetter_base.proofs.ByteLemmas.{range-take_drop, be-append, be-u8}
 use Rattle.subsetter_base.proofs.Options.{just}
-use Rattle.subsetter.specs.Name.Read.{bytes_from}
 use Rattle.subsetter.specs.Glyf.Bare.{bare_at, bare_simple}
 
 zeros : (x y : ℕ) (l : List ℕ) → be (x ∷ y ∷ []) ≡ 0 → 0 ∷ 0 ∷ l ≡ x ∷ y ∷ l
@@ -32,8 +31,8 @@ stays_bare bytes le within h =
     let a : number bytes 0 2 ≡ Some (be (take 2 bytes)) = ap (option_map be) (range-take_drop bytes 0 2 le) in
     let b : number bytes at 2 ≡ Some 0 = ap (option_map be) (range-take_drop bytes at 2 within) ∙ ap (λ (n : ℕ). Some n) h in
     let none : at + 2 + 0 ≡ at + 2 = omega arith in
-    let c : bytes_from bytes (at + 2 + 0) ≡ Some (drop (at + 2) bytes) = ap (bytes_from bytes) none ∙ ap (λ q. cond q (Some (drop (at + 2) bytes)) None) (le-leb (at + 2) (length bytes) within) in
+    let c : from_offset bytes (at + 2 + 0) ≡ Some (drop (at + 2) bytes) = ap (from_offset bytes) none ∙ ap (λ q. cond q (Some (drop (at + 2) bytes)) None) (le-leb (at + 2) (length bytes) within) in
     sym (ap (λ (o : Option ℕ). unwrap_or (option_and_then (λ n. bare_at bytes (10 + 2 * n)) o) bytes) a
-    ∙ ap (λ (o : Option ℕ). unwrap_or (option_and_then (λ size. option_and_then (λ behind. just (take at bytes ++ 0 ∷ 0 ∷ behind)) (bytes_from bytes (at + 2 + size))) o) bytes) b
+    ∙ ap (λ (o : Option ℕ). unwrap_or (option_and_then (λ size. option_and_then (λ behind. just (take at bytes ++ 0 ∷ 0 ∷ behind)) (from_offset bytes (at + 2 + size))) o) bytes) b
     ∙ ap (λ (o : Option (List ℕ)). unwrap_or (option_and_then (λ behind. just (take at bytes ++ 0 ∷ 0 ∷ behind)) o) bytes) c
     ∙ same bytes at within h)

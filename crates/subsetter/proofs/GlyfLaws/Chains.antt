@@ -11,7 +11,8 @@ use Rattle.subsetter_base.proofs.Options.{bind_some}
 use Rattle.subsetter.specs.Glyf.Bare.{component_asked, tail_asked, parts_asked, bare_simple, simple_asked}
 use Rattle.subsetter.specs.Glyf.Parts.{Component, Chain, Parts, Composite, Simple, rest_size, has_more, has_instructions, component_at, with_component, last_component, chain_at, composite_parts, outline_parts, spelled, parts_bytes}
 use Rattle.subsetter.specs.Glyf.Closure.{first_byte_in}
-use Rattle.subsetter.specs.Glyf.Plain.{renumbered_component, renumbered_chain, renumbered, written_behind, rewritten_composite, rewritten}
+use Rattle.subsetter.specs.Glyf.Plain.{renumbered_component, renumbered_chain, renumbered, rewritten_composite, rewritten}
+use Rattle.subsetter_base.specs.Gives.{behind}
 
 -- a component that is whole
 pub record IsComponent (bytes : List ℕ) (c : Component) : Type 0 where
@@ -175,10 +176,10 @@ composite_is hint order bytes le =
     ∙ ap (λ (o : Option (List ℕ)). ok_or o MalformedFont) (composite_by hint order (take 10 bytes) (chain_at (length bytes) rest) ∙ ap (λ (o : Option Chain). with_front (take 10 bytes) (option_map (chain_bytes hint order) o)) same)
 
 -- the same behind other bytes
-pub composite_behind : (hint : Bool) (before order bytes : List ℕ) → 10 ≤ length bytes → written_behind before (rewritten_composite hint order bytes) ≡ ok_or (with_front (before ++ take 10 bytes) (chain_text hint order (drop 10 bytes))) MalformedFont
-composite_behind hint before order bytes le = ap (written_behind before) (composite_is hint order bytes le) ∙ by (chain_text hint order (drop 10 bytes))
+pub composite_behind : (hint : Bool) (before order bytes : List ℕ) → 10 ≤ length bytes → behind before (rewritten_composite hint order bytes) ≡ ok_or (with_front (before ++ take 10 bytes) (chain_text hint order (drop 10 bytes))) MalformedFont
+composite_behind hint before order bytes le = ap (behind before) (composite_is hint order bytes le) ∙ by (chain_text hint order (drop 10 bytes))
   where
-    by : (o : Option (List ℕ)) → written_behind before (ok_or (with_front (take 10 bytes) o) MalformedFont) ≡ ok_or (with_front (before ++ take 10 bytes) o) MalformedFont
+    by : (o : Option (List ℕ)) → behind before (ok_or (with_front (take 10 bytes) o) MalformedFont) ≡ ok_or (with_front (before ++ take 10 bytes) o) MalformedFont
     by None = refl
     by (Some text) = ap Ok (sym (append_assoc before (take 10 bytes) text))
 

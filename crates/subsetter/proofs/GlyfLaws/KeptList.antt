@@ -5,14 +5,14 @@ use Rattle.std.specs.Borrow.{Bor}
 use Rattle.std.specs.Option.{option_copied, ok_or}
 use Rattle.std.proofs.lemmas.List.{append-nil, drop_more, map-append, take-append-drop, drop-drop, get_or-map}
 use Rattle.subsetter_base.specs.Bytes.{◌>>=◌}
-use Rattle.subsetter_base.specs.Gives.{Fails}
+use Rattle.subsetter_base.specs.Gives.{Fails, behind}
 use Rattle.subsetter_base.specs.declared.error.Error.{Error}
 use Rattle.subsetter_base.specs.declared.error.Error.TheVariants as errors
 use Rattle.subsetter_base.proofs.Lists.{rest_of}
 use Rattle.subsetter_base.proofs.Results.{with_front, bind_ok, done_is, named_err}
 use Rattle.subsetter.specs.Glyf.Read.{Outlines, outline_in}
 use Rattle.subsetter.specs.Glyf.Bare.{simple_asked}
-use Rattle.subsetter.specs.Glyf.Plain.{kept, kept_outline, kept_outlines, kept_all, with_last, with_outlines, written_behind, rewritten_composite}
+use Rattle.subsetter.specs.Glyf.Plain.{kept, kept_outline, kept_outlines, kept_all, with_last, with_outlines, rewritten_composite}
 use Rattle.subsetter.specs.Glyf.Closure.{first_byte_in}
 use Rattle.subsetter.proofs.GlyfLaws.Chains.{rewritten_begun, rewritten_simple}
 
@@ -107,7 +107,7 @@ all_by_outlines t order [] = refl
 all_by_outlines t order (g ∷ gs) = ap (λ r. kept t order g >>= λ first. r >>= λ rest. Ok (first ∷ rest)) (all_by_outlines t order gs)
 
 -- what was written behind other bytes
-pub behind_ok : (front : List ℕ) (read : Result (List ℕ) Error) (all : List ℕ) → written_behind front read ≡ Ok all → (b : List ℕ) × (read ≡ Ok b) × (front ++ b ≡ all)
+pub behind_ok : (front : List ℕ) (read : Result (List ℕ) Error) (all : List ℕ) → behind front read ≡ Ok all → (b : List ℕ) × (read ≡ Ok b) × (front ++ b ≡ all)
 behind_ok front read all h =
     let k = bind_ok read (λ b. Ok (front ++ b)) all h in
     (k.0, k.1, done_is (front ++ k.0) all k.2)

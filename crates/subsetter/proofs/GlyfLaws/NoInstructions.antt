@@ -7,14 +7,14 @@ use Rattle.std.specs.Option.{option_and_then, option_map, unwrap_or}
 use Rattle.std.proofs.lemmas.Bool.{le-leb}
 use Rattle.std.proofs.lemmas.List.{append-nil, length-append, length-replicate, length-take-le}
 use Rattle.std.proofs.lemmas.Nat.{and_assoc}
-use Rattle.subsetter_base.specs.Bytes.{be, number}
+use Rattle.subsetter_base.specs.Bytes.{be, number, from_offset}
 use Rattle.subsetter_base.proofs.ByteLemmas.{range-left, range-take_drop, number-fits, number_at}
 use Rattle.subsetter_base.proofs.Options.{just, just_is, some_not_none, bind_some}
-use Rattle.subsetter.specs.Name.Read.{bytes_from}
 use Rattle.subsetter.specs.Glyf.Bare.{bare_at, bare_found, bare_simple, component_asked, bare}
 use Rattle.subsetter.specs.Glyf.Instructions.{IsBareSimple, AreBare}
 use Rattle.subsetter.specs.Glyf.Parts.{Component, Parts, Empty, Simple, Composite, has_instructions, spelled, parts_bytes}
-use Rattle.subsetter.specs.Glyf.Plain.{new_number, renumbered_component, renumbered}
+use Rattle.subsetter.specs.Glyf.Plain.{renumbered_component, renumbered}
+use Rattle.subsetter_base.specs.Places.{new_index}
 use Rattle.subsetter.specs.Glyf.Unfold.{padded}
 use Rattle.subsetter.proofs.GlyfLaws.Parts.{padded-append, padded-nil, bare_is, chain-even}
 use Rattle.subsetter.proofs.GlyfLaws.Unfold.{CanBeWritten, can_empty, can_simple, can_composite, padded_parts}
@@ -41,9 +41,9 @@ finds : (bytes : List ℕ) (contours size : ℕ) → number bytes 0 2 ≡ Some c
     → bare_found bytes ≡ Some (take (10 + 2 * contours) bytes ++ 0 ∷ 0 ∷ drop (10 + 2 * contours + 2 + size) bytes)
 finds bytes contours size e f le =
     let at = 10 + 2 * contours in
-    let behind : bytes_from bytes (at + 2 + size) ≡ Some (drop (at + 2 + size) bytes) = ap (λ q. cond q (Some (drop (at + 2 + size) bytes)) None) (le-leb (at + 2 + size) (length bytes) le) in
+    let behind : from_offset bytes (at + 2 + size) ≡ Some (drop (at + 2 + size) bytes) = ap (λ q. cond q (Some (drop (at + 2 + size) bytes)) None) (le-leb (at + 2 + size) (length bytes) le) in
     ap (λ (o : Option ℕ). option_and_then (λ n. bare_at bytes (10 + 2 * n)) o) e
-    ∙ ap (λ (o : Option ℕ). option_and_then (λ n. option_and_then (λ l. just (take at bytes ++ 0 ∷ 0 ∷ l)) (bytes_from bytes (at + 2 + n))) o) f
+    ∙ ap (λ (o : Option ℕ). option_and_then (λ n. option_and_then (λ l. just (take at bytes ++ 0 ∷ 0 ∷ l)) (from_offset bytes (at + 2 + n))) o) f
     ∙ ap (λ (o : Option (List ℕ)). option_and_then (λ l. just (take at bytes ++ 0 ∷ 0 ∷ l)) o) behind
 
 module _ (a b : ℕ) (rest pad : List ℕ) (one : length pad ≤ 1) where
@@ -63,8 +63,8 @@ module _ (a b : ℕ) (rest pad : List ℕ) (one : length pad ≤ 1) where
   none_left bytes found contours size e f lt =
       let k = bind_some (number whole 0 2) (λ n. bare_at whole (10 + 2 * n)) bytes found in
       let at = 10 + 2 * k.0 in
-      let l = bind_some (number whole at 2) (λ n. option_and_then (λ behind. just (take at whole ++ 0 ∷ 0 ∷ behind)) (bytes_from whole (at + 2 + n))) bytes k.2 in
-      let m = bind_some (bytes_from whole (at + 2 + l.0)) (λ behind. just (take at whole ++ 0 ∷ 0 ∷ behind)) bytes l.2 in
+      let l = bind_some (number whole at 2) (λ n. option_and_then (λ behind. just (take at whole ++ 0 ∷ 0 ∷ behind)) (from_offset whole (at + 2 + n))) bytes k.2 in
+      let m = bind_some (from_offset whole (at + 2 + l.0)) (λ behind. just (take at whole ++ 0 ∷ 0 ∷ behind)) bytes l.2 in
       let is : take at whole ++ 0 ∷ 0 ∷ m.0 ≡ bytes = just_is (take at whole ++ 0 ∷ 0 ∷ m.0) bytes m.2 in
       let within : at + 2 ≤ length whole = number-fits whole at 2 l.0 l.1 in
       let wide : length (take at whole) ≡ at = length-take-le at whole (omega (arith, within)) in
@@ -102,7 +102,7 @@ all_cleared order (c ∷ cs) = (cleared c.flags, all_cleared order cs)
 
 -- ---- outlines that are written
 
-pub written_bare : (long : Bool) (order : List ℕ) (p : Parts) → ((g : ℕ) → new_number order g < 2 ^ 16) → CanBeWritten p
+pub written_bare : (long : Bool) (order : List ℕ) (p : Parts) → ((g : ℕ) → new_index order g < 2 ^ 16) → CanBeWritten p
     → AreBare (padded long (parts_bytes (renumbered order (bare p)))) (padded_parts long (renumbered order (bare p)))
 written_bare long order Empty small can_empty = tt
 written_bare long order (Simple _) small (can_simple a b rest bytes e t) = subst (λ (l : List ℕ). IsBareSimple (padded long (bare_simple l))) (sym e) (bare_has long a b rest)

@@ -6,13 +6,14 @@ use Rattle.std.specs.Option.{option_and_then}
 use Rattle.std.specs.List.{flat_map}
 use Rattle.std.specs.Int.{w16, to_be_bytes}
 use Rattle.std.proofs.lemmas.List.{append-nil, drop_at, length-append}
-use Rattle.subsetter_base.specs.Bytes.{range, number, IsBytes}
+use Rattle.subsetter_base.specs.Bytes.{range, number, IsBytes, has_flag}
 use Rattle.subsetter_base.proofs.ByteLemmas.{be-u16, range-middle, number_at, IsBytes-drop, number-small}
 use Rattle.subsetter_base.proofs.Options.{just, just_is, bind_some}
 use Rattle.subsetter.specs.Glyf.Unfold.{padded}
 use Rattle.subsetter.specs.Glyf.Bare.{flags_asked, component_asked}
-use Rattle.subsetter.specs.Glyf.Parts.{Component, Chain, has, rest_size, has_more, has_instructions, component_at, with_component, last_component, chain_at, spelled}
-use Rattle.subsetter.specs.Glyf.Plain.{new_number, renumbered_component}
+use Rattle.subsetter.specs.Glyf.Parts.{Component, Chain, rest_size, has_more, has_instructions, component_at, with_component, last_component, chain_at, spelled}
+use Rattle.subsetter.specs.Glyf.Plain.{renumbered_component}
+use Rattle.subsetter_base.specs.Places.{new_index}
 use Rattle.subsetter.proofs.GlyfLaws.Chains.{IsComponent, is_component, chain_none, chain_more, made}
 
 -- ---- bytes
@@ -42,7 +43,7 @@ even_sizes false false false true = refl
 even_sizes false false false false = refl
 
 pub rest-even : (flags : ℕ) → rest_size flags % 2 ≡ 0
-rest-even flags = even_sizes (has flags 0x0001) (has flags 0x0008) (has flags 0x0040) (has flags 0x0080)
+rest-even flags = even_sizes (has_flag flags 0x0001) (has_flag flags 0x0008) (has_flag flags 0x0040) (has_flag flags 0x0080)
 
 -- ---- components that were read
 
@@ -79,16 +80,16 @@ chain_is (suc n) bytes chain fit h = by (λ rest whole r e. chain_is n rest whol
 -- ---- components without instructions
 
 -- a flag that isn't that of instructions stays
-flag_stays : (hint : Bool) (flags flag : ℕ) → bit_and 0xFEFF flag ≡ flag → has (flags_asked hint flags) flag ≡ has flags flag
+flag_stays : (hint : Bool) (flags flag : ℕ) → bit_and 0xFEFF flag ≡ flag → has_flag (flags_asked hint flags) flag ≡ has_flag flags flag
 flag_stays true flags flag e = refl
 flag_stays false flags flag e = ap (λ (n : ℕ). not (n == 0)) (and_assoc flag flags 0xFEFF ∙ ap (bit_and flags) e)
 
 size_stays : (hint : Bool) (flags : ℕ) → rest_size (flags_asked hint flags) ≡ rest_size flags
 size_stays hint flags =
-    ap (λ (a : Bool). cond a 4 2 + cond (has (flags_asked hint flags) 0x0008) 2 (cond (has (flags_asked hint flags) 0x0040) 4 (cond (has (flags_asked hint flags) 0x0080) 8 0))) (flag_stays hint flags 0x0001 refl)
-    ∙ ap (λ (a : Bool). cond (has flags 0x0001) 4 2 + cond a 2 (cond (has (flags_asked hint flags) 0x0040) 4 (cond (has (flags_asked hint flags) 0x0080) 8 0))) (flag_stays hint flags 0x0008 refl)
-    ∙ ap (λ (a : Bool). cond (has flags 0x0001) 4 2 + cond (has flags 0x0008) 2 (cond a 4 (cond (has (flags_asked hint flags) 0x0080) 8 0))) (flag_stays hint flags 0x0040 refl)
-    ∙ ap (λ (a : Bool). cond (has flags 0x0001) 4 2 + cond (has flags 0x0008) 2 (cond (has flags 0x0040) 4 (cond a 8 0))) (flag_stays hint flags 0x0080 refl)
+    ap (λ (a : Bool). cond a 4 2 + cond (has_flag (flags_asked hint flags) 0x0008) 2 (cond (has_flag (flags_asked hint flags) 0x0040) 4 (cond (has_flag (flags_asked hint flags) 0x0080) 8 0))) (flag_stays hint flags 0x0001 refl)
+    ∙ ap (λ (a : Bool). cond (has_flag flags 0x0001) 4 2 + cond a 2 (cond (has_flag (flags_asked hint flags) 0x0040) 4 (cond (has_flag (flags_asked hint flags) 0x0080) 8 0))) (flag_stays hint flags 0x0008 refl)
+    ∙ ap (λ (a : Bool). cond (has_flag flags 0x0001) 4 2 + cond (has_flag flags 0x0008) 2 (cond a 4 (cond (has_flag (flags_asked hint flags) 0x0080) 8 0))) (flag_stays hint flags 0x0040 refl)
+    ∙ ap (λ (a : Bool). cond (has_flag flags 0x0001) 4 2 + cond (has_flag flags 0x0008) 2 (cond (has_flag flags 0x0040) 4 (cond a 8 0))) (flag_stays hint flags 0x0080 refl)
 
 flags_small : (hint : Bool) (flags : ℕ) → flags < 2 ^ 16 → flags_asked hint flags < 2 ^ 16
 flags_small true flags lt = lt
@@ -124,7 +125,7 @@ kept_tail : (b long : Bool) (tail : List ℕ) → (b ≡ false → tail ≡ []) 
 kept_tail true long tail h = refl
 kept_tail false long tail h = sym (ap (padded long) (h refl) ∙ padded-nil long)
 
-module _ (order : List ℕ) (small : (g : ℕ) → new_number order g < 2 ^ 16) where
+module _ (order : List ℕ) (small : (g : ℕ) → new_index order g < 2 ^ 16) where
   abbrev again : Component → Component
   again c = renumbered_component order c
 

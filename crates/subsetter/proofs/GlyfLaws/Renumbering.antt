@@ -5,7 +5,7 @@ use Rattle.std.proofs.lemmas.List.{append-nil, length-append, length-drop, lengt
 use Rattle.subsetter_base.proofs.ByteLemmas.{range-take_drop}
 use Rattle.subsetter.specs.Glyf.Bare.{flags_asked, tail_asked}
 use Rattle.subsetter.specs.Glyf.Parts.{Component, rest_size, has_more, has_instructions, component_at, spelled}
-use Rattle.subsetter.specs.Glyf.Plain.{new_number}
+use Rattle.subsetter_base.specs.Places.{new_index}
 use Rattle.subsetter.proofs.GlyfLaws.Chains.{with_front, written, chain_text, is_component, text_goes_on, text_ends}
 
 -- the last bytes are the components that have their old numbers; what stands before them and what these are to become is the whole
@@ -21,14 +21,14 @@ pub record IsRenumbered (hint : Bool) (order out : List ℕ) (at : ℕ) (c : Com
   pub behind : drop (length after_out - length after) after_out ≡ after
 
 abbrev patched : Bool → List ℕ → List ℕ → ℕ → Component → List ℕ
-patched hint order out at c = take at out ++ to_be_bytes w16 (flags_asked hint c.flags) ++ to_be_bytes w16 (new_number order c.glyph) ++ drop (at + 4) out
+patched hint order out at c = take at out ++ to_be_bytes w16 (flags_asked hint c.flags) ++ to_be_bytes w16 (new_index order c.glyph) ++ drop (at + 4) out
 
 pub is_renumbered : (hint : Bool) (order out rest : List ℕ) (at : ℕ) (c : Component) (after_out after : List ℕ) (total : Option (List ℕ)) → IsUnderway hint order out rest total → at ≡ length out - length rest → component_at rest ≡ Some c → after_out ≡ patched hint order out at c → after ≡ drop (4 + rest_size c.flags) rest → IsRenumbered hint order out at c after_out after
 is_renumbered hint order out rest at c after_out after total u place h is e =
     let k = is_component rest c h in
     let size = rest_size c.flags in
     let F = to_be_bytes w16 (flags_asked hint c.flags) in
-    let N = to_be_bytes w16 (new_number order c.glyph) in
+    let N = to_be_bytes w16 (new_index order c.glyph) in
     let R = c.rest in
     let some : Some (take size (drop 4 rest)) ≡ Some R = sym (range-take_drop rest 4 size k.within) ∙ k.rest_is in
     let part : take size (drop 4 rest) ≡ R = cc in
@@ -98,7 +98,7 @@ pub behind_next : (hint : Bool) (before order out rest : List ℕ) (at : ℕ) (c
 behind_next hint before order out rest at c after_out after b place h is e =
     let k = is_component rest c h in
     let F = to_be_bytes w16 (flags_asked hint c.flags) in
-    let N = to_be_bytes w16 (new_number order c.glyph) in
+    let N = to_be_bytes w16 (new_index order c.glyph) in
     let behind = drop (at + 4) out in
     let room = b.room in
     let within = k.within in

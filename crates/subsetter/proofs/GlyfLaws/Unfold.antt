@@ -5,19 +5,18 @@ use Rattle.std.specs.Option.{option_and_then, option_map, unwrap_or}
 use Rattle.std.specs.List.{flat_map}
 use Rattle.std.proofs.lemmas.Bool.{le-ltb, ltb-false}
 use Rattle.std.proofs.lemmas.List.{get_or-take, get_or_append_left, get_or_default, length-append, length-drop, drop_at}
-use Rattle.subsetter_base.specs.Bytes.{range, number, IsBytes}
-use Rattle.subsetter_base.specs.Places.{place}
+use Rattle.subsetter_base.specs.Bytes.{range, number, IsBytes, between_offsets, from_offset}
+use Rattle.subsetter_base.specs.Places.{place, new_index}
 use Rattle.subsetter_base.proofs.ByteLemmas.{range-middle, range-fits, range-length, range-take_drop, IsBytes-drop, IsBytes-range}
 use Rattle.subsetter_base.proofs.GlyphLemmas.{place-finds, Contains-place}
 use Rattle.subsetter_base.proofs.Options.{just, just_is, some_of, bind_some}
 use Rattle.subsetter_base.proofs.Lists.{Contains-later}
 use Rattle.subsetter_sfnt.specs.Read.{Font}
-use Rattle.subsetter.specs.Glyf.Read.{Outlines, outlines, outline_in, outline, between, offset}
+use Rattle.subsetter.specs.Glyf.Read.{Outlines, outlines, outline_in, outline, offset}
 use Rattle.subsetter.specs.Glyf.Unfold.{padded, SameComponents, SameParts, HaveSameParts, UnfoldAlike}
-use Rattle.subsetter.specs.Name.Read.{bytes_from}
 use Rattle.subsetter.specs.Glyf.Bare.{bare_at, bare_found, bare_simple, component_asked, chain_asked, bare, parts_asked}
 use Rattle.subsetter.specs.Glyf.Parts.{Component, Chain, Parts, Empty, Simple, Composite, rest_size, has_more, component_at, with_component, last_component, chain_at, numbers_at, component_numbers, composite_parts, outline_parts, spelled, parts_bytes}
-use Rattle.subsetter.specs.Glyf.Plain.{new_number, renumbered_component, renumbered, kept_all}
+use Rattle.subsetter.specs.Glyf.Plain.{renumbered_component, renumbered, kept_all}
 use Rattle.subsetter.specs.Glyf.Reach.{IsGlyphOrder, step}
 use Rattle.subsetter.proofs.GlyfLaws.Components.{numbers_more, numbers_enough, components_composite}
 use Rattle.subsetter.proofs.GlyfLaws.Chains.{IsComponent, is_component, chain_none, chain_more}
@@ -155,8 +154,8 @@ bare_begins a b rest = by (bare_found (a ∷ b ∷ rest)) refl
     by (Some whole) e =
         let k = bind_some (number (a ∷ b ∷ rest) 0 2) (λ contours. bare_at (a ∷ b ∷ rest) (10 + 2 * contours)) whole e in
         let at = 10 + 2 * k.0 in
-        let l = bind_some (number (a ∷ b ∷ rest) at 2) (λ size. option_and_then (λ behind. just (take at (a ∷ b ∷ rest) ++ 0 ∷ 0 ∷ behind)) (bytes_from (a ∷ b ∷ rest) (at + 2 + size))) whole k.2 in
-        let m = bind_some (bytes_from (a ∷ b ∷ rest) (at + 2 + l.0)) (λ behind. just (take at (a ∷ b ∷ rest) ++ 0 ∷ 0 ∷ behind)) whole l.2 in
+        let l = bind_some (number (a ∷ b ∷ rest) at 2) (λ size. option_and_then (λ behind. just (take at (a ∷ b ∷ rest) ++ 0 ∷ 0 ∷ behind)) (from_offset (a ∷ b ∷ rest) (at + 2 + size))) whole k.2 in
+        let m = bind_some (from_offset (a ∷ b ∷ rest) (at + 2 + l.0)) (λ behind. just (take at (a ∷ b ∷ rest) ++ 0 ∷ 0 ∷ behind)) whole l.2 in
         let same : take at (a ∷ b ∷ rest) ++ 0 ∷ 0 ∷ m.0 ≡ whole = just_is (take at (a ∷ b ∷ rest) ++ 0 ∷ 0 ∷ m.0) whole m.2 in
         (take (8 + 2 * k.0) rest ++ 0 ∷ 0 ∷ m.0, sym same ∙ ap (λ (l : List ℕ). l ++ 0 ∷ 0 ∷ m.0) (front k.0))
 
@@ -176,7 +175,7 @@ asked_can false bytes p fit h = by (outline_parts bytes) refl h
     by (Some q) e k = subst CanBeWritten (same_parts_are (bare q) p k) (bare_can q (can_write bytes q fit e))
 
 -- parts that were written under new numbers are read again, under new numbers and with their padding
-written_back : (long : Bool) (order : List ℕ) (p : Parts) → ((g : ℕ) → new_number order g < 2 ^ 16) → CanBeWritten p
+written_back : (long : Bool) (order : List ℕ) (p : Parts) → ((g : ℕ) → new_index order g < 2 ^ 16) → CanBeWritten p
     → outline_parts (padded long (parts_bytes (renumbered order p))) ≡ Some (padded_parts long (renumbered order p))
 written_back long order Empty small can_empty = ap outline_parts (padded-nil long) ∙ no_parts
 written_back long order (Simple _) small (can_simple a b rest bytes e t) = subst (λ (l : List ℕ). outline_parts (padded long l) ≡ Some (Simple (padded long l))) (sym e) (low_parts long a b rest t)
@@ -198,13 +197,13 @@ written_back long order (Composite _ _) small (can_composite H chain size high g
     ∙ ap (λ (o : Option Chain). option_and_then (λ c. parts_there (Composite H c)) o) read
 
 -- so are those of an outline, as far as they are asked for
-pub parts_back : (hint long : Bool) (order bytes : List ℕ) (p : Parts) → ((g : ℕ) → new_number order g < 2 ^ 16) → IsBytes bytes → parts_asked hint (outline_parts bytes) ≡ Some p
+pub parts_back : (hint long : Bool) (order bytes : List ℕ) (p : Parts) → ((g : ℕ) → new_index order g < 2 ^ 16) → IsBytes bytes → parts_asked hint (outline_parts bytes) ≡ Some p
     → outline_parts (padded long (parts_bytes (renumbered order p))) ≡ Some (padded_parts long (renumbered order p))
 parts_back hint long order bytes p small fit h = written_back long order p small (asked_can hint bytes p fit h)
 
 -- ---- the same parts
 
-same_components : (alike : ℕ → ℕ → Type 0) (order : List ℕ) (cs : List Component) → EachGlyph (λ g. alike g (new_number order g)) cs → SameComponents alike cs (map (renumbered_component order) cs)
+same_components : (alike : ℕ → ℕ → Type 0) (order : List ℕ) (cs : List Component) → EachGlyph (λ g. alike g (new_index order g)) cs → SameComponents alike cs (map (renumbered_component order) cs)
 same_components alike order [] h = tt
 same_components alike order (c ∷ cs) h = (refl, refl, h.0, same_components alike order cs h.1)
 
@@ -214,7 +213,7 @@ components_of Empty = []
 components_of (Simple bytes) = []
 components_of (Composite head chain) = chain.components
 
-same_parts : (long : Bool) (alike : ℕ → ℕ → Type 0) (order : List ℕ) (p : Parts) → EachGlyph (λ g. alike g (new_number order g)) (components_of p) → SameParts long alike p (padded_parts long (renumbered order p))
+same_parts : (long : Bool) (alike : ℕ → ℕ → Type 0) (order : List ℕ) (p : Parts) → EachGlyph (λ g. alike g (new_index order g)) (components_of p) → SameParts long alike p (padded_parts long (renumbered order p))
 same_parts long alike order Empty h = tt
 same_parts long alike order (Simple bytes) h = refl
 same_parts long alike order (Composite head chain) h = (refl, refl, same_components alike order chain.components h)
@@ -251,7 +250,7 @@ asked_numbered false bytes p h = by (outline_parts bytes) refl h
 
 -- ---- the bytes of an outline
 
-between_bytes : (glyf bytes : List ℕ) (from to : ℕ) → IsBytes glyf → between glyf from to ≡ Some bytes → IsBytes bytes
+between_bytes : (glyf bytes : List ℕ) (from to : ℕ) → IsBytes glyf → between_offsets glyf from to ≡ Some bytes → IsBytes bytes
 between_bytes glyf bytes from to fit h = by (leb from to) h
   where
     by : (b : Bool) → cond b (range glyf from (to - from)) None ≡ Some bytes → IsBytes bytes
@@ -261,8 +260,8 @@ between_bytes glyf bytes from to fit h = by (leb from to) h
 pub outline_bytes : (t : Outlines) (g : ℕ) (bytes : List ℕ) → IsBytes t.glyf → outline_in t g ≡ Some bytes → IsBytes bytes
 unfolding outline_in
 outline_bytes t g bytes fit h =
-    let a = bind_some (offset t g) (λ from. option_and_then (λ to. between t.glyf from to) (offset t (g + 1))) bytes h in
-    let b = bind_some (offset t (g + 1)) (λ to. between t.glyf a.0 to) bytes a.2 in
+    let a = bind_some (offset t g) (λ from. option_and_then (λ to. between_offsets t.glyf from to) (offset t (g + 1))) bytes h in
+    let b = bind_some (offset t (g + 1)) (λ to. between_offsets t.glyf a.0 to) bytes a.2 in
     between_bytes t.glyf bytes a.0 b.0 fit b.2
 
 pub outline_is : (font : Font) (t : Outlines) (g : ℕ) → outlines font ≡ Some t → outline font g ≡ outline_in t g
@@ -271,13 +270,13 @@ outline_is font t g read = ap (λ (o : Option Outlines). option_and_then (λ u. 
 -- ---- new numbers
 
 -- the new number of a glyph of the order is its place
-pub has_number : (order : List ℕ) (g : ℕ) → Contains order g → (k : ℕ) × (k < length order) × (get_or order k 0 ≡ g) × (new_number order g ≡ k)
+pub has_number : (order : List ℕ) (g : ℕ) → Contains order g → (k : ℕ) × (k < length order) × (get_or order k 0 ≡ g) × (new_index order g ≡ k)
 has_number order g at =
     let k = some_of (place order g) (Contains-place order g at) in
     let f = place-finds order g k.0 k.1 in
     (k.0, f.0, f.1, ap (λ (o : Option ℕ). unwrap_or o 0) k.1)
 
-pub small_numbers : (order : List ℕ) → length order < 2 ^ 16 → (g : ℕ) → new_number order g < 2 ^ 16
+pub small_numbers : (order : List ℕ) → length order < 2 ^ 16 → (g : ℕ) → new_index order g < 2 ^ 16
 small_numbers order few g = by (place order g) refl
   where
     by : (o : Option ℕ) → place order g ≡ o → unwrap_or o 0 < 2 ^ 16
@@ -289,15 +288,15 @@ small_numbers order few g = by (place order g) refl
 module _ (font out : Font) (glyphs order : List ℕ) (t u : Outlines) (bs : List (List ℕ)) (read : outlines font ≡ Some t) (asks : t.hinting ≡ font.extras.hinting) (whole : out.extras.hinting ≡ true) (again : outlines out ≡ Some u) (closed : IsGlyphOrder font glyphs order) (few : length order < 2 ^ 16) (fit : IsBytes t.glyf)
     (keeps : kept_all t order order ≡ Ok bs) (written : AreWritten bs u) where
   -- each glyph has the parts of its source, if the glyphs of the order are alike under their new numbers
-  parts_alike : (alike : ℕ → ℕ → Type 0) → ((h : ℕ) → Contains order h → alike h (new_number order h)) → (i : ℕ) → i < length order → HaveSameParts font out alike (get_or order i 0) i
+  parts_alike : (alike : ℕ → ℕ → Type 0) → ((h : ℕ) → Contains order h → alike h (new_index order h)) → (i : ℕ) → i < length order → HaveSameParts font out alike (get_or order i 0) i
   parts_alike alike numbered i lt =
       let g = get_or order i 0 in
       let k = kept_at t order order bs i keeps lt in
       let source : outline font g ≡ Some k.bytes = outline_is font t g read ∙ k.there in
       let copy : outline out i ≡ Some (padded u.long (parts_bytes (renumbered order k.parts))) =
       outline_is out u i again ∙ read_back bs u i written (omega (arith, length-kept_all t order order bs keeps)) ∙ ap (λ (l : List ℕ). Some (padded u.long l)) (sym k.written) in
-      let each : EachGlyph (λ h. alike h (new_number order h)) (components_of k.parts) =
-      each_weaker (λ h. Contains (component_numbers k.bytes) h) (λ h. alike h (new_number order h)) (components_of k.parts)
+      let each : EachGlyph (λ h. alike h (new_index order h)) (components_of k.parts) =
+      each_weaker (λ h. Contains (component_numbers k.bytes) h) (λ h. alike h (new_index order h)) (components_of k.parts)
       (λ h c. numbered h ((closed.members h).1 (step g h k.bytes ((closed.members g).0 (i, lt, get_or_default order i g 0 lt)) source c))) (asked_numbered t.hinting k.bytes k.parts k.parts_are) in
       record {
         tables = u;
@@ -313,7 +312,7 @@ module _ (font out : Font) (glyphs order : List ℕ) (t u : Outlines) (bs : List
   unfolds_alike zero i lt = tt
   unfolds_alike (suc n) i lt = parts_alike (UnfoldAlike font out n) (alike n (λ j at. unfolds_alike n j at)) i lt
     where
-      alike : (m : ℕ) → ((j : ℕ) → j < length order → UnfoldAlike font out m (get_or order j 0) j) → (h : ℕ) → Contains order h → UnfoldAlike font out m h (new_number order h)
+      alike : (m : ℕ) → ((j : ℕ) → j < length order → UnfoldAlike font out m (get_or order j 0) j) → (h : ℕ) → Contains order h → UnfoldAlike font out m h (new_index order h)
       alike m unfolds h c =
           let at = has_number order h c in
           subst (λ (k : ℕ). UnfoldAlike font out m h k) (sym at.3) (subst (λ (k : ℕ). UnfoldAlike font out m k at.0) at.2 (unfolds at.0 at.1))

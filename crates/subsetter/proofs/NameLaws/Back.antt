@@ -6,10 +6,10 @@ use Rattle.std.specs.List.{AllByRecursion}
 use Rattle.std.specs.Int.{w16, to_be_bytes}
 use Rattle.std.proofs.lemmas.Bool.{le-leb, leb-true}
 use Rattle.std.proofs.lemmas.List.{drop_at, length-append, length-take, length-drop}
-use Rattle.subsetter_base.specs.Bytes.{IsBytes, be, range, number}
+use Rattle.subsetter_base.specs.Bytes.{IsBytes, be, range, number, from_offset}
 use Rattle.subsetter_base.proofs.ByteLemmas.{range-middle, be-u16}
 use Rattle.subsetter_sfnt.specs.declared.fields.name.NameRecord.{NameRecord}
-use Rattle.subsetter.specs.Name.Read.{name_records_in, name_table, bytes_from, name_bytes, is_kept_record}
+use Rattle.subsetter.specs.Name.Read.{name_records_in, name_table, name_bytes, is_kept_record}
 use Rattle.subsetter_sfnt.specs.Fields.Name.{name_record_of, name_record_bytes}
 
 -- ---- bytes, numbers and ranges
@@ -36,7 +36,7 @@ be_two [] h = omega arith
 be_two (a ∷ []) h = let x : a < 256 = h.0 in omega arith
 be_two (a ∷ b ∷ bytes) h = let x : a < 256 = h.0 in let y : b < 256 = h.1.0 in omega arith
 
-pub tail_at : (bytes pre post : List ℕ) (at : ℕ) → bytes ≡ pre ++ post → at ≡ length pre → bytes_from bytes at ≡ Some post
+pub tail_at : (bytes pre post : List ℕ) (at : ℕ) → bytes ≡ pre ++ post → at ≡ length pre → from_offset bytes at ≡ Some post
 tail_at bytes pre post at is a =
     let enough : leb at (length bytes) ≡ true = le-leb _ _ (omega (arith, ap length is, length-append pre post)) in
     ap (λ b. cond b (Some (drop at bytes)) None) enough ∙ ap Some (ap (drop at) is ∙ drop_at pre post at (sym a))
@@ -123,7 +123,7 @@ table_back records storage fit few =
     let count_is : number new 2 2 ≡ Some n = ap (option_map be) (range-middle new zeros count (offset ++ body ++ storage) 2 2 refl refl refl) ∙ ap Some (be-u16 n (omega arith)) in
     let offset_is : number new 4 2 ≡ Some (6 + 12 * n) = ap (option_map be) (range-middle new (zeros ++ count) offset (body ++ storage) 4 2 refl refl refl) ∙ ap Some (be-u16 (6 + 12 * n) (omega arith)) in
     let records_are : range new 6 (n * 12) ≡ Some body = range-middle new (zeros ++ count ++ offset) body storage 6 (n * 12) refl refl (sym (length-records records)) in
-    let storage_is : bytes_from new (6 + 12 * n) ≡ Some storage = tail_at new (zeros ++ count ++ offset ++ body) storage (6 + 12 * n) refl (omega (arith, length-records records)) in
+    let storage_is : from_offset new (6 + 12 * n) ≡ Some storage = tail_at new (zeros ++ count ++ offset ++ body) storage (6 + 12 * n) refl (omega (arith, length-records records)) in
     record {
       table = rw (version, count_is, offset_is, records_are, storage_is) (ap (λ (rs : List NameRecord). Some (record { records = rs; storage = storage })) (records_back records fit));
       place = offset_is;

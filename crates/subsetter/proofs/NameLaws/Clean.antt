@@ -5,14 +5,14 @@ use Rattle.std.specs.Option.{option_and_then, option_map, ok_or}
 use Rattle.std.specs.List.{AllByRecursion, cons_option}
 use Rattle.std.proofs.lemmas.Bool.{leb-true, eqb-true}
 use Rattle.std.proofs.lemmas.List.{length-map}
-use Rattle.subsetter_base.specs.Bytes.{IsBytes, range, number, ◌>>=◌}
+use Rattle.subsetter_base.specs.Bytes.{IsBytes, range, number, ◌>>=◌, from_offset}
 use Rattle.subsetter_base.specs.declared.error.Error.{Error}
 use Rattle.subsetter_base.specs.declared.error.Error.TheVariants.{MalformedFont}
 use Rattle.subsetter_base.proofs.Results.{bind_ok, named_ok}
 use Rattle.subsetter_base.proofs.Options.{bind_some}
 use Rattle.subsetter_base.proofs.ByteLemmas.{number-fits}
 use Rattle.subsetter_sfnt.specs.declared.fields.name.NameRecord.{NameRecord}
-use Rattle.subsetter.specs.Name.Read.{Name, NameTable, name_records_in, bytes_from, name_parts, name_table, name_records, name_bytes, is_kept_record, is_kept_name, distinct, string_place}
+use Rattle.subsetter.specs.Name.Read.{Name, NameTable, name_records_in, name_parts, name_table, name_records, name_bytes, is_kept_record, is_kept_name, distinct, string_place}
 use Rattle.subsetter_sfnt.specs.Fields.Name.{string_of}
 use Rattle.subsetter.specs.Name.Plain.{subset_names, name_of_table, new_name, name_of}
 use Rattle.subsetter.specs.Name.Fault.{HasNameFault, kept_strings, name_without_version, name_header_cut, name_records_cut, name_storage_outside, name_string_outside, too_many_names, name_string_too_far}
@@ -72,7 +72,7 @@ pub record PartsThere (bytes : List ℕ) : Type 0 where
   pub records : 6 + count * 12 ≤ length bytes
   pub storage : offset ≤ length bytes
 
-storage_there : (bytes : List ℕ) (offset : ℕ) (x : List ℕ) → bytes_from bytes offset ≡ Some x → offset ≤ length bytes
+storage_there : (bytes : List ℕ) (offset : ℕ) (x : List ℕ) → from_offset bytes offset ≡ Some x → offset ≤ length bytes
 storage_there bytes offset x h = by (leb offset (length bytes)) refl h
   where
     by : (b : Bool) → leb offset (length bytes) ≡ b → cond b (Some (drop offset bytes)) None ≡ Some x → offset ≤ length bytes
@@ -81,10 +81,10 @@ storage_there bytes offset x h = by (leb offset (length bytes)) refl h
 
 parts_there : (bytes : List ℕ) (t : NameTable) → name_parts bytes ≡ Some t → PartsThere bytes
 parts_there bytes t h =
-    let a = bind_some (number bytes 2 2) (λ count. option_and_then (λ offset. option_and_then (λ records. option_and_then (λ storage. Some (record { records = name_records_in count records; storage = storage })) (bytes_from bytes offset)) (range bytes 6 (count * 12))) (number bytes 4 2)) t h in
-    let b = bind_some (number bytes 4 2) (λ offset. option_and_then (λ records. option_and_then (λ storage. Some (record { records = name_records_in a.0 records; storage = storage })) (bytes_from bytes offset)) (range bytes 6 (a.0 * 12))) t a.2 in
-    let c = bind_some (range bytes 6 (a.0 * 12)) (λ records. option_and_then (λ storage. Some (record { records = name_records_in a.0 records; storage = storage })) (bytes_from bytes b.0)) t b.2 in
-    let d = bind_some (bytes_from bytes b.0) (λ storage. Some (record { records = name_records_in a.0 c.0; storage = storage })) t c.2 in
+    let a = bind_some (number bytes 2 2) (λ count. option_and_then (λ offset. option_and_then (λ records. option_and_then (λ storage. Some (record { records = name_records_in count records; storage = storage })) (from_offset bytes offset)) (range bytes 6 (count * 12))) (number bytes 4 2)) t h in
+    let b = bind_some (number bytes 4 2) (λ offset. option_and_then (λ records. option_and_then (λ storage. Some (record { records = name_records_in a.0 records; storage = storage })) (from_offset bytes offset)) (range bytes 6 (a.0 * 12))) t a.2 in
+    let c = bind_some (range bytes 6 (a.0 * 12)) (λ records. option_and_then (λ storage. Some (record { records = name_records_in a.0 records; storage = storage })) (from_offset bytes b.0)) t b.2 in
+    let d = bind_some (from_offset bytes b.0) (λ storage. Some (record { records = name_records_in a.0 c.0; storage = storage })) t c.2 in
     record { count = a.0; offset = b.0; count_is = a.1; offset_is = b.1; records = (range_found bytes 6 (a.0 * 12) c.0 c.1).within; storage = storage_there bytes b.0 d.0 d.1 }
 
 abbrev some_number : ℕ → Option ℕ

@@ -5,13 +5,13 @@ use Rattle.std.specs.Option.{option_and_then, option_map, ok_or}
 use Rattle.std.specs.List.{cons_option}
 use Rattle.std.proofs.lemmas.Bool.{leb-false, ltb-false, eqb-true}
 use Rattle.std.proofs.lemmas.List.{length-map}
-use Rattle.subsetter_base.specs.Bytes.{range, number, ◌>>=◌}
+use Rattle.subsetter_base.specs.Bytes.{range, number, ◌>>=◌, from_offset}
 use Rattle.subsetter_base.specs.declared.error.Error.{Error}
 use Rattle.subsetter_base.specs.declared.error.Error.TheVariants.{MalformedFont, SubsetError}
 use Rattle.subsetter_base.proofs.Results.{bind_ok, named_ok, done_is, failed_is, bind_err, named_err}
 use Rattle.subsetter_base.proofs.ByteLemmas.{number-short, range-short}
 use Rattle.subsetter_sfnt.specs.declared.fields.name.NameRecord.{NameRecord}
-use Rattle.subsetter.specs.Name.Read.{Name, NameTable, name_records_in, bytes_from, name_parts, name_table, name_records, name_of_record, name_bytes, is_kept_record, is_kept_name, with_string, with_strings, distinct, string_place, joined}
+use Rattle.subsetter.specs.Name.Read.{Name, NameTable, name_records_in, name_parts, name_table, name_records, name_of_record, name_bytes, is_kept_record, is_kept_name, with_string, with_strings, distinct, string_place, joined}
 use Rattle.subsetter_sfnt.specs.Fields.Name.{string_of}
 use Rattle.subsetter.specs.Name.Plain.{Placed, placed, placed_string, with_name, few_names, subset_names, name_of_table, new_name, name_of}
 use Rattle.subsetter.specs.Name.Fault.{HasNameFault, kept_strings, name_without_version, name_header_cut, name_records_cut, name_storage_outside, name_string_outside, too_many_names, name_string_too_far}
@@ -22,7 +22,7 @@ use Rattle.subsetter.proofs.NameLaws.Kept.{stored, kept_alike, read_by_version}
 cut_parts : (find : List ℕ → Option (List ℕ)) (bytes : List ℕ) → find (codes "name") ≡ Some bytes → number bytes 0 2 ≡ Some 0 → name_parts bytes ≡ None → HasNameFault find MalformedFont
 cut_parts find bytes is version h = first (number bytes 2 2) (number bytes 4 2) refl refl h
   where
-    last : (count offset : ℕ) (records : List ℕ) (o : Option (List ℕ)) → bytes_from bytes offset ≡ o → number bytes 4 2 ≡ Some offset → option_and_then {U = NameTable} (λ storage. Some (record { records = name_records_in count records; storage = storage })) o ≡ None → HasNameFault find MalformedFont
+    last : (count offset : ℕ) (records : List ℕ) (o : Option (List ℕ)) → from_offset bytes offset ≡ o → number bytes 4 2 ≡ Some offset → option_and_then {U = NameTable} (λ storage. Some (record { records = name_records_in count records; storage = storage })) o ≡ None → HasNameFault find MalformedFont
     last count offset records (Some x) e at k = absurd cc
     last count offset records None e at k = name_storage_outside bytes offset is version at (by (leb offset (length bytes)) refl e)
       where
@@ -30,11 +30,11 @@ cut_parts find bytes is version h = first (number bytes 2 2) (number bytes 4 2) 
         by true t j = absurd cc
         by false t j = leb-false _ _ t
 
-    third : (count offset : ℕ) (o : Option (List ℕ)) → range bytes 6 (count * 12) ≡ o → number bytes 2 2 ≡ Some count → number bytes 4 2 ≡ Some offset → option_and_then {U = NameTable} (λ records. option_and_then {U = NameTable} (λ storage. Some (record { records = name_records_in count records; storage = storage })) (bytes_from bytes offset)) o ≡ None → HasNameFault find MalformedFont
+    third : (count offset : ℕ) (o : Option (List ℕ)) → range bytes 6 (count * 12) ≡ o → number bytes 2 2 ≡ Some count → number bytes 4 2 ≡ Some offset → option_and_then {U = NameTable} (λ records. option_and_then {U = NameTable} (λ storage. Some (record { records = name_records_in count records; storage = storage })) (from_offset bytes offset)) o ≡ None → HasNameFault find MalformedFont
     third count offset None e c at k = name_records_cut bytes count is version c (range-short bytes 6 (count * 12) e)
-    third count offset (Some x) e c at k = last count offset x (bytes_from bytes offset) refl at k
+    third count offset (Some x) e c at k = last count offset x (from_offset bytes offset) refl at k
 
-    first : (o p : Option ℕ) → number bytes 2 2 ≡ o → number bytes 4 2 ≡ p → option_and_then {U = NameTable} (λ count. option_and_then {U = NameTable} (λ offset. option_and_then {U = NameTable} (λ records. option_and_then {U = NameTable} (λ storage. Some (record { records = name_records_in count records; storage = storage })) (bytes_from bytes offset)) (range bytes 6 (count * 12))) p) o ≡ None → HasNameFault find MalformedFont
+    first : (o p : Option ℕ) → number bytes 2 2 ≡ o → number bytes 4 2 ≡ p → option_and_then {U = NameTable} (λ count. option_and_then {U = NameTable} (λ offset. option_and_then {U = NameTable} (λ records. option_and_then {U = NameTable} (λ storage. Some (record { records = name_records_in count records; storage = storage })) (from_offset bytes offset)) (range bytes 6 (count * 12))) p) o ≡ None → HasNameFault find MalformedFont
     first None p e f k = name_header_cut bytes is version (omega (arith, number-short bytes 2 2 e))
     first (Some count) None e f k = name_header_cut bytes is version (omega (arith, number-short bytes 4 2 f))
     first (Some count) (Some offset) e f k = third count offset (range bytes 6 (count * 12)) refl e f k

@@ -6,14 +6,14 @@ use Rattle.std.specs.List.{AllByRecursion}
 use Rattle.std.specs.Str.{bytes_eq}
 use Rattle.std.proofs.lemmas.Bool.{leb-true, ltb-true, false≢true}
 use Rattle.std.proofs.lemmas.List.{append-nil, length-append}
-use Rattle.subsetter_base.specs.Bytes.{IsBytes, range, number, ◌>>=◌}
+use Rattle.subsetter_base.specs.Bytes.{IsBytes, range, number, ◌>>=◌, from_offset}
 use Rattle.subsetter_base.specs.declared.error.Error.TheVariants.{MalformedFont, SubsetError}
 use Rattle.subsetter_base.proofs.Results.{bind_ok, named_ok, done_is}
 use Rattle.subsetter_base.proofs.Options.{bind_some}
 use Rattle.subsetter_base.proofs.Lists.{bytes_eq_is, bytes_eq_self}
 use Rattle.subsetter_base.proofs.ByteLemmas.{range-middle}
 use Rattle.subsetter_sfnt.specs.declared.fields.name.NameRecord.{NameRecord}
-use Rattle.subsetter.specs.Name.Read.{Name, NameTable, name_records_in, bytes_from, name_parts, name_table, name_records, name_storage, name_of_record, name_bytes, is_kept_record, is_kept_name, among, with_string, with_strings, string_place, joined, HasKeptNames, KeepsNames, rewritten, copied}
+use Rattle.subsetter.specs.Name.Read.{Name, NameTable, name_records_in, name_parts, name_table, name_records, name_storage, name_of_record, name_bytes, is_kept_record, is_kept_name, among, with_string, with_strings, string_place, joined, HasKeptNames, KeepsNames, rewritten, copied}
 use Rattle.subsetter_sfnt.specs.Fields.Name.{string_of}
 use Rattle.subsetter.specs.Name.Plain.{Placed, placed, placed_string, with_name, few_names, subset_names, name_of_table, new_name, name_of}
 use Rattle.subsetter.proofs.NameLaws.Written.{among-append, place_before, place_behind, place_new}
@@ -155,10 +155,10 @@ subsetted t n h =
 -- the parts of a table are those of its bytes
 pub fit_table : (source : List ℕ) (t : NameTable) → AllBytes source → name_parts source ≡ Some t → AllByRecursion FitsRecord t.records
 fit_table source t all h =
-    let a = bind_some (number source 2 2) (λ count. option_and_then (λ offset. option_and_then (λ records. option_and_then (λ storage. Some (record { records = name_records_in count records; storage = storage })) (bytes_from source offset)) (range source 6 (count * 12))) (number source 4 2)) t h in
-    let b = bind_some (number source 4 2) (λ offset. option_and_then (λ records. option_and_then (λ storage. Some (record { records = name_records_in a.0 records; storage = storage })) (bytes_from source offset)) (range source 6 (a.0 * 12))) t a.2 in
-    let c = bind_some (range source 6 (a.0 * 12)) (λ records. option_and_then (λ storage. Some (record { records = name_records_in a.0 records; storage = storage })) (bytes_from source b.0)) t b.2 in
-    let d = bind_some (bytes_from source b.0) (λ storage. Some (record { records = name_records_in a.0 c.0; storage = storage })) t c.2 in
+    let a = bind_some (number source 2 2) (λ count. option_and_then (λ offset. option_and_then (λ records. option_and_then (λ storage. Some (record { records = name_records_in count records; storage = storage })) (from_offset source offset)) (range source 6 (count * 12))) (number source 4 2)) t h in
+    let b = bind_some (number source 4 2) (λ offset. option_and_then (λ records. option_and_then (λ storage. Some (record { records = name_records_in a.0 records; storage = storage })) (from_offset source offset)) (range source 6 (a.0 * 12))) t a.2 in
+    let c = bind_some (range source 6 (a.0 * 12)) (λ records. option_and_then (λ storage. Some (record { records = name_records_in a.0 records; storage = storage })) (from_offset source b.0)) t b.2 in
+    let d = bind_some (from_offset source b.0) (λ storage. Some (record { records = name_records_in a.0 c.0; storage = storage })) t c.2 in
     let is : name_records_in a.0 c.0 ≡ t.records = cc in
     let bytes : AllBytes c.0 = subst AllBytes (sym (range_found source 6 (a.0 * 12) c.0 c.1).is) (all_take (a.0 * 12) (drop 6 source) (all_drop 6 source all)) in
     subst (λ (l : List NameRecord). AllByRecursion FitsRecord l) is (fit_records a.0 c.0 bytes)

@@ -4,14 +4,13 @@ use Rattle.std.specs.Prelude.{codes, map, Contains}
 use Rattle.std.specs.Option.{option_and_then, ok_or}
 use Rattle.std.specs.List.{AllByRecursion}
 use Rattle.std.proofs.lemmas.Bool.{ltb-true, ltb-false, leb-false, eqb-true}
-use Rattle.subsetter_base.specs.Bytes.{be, range, number, ◌>>=◌}
+use Rattle.subsetter_base.specs.Bytes.{be, range, number, ◌>>=◌, from_offset}
 use Rattle.subsetter_base.specs.Places.{IsWithoutRepeats}
 use Rattle.subsetter_base.specs.declared.error.Error.{Error}
 use Rattle.subsetter_base.specs.declared.error.Error.TheVariants.{MalformedFont, OverflowError}
 use Rattle.subsetter_base.proofs.GlyphLemmas.{IsDistinct-places}
 use Rattle.subsetter_base.proofs.ByteLemmas.{range-fits, range-length, range-take_drop, number-short, range-short}
 use Rattle.subsetter_base.proofs.Results.{bind_err, named_ok, named_err}
-use Rattle.subsetter.specs.Name.Read.{bytes_from}
 use Rattle.subsetter.specs.Post.Read.{PostTable, names_in, post_parts, post_table, glyph_index, name_of_index, post_bytes}
 use Rattle.subsetter.specs.Post.Plain.{indexes_of, custom_count, post_of_indexes, subset_glyph_names, post_of_table, new_post, post_of}
 use Rattle.subsetter.specs.Post.Fault.{HasOwnName, HasGlyphNameFault}
@@ -22,7 +21,7 @@ use Rattle.subsetter.proofs.PostLaws.Answer.{beyond}
 
 -- ---- what is refused has a fault
 
-tail_short : (bytes : List ℕ) (at : ℕ) → bytes_from bytes at ≡ None → length bytes < at
+tail_short : (bytes : List ℕ) (at : ℕ) → from_offset bytes at ≡ None → length bytes < at
 tail_short bytes at h = by (leb at (length bytes)) refl h
   where
     by : (b : Bool) → leb at (length bytes) ≡ b → cond b (Some (drop at bytes)) None ≡ None → length bytes < at
@@ -41,19 +40,19 @@ whole header count indexes names = Some (record { header = header; indexes = rec
 cut_parts : (bytes : List ℕ) → post_parts bytes ≡ None → CutPost bytes
 cut_parts bytes h = header (range bytes 0 32) refl h
   where
-    rest : (header : List ℕ) (count : ℕ) (indexes : List ℕ) → number bytes 32 2 ≡ Some count → (o : Option (List ℕ)) → bytes_from bytes (34 + count * 2) ≡ o → option_and_then (λ (names : List ℕ). whole header count indexes names) o ≡ None → CutPost bytes
+    rest : (header : List ℕ) (count : ℕ) (indexes : List ℕ) → number bytes 32 2 ≡ Some count → (o : Option (List ℕ)) → from_offset bytes (34 + count * 2) ≡ o → option_and_then (λ (names : List ℕ). whole header count indexes names) o ≡ None → CutPost bytes
     rest header count indexes n None e k = cut_indexes count n (omega (arith, tail_short bytes (34 + count * 2) e))
     rest header count indexes n (Some x) e k = absurd cc
 
-    indexes : (header : List ℕ) (count : ℕ) → number bytes 32 2 ≡ Some count → (o : Option (List ℕ)) → range bytes 34 (count * 2) ≡ o → option_and_then (λ (indexes : List ℕ). option_and_then (λ (names : List ℕ). whole header count indexes names) (bytes_from bytes (34 + count * 2))) o ≡ None → CutPost bytes
+    indexes : (header : List ℕ) (count : ℕ) → number bytes 32 2 ≡ Some count → (o : Option (List ℕ)) → range bytes 34 (count * 2) ≡ o → option_and_then (λ (indexes : List ℕ). option_and_then (λ (names : List ℕ). whole header count indexes names) (from_offset bytes (34 + count * 2))) o ≡ None → CutPost bytes
     indexes header count n None e k = cut_indexes count n (range-short bytes 34 (count * 2) e)
-    indexes header count n (Some x) e k = rest header count x n (bytes_from bytes (34 + count * 2)) refl k
+    indexes header count n (Some x) e k = rest header count x n (from_offset bytes (34 + count * 2)) refl k
 
-    counted : (header : List ℕ) (o : Option ℕ) → number bytes 32 2 ≡ o → option_and_then (λ count. option_and_then (λ (indexes : List ℕ). option_and_then (λ (names : List ℕ). whole header count indexes names) (bytes_from bytes (34 + count * 2))) (range bytes 34 (count * 2))) o ≡ None → CutPost bytes
+    counted : (header : List ℕ) (o : Option ℕ) → number bytes 32 2 ≡ o → option_and_then (λ count. option_and_then (λ (indexes : List ℕ). option_and_then (λ (names : List ℕ). whole header count indexes names) (from_offset bytes (34 + count * 2))) (range bytes 34 (count * 2))) o ≡ None → CutPost bytes
     counted header None e k = cut_count (number-short bytes 32 2 e)
     counted header (Some count) e k = indexes header count e (range bytes 34 (count * 2)) refl k
 
-    header : (o : Option (List ℕ)) → range bytes 0 32 ≡ o → option_and_then (λ (header : List ℕ). option_and_then (λ count. option_and_then (λ (indexes : List ℕ). option_and_then (λ (names : List ℕ). whole header count indexes names) (bytes_from bytes (34 + count * 2))) (range bytes 34 (count * 2))) (number bytes 32 2)) o ≡ None → CutPost bytes
+    header : (o : Option (List ℕ)) → range bytes 0 32 ≡ o → option_and_then (λ (header : List ℕ). option_and_then (λ count. option_and_then (λ (indexes : List ℕ). option_and_then (λ (names : List ℕ). whole header count indexes names) (from_offset bytes (34 + count * 2))) (range bytes 34 (count * 2))) (number bytes 32 2)) o ≡ None → CutPost bytes
     header None e k = cut_header (range-short bytes 0 32 e)
     header (Some x) e k = counted x (number bytes 32 2) refl k
 
@@ -82,15 +81,15 @@ read_parts bytes t h = header (range bytes 0 32) refl h
         subst (PostRead bytes) (just_is (record { header = header; indexes = record { bytes = indexes; count = count }; names_data = x }) t k)
         (record { count = n; long = omega (arith, range-fits bytes indexes 34 (count * 2) r); indexes = r })
 
-    indexes : (header : List ℕ) (count : ℕ) → number bytes 32 2 ≡ Some count → (o : Option (List ℕ)) → range bytes 34 (count * 2) ≡ o → option_and_then (λ (indexes : List ℕ). option_and_then (λ (names : List ℕ). whole header count indexes names) (bytes_from bytes (34 + count * 2))) o ≡ Some t → PostRead bytes t
+    indexes : (header : List ℕ) (count : ℕ) → number bytes 32 2 ≡ Some count → (o : Option (List ℕ)) → range bytes 34 (count * 2) ≡ o → option_and_then (λ (indexes : List ℕ). option_and_then (λ (names : List ℕ). whole header count indexes names) (from_offset bytes (34 + count * 2))) o ≡ Some t → PostRead bytes t
     indexes header count n None e k = absurd cc
-    indexes header count n (Some x) e k = rest header count x n e (bytes_from bytes (34 + count * 2)) k
+    indexes header count n (Some x) e k = rest header count x n e (from_offset bytes (34 + count * 2)) k
 
-    counted : (header : List ℕ) (o : Option ℕ) → number bytes 32 2 ≡ o → option_and_then (λ count. option_and_then (λ (indexes : List ℕ). option_and_then (λ (names : List ℕ). whole header count indexes names) (bytes_from bytes (34 + count * 2))) (range bytes 34 (count * 2))) o ≡ Some t → PostRead bytes t
+    counted : (header : List ℕ) (o : Option ℕ) → number bytes 32 2 ≡ o → option_and_then (λ count. option_and_then (λ (indexes : List ℕ). option_and_then (λ (names : List ℕ). whole header count indexes names) (from_offset bytes (34 + count * 2))) (range bytes 34 (count * 2))) o ≡ Some t → PostRead bytes t
     counted header None e k = absurd cc
     counted header (Some count) e k = indexes header count e (range bytes 34 (count * 2)) refl k
 
-    header : (o : Option (List ℕ)) → range bytes 0 32 ≡ o → option_and_then (λ (header : List ℕ). option_and_then (λ count. option_and_then (λ (indexes : List ℕ). option_and_then (λ (names : List ℕ). whole header count indexes names) (bytes_from bytes (34 + count * 2))) (range bytes 34 (count * 2))) (number bytes 32 2)) o ≡ Some t → PostRead bytes t
+    header : (o : Option (List ℕ)) → range bytes 0 32 ≡ o → option_and_then (λ (header : List ℕ). option_and_then (λ count. option_and_then (λ (indexes : List ℕ). option_and_then (λ (names : List ℕ). whole header count indexes names) (from_offset bytes (34 + count * 2))) (range bytes 34 (count * 2))) (number bytes 32 2)) o ≡ Some t → PostRead bytes t
     header None e k = absurd cc
     header (Some x) e k = counted x (number bytes 32 2) refl k
 

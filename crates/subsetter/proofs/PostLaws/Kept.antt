@@ -7,13 +7,12 @@ use Rattle.std.specs.Int.{w16, to_be_bytes}
 use Rattle.std.proofs.lemmas.Bool.{le-leb, leb-true, lt-ltb, le-ltb, ltb-true, ltb-false, leb-false, eqb-true, false≢true}
 use Rattle.std.proofs.lemmas.List.{length-append, length-map, length-take, take_at, drop_at, take-take, take-append-drop, take_rest}
 use Rattle.std.proofs.lemmas.List.Sums.{length-filter}
-use Rattle.subsetter_base.specs.Bytes.{IsBytes, be, range, number, ◌>>=◌}
+use Rattle.subsetter_base.specs.Bytes.{IsBytes, be, range, number, ◌>>=◌, from_offset}
 use Rattle.subsetter_base.specs.Items.{item}
 use Rattle.subsetter_base.specs.declared.error.Error.TheVariants.{MalformedFont, OverflowError}
 use Rattle.subsetter_base.proofs.Results.{bind_ok, named_ok, done_is}
 use Rattle.subsetter_base.proofs.Options.{bind_some}
 use Rattle.subsetter_base.proofs.ByteLemmas.{range-middle, be-u16}
-use Rattle.subsetter.specs.Name.Read.{bytes_from}
 use Rattle.subsetter.specs.Post.Read.{GlyphName, Standard, Custom, PostTable, pascal_strings, names_in, post_parts, post_table, glyph_index, name_of_index, index_bytes, entry_bytes, post_bytes, HasGlyphNames, KeepsGlyphNames, rewritten, copied}
 use Rattle.subsetter.specs.Post.Plain.{indexes_of, custom_count, post_of_indexes, subset_glyph_names, post_of_table, new_post, post_of}
 use Rattle.subsetter.proofs.NameLaws.Back.{AllBytes, all_bytes, all_drop, tail_at, range_found}
@@ -174,7 +173,7 @@ post_back header ns long few =
     let count_is : number new 32 2 ≡ Some n = ap (option_map be) (range-middle new header count (indexes ++ names) 32 2 (by_one header count indexes names) (sym long) refl) ∙ ap Some (be-u16 n few) in
     let front : length (header ++ count) ≡ 34 = omega (arith, length-append header count) in
     let indexes_there : range new 34 (n * 2) ≡ Some indexes = range-middle new (header ++ count) indexes names 34 (n * 2) (by_two header count indexes names) (sym front) (sym (length-index 0 ns)) in
-    let names_there : bytes_from new (34 + n * 2) ≡ Some names = tail_at new ((header ++ count) ++ indexes) names (34 + n * 2) (by_three header count indexes names) (omega (arith, front, length-append (header ++ count) indexes, length-index 0 ns)) in
+    let names_there : from_offset new (34 + n * 2) ≡ Some names = tail_at new ((header ++ count) ++ indexes) names (34 + n * 2) (by_three header count indexes names) (omega (arith, front, length-append (header ++ count) indexes, length-index 0 ns)) in
     record {
       header_is = header_is;
       count_is = count_is;
@@ -190,10 +189,10 @@ pub record Headed (source : List ℕ) (t : PostTable) : Type 0 where
 
 pub headed : (source : List ℕ) (t : PostTable) → post_parts source ≡ Some t → Headed source t
 headed source t h =
-    let a = bind_some (range source 0 32) (λ header. option_and_then (λ count. option_and_then (λ indexes. option_and_then (λ names. Some (record { header = header; indexes = record { bytes = indexes; count = count }; names_data = names })) (bytes_from source (34 + count * 2))) (range source 34 (count * 2))) (number source 32 2)) t h in
-    let b = bind_some (number source 32 2) (λ count. option_and_then (λ indexes. option_and_then (λ names. Some (record { header = a.0; indexes = record { bytes = indexes; count = count }; names_data = names })) (bytes_from source (34 + count * 2))) (range source 34 (count * 2))) t a.2 in
-    let c = bind_some (range source 34 (b.0 * 2)) (λ indexes. option_and_then (λ names. Some (record { header = a.0; indexes = record { bytes = indexes; count = b.0 }; names_data = names })) (bytes_from source (34 + b.0 * 2))) t b.2 in
-    let d = bind_some (bytes_from source (34 + b.0 * 2)) (λ names. Some (record { header = a.0; indexes = record { bytes = c.0; count = b.0 }; names_data = names })) t c.2 in
+    let a = bind_some (range source 0 32) (λ header. option_and_then (λ count. option_and_then (λ indexes. option_and_then (λ names. Some (record { header = header; indexes = record { bytes = indexes; count = count }; names_data = names })) (from_offset source (34 + count * 2))) (range source 34 (count * 2))) (number source 32 2)) t h in
+    let b = bind_some (number source 32 2) (λ count. option_and_then (λ indexes. option_and_then (λ names. Some (record { header = a.0; indexes = record { bytes = indexes; count = count }; names_data = names })) (from_offset source (34 + count * 2))) (range source 34 (count * 2))) t a.2 in
+    let c = bind_some (range source 34 (b.0 * 2)) (λ indexes. option_and_then (λ names. Some (record { header = a.0; indexes = record { bytes = indexes; count = b.0 }; names_data = names })) (from_offset source (34 + b.0 * 2))) t b.2 in
+    let d = bind_some (from_offset source (34 + b.0 * 2)) (λ names. Some (record { header = a.0; indexes = record { bytes = c.0; count = b.0 }; names_data = names })) t c.2 in
     let same : a.0 ≡ t.header = cc in
     let w = range_found source 0 32 a.0 a.1 in
     let four : take 4 t.header ≡ take 4 source = ap (take 4) (sym same ∙ w.is) ∙ take-take 4 32 source (omega arith) in
@@ -252,14 +251,14 @@ has_glyph_names source order is t all v parts few h small =
   where
     names_bytes : (source : List ℕ) (t : PostTable) → AllBytes source → post_parts source ≡ Some t → AllBytes t.names_data
     names_bytes source t all h =
-        let a = bind_some (range source 0 32) (λ header. option_and_then (λ count. option_and_then (λ indexes. option_and_then (λ names. Some (record { header = header; indexes = record { bytes = indexes; count = count }; names_data = names })) (bytes_from source (34 + count * 2))) (range source 34 (count * 2))) (number source 32 2)) t h in
-        let b = bind_some (number source 32 2) (λ count. option_and_then (λ indexes. option_and_then (λ names. Some (record { header = a.0; indexes = record { bytes = indexes; count = count }; names_data = names })) (bytes_from source (34 + count * 2))) (range source 34 (count * 2))) t a.2 in
-        let c = bind_some (range source 34 (b.0 * 2)) (λ indexes. option_and_then (λ names. Some (record { header = a.0; indexes = record { bytes = indexes; count = b.0 }; names_data = names })) (bytes_from source (34 + b.0 * 2))) t b.2 in
-        let d = bind_some (bytes_from source (34 + b.0 * 2)) (λ names. Some (record { header = a.0; indexes = record { bytes = c.0; count = b.0 }; names_data = names })) t c.2 in
+        let a = bind_some (range source 0 32) (λ header. option_and_then (λ count. option_and_then (λ indexes. option_and_then (λ names. Some (record { header = header; indexes = record { bytes = indexes; count = count }; names_data = names })) (from_offset source (34 + count * 2))) (range source 34 (count * 2))) (number source 32 2)) t h in
+        let b = bind_some (number source 32 2) (λ count. option_and_then (λ indexes. option_and_then (λ names. Some (record { header = a.0; indexes = record { bytes = indexes; count = count }; names_data = names })) (from_offset source (34 + count * 2))) (range source 34 (count * 2))) t a.2 in
+        let c = bind_some (range source 34 (b.0 * 2)) (λ indexes. option_and_then (λ names. Some (record { header = a.0; indexes = record { bytes = indexes; count = b.0 }; names_data = names })) (from_offset source (34 + b.0 * 2))) t b.2 in
+        let d = bind_some (from_offset source (34 + b.0 * 2)) (λ names. Some (record { header = a.0; indexes = record { bytes = c.0; count = b.0 }; names_data = names })) t c.2 in
         let same : d.0 ≡ t.names_data = cc in
         subst AllBytes same (tail_bytes (34 + b.0 * 2) d.0 d.1)
       where
-        tail_bytes : (at : ℕ) (x : List ℕ) → bytes_from source at ≡ Some x → AllBytes x
+        tail_bytes : (at : ℕ) (x : List ℕ) → from_offset source at ≡ Some x → AllBytes x
         tail_bytes at x k = by (leb at (length source)) k
           where
             by : (b : Bool) → cond b (Some (drop at source)) None ≡ Some x → AllBytes x

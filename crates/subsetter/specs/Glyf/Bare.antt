@@ -1,9 +1,8 @@
 -- Outlines without their instructions (OpenType, "glyf": simple glyph description, composite glyph description).
 use Rattle.std.specs.Prelude.{ℕ, ◌+◌, ◌*◌, Bool, true, false, List, [], ◌∷◌, ◌++◌, take, map, Option, Some, bit_and}
 use Rattle.std.specs.Option.{option_and_then, option_map, unwrap_or}
-use Rattle.subsetter_base.specs.Bytes.{number}
-use Rattle.subsetter_sfnt.specs.Optional.{◌>>=◌}
-use Rattle.subsetter.specs.Name.Read.{bytes_from}
+use Rattle.subsetter_base.specs.Bytes.{number, from_offset}
+use Rattle.subsetter_base.specs.Options.{◌>>=◌}
 use Rattle.subsetter_sfnt.specs.Read.{Font}
 use Rattle.subsetter.specs.Glyf.Read.{outline}
 use Rattle.subsetter.specs.Glyf.Parts.{Component, Chain, Parts, Empty, Simple, Composite, outline_parts}
@@ -12,7 +11,7 @@ use Rattle.subsetter.specs.Glyf.Parts.{Component, Chain, Parts, Empty, Simple, C
 abbrev pub bare_at : List ℕ → ℕ → Option (List ℕ)
 bare_at bytes at = do
   size ← number bytes at 2
-  behind ← bytes_from bytes (at + 2 + size)
+  behind ← from_offset bytes (at + 2 + size)
   Some (take at bytes ++ 0 ∷ 0 ∷ behind)
 
 -- a simple outline: its number of contours stands at its start, and the length of its instructions behind ten bytes of head and two for each contour

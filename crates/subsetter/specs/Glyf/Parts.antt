@@ -1,9 +1,9 @@
 -- What an outline is made of (OpenType, "glyf": simple glyph description, composite glyph description).
-use Rattle.std.specs.Prelude.{ℕ, zero, suc, ◌+◌, Bool, not, List, [], ◌∷◌, ◌++◌, length, drop, Option, Some, None, bit_and, nat_lt, ◌==◌, if◌then◌else◌}
+use Rattle.std.specs.Prelude.{ℕ, zero, suc, ◌+◌, Bool, List, [], ◌∷◌, ◌++◌, length, drop, Option, Some, None, nat_lt, if◌then◌else◌}
 use Rattle.std.specs.List.{flat_map}
 use Rattle.std.specs.Int.{w16, to_be_bytes}
-use Rattle.subsetter_base.specs.Bytes.{range, number}
-use Rattle.subsetter_sfnt.specs.Optional.{◌>>=◌}
+use Rattle.subsetter_base.specs.Bytes.{range, number, has_flag}
+use Rattle.subsetter_base.specs.Options.{◌>>=◌}
 
 -- a component: its flags, its glyph, and the bytes of its arguments and its transform
 pub record Component : Type 0 where
@@ -11,21 +11,17 @@ pub record Component : Type 0 where
   pub glyph : ℕ
   pub rest : List ℕ
 
--- a flag is set
-abbrev pub has : ℕ → ℕ → Bool
-has flags flag = not (bit_and flags flag == 0)
-
 -- arguments of two words (ARG_1_AND_2_ARE_WORDS) or two bytes, and a scale (WE_HAVE_A_SCALE), two scales (WE_HAVE_AN_X_AND_Y_SCALE), a matrix (WE_HAVE_A_TWO_BY_TWO) or nothing
 abbrev pub rest_size : ℕ → ℕ
-rest_size flags = (if has flags 0x0001 then 4 else 2) + (if has flags 0x0008 then 2 else (if has flags 0x0040 then 4 else (if has flags 0x0080 then 8 else 0)))
+rest_size flags = (if has_flag flags 0x0001 then 4 else 2) + (if has_flag flags 0x0008 then 2 else (if has_flag flags 0x0040 then 4 else (if has_flag flags 0x0080 then 8 else 0)))
 
 -- another component follows exactly where the flags have MORE_COMPONENTS
 abbrev pub has_more : ℕ → Bool
-has_more flags = has flags 0x0020
+has_more flags = has_flag flags 0x0020
 
 -- bytes after the last component are its instructions exactly where its flags have WE_HAVE_INSTRUCTIONS
 abbrev pub has_instructions : ℕ → Bool
-has_instructions flags = has flags 0x0100
+has_instructions flags = has_flag flags 0x0100
 
 -- the component at the front: flags, glyph, arguments and transform
 abbrev pub component_at : List ℕ → Option Component

@@ -1,8 +1,8 @@
 -- The plain way to take the outlines of the kept glyphs, with the error that is answered where one can't be taken.
 use Rattle.std.specs.Prelude.{ℕ, Bool, List, [], ◌∷◌, ◌++◌, map, Option, Result, Ok}
-use Rattle.std.specs.Option.{option_map, unwrap_or, ok_or}
+use Rattle.std.specs.Option.{option_map, ok_or}
 use Rattle.subsetter_base.specs.Bytes.{◌>>=◌}
-use Rattle.subsetter_base.specs.Places.{place}
+use Rattle.subsetter_base.specs.Places.{new_index}
 use Rattle.subsetter_base.specs.declared.error.Error.{Error}
 use Rattle.subsetter_base.specs.declared.error.Error.TheVariants.{MalformedFont}
 use Rattle.subsetter.specs.Glyf.Read.{Outlines, outlines_in, outline_in}
@@ -13,13 +13,9 @@ use Rattle.subsetter.specs.Glyf.Parts.{Component, Chain, Parts, Empty, Simple, C
 abbrev pub outlines_read : Bool → (List ℕ → Option (List ℕ)) → Result Outlines Error
 outlines_read hinting find = ok_or (outlines_in hinting find) MalformedFont
 
--- the new number of a glyph: its place in the order
-abbrev pub new_number : List ℕ → ℕ → ℕ
-new_number order g = unwrap_or (place order g) 0
-
 -- a component under the new number of its glyph
 abbrev pub renumbered_component : List ℕ → Component → Component
-renumbered_component order c = record { flags = c.flags; glyph = new_number order c.glyph; rest = c.rest }
+renumbered_component order c = record { flags = c.flags; glyph = new_index order c.glyph; rest = c.rest }
 
 abbrev pub renumbered_chain : List ℕ → Chain → Chain
 renumbered_chain order chain = record { components = map (renumbered_component order) chain.components; tail = chain.tail }
@@ -37,10 +33,6 @@ rewritten_composite hinting order bytes = ok_or (option_map (λ p. parts_bytes (
 -- an outline with its components under the new numbers
 unfoldable pub rewritten : Bool → List ℕ → List ℕ → Result (List ℕ) Error
 rewritten hinting order bytes = ok_or (option_map (λ p. parts_bytes (renumbered order p)) (parts_asked hinting (outline_parts bytes))) MalformedFont
-
--- bytes that are written behind others
-abbrev pub written_behind : List ℕ → Result (List ℕ) Error → Result (List ℕ) Error
-written_behind front read = read >>= λ bytes. Ok (front ++ bytes)
 
 -- a list with one outline more
 abbrev pub with_last : List (List ℕ) → Result (List ℕ) Error → Result (List (List ℕ)) Error

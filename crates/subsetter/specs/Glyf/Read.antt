@@ -1,8 +1,8 @@
 -- The outlines of a TrueType font (OpenType, "glyf" and "loca").
-use Rattle.std.specs.Prelude.{ℕ, ◌+◌, ◌-◌, ◌*◌, Bool, not, List, codes, Option, Some, None, nat_le, ◌==◌, if◌then◌else◌}
+use Rattle.std.specs.Prelude.{ℕ, ◌+◌, ◌*◌, Bool, not, List, codes, Option, Some, ◌==◌, if◌then◌else◌}
 use Rattle.std.specs.Option.{option_and_then, option_map}
-use Rattle.subsetter_base.specs.Bytes.{range, number}
-use Rattle.subsetter_sfnt.specs.Optional.{◌>>=◌}
+use Rattle.subsetter_base.specs.Bytes.{number, between_offsets}
+use Rattle.subsetter_base.specs.Options.{◌>>=◌}
 use Rattle.subsetter_sfnt.specs.Read.{Font, table}
 
 -- the tables that outlines are read from
@@ -34,12 +34,8 @@ entry_size long = if long then 4 else 2
 abbrev pub offset : Outlines → ℕ → Option ℕ
 offset t g = if t.long then number t.loca (4 * g) 4 else option_map (λ half. 2 * half) (number t.loca (2 * g) 2)
 
--- the bytes between two entries
-abbrev pub between : List ℕ → ℕ → ℕ → Option (List ℕ)
-between glyf from to = if nat_le from to then range glyf from (to - from) else None
-
 unfoldable pub outline_in : Outlines → ℕ → Option (List ℕ)
-outline_in t g = option_and_then (λ from. option_and_then (λ to. between t.glyf from to) (offset t (g + 1))) (offset t g)
+outline_in t g = option_and_then (λ from. option_and_then (λ to. between_offsets t.glyf from to) (offset t (g + 1))) (offset t g)
 
 -- the outline of a glyph: the bytes of glyf between its entry of loca and the next
 abbrev pub outline : Font → ℕ → Option (List ℕ)

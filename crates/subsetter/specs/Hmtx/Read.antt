@@ -3,7 +3,7 @@ use Rattle.std.specs.Prelude.{◌≡◌, ℕ, ◌+◌, ◌-◌, ◌*◌, ◌<◌
 use Rattle.subsetter_base.specs.Bytes.{number}
 use Rattle.subsetter_base.specs.declared.error.Error.{Error}
 use Rattle.subsetter_base.specs.declared.error.Error.TheVariants.{MalformedFont, OverflowError}
-use Rattle.subsetter_sfnt.specs.Optional.{◌>>=◌}
+use Rattle.subsetter_base.specs.Options.{◌>>=◌}
 use Rattle.subsetter_sfnt.specs.Read.{Font, table}
 use Rattle.subsetter_sfnt.specs.Fields.Hhea.{number_of_h_metrics}
 use Rattle.subsetter_sfnt.specs.Fields.Hmtx.{metric_in}

@@ -1,11 +1,11 @@
 -- The names of a font (OpenType, "name").
-use Rattle.std.specs.Prelude.{◌≡◌, ◌≢◌, ℕ, zero, suc, ◌+◌, ◌*◌, Bool, false, ◌&&◌, ◌||◌, not, List, [], ◌∷◌, ◌++◌, length, take, drop, map, filter, flat_map, Option, Some, None, nat_lt, nat_le, ◌==◌, if◌then◌else◌}
+use Rattle.std.specs.Prelude.{◌≡◌, ◌≢◌, ℕ, zero, suc, ◌+◌, ◌*◌, Bool, false, ◌&&◌, ◌||◌, not, List, [], ◌∷◌, ◌++◌, length, take, drop, map, filter, flat_map, Option, Some, None, nat_lt, ◌==◌, if◌then◌else◌}
 use Rattle.std.specs.Option.{option_and_then, option_map}
 use Rattle.std.specs.Str.{bytes_eq}
 use Rattle.std.specs.Int.{w16, to_be_bytes}
-use Rattle.subsetter_base.specs.Bytes.{be, range, number}
+use Rattle.subsetter_base.specs.Bytes.{be, range, number, from_offset}
 use Rattle.subsetter_sfnt.specs.Fields.Name.{name_record_of, name_record_bytes, string_of, is_unicode}
-use Rattle.subsetter_sfnt.specs.Optional.{◌>>=◌}
+use Rattle.subsetter_base.specs.Options.{◌>>=◌}
 use Rattle.subsetter_sfnt.specs.declared.fields.name.NameRecord.{NameRecord}
 
 -- ---- read
@@ -20,17 +20,13 @@ pub record NameTable : Type 0 where
   pub records : List NameRecord
   pub storage : List ℕ
 
--- the bytes from a place on, if the place isn't past the end
-abbrev pub bytes_from : List ℕ → ℕ → Option (List ℕ)
-bytes_from bytes at = if nat_le at (length bytes) then Some (drop at bytes) else None
-
 -- version, count and the storage's offset, two bytes each, and then the records
 abbrev pub name_parts : List ℕ → Option NameTable
 name_parts bytes = do
   count ← number bytes 2 2
   offset ← number bytes 4 2
   records ← range bytes 6 (count * 12)
-  storage ← bytes_from bytes offset
+  storage ← from_offset bytes offset
   Some (record { records = name_records_in count records; storage = storage })
 
 -- a table of version 0

@@ -2,10 +2,9 @@
 use Rattle.std.specs.Prelude.{◌≡◌, ◌≢◌, ℕ, zero, suc, ◌+◌, ◌-◌, ◌*◌, ◌%◌, ◌<◌, List, [], ◌∷◌, ◌++◌, length, take, drop, flat_map, get_or, slice_index, Option, Some, None, nat_lt, nat_le, ◌==◌, if◌then◌else◌}
 use Rattle.std.specs.Option.{option_and_then}
 use Rattle.std.specs.Int.{w16, to_be_bytes}
-use Rattle.subsetter_base.specs.Bytes.{be, range, number}
+use Rattle.subsetter_base.specs.Bytes.{be, range, number, from_offset}
 use Rattle.subsetter_base.specs.Items.{Items, item}
-use Rattle.subsetter_sfnt.specs.Optional.{◌>>=◌}
-use Rattle.subsetter.specs.Name.Read.{bytes_from}
+use Rattle.subsetter_base.specs.Options.{◌>>=◌}
 
 -- ---- read
 
@@ -35,7 +34,7 @@ post_parts bytes = do
   header ← range bytes 0 32
   count ← number bytes 32 2
   indexes ← range bytes 34 (count * 2)
-  names ← bytes_from bytes (34 + count * 2)
+  names ← from_offset bytes (34 + count * 2)
   Some (record { header = header; indexes = record { bytes = indexes; count = count }; names_data = names })
 
 -- a table of version 2.0

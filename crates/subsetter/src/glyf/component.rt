@@ -7,15 +7,15 @@
 ghost use Rattle.std.specs.Prelude.{◌≡◌, ◌⊎◌, ◌+◌, ◌-◌, ◌≤◌, true, false, [], ◌∷◌, ◌++◌, length, take, drop, if◌then◌else◌, ◌&&◌, nat_le, is_some, Some, None, Ok, OnOk, OnErr, IfOk, IfErr};
 ghost use Rattle.std.specs.Int.{w16, to_be_bytes};
 ghost use Rattle.std.specs.Option.{option_map};
-ghost use Rattle.subsetter_base.specs.Gives.{Fails};
-ghost use Rattle.subsetter_base.specs.Places.{place};
+ghost use Rattle.subsetter_base.specs.Gives.{Fails, behind};
+ghost use Rattle.subsetter_base.specs.Places.{place, new_index};
 ghost use Rattle.subsetter_base.specs.declared.error.Error.TheVariants.{OutOfMemory, MalformedFont};
 ghost use Rattle.subsetter.specs.Glyf.View.{component_seen};
 ghost use Rattle.subsetter.specs.Glyf.Closure.{first_byte_in, others_in};
 ghost use Rattle.subsetter.specs.Glyf.Parts.{rest_size, has_more, has_instructions, component_at, numbers_at, component_numbers, outline_parts};
 ghost use Rattle.subsetter.specs.Glyf.Size.{asked_size};
 ghost use Rattle.subsetter.specs.Glyf.Bare.{flags_asked, tail_asked};
-ghost use Rattle.subsetter.specs.Glyf.Plain.{new_number, written_behind, rewritten_composite};
+ghost use Rattle.subsetter.specs.Glyf.Plain.{rewritten_composite};
 
 use subsetter_base::read::u16_at;
 use subsetter_base::{Error, GlyphRemapper};
@@ -208,7 +208,7 @@ fn renumber(
     hinting: bool,
 )
     requires { at + 4 ≤ length out.old.items }
-    ensures { out.new.items ≡ take at out.old.items ++ to_be_bytes w16 (flags_asked hinting component.entry.flags) ++ to_be_bytes w16 (new_number order.now component.entry.glyph) ++ drop (at + 4) out.old.items }
+    ensures { out.new.items ≡ take at out.old.items ++ to_be_bytes w16 (flags_asked hinting component.entry.flags) ++ to_be_bytes w16 (new_index order.now component.entry.glyph) ++ drop (at + 4) out.old.items }
 {
     let number = order.get(component.glyph).unwrap_or(0);
     put_number(out, at, flags_asked(hinting, component.flags));
@@ -233,8 +233,8 @@ pub fn rewrite_composite(
     order: &GlyphRemapper,
     hinting: bool,
 ) -> Result<(), Error>
-    ensures ok { OnOk result (written_behind out.old.items (rewritten_composite hinting order.now outline.now) ≡ Ok out.new.items) }
-    ensures err { IfErr result (λ e. Fails e (written_behind out.old.items (rewritten_composite hinting order.now outline.now))) }
+    ensures ok { OnOk result (behind out.old.items (rewritten_composite hinting order.now outline.now) ≡ Ok out.new.items) }
+    ensures err { IfErr result (λ e. Fails e (behind out.old.items (rewritten_composite hinting order.now outline.now))) }
     ensures unchanged { OnErr result (out.new.items ≡ out.old.items) }
 {
     if outline.len() < 10 {

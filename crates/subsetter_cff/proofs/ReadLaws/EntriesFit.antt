@@ -4,7 +4,8 @@ use Rattle.std.specs.Prelude.{◌==◌}
 use Rattle.std.specs.List.{AllByRecursion}
 use Rattle.std.specs.Option.{option_map_or}
 use Rattle.std.proofs.lemmas.Bool.{eqb-false}
-use Rattle.subsetter_cffdata.specs.Bytes.{◌>>=◌, byte}
+use Rattle.subsetter_base.specs.Options.{◌>>=◌}
+use Rattle.subsetter_base.specs.Bytes.{byte}
 use Rattle.subsetter_cffdata.specs.Numbers.{dict_number_from}
 use Rattle.subsetter_cffdata.specs.Dict.{Entry, is_operator, operator_from, entry_in, entry_at, kept, entries_in, entries, IsOperator, operand_limit}
 use Rattle.subsetter_cffdata.proofs.Reals.{all_take}

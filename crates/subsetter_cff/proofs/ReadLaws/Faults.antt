@@ -4,12 +4,12 @@ use Rattle.std.specs.Prelude.{Contains, Ok, Err}
 use Rattle.std.specs.Option.{ok_or, option_and_then}
 use Rattle.std.proofs.lemmas.Bool.{false≢true, eqb-false, ltb-false}
 use Rattle.std.proofs.lemmas.Option.{none-some, same_Some}
-use Rattle.subsetter_base.specs.Bytes.{◌>>=◌}
+use Rattle.subsetter_base.specs.Bytes.{◌>>=◌, first_number}
 use Rattle.subsetter_base.specs.declared.error.Error.{Error}
 use Rattle.subsetter_base.specs.declared.error.Error.TheVariants.{MalformedFont, CFFError}
 use Rattle.subsetter_cffdata.specs.Dict.{Entry}
 use Rattle.subsetter_cffdata.specs.Index.{index_at}
-use Rattle.subsetter_cff.specs.Read.Cff.{Cff, major, behind_header, name_index, string_index, subroutine_index, top_dict, before, name_bytes, cff_parts, char_strings, is_cid_keyed}
+use Rattle.subsetter_cff.specs.Read.Cff.{Cff, behind_header, name_index, string_index, subroutine_index, top_dict, before, name_bytes, cff_parts, char_strings, is_cid_keyed}
 use Rattle.subsetter_cff.specs.Read.FontDicts.{font_dicts, font_dict_select}
 use Rattle.subsetter_cff.specs.Read.OperandDemands.{top_demands, font_dict_demands}
 use Rattle.subsetter_cff.specs.Read.Opened.{check, all_meet, all_lead, sound_font_dicts, opened_cid, opened_parts, opened}
@@ -19,7 +19,7 @@ use Rattle.subsetter_cff.proofs.ReadLaws.Refusals.{bind_err, none_of, failed, no
 use Rattle.subsetter_cff.proofs.ReadLaws.EntryFaults.{all_wrong, all_nowhere}
 
 -- ---- the front
-pub no_version : (bytes : List ℕ) → major bytes ≡ None → HasFrontFault bytes MalformedFont
+pub no_version : (bytes : List ℕ) → first_number bytes ≡ None → HasFrontFault bytes MalformedFont
 no_version [] e = short (omega arith)
 no_version (b ∷ bytes) e = absurd (none-some b (sym e))
 
@@ -33,10 +33,10 @@ name_bytes_none : (bytes : List ℕ) → name_bytes bytes ≡ None → name_inde
 unfolding name_bytes name_index
 name_bytes_none bytes e = no_names (behind_header bytes) (option_and_then index_at (behind_header bytes)) (λ h. rw h refl) e
 
-pub parts_none : (bytes : List ℕ) (b : ℕ) → major bytes ≡ Some b → eqb b 1 ≡ true → cff_parts bytes ≡ None → HasFrontFault bytes MalformedFont
+pub parts_none : (bytes : List ℕ) (b : ℕ) → first_number bytes ≡ Some b → eqb b 1 ≡ true → cff_parts bytes ≡ None → HasFrontFault bytes MalformedFont
 unfolding cff_parts
 parts_none bytes b is one e =
-    elim (none_or (major bytes) _ e) [
+    elim (none_or (first_number bytes) _ e) [
       | inl none ↦ no_version bytes none
       | inr (v, (v_is, more)) ↦ elim (none_or (name_bytes bytes) _ more) [
         | inl none ↦ bad_names (name_bytes_none bytes none)
@@ -112,7 +112,7 @@ top_refused cff e h =
       ]
     ]
 
-parts_refused : (bytes : List ℕ) (b : ℕ) (e : Error) → major bytes ≡ Some b → eqb b 1 ≡ true → opened_parts bytes ≡ Err e → HasOpeningFault bytes e
+parts_refused : (bytes : List ℕ) (b : ℕ) (e : Error) → first_number bytes ≡ Some b → eqb b 1 ≡ true → opened_parts bytes ≡ Err e → HasOpeningFault bytes e
 unfolding opened_parts
 parts_refused bytes b e is one h =
     elim (bind_err (ok_or (cff_parts bytes) MalformedFont) _ e h) [
@@ -124,9 +124,9 @@ parts_refused bytes b e is one h =
 pub opening_refused : (bytes : List ℕ) (e : Error) → opened bytes ≡ Err e → HasOpeningFault bytes e
 unfolding opened
 opening_refused bytes e h =
-    elim (bind_err (ok_or (major bytes) MalformedFont) _ e h) [
-      | inl none ↦ (let n = none_of (major bytes) MalformedFont e none in subst (HasOpeningFault bytes) n.1 (in_front (no_version bytes n.0)))
-      | inr (b, (b_is, more)) ↦ (let is = some_of (major bytes) MalformedFont b b_is in
+    elim (bind_err (ok_or (first_number bytes) MalformedFont) _ e h) [
+      | inl none ↦ (let n = none_of (first_number bytes) MalformedFont e none in subst (HasOpeningFault bytes) n.1 (in_front (no_version bytes n.0)))
+      | inr (b, (b_is, more)) ↦ (let is = some_of (first_number bytes) MalformedFont b b_is in
           elim (failed (eqb b 1) CFFError e (opened_parts bytes) more) [
             | inl other ↦ subst (HasOpeningFault bytes) other.1 (in_front (other_version b is (eqb-false b 1 other.0)))
             | inr one ↦ parts_refused bytes b e is one.0 one.1

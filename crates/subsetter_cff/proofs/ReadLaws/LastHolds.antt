@@ -3,7 +3,7 @@ use Rattle.std.proofs.Common.{◌≡◌, ℕ, true, List, Option, Some, None, re
 use Rattle.std.specs.Prelude.{slice_get, is_some}
 use Rattle.std.specs.Option.{option_map}
 use Rattle.std.proofs.lemmas.Bool.{false≢true}
-use Rattle.subsetter_cffdata.specs.Bytes.{◌>>=◌}
+use Rattle.subsetter_base.specs.Options.{◌>>=◌}
 use Rattle.subsetter_cffdata.specs.Numbers.{Number}
 use Rattle.subsetter_cffdata.specs.Dict.{Entry}
 use Rattle.subsetter_cffdata.specs.Operands.{string_operand}

@@ -5,8 +5,8 @@ use Rattle.std.specs.Int.{is_in_range}
 use Rattle.std.proofs.lemmas.Bool.{ltb-false}
 use Rattle.std.proofs.lemmas.List.{take-append-drop, take_at, length-take-le}
 use Rattle.std.proofs.lemmas.Option.{none-some, same_Some, some_pair_parts}
-use Rattle.subsetter_base.specs.Bytes.{be}
-use Rattle.subsetter_cffdata.specs.Bytes.{byte, card, part, ReadAgain}
+use Rattle.subsetter_base.specs.Bytes.{be, byte}
+use Rattle.subsetter_cffdata.specs.Bytes.{card, part, ReadAgain}
 use Rattle.subsetter_cffdata.specs.Index.{offset_at, entries, offsets_limit, index_data, index_body, is_no_count, index_of, index_at}
 use Rattle.subsetter_cffdata.proofs.Cards.{byte_again, part_again}
 use Rattle.subsetter_cffdata.proofs.Options.{step, unless, when}

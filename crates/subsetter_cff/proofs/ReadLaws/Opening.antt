@@ -3,13 +3,13 @@ use Rattle.std.proofs.Common.{◌≡◌, ℕ, Bool, true, false, eqb, ltb, ◌&&
 use Rattle.std.specs.Prelude.{Ok, Err}
 use Rattle.std.specs.Option.{option_map, option_and_then}
 use Rattle.std.proofs.lemmas.Bool.{cases_Bool, eqb-true}
-use Rattle.subsetter_base.specs.Bytes.{◌>>=◌}
+use Rattle.subsetter_base.specs.Bytes.{◌>>=◌, first_number}
 use Rattle.subsetter_base.specs.Gives.{Fails}
 use Rattle.subsetter_base.specs.declared.error.Error.{Error}
 use Rattle.subsetter_base.specs.declared.error.Error.TheVariants.{MalformedFont, OutOfMemory}
 use Rattle.subsetter_cffdata.specs.Dict.{Entry, entries}
 use Rattle.subsetter_cffdata.specs.Index.{index_at, readable}
-use Rattle.subsetter_cff.specs.Read.Cff.{Cff, major, at_offset, char_strings}
+use Rattle.subsetter_cff.specs.Read.Cff.{Cff, at_offset, char_strings}
 use Rattle.subsetter_cff.specs.Read.FontDicts.{FontDictSelect, select_at, font_dicts, font_dict_select}
 use Rattle.subsetter_cff.specs.Read.Fault.{HasWrongOperands}
 use Rattle.subsetter_cff.specs.Read.FontDictFaults.{HasFontDictFault, wrong_entry}
@@ -146,15 +146,15 @@ unfolding opened_top
 top_opens cff all met is some = rw (is, met, some) refl
 
 -- ---- the whole
-opened_by : (bytes : List ℕ) (v : ℕ) (b : Bool) → major bytes ≡ Some v → eqb v 1 ≡ b → opened bytes ≡ (front_read bytes >>= opened_top)
+opened_by : (bytes : List ℕ) (v : ℕ) (b : Bool) → first_number bytes ≡ Some v → eqb v 1 ≡ b → opened bytes ≡ (front_read bytes >>= opened_top)
 unfolding opened front_read opened_parts opened_top
 opened_by bytes v true is one = rw (is, one, parts_are bytes (is ∙ ap Some (eqb-true v 1 one))) refl
 opened_by bytes v false is one = rw (is, one) refl
 
-opened_of : (bytes : List ℕ) (o : Option ℕ) → major bytes ≡ o → opened bytes ≡ (front_read bytes >>= opened_top)
+opened_of : (bytes : List ℕ) (o : Option ℕ) → first_number bytes ≡ o → opened bytes ≡ (front_read bytes >>= opened_top)
 unfolding opened front_read
 opened_of bytes None is = rw is refl
 opened_of bytes (Some v) is = opened_by bytes v (eqb v 1) is refl
 
 pub opened_is : (bytes : List ℕ) → opened bytes ≡ (front_read bytes >>= opened_top)
-opened_is bytes = opened_of bytes (major bytes) refl
+opened_is bytes = opened_of bytes (first_number bytes) refl

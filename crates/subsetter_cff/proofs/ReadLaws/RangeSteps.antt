@@ -3,8 +3,8 @@ use Rattle.std.proofs.Common.{◌≡◌, ℕ, zero, suc, Bool, ◌+◌, ◌*◌,
 use Rattle.std.specs.Prelude.{nat_lt, nat_le, slice_index}
 use Rattle.std.proofs.lemmas.Bool.{lt-ltb, le-ltb}
 use Rattle.std.proofs.lemmas.List.{drop-drop, get_or-drop}
-use Rattle.subsetter_base.specs.Bytes.{be}
-use Rattle.subsetter_cffdata.specs.Bytes.{byte, card, part}
+use Rattle.subsetter_base.specs.Bytes.{be, byte}
+use Rattle.subsetter_cffdata.specs.Bytes.{card, part}
 use Rattle.subsetter_cff.specs.Read.FontDicts.{in_ranges}
 use Rattle.subsetter_cff.specs.Read.Ranges.{number_of_range, found_from}
 

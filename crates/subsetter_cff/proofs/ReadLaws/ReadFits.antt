@@ -2,7 +2,7 @@
 use Rattle.std.proofs.Common.{◌≡◌, ℕ, eqb, leb, Bool, true, false, cond, List, length, Option, Some, None, refl, subst, inl, inr}
 use Rattle.std.proofs.lemmas.Bool.{cases_Bool, leb-true}
 use Rattle.std.proofs.lemmas.Option.{none-some, same_Some}
-use Rattle.subsetter_cffdata.specs.Bytes.{◌>>=◌}
+use Rattle.subsetter_base.specs.Options.{◌>>=◌}
 use Rattle.subsetter_cffdata.specs.Decimals.{Decimal, text_at, text_limit, real_of, real_at}
 use Rattle.subsetter_cffdata.specs.Numbers.{Number, integer_from, dict_number_from}
 use Rattle.subsetter_cffdata.proofs.BoundedNumbers.{number_bounded}

@@ -7,7 +7,8 @@ use Rattle.std.proofs.lemmas.Option.{none-some, same_Some}
 use Rattle.subsetter_base.specs.declared.error.Error.{Error}
 use Rattle.subsetter_base.specs.declared.error.Error.TheVariants.{MalformedFont, CFFError}
 use Rattle.subsetter_cffdata.specs.Dict.{Entry}
-use Rattle.subsetter_cff.specs.Read.Cff.{Cff, major, behind_header, name_index, top_index, string_index, subroutine_index, top_dict, name_bytes, cff_parts, char_strings, is_cid_keyed}
+use Rattle.subsetter_cff.specs.Read.Cff.{Cff, behind_header, name_index, top_index, string_index, subroutine_index, top_dict, name_bytes, cff_parts, char_strings, is_cid_keyed}
+use Rattle.subsetter_base.specs.Bytes.{first_number}
 use Rattle.subsetter_cff.specs.Read.FontDicts.{font_dicts, font_dict_select}
 use Rattle.subsetter_cff.specs.Read.OperandDemands.{top_demands, font_dict_demands}
 use Rattle.subsetter_cff.specs.Read.Opened.{all_meet, all_lead, sound_font_dicts, opened_cid, opened_parts, opened}
@@ -26,7 +27,7 @@ long_enough (a ∷ b ∷ c ∷ bytes) start e lt = absurd (omega arith)
 
 -- ---- the front
 record FrontIsRead (bytes : List ℕ) : Type 0 where
-  version : major bytes ≡ Some 1
+  version : first_number bytes ≡ Some 1
   start : List ℕ
   start_is : behind_header bytes ≡ Some start
   tops : List (Option (List ℕ)) × List ℕ
@@ -43,7 +44,7 @@ record FrontIsRead (bytes : List ℕ) : Type 0 where
 front_is_read : (bytes : List ℕ) (cff : Cff) → cff_parts bytes ≡ Some cff → FrontIsRead bytes
 unfolding cff_parts name_bytes top_dict
 front_is_read bytes cff e =
-    let a = step (major bytes) _ cff e in
+    let a = step (first_number bytes) _ cff e in
     let b = step (option_and_then _ (behind_header bytes)) _ cff a.1.1 in
     let h = step (behind_header bytes) _ b.0 b.1.0 in
     let n = step (name_index bytes) _ b.0 h.1.1 in
@@ -131,7 +132,7 @@ pub record WasOpened (bytes : List ℕ) : Type 0 where
 pub was_opened : (bytes : List ℕ) (cff : Cff) → opened bytes ≡ Ok cff → WasOpened bytes
 unfolding opened opened_parts
 was_opened bytes cff e =
-    let a = bind_ok (ok_or (major bytes) MalformedFont) _ cff e in
+    let a = bind_ok (ok_or (first_number bytes) MalformedFont) _ cff e in
     let b = passed (eqb a.0 1) CFFError _ cff a.1.1 in
     let c = bind_ok (ok_or (cff_parts bytes) MalformedFont) _ cff b.1 in
     let d = bind_ok (ok_or (char_strings c.0) MalformedFont) _ cff c.1.1 in

@@ -5,14 +5,14 @@ use Rattle.std.specs.Str.{bytes_eq}
 use Rattle.std.specs.List.{AllByRecursion}
 use Rattle.std.proofs.lemmas.Bool.{cases_Bool}
 use Rattle.std.proofs.lemmas.Option.{none-some, same_Some}
-use Rattle.subsetter_base.specs.Bytes.{range}
+use Rattle.subsetter_base.specs.Bytes.{range, first_number}
 use Rattle.subsetter_cffdata.specs.Numbers.{Number}
 use Rattle.subsetter_cffdata.specs.Index.{index_at, readable}
 use Rattle.subsetter_cffdata.specs.Dict.{Entry, entries, operand_limit}
 use Rattle.subsetter_cffdata.specs.Operands.{range_operands}
 use Rattle.subsetter_type2.specs.Subroutines.{entry_at}
 use Rattle.subsetter_cff.specs.Read.Lookup.{last_after, last_of, first_of, without}
-use Rattle.subsetter_cff.specs.Read.Cff.{Cff, major, top_index, string_index, subroutine_index, top_dict, name_bytes, cff_parts, at_offset}
+use Rattle.subsetter_cff.specs.Read.Cff.{Cff, top_index, string_index, subroutine_index, top_dict, name_bytes, cff_parts, at_offset}
 use Rattle.subsetter_cff.specs.Read.FontDicts.{font_dicts}
 use Rattle.subsetter_cff.specs.Read.Private.{Private, local_subroutines, private_in, private_by, private_at}
 use Rattle.subsetter_cff.specs.Read.Operators.{font_dicts_operator, private_operator}
@@ -81,7 +81,7 @@ source_made bytes names top strings subroutines cff e f same =
 pub source_of : (bytes : List ℕ) (cff : Cff) → cff_parts bytes ≡ Some cff → Source bytes cff
 unfolding cff_parts
 source_of bytes cff e =
-    let a = step (major bytes) _ cff e in
+    let a = step (first_number bytes) _ cff e in
     let b = step (name_bytes bytes) _ cff a.1.1 in
     let c = step (top_dict bytes) _ cff b.1.1 in
     let d = step (string_index bytes) _ cff c.1.1 in

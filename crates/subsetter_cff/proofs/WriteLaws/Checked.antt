@@ -5,7 +5,7 @@ use Rattle.std.specs.List.{concat, list_any}
 use Rattle.std.proofs.lemmas.Bool.{cases_lt, lt-ltb, le-ltb}
 use Rattle.std.proofs.lemmas.Option.{none-some}
 use Rattle.subsetter_base.specs.Bytes.{◌>>=◌}
-use Rattle.subsetter_base.specs.Gives.{Fails, Gives}
+use Rattle.subsetter_base.specs.Gives.{Fails, Gives, behind}
 use Rattle.subsetter_base.specs.Refusals.{IsOutOfMemoryOr, first_refusal}
 use Rattle.subsetter_base.specs.declared.error.Error.{Error}
 use Rattle.subsetter_base.specs.declared.error.Error.TheVariants.{OutOfMemory, OverflowError}
@@ -16,7 +16,7 @@ use Rattle.subsetter_cffdata.specs.Owned.{FitIndex}
 use Rattle.subsetter_cffdata.specs.Views.{number_of}
 use Rattle.subsetter_cff.specs.Write.Layout.{plain_entry}
 use Rattle.subsetter_cff.specs.Write.WrittenNumbers.{any_long, entry_numbers}
-use Rattle.subsetter_cff.specs.Write.Rewritten.{is_refused, behind, written_entries, written_entry}
+use Rattle.subsetter_cff.specs.Write.Rewritten.{is_refused, written_entries, written_entry}
 use Rattle.subsetter_cff.specs.Write.TableLimits.{limit, short, has_index}
 use Rattle.subsetter_cff.proofs.WriteLaws.Rewriting.{refusal_is}
 

@@ -4,7 +4,7 @@ use Rattle.std.specs.Prelude.{Result, Ok, Err, OnOk, IfErr}
 use Rattle.std.specs.List.{list_any}
 use Rattle.std.proofs.lemmas.List.{at_drop_more}
 use Rattle.subsetter_base.specs.Bytes.{◌>>=◌}
-use Rattle.subsetter_base.specs.Gives.{Fails, Gives}
+use Rattle.subsetter_base.specs.Gives.{Fails, Gives, behind}
 use Rattle.subsetter_base.specs.declared.error.Error.{Error}
 use Rattle.subsetter_base.specs.declared.error.Error.TheVariants.{OverflowError}
 use Rattle.subsetter_cffdata.specs.Dict.{entries, dict}
@@ -14,7 +14,7 @@ use Rattle.subsetter_cff.specs.Read.Lookup.{without}
 use Rattle.subsetter_cff.specs.Write.PartsView.{font_dict_view}
 use Rattle.subsetter_cff.specs.Read.Operators.{subroutines_operator}
 use Rattle.subsetter_cff.specs.Write.WrittenNumbers.{entry_numbers}
-use Rattle.subsetter_cff.specs.Write.Rewritten.{is_refused, behind, written_entries, rewritten_private}
+use Rattle.subsetter_cff.specs.Write.Rewritten.{is_refused, written_entries, rewritten_private}
 use Rattle.subsetter_cff.specs.Write.TableLimits.{limit, short, dict_limits, dicts_limits}
 use Rattle.subsetter_cff.proofs.WriteLaws.Checked.{entries_checked}
 use Rattle.subsetter_cff.proofs.ReadLaws.Failing.{fails_on, goes_on}

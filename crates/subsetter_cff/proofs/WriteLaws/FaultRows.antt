@@ -3,7 +3,8 @@ use Rattle.std.proofs.Common.{◌≡◌, ℕ, List, [], ◌∷◌, None, refl, a
 use Rattle.std.specs.Prelude.{pos, Err}
 use Rattle.std.proofs.lemmas.Option.{none-some, same_Some}
 use Rattle.subsetter_base.specs.declared.error.Error.TheVariants.{MalformedFont, SubsetError, CFFError}
-use Rattle.subsetter_cffdata.specs.Bytes.{byte, card, part}
+use Rattle.subsetter_cffdata.specs.Bytes.{card, part}
+use Rattle.subsetter_base.specs.Bytes.{byte}
 use Rattle.subsetter_cffdata.specs.Numbers.{Integer, as_i32, as_u32, in_i32, integer_from, short_integer, dict_number_from}
 use Rattle.subsetter_cffdata.specs.Index.{index_data, index_body, index_of}
 use Rattle.subsetter_cffdata.specs.Dict.{Entry, entry_in, entry_at, entries_in, entries}

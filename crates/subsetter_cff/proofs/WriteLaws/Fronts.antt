@@ -5,7 +5,8 @@ use Rattle.subsetter_cffdata.specs.Index.{index}
 use Rattle.subsetter_cffdata.specs.Dict.{dict}
 use Rattle.subsetter_cffdata.proofs.Indexes.{index_again}
 use Rattle.subsetter_cffdata.proofs.Dicts.{dict_again}
-use Rattle.subsetter_cff.specs.Read.Cff.{Cff, major, behind_header, name_index, top_index, string_index, subroutine_index, top_dict, before, name_bytes, cff_parts}
+use Rattle.subsetter_cff.specs.Read.Cff.{Cff, behind_header, name_index, top_index, string_index, subroutine_index, top_dict, before, name_bytes, cff_parts}
+use Rattle.subsetter_base.specs.Bytes.{first_number}
 use Rattle.subsetter_cff.specs.Write.Layout.{Parts, strings, top_entries, front, places, behind_front, cff_table, header}
 use Rattle.subsetter_cff.specs.Write.Fits.{Fits}
 use Rattle.subsetter_cff.proofs.WriteLaws.Tops.{tops}
@@ -30,8 +31,8 @@ whole : (p : Parts) → cff_table p ≡ header ++ (p.names ++ behind_names p)
 unfolding cff_table front
 whole p = ap (λ (l : List ℕ). header ++ l) (regroup p.names (index (top_bytes p ∷ [])) (index (strings p)) (index []) (behind_front p))
 
-pub major_read : (p : Parts) → major (cff_table p) ≡ Some 1
-major_read p = ap major (whole p)
+pub major_read : (p : Parts) → first_number (cff_table p) ≡ Some 1
+major_read p = ap first_number (whole p)
 
 header_read : (p : Parts) → behind_header (cff_table p) ≡ Some (p.names ++ behind_names p)
 unfolding behind_header

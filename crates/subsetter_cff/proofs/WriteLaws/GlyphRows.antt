@@ -2,8 +2,8 @@
 use Rattle.std.proofs.Common.{◌≡◌, true, [], ◌∷◌, refl}
 use Rattle.std.specs.Prelude.{is_ok, Err}
 use Rattle.subsetter_base.specs.declared.error.Error.TheVariants.{MalformedFont, SubsetError, CFFError, Unimplemented}
-use Rattle.subsetter_base.specs.Bytes.{◌>>=◌}
-use Rattle.subsetter_cffdata.specs.Bytes.{byte, card, part}
+use Rattle.subsetter_base.specs.Bytes.{◌>>=◌, byte}
+use Rattle.subsetter_cffdata.specs.Bytes.{card, part}
 use Rattle.subsetter_cffdata.specs.Numbers.{as_i32, as_u32, in_i32, integer_from, short_integer, dict_number_from}
 use Rattle.subsetter_cffdata.specs.Index.{index_data, index_body, index_of}
 use Rattle.subsetter_cffdata.specs.Dict.{entry_in, entry_at, entries_in, entries}

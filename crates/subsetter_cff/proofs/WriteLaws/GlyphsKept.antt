@@ -6,14 +6,13 @@ use Rattle.std.proofs.lemmas.Option.{slice_get-get_or}
 use Rattle.std.specs.List.{concat}
 use Rattle.std.specs.Option.{option_map, option_and_then, ok_or}
 use Rattle.subsetter_base.specs.Bytes.{◌>>=◌}
-use Rattle.subsetter_base.specs.Gives.{Fails}
+use Rattle.subsetter_base.specs.Gives.{Fails, behind}
 use Rattle.subsetter_base.specs.Within.{FailsWithin}
 use Rattle.subsetter_base.specs.declared.error.Error.{Error}
 use Rattle.subsetter_base.specs.declared.error.Error.TheVariants.{UnknownKind, MalformedFont, Unimplemented, SubsetError, OverflowError, CFFError, OutOfMemory}
 use Rattle.subsetter_cffdata.specs.Dict.{entries}
 use Rattle.subsetter_cffdata.specs.Index.{offsets}
 use Rattle.subsetter_cffdata.specs.IndexView.{items}
-use Rattle.subsetter_type2.specs.Behind.{behind}
 use Rattle.subsetter_type2.specs.Flat.{flat_form}
 use Rattle.subsetter_type2.specs.Subroutines.{entry_at}
 use Rattle.subsetter_cff.specs.declared.read.font_dict.FontDict.{FontDict}

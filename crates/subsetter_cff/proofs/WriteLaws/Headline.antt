@@ -12,7 +12,8 @@ use Rattle.subsetter_cffdata.specs.Numbers.{Number}
 use Rattle.subsetter_cffdata.specs.Dict.{Entry}
 use Rattle.subsetter_cff.specs.Read.Lookup.{last_of}
 use Rattle.subsetter_cff.specs.Read.Strings.{FontString, string_at}
-use Rattle.subsetter_cff.specs.Read.Cff.{Cff, major, cff_parts, char_strings, is_cid_keyed}
+use Rattle.subsetter_cff.specs.Read.Cff.{Cff, cff_parts, char_strings, is_cid_keyed}
+use Rattle.subsetter_base.specs.Bytes.{first_number}
 use Rattle.subsetter_cff.specs.Read.FontDicts.{font_dicts, font_dict_select}
 use Rattle.subsetter_cff.specs.Read.Private.{Private, no_private, private_at}
 use Rattle.subsetter_cff.specs.Read.Operators.{subroutines_operator, copyright_operator, notice_operator, font_name_operator, font_matrix_operator, font_box_operator}
@@ -168,7 +169,7 @@ same_source c cff false e = same_Ok _ _ e
 pub opened_is : (bytes : List ℕ) (cff : Cff) → opened bytes ≡ Ok cff → cff_parts bytes ≡ Some cff
 unfolding opened opened_parts
 opened_is bytes cff e =
-    let a = bind_ok (ok_or (major bytes) MalformedFont) _ cff e in
+    let a = bind_ok (ok_or (first_number bytes) MalformedFont) _ cff e in
     let b = passed (eqb a.0 1) CFFError _ cff a.1.1 in
     let c = bind_ok (ok_or (cff_parts bytes) MalformedFont) _ cff b.1 in
     let d = bind_ok (ok_or (char_strings c.0) MalformedFont) _ cff c.1.1 in

@@ -8,7 +8,7 @@ use Rattle.std.proofs.lemmas.List.{append-nil}
 use Rattle.std.proofs.lemmas.Option.{none-some, same_Some, slice_get-get_or}
 use Rattle.subsetter_base.specs.Bytes.{◌>>=◌}
 use Rattle.subsetter_base.specs.Gives.{Fails}
-use Rattle.subsetter_base.specs.Places.{place}
+use Rattle.subsetter_base.specs.Places.{place, new_index}
 use Rattle.subsetter_base.specs.declared.error.Error.{Error}
 use Rattle.subsetter_base.specs.declared.error.Error.TheVariants.{MalformedFont, SubsetError, OverflowError}
 use Rattle.subsetter_cffdata.specs.Dict.{Entry, entries}
@@ -38,7 +38,7 @@ use Rattle.subsetter_cff.specs.Write.SidRemapping.{named}
 use Rattle.subsetter_cff.specs.Read.Source.{cff_of, IsSource}
 use Rattle.subsetter_cff.specs.Read.Strings.{FontString, string_at}
 use Rattle.subsetter_cff.specs.Read.TopDicts.{last_numbers}
-use Rattle.subsetter_cff.specs.Write.UsedFontDicts.{used_font_dicts, counted_font_dicts, new_place}
+use Rattle.subsetter_cff.specs.Write.UsedFontDicts.{used_font_dicts, counted_font_dicts}
 use Rattle.subsetter_cff.proofs.ReadLaws.Holding.{both}
 use Rattle.subsetter_cff.proofs.ReadLaws.Failing.{fails_on}
 use Rattle.subsetter_cff.proofs.WriteLaws.FontDictSteps.{length-dicts}
@@ -179,7 +179,7 @@ parts_made s t numbers used is a b c u d chosen names matrix box =
     ∙ from_pieces (cff_of s) (string_view t.copyright) (string_view t.font_name) (string_view t.notice) (map font_dict_view t.font_dicts.items) (select_by (cff_of s) used numbers) _ _ _ _ a b c d
     ∙ ap (λ (p : Parts). Ok p) (same_parts s t (select_by (cff_of s) used numbers) is names matrix box chosen)
 
-numbers_mapped : (used : List ℕ) (kept : List KeptGlyph) → map (λ (k : KeptGlyph). unwrap_or (place used k.number) 0) kept ≡ map (new_place used) (numbers_of kept)
+numbers_mapped : (used : List ℕ) (kept : List KeptGlyph) → map (λ (k : KeptGlyph). unwrap_or (place used k.number) 0) kept ≡ map (new_index used) (numbers_of kept)
 numbers_mapped used [] = refl
 numbers_mapped used (k ∷ kept) = ap (λ (l : List ℕ). unwrap_or (place used k.number) 0 ∷ l) (numbers_mapped used kept)
 

@@ -19,7 +19,8 @@ use Rattle.subsetter_cffdata.proofs.Entries.{entries_step, entry_shorter}
 use Rattle.subsetter_cff.specs.Write.Layout.{plain_entry, rewritten_entries}
 use Rattle.subsetter_cff.specs.Read.Lookup.{without}
 use Rattle.subsetter_cff.specs.Read.Operators.{subroutines_operator}
-use Rattle.subsetter_cff.specs.Write.Rewritten.{is_refused, behind, written_entries, written_entry, written_if_there}
+use Rattle.subsetter_cff.specs.Write.Rewritten.{is_refused, written_entries, written_entry, written_if_there}
+use Rattle.subsetter_base.specs.Gives.{behind}
 
 -- ---- an entry
 refused_or : (b c : Bool) (o : Option Error) → o ≡ cond c (Some OverflowError) None → option_or (cond b (Some OverflowError) None) o ≡ cond (b || c) (Some OverflowError) None

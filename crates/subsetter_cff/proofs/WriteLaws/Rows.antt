@@ -1,7 +1,8 @@
 -- Worked examples, computed: a table with one glyph, its source, and one with a private dict.
 use Rattle.std.proofs.Common.{◌≡◌, ℕ, List, [], ◌∷◌, Some, None, refl}
 use Rattle.std.specs.Prelude.{pos}
-use Rattle.subsetter_cffdata.specs.Bytes.{byte, card, part}
+use Rattle.subsetter_cffdata.specs.Bytes.{card, part}
+use Rattle.subsetter_base.specs.Bytes.{byte}
 use Rattle.subsetter_cffdata.specs.Decimals.{decimal_digits, real_text}
 use Rattle.subsetter_cffdata.specs.Numbers.{Integer, integer, as_i32, as_u32, in_i32, integer_from, short_integer, dict_number_from}
 use Rattle.subsetter_cffdata.specs.Index.{index, header, index_data, index_body, index_of}

@@ -13,7 +13,8 @@ use Rattle.std.proofs.lemmas.Slice.Eq.{bytes_eq-Decides}
 use Rattle.subsetter_base.specs.Remap.{place_by, with_value}
 use Rattle.subsetter_base.proofs.Lists.{bytes_eq_is, bytes_eq_self}
 use Rattle.subsetter_base.proofs.RemapLemmas.{any-is_placed}
-use Rattle.subsetter_cff.specs.Write.SidRemapping.{Remapped, views, number_in, known_number, new_number, with_old}
+use Rattle.subsetter_cff.specs.Write.SidRemapping.{Remapped, number_in, known_number, new_number, with_old}
+use Rattle.subsetter_base.specs.Texts.{views}
 use Rattle.subsetter_cff.specs.Read.Strings.{standard_strings}
 
 not_there : (f : ℕ → ℕ) (o : Option ℕ) → option_map f o ≡ None → o ≡ None

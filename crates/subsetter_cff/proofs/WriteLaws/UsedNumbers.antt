@@ -3,7 +3,7 @@ use Rattle.std.proofs.Common.{◌≡◌, ◌≢◌, ℕ, zero, suc, ◌+◌, ◌
 use Rattle.std.specs.Prelude.{◌==◌, Ok, Err}
 use Rattle.std.specs.List.{filter, range_with_len, AllByRecursion}
 use Rattle.std.specs.Option.{option_map}
-use Rattle.subsetter_base.specs.Places.{place}
+use Rattle.subsetter_base.specs.Places.{place, is_listed}
 use Rattle.std.proofs.Math.ListN.{set, get_or}
 use Rattle.std.proofs.Math.Seq.{drop-length}
 use Rattle.std.proofs.lemmas.Bool.{cases_Bool, cases_eq, eq-eqb, ne_eqb, lt-ltb, le-ltb}
@@ -11,7 +11,7 @@ use Rattle.std.proofs.lemmas.List.{get_or-set_same, get_or-set_other, append-nil
 use Rattle.subsetter_base.specs.declared.error.Error.TheVariants.{OverflowError}
 use Rattle.subsetter_cff.specs.Write.KeptView.{numbers_of}
 use Rattle.subsetter_cff.specs.Write.Plain.{KeptGlyph, with_number, used_numbers}
-use Rattle.subsetter_cff.specs.Write.UsedFontDicts.{is_used, used_font_dicts, counted_font_dicts}
+use Rattle.subsetter_cff.specs.Write.UsedFontDicts.{used_font_dicts, counted_font_dicts}
 
 -- ---- marking
 or_true : (b : Bool) → (b || true) ≡ true
@@ -57,8 +57,8 @@ same_numbers : (p q : ℕ → Bool) (k n : ℕ) → ((i : ℕ) → k ≤ i → i
 same_numbers p q k zero h = refl
 same_numbers p q k (suc n) h = same_step (p k) (q k) k _ _ (h k (omega arith) (omega arith)) (same_numbers p q (k + 1) n (λ i a b. h i (omega arith) (omega arith)))
 
-used_by : (numbers : List ℕ) (used : List Bool) (n : ℕ) → ((i : ℕ) → i < n → get_or used i false ≡ is_used numbers i) → filter (λ i. get_or used i false) (range_with_len 0 n) ≡ filter (is_used numbers) (range_with_len 0 n)
-used_by numbers used n h = same_numbers (λ i. get_or used i false) (is_used numbers) 0 n (λ i a b. h i (omega arith))
+used_by : (numbers : List ℕ) (used : List Bool) (n : ℕ) → ((i : ℕ) → i < n → get_or used i false ≡ is_listed numbers i) → filter (λ i. get_or used i false) (range_with_len 0 n) ≡ filter (is_listed numbers) (range_with_len 0 n)
+used_by numbers used n h = same_numbers (λ i. get_or used i false) (is_listed numbers) 0 n (λ i a b. h i (omega arith))
 
 -- none stands from an end on
 none_kept : (p : ℕ → Bool) (k n : ℕ) → ((i : ℕ) → k ≤ i → p i ≡ false) → filter p (range_with_len k n) ≡ []
@@ -70,10 +70,10 @@ up_to p k zero n le h = sym (none_kept p k n (λ i low. h i (omega arith)))
 up_to p k (suc m) zero le h = absurd (omega arith)
 up_to p k (suc m) (suc n) le h = same_step (p k) (p k) k _ _ refl (up_to p (k + 1) m n (omega arith) (λ i low. h i (omega arith)))
 
-pub used_are : (numbers found : List ℕ) (used : List Bool) (end : ℕ) → end ≤ 256 → ((i : ℕ) → i < 256 → get_or used i false ≡ is_used numbers i) → ((i : ℕ) → end ≤ i → is_used numbers i ≡ false)
+pub used_are : (numbers found : List ℕ) (used : List Bool) (end : ℕ) → end ≤ 256 → ((i : ℕ) → i < 256 → get_or used i false ≡ is_listed numbers i) → ((i : ℕ) → end ≤ i → is_listed numbers i ≡ false)
     → found ≡ filter (λ i. get_or used i false) (range_with_len 0 end) → found ≡ used_font_dicts numbers
 unfolding used_font_dicts
-used_are numbers found used end within h none e = e ∙ used_by numbers used end (λ i lt. h i (omega arith)) ∙ up_to (is_used numbers) 0 end 256 within (λ i low. none i (omega arith))
+used_are numbers found used end within h none e = e ∙ used_by numbers used end (λ i lt. h i (omega arith)) ∙ up_to (is_listed numbers) 0 end 256 within (λ i low. none i (omega arith))
 
 -- a number before an end
 pub before_end : (number n : ℕ) (rest : Bool) → number < n → ((number == n) || rest) ≡ rest
@@ -121,7 +121,7 @@ inserted k p from (suc len) le lt =
 pub inserted_are : (kept : List KeptGlyph) → AllByRecursion (λ (k : KeptGlyph). k.number < 256) kept → used_numbers kept ≡ used_font_dicts (numbers_of kept)
 unfolding used_font_dicts
 inserted_are [] all = refl
-inserted_are (k ∷ kept) all = ap (with_number k.number) (inserted_are kept all.1) ∙ inserted k.number (is_used (numbers_of kept)) 0 256 (omega arith) all.0
+inserted_are (k ∷ kept) all = ap (with_number k.number) (inserted_are kept all.1) ∙ inserted k.number (is_listed (numbers_of kept)) 0 256 (omega arith) all.0
 
 -- ---- there are few, or too many
 pub counted : (numbers found : List ℕ) → found ≡ used_font_dicts numbers → length found ≤ 255 → counted_font_dicts numbers ≡ Ok found

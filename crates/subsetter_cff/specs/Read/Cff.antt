@@ -1,21 +1,17 @@
 -- The parts of a CFF table (Technical Note 5176, section 2 "Data Layout"): header, Name INDEX, Top DICT INDEX, String INDEX,
 -- Global Subr INDEX, one behind the other; the rest is found by offsets from the table's start.
-use Rattle.std.specs.Prelude.{ℕ, ◌-◌, ◌==◌, if◌then◌else◌, Bool, List, [], ◌∷◌, take, drop, length, is_some, Option, Some, None}
+use Rattle.std.specs.Prelude.{ℕ, ◌-◌, ◌==◌, if◌then◌else◌, Bool, List, ◌∷◌, take, drop, length, is_some, Option, Some, None}
 use Rattle.std.specs.Option.{option_map}
-use Rattle.subsetter_cffdata.specs.Bytes.{◌>>=◌}
+use Rattle.subsetter_base.specs.Options.{◌>>=◌}
 use Rattle.subsetter_cffdata.specs.Index.{index_at}
 use Rattle.subsetter_cffdata.specs.Dict.{Entry, entries}
 use Rattle.subsetter_cffdata.specs.Operands.{offset_operand}
 use Rattle.subsetter_type2.specs.Subroutines.{entry_at}
 use Rattle.subsetter_cff.specs.Read.Lookup.{last_of}
 use Rattle.subsetter_cff.specs.Read.Operators.{registry_operator, char_strings_operator}
+use Rattle.subsetter_base.specs.Bytes.{first_number}
 
 -- ---- in the order of the bytes
--- the major version, the first byte (section 6 "Header")
-abbrev pub major : List ℕ → Option ℕ
-major [] = None
-major (b ∷ bytes) = Some b
-
 -- what stands behind the header, whose third byte says how long it is (section 6 "Header")
 unfoldable pub behind_header : List ℕ → Option (List ℕ)
 behind_header (major ∷ minor ∷ size ∷ bytes) = Some (drop size (major ∷ minor ∷ size ∷ bytes))
@@ -61,7 +57,7 @@ pub record Cff : Type 0 where
 
 unfoldable pub cff_parts : List ℕ → Option Cff
 cff_parts bytes = do
-  version ← major bytes
+  version ← first_number bytes
   names ← name_bytes bytes
   top ← top_dict bytes
   strings ← string_index bytes

@@ -1,6 +1,8 @@
 -- The CID of a glyph (Technical Note 5176, section 13 "Charsets").
 use Rattle.std.specs.Prelude.{ℕ, zero, suc, ◌+◌, ◌-◌, ◌*◌, ◌==◌, nat_le, if◌then◌else◌, List, drop, Option, Some, None}
-use Rattle.subsetter_cffdata.specs.Bytes.{◌>>=◌, byte, card}
+use Rattle.subsetter_cffdata.specs.Bytes.{card}
+use Rattle.subsetter_base.specs.Options.{◌>>=◌}
+use Rattle.subsetter_base.specs.Bytes.{byte}
 use Rattle.subsetter_cff.specs.Read.Cff.{Cff, at_offset}
 use Rattle.subsetter_cff.specs.Read.Operators.{charset_operator}
 

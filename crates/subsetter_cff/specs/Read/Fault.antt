@@ -3,8 +3,8 @@ use Rattle.std.specs.Prelude.{◌≡◌, ◌≢◌, ◌<◌, ◌-◌, ℕ, Conta
 use Rattle.std.specs.Str.{bytes_eq}
 use Rattle.subsetter_base.specs.declared.error.Error.{Error}
 use Rattle.subsetter_base.specs.declared.error.Error.TheVariants.{MalformedFont, CFFError, SubsetError}
-use Rattle.subsetter_base.specs.Bytes.{range}
-use Rattle.subsetter_cffdata.specs.Bytes.{◌>>=◌}
+use Rattle.subsetter_base.specs.Bytes.{range, first_number}
+use Rattle.subsetter_base.specs.Options.{◌>>=◌}
 use Rattle.subsetter_cffdata.specs.Index.{index_at}
 use Rattle.subsetter_cffdata.specs.Numbers.{Number}
 use Rattle.subsetter_cffdata.specs.Dict.{Entry, entries}
@@ -12,7 +12,7 @@ use Rattle.subsetter_cffdata.specs.Operands.{string_operand, offset_operand, ran
 use Rattle.subsetter_type2.specs.Machine.{Stops, outcome}
 use Rattle.subsetter_cff.specs.Read.Lookup.{last_of, first_of}
 use Rattle.subsetter_cff.specs.Read.Strings.{string_of}
-use Rattle.subsetter_cff.specs.Read.Cff.{Cff, major, name_index, top_index, string_index, subroutine_index, top_dict, cff_parts, char_strings, char_string, is_cid_keyed}
+use Rattle.subsetter_cff.specs.Read.Cff.{Cff, name_index, top_index, string_index, subroutine_index, top_dict, cff_parts, char_strings, char_string, is_cid_keyed}
 use Rattle.subsetter_cff.specs.Read.FontDicts.{font_dicts, font_dict_select, font_dict_number, font_dict_of}
 use Rattle.subsetter_cff.specs.Read.Private.{Private, private_of}
 use Rattle.subsetter_cff.specs.Read.GlyphTrace.{library}
@@ -24,7 +24,7 @@ pub data HasFrontFault (bytes : List ℕ) : Error → Type 0 where
   -- the table has under 3 bytes
   short : length bytes < 3 → HasFrontFault bytes MalformedFont
   -- another version
-  other_version : (b : ℕ) → major bytes ≡ Some b → b ≢ 1 → HasFrontFault bytes CFFError
+  other_version : (b : ℕ) → first_number bytes ≡ Some b → b ≢ 1 → HasFrontFault bytes CFFError
   -- an INDEX of the front can't be read
   bad_names : name_index bytes ≡ None → HasFrontFault bytes MalformedFont
   bad_tops : top_index bytes ≡ None → HasFrontFault bytes MalformedFont

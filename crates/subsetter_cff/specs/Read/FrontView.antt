@@ -1,14 +1,14 @@
 -- What the front of a table in memory shows.
 use Rattle.std.specs.Prelude.{ℕ, ◌==◌, if◌then◌else◌, List, Option, Some, Result, Err}
 use Rattle.std.specs.Option.{ok_or, option_and_then}
-use Rattle.subsetter_base.specs.Bytes.{◌>>=◌}
+use Rattle.subsetter_base.specs.Bytes.{◌>>=◌, first_number}
 use Rattle.subsetter_base.specs.declared.error.Error.{Error}
 use Rattle.subsetter_base.specs.declared.error.Error.TheVariants.{MalformedFont, CFFError}
 use Rattle.subsetter_cffdata.specs.Dict.{entries}
 use Rattle.subsetter_cffdata.specs.Index.{index_at}
 use Rattle.subsetter_cffdata.specs.IndexView.{items}
 use Rattle.subsetter_type2.specs.Subroutines.{entry_at}
-use Rattle.subsetter_cff.specs.Read.Cff.{Cff, major, behind_header, before}
+use Rattle.subsetter_cff.specs.Read.Cff.{Cff, behind_header, before}
 use Rattle.subsetter_cff.specs.declared.read.front.Front.{Front}
 
 abbrev pub front_of : Front → Cff
@@ -23,5 +23,5 @@ front_at bytes start =
 
 -- the front of a table of major version 1, or the error that is answered
 unfoldable pub front_read : List ℕ → Result Cff Error
-front_read bytes = ok_or (major bytes) MalformedFont >>= λ version.
+front_read bytes = ok_or (first_number bytes) MalformedFont >>= λ version.
     if version == 1 then ok_or (option_and_then (front_at bytes) (behind_header bytes)) MalformedFont else Err CFFError

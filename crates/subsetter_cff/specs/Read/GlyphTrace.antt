@@ -1,6 +1,6 @@
 -- What a glyph of a CFF table draws (Technical Note 5176, section 14 "CharStrings INDEX"; Technical Note 5177).
 use Rattle.std.specs.Prelude.{ℕ, Option}
-use Rattle.subsetter_cffdata.specs.Bytes.{◌>>=◌}
+use Rattle.subsetter_base.specs.Options.{◌>>=◌}
 use Rattle.subsetter_type2.specs.Machine.{Library, Trace, trace}
 use Rattle.subsetter_cff.specs.Read.Cff.{Cff, char_string}
 use Rattle.subsetter_cff.specs.Read.Private.{Private, private_of}

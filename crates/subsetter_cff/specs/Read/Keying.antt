@@ -1,6 +1,6 @@
 -- How a CID-keyed font's glyphs are named (Technical Note 5176, section 9 "Top DICT Data" and section 18 "CID-keyed Fonts").
 use Rattle.std.specs.Prelude.{ℕ, ℤ, List, [], ◌∷◌, Option, Some, None}
-use Rattle.subsetter_cffdata.specs.Bytes.{◌>>=◌}
+use Rattle.subsetter_base.specs.Options.{◌>>=◌}
 use Rattle.subsetter_cffdata.specs.Numbers.{Number, as_i32}
 use Rattle.subsetter_cffdata.specs.Operands.{string_operand}
 use Rattle.subsetter_cff.specs.Read.Lookup.{last_of}

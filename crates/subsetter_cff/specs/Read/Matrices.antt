@@ -1,7 +1,7 @@
 -- The matrices and the font dict name of a glyph (Technical Note 5176, section 9 "Top DICT Data" and section 18 "CID-keyed Fonts").
 use Rattle.std.specs.Prelude.{ℕ, pos, negsuc, if◌then◌else◌, List, [], ◌∷◌, ◌++◌, take, drop, map, Option, Some, None}
 use Rattle.std.specs.Option.{option_map}
-use Rattle.subsetter_cffdata.specs.Bytes.{◌>>=◌}
+use Rattle.subsetter_base.specs.Options.{◌>>=◌}
 use Rattle.subsetter_cffdata.specs.Decimals.{Decimal}
 use Rattle.subsetter_cffdata.specs.Numbers.{Number, Integer, Real}
 use Rattle.subsetter_cffdata.specs.Values.{value, thousandfold}

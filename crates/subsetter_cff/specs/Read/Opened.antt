@@ -3,12 +3,12 @@
 use Rattle.std.specs.Prelude.{ℕ, ◌==◌, ◌&&◌, nat_lt, if◌then◌else◌, Bool, true, List, [], ◌∷◌, length, is_some, Some, Result, Ok, Err}
 use Rattle.std.specs.Option.{ok_or}
 use Rattle.std.specs.Str.{bytes_eq}
-use Rattle.subsetter_base.specs.Bytes.{◌>>=◌}
+use Rattle.subsetter_base.specs.Bytes.{◌>>=◌, first_number}
 use Rattle.subsetter_base.specs.declared.error.Error.{Error}
 use Rattle.subsetter_base.specs.declared.error.Error.TheVariants.{MalformedFont, CFFError}
 use Rattle.subsetter_cffdata.specs.Dict.{Entry}
 use Rattle.subsetter_cff.specs.Read.Operators.{private_operator}
-use Rattle.subsetter_cff.specs.Read.Cff.{Cff, major, cff_parts, char_strings, is_cid_keyed}
+use Rattle.subsetter_cff.specs.Read.Cff.{Cff, cff_parts, char_strings, is_cid_keyed}
 use Rattle.subsetter_cff.specs.Read.FontDicts.{font_dicts, font_dict_select}
 use Rattle.subsetter_cff.specs.Read.Private.{private_by}
 use Rattle.subsetter_cff.specs.Read.OperandDemands.{Demand, top_demands, font_dict_demands}
@@ -56,4 +56,4 @@ opened_parts bytes = do
 
 -- a first byte that isn't 1 is another version; none at all is a bad font
 unfoldable pub opened : List ℕ → Result Cff Error
-opened bytes = ok_or (major bytes) MalformedFont >>= λ version. check (version == 1) CFFError (opened_parts bytes)
+opened bytes = ok_or (first_number bytes) MalformedFont >>= λ version. check (version == 1) CFFError (opened_parts bytes)

@@ -1,7 +1,7 @@
 -- The strings that a dict names (Technical Note 5176, section 10 "String INDEX").
 use Rattle.std.specs.Prelude.{ℕ, ◌-◌, nat_lt, if◌then◌else◌, List, Option, Some, None}
 use Rattle.std.specs.Option.{option_map}
-use Rattle.subsetter_cffdata.specs.Bytes.{◌>>=◌}
+use Rattle.subsetter_base.specs.Options.{◌>>=◌}
 use Rattle.subsetter_cffdata.specs.Numbers.{Number}
 use Rattle.subsetter_cffdata.specs.Dict.{Entry}
 use Rattle.subsetter_cffdata.specs.Operands.{string_operand}

@@ -1,7 +1,7 @@
 -- What a top dict says in memory, and its faults (Technical Note 5176, section 9 "Top DICT Data").
 use Rattle.std.specs.Prelude.{◌≡◌, ℕ, List, map, is_some, Option}
 use Rattle.std.specs.Option.{option_map}
-use Rattle.subsetter_cffdata.specs.Bytes.{◌>>=◌}
+use Rattle.subsetter_base.specs.Options.{◌>>=◌}
 use Rattle.subsetter_cffdata.specs.Dict.{Entry}
 use Rattle.subsetter_cffdata.specs.Operands.{string_operand, offset_operand, range_operands, just}
 use Rattle.subsetter_cffdata.specs.Numbers.{Number}

@@ -5,7 +5,7 @@ use Rattle.subsetter_base.specs.Bytes.{◌>>=◌}
 use Rattle.std.specs.Option.{ok_or}
 use Rattle.subsetter_base.specs.declared.error.Error.{Error}
 use Rattle.subsetter_base.specs.declared.error.Error.TheVariants.{MalformedFont}
-use Rattle.subsetter_type2.specs.Behind.{behind}
+use Rattle.subsetter_base.specs.Gives.{behind}
 use Rattle.subsetter_type2.specs.Flat.{flat_form}
 use Rattle.subsetter_cffdata.specs.Index.{offsets}
 use Rattle.subsetter_cff.specs.declared.write.kept_glyphs.Kept.{Kept}

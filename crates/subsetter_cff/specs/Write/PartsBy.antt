@@ -17,7 +17,8 @@ use Rattle.subsetter_cff.specs.Read.Private.{Private, own_entries}
 use Rattle.subsetter_cff.specs.Read.PrivateView.{private_view}
 use Rattle.subsetter_cff.specs.Write.SidRemapping.{named}
 use Rattle.subsetter_cff.specs.Read.Strings.{string_at}
-use Rattle.subsetter_cff.specs.Write.UsedFontDicts.{counted_font_dicts, new_place}
+use Rattle.subsetter_cff.specs.Write.UsedFontDicts.{counted_font_dicts}
+use Rattle.subsetter_base.specs.Places.{new_index}
 
 -- what a font dict in memory says
 abbrev pub stored_dict : List (Option (List ℕ)) → StoredDict → SourceDict
@@ -39,7 +40,7 @@ abbrev pub with_dicts : List FontDict → Result (List FontDict) Error → Resul
 with_dicts front read = read >>= λ more. Ok (front ++ more)
 
 abbrev pub select_by : Cff → List ℕ → List ℕ → Select
-select_by cff used numbers = if is_cid_keyed cff then Numbers (map (new_place used) numbers) else First
+select_by cff used numbers = if is_cid_keyed cff then Numbers (map (new_index used) numbers) else First
 
 -- the parts of glyphs that have these font dicts and these charstrings
 unfoldable pub parts_by : Cff → List ℕ → List (List ℕ) → Result Parts Error

@@ -1,6 +1,6 @@
 -- What a table that was laid out for parts says, read afresh (Technical Note 5176).
 use Rattle.std.specs.Prelude.{◌≡◌, ℕ, pos, ◌<◌, ◌≤◌, List, [], ◌++◌, length, map, codes, slice_get, slice_index, Option, Some, None}
-use Rattle.subsetter_cffdata.specs.Bytes.{◌>>=◌}
+use Rattle.subsetter_base.specs.Options.{◌>>=◌}
 use Rattle.subsetter_cffdata.specs.Values.{value}
 use Rattle.subsetter_cff.specs.Read.Lookup.{last_of, first_of}
 use Rattle.subsetter_cff.specs.Read.Strings.{Custom, string_at}

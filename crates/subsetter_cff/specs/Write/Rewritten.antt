@@ -1,7 +1,6 @@
 -- DICT entries of the source as they are written again.
-use Rattle.std.specs.Prelude.{ℕ, Bool, if◌then◌else◌, List, [], ◌++◌, Option, Some, None, Result, Ok, Err}
+use Rattle.std.specs.Prelude.{ℕ, Bool, if◌then◌else◌, List, [], Option, Some, None, Result, Ok, Err}
 use Rattle.std.specs.List.{list_any}
-use Rattle.subsetter_base.specs.Bytes.{◌>>=◌}
 use Rattle.subsetter_base.specs.declared.error.Error.{Error}
 use Rattle.subsetter_base.specs.declared.error.Error.TheVariants.{OverflowError}
 use Rattle.subsetter_cffdata.specs.Numbers.{Number, is_too_long}
@@ -13,10 +12,6 @@ use Rattle.subsetter_cff.specs.Write.Layout.{plain_entry, rewritten_entries}
 -- a real among the operands is too long to be written
 abbrev pub is_refused : Entry → Bool
 is_refused e = list_any is_too_long e.operands
-
--- bytes behind a front
-abbrev pub behind : List ℕ → Result (List ℕ) Error → Result (List ℕ) Error
-behind front bytes = bytes >>= λ more. Ok (front ++ more)
 
 -- the dict of entries, unless a real among their operands is too long
 unfoldable pub written_entries : List Entry → Result (List ℕ) Error

@@ -1,6 +1,5 @@
 -- New numbers of strings: from 391 on, in the order of first use.
-use Rattle.std.specs.Prelude.{ℕ, ◌+◌, nat_lt, ◌==◌, if◌then◌else◌, List, [], ◌∷◌, ◌++◌, map, Option, Some, None, is_some, unwrap_or}
-use Rattle.std.specs.Borrow.{Bor}
+use Rattle.std.specs.Prelude.{ℕ, ◌+◌, nat_lt, ◌==◌, if◌then◌else◌, List, [], ◌∷◌, ◌++◌, Option, Some, None, is_some, unwrap_or}
 use Rattle.std.specs.Option.{option_map}
 use Rattle.std.specs.List.{flat_map}
 use Rattle.std.specs.Str.{bytes_eq}
@@ -14,9 +13,6 @@ use Rattle.subsetter_cff.specs.Write.Layout.{custom_string}
 pub record Remapped : Type 0 where
   pub texts : List (List ℕ)
   pub known : List (ℕ × ℕ)
-
-abbrev pub views : List (Bor (List ℕ)) → List (List ℕ)
-views strings = map (λ s. s.now) strings
 
 -- the new number of a string
 abbrev pub number_in : List (List ℕ) → List ℕ → Option ℕ

@@ -3,9 +3,9 @@
 ghost use Rattle.std.specs.Prelude.{◌≡◌, ◌++◌, ◌∷◌, ◌≤◌, ◌<◌, [], ℕ, false, if◌then◌else◌, map, length, slice_index_or, None, IfOk, OnOk, IfErr};
 ghost use Rattle.std.specs.List.{filter, range_with_len};
 ghost use Rattle.subsetter_base.specs.Gives.{Gives};
-ghost use Rattle.subsetter_base.specs.Places.{place};
+ghost use Rattle.subsetter_base.specs.Places.{place, is_listed, new_index};
 ghost use Rattle.subsetter_base.specs.declared.error.Error.TheVariants.{OutOfMemory};
-ghost use Rattle.subsetter_cff.specs.Write.UsedFontDicts.{is_used, counted_font_dicts, new_place};
+ghost use Rattle.subsetter_cff.specs.Write.UsedFontDicts.{counted_font_dicts};
 
 use std::alloc::{AllocError, Global};
 use std::marker::Model;
@@ -34,7 +34,7 @@ impl Model for FontDictRemapper {
 
 /// Which numbers are among these.
 fn mark_used(numbers: &[u8]) -> [bool; 256]
-    ensures marked { (n : ℕ) → n < 256 → slice_index_or result n false ≡ is_used numbers.now n }
+    ensures marked { (n : ℕ) → n < 256 → slice_index_or result n false ≡ is_listed numbers.now n }
     ensures len { length result ≡ 256 }
 {
     let mut used = [false; 256];
@@ -46,7 +46,7 @@ fn mark_used(numbers: &[u8]) -> [bool; 256]
 
 /// From where on none of these numbers stands.
 fn end_of(numbers: &[u8]) -> usize
-    ensures none { (n : ℕ) → result ≤ n → is_used numbers.now n ≡ false }
+    ensures none { (n : ℕ) → result ≤ n → is_listed numbers.now n ≡ false }
     ensures within { result ≤ 256 }
 {
     let mut end = 0;
@@ -130,7 +130,7 @@ pub fn renumber(
     remapper: &FontDictRemapper,
     numbers: &[u8],
 ) -> Result<Vec<u8>, Error>
-    ensures ok { IfOk result (λ v. v.items ≡ map (new_place remapper.now) numbers.now) }
+    ensures ok { IfOk result (λ v. v.items ≡ map (new_index remapper.now) numbers.now) }
     ensures err { IfErr result (λ e. e ≡ OutOfMemory) }
 {
     let mut places = Vec::new(alloc);

@@ -2,10 +2,10 @@
 
 ghost use Rattle.std.specs.Prelude.{◌≡◌, OnOk, IfErr};
 ghost use Rattle.std.specs.Str.{bytes_eq};
-ghost use Rattle.subsetter_base.specs.Gives.{Fails};
+ghost use Rattle.subsetter_base.specs.Gives.{Fails, behind};
 ghost use Rattle.subsetter_cffdata.specs.Views.{operator_of};
 ghost use Rattle.subsetter_cff.specs.Read.Operators.{subroutines_operator};
-ghost use Rattle.subsetter_cff.specs.Write.Rewritten.{behind, rewritten_private};
+ghost use Rattle.subsetter_cff.specs.Write.Rewritten.{rewritten_private};
 
 use crate::read::operators::same_operator;
 use crate::write::entries::write_numbers;

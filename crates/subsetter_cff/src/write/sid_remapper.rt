@@ -7,7 +7,8 @@ ghost use Rattle.std.specs.Str.{bytes_eq};
 ghost use Rattle.subsetter_base.specs.Remap.{place_by, with_value};
 ghost use Rattle.subsetter_base.specs.declared.error.Error.TheVariants.{OutOfMemory};
 ghost use Rattle.subsetter_cff.specs.Write.Layout.{with_strings};
-ghost use Rattle.subsetter_cff.specs.Write.SidRemapping.{views, number_in, known_number, new_number, with_old, texts_of};
+ghost use Rattle.subsetter_cff.specs.Write.SidRemapping.{number_in, known_number, new_number, with_old, texts_of};
+ghost use Rattle.subsetter_base.specs.Texts.{views};
 
 use crate::read::string_names::StringName;
 use std::alloc::Global;
@@ -26,7 +27,8 @@ impl<'a> Model for SidRemapper<'a> {
     ghost use Rattle.std.specs.Prelude.{◌≤◌, length};
     ghost use Rattle.std.specs.List.{IsDistinct};
     ghost use Rattle.std.specs.Str.{bytes_eq};
-    ghost use Rattle.subsetter_cff.specs.Write.SidRemapping.{Remapped, views};
+    ghost use Rattle.subsetter_cff.specs.Write.SidRemapping.{Remapped};
+    ghost use Rattle.subsetter_base.specs.Texts.{views};
 
     ghost Value = { Remapped };
 

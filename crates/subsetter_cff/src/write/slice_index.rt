@@ -3,7 +3,7 @@
 ghost use Rattle.std.specs.Prelude.{◌≡◌, ◌++◌, OnOk};
 ghost use Rattle.subsetter_base.specs.Gives.{Gives};
 ghost use Rattle.subsetter_cffdata.specs.Index.{index};
-ghost use Rattle.subsetter_cff.specs.Write.SidRemapping.{views};
+ghost use Rattle.subsetter_base.specs.Texts.{views};
 ghost use Rattle.subsetter_cff.specs.Write.TableLimits.{limit, has_index};
 
 use subsetter_base::error::Error;

@@ -2,12 +2,11 @@
 use Rattle.std.proofs.Common.{◌≡◌, ◌≢◌, ℕ, ◌≤◌, Bool, true, false, cond, List, length, drop, Option, Some, None, ℤ, refl, sym, ap, subst, ◌∙◌, ◌⊎◌, inl, inr, arith}
 use Rattle.std.specs.Prelude.{◌==◌, if◌then◌else◌}
 use Rattle.std.proofs.lemmas.Bool.{eqb-false, eqb-true}
-use Rattle.subsetter_base.specs.Bytes.{number}
+use Rattle.subsetter_base.specs.Bytes.{number, from_offset}
 use Rattle.subsetter_base.proofs.ByteLemmas.{number-short}
 use Rattle.subsetter_base.proofs.Options.{bind_some, just_is}
-use Rattle.subsetter_variation.specs.Optional.{◌>>=◌}
+use Rattle.subsetter_base.specs.Options.{◌>>=◌}
 use Rattle.subsetter_variation.specs.ItemVariations.{Store, advance_delta, advance_index, item_delta, item_store, mapped_index, offset_at, store_of}
-use Rattle.subsetter_variation.specs.Tuples.{tail}
 use Rattle.subsetter_instance.specs.ItemFault.{HasStoreFault, HasIndexedFault, HasMapFault, HasHvarFault, cut_hvar, no_store, far_store, in_store, far_map, in_map, in_item}
 use Rattle.subsetter_instance.proofs.FaultLaws.Parts.{bind_none, if_none, if_some, not_long, some_is_not}
 use Rattle.subsetter_instance.proofs.FaultLaws.Stores.{offset_none, offset_some, other_store, store_clean, store_refused, tail_none, tail_some}
@@ -24,7 +23,7 @@ module _ (hvar : List ℕ) (axes : ℕ) where
   after_store_bytes bytes = item_store bytes >>= with_axes
 
   abbrev after_store_at : ℕ → Option Store
-  after_store_at at = tail hvar at >>= after_store_bytes
+  after_store_at at = from_offset hvar at >>= after_store_bytes
 
   hvar_in_turn : store_of hvar axes ≡ (offset_at hvar 4 >>= after_store_at)
   unfolding store_of
@@ -34,7 +33,7 @@ module _ (hvar : List ℕ) (axes : ℕ) where
   no_store_of g h =
       elim (bind_none (offset_at hvar 4) after_store_at (sym hvar_in_turn ∙ h)) [
         | inl k ↦ elim (offset_none hvar 4 k) [ inl less ↦ cut_hvar (omega arith) | inr null ↦ no_store null ]
-        | inr a ↦ let o = offset_some hvar 4 a.0 a.1 in elim (bind_none (tail hvar a.0) after_store_bytes a.2) [
+        | inr a ↦ let o = offset_some hvar 4 a.0 a.1 in elim (bind_none (from_offset hvar a.0) after_store_bytes a.2) [
           | inl k ↦ far_store a.0 o.0 (tail_none hvar a.0 k)
           | inr b ↦ in_store a.0 o.0 (subst (HasStoreFault axes) (sym (tail_some hvar b.0 a.0 b.1).1) (by b.0 b.2))
         ]
@@ -61,7 +60,7 @@ module _ (hvar : List ℕ) (axes : ℕ) where
   hvar_steps s h =
       let a = bind_some (offset_at hvar 4) after_store_at s (sym hvar_in_turn ∙ h) in
       let o = offset_some hvar 4 a.0 a.1 in
-      let b = bind_some (tail hvar a.0) after_store_bytes s a.2 in
+      let b = bind_some (from_offset hvar a.0) after_store_bytes s a.2 in
       let t = tail_some hvar b.0 a.0 b.1 in
       let c = bind_some (item_store b.0) with_axes s b.2 in
       let d = if_some (c.0.axis_count == axes) (Some c.0) s c.2 in
@@ -77,7 +76,7 @@ module _ (hvar : List ℕ) (axes : ℕ) where
 
   module _ (g : ℕ) where
     abbrev index_at : ℕ → Option (ℕ × ℕ)
-    index_at at = if at == 0 then Some (0, g) else tail hvar at >>= λ map. mapped_index map g
+    index_at at = if at == 0 then Some (0, g) else from_offset hvar at >>= λ map. mapped_index map g
 
     index_in_turn : advance_index hvar g ≡ (number hvar 8 4 >>= index_at)
     unfolding advance_index
@@ -90,9 +89,9 @@ module _ (hvar : List ℕ) (axes : ℕ) where
           | inr a ↦ by a.0 a.1 (a.0 == 0) refl a.2
         ]
       where
-        by : (at : ℕ) → number hvar 8 4 ≡ Some at → (b : Bool) → (at == 0) ≡ b → cond b (Some (0, g)) (tail hvar at >>= λ map. mapped_index map g) ≡ None → HasHvarFault hvar axes g
+        by : (at : ℕ) → number hvar 8 4 ≡ Some at → (b : Bool) → (at == 0) ≡ b → cond b (Some (0, g)) (from_offset hvar at >>= λ map. mapped_index map g) ≡ None → HasHvarFault hvar axes g
         by at is true t k = absurd cc
-        by at is false t k = elim (bind_none (tail hvar at) (λ map. mapped_index map g) k) [
+        by at is false t k = elim (bind_none (from_offset hvar at) (λ map. mapped_index map g) k) [
           | inl l ↦ far_map at is (tail_none hvar at l)
           | inr l ↦ in_map at is (eqb-false at 0 t) (subst (λ map. HasMapFault map g) (sym (tail_some hvar l.0 at l.1).1) (map_refused l.0 g l.2))
         ]
@@ -108,10 +107,10 @@ module _ (hvar : List ℕ) (axes : ℕ) where
         let a = bind_some (number hvar 8 4) index_at index (sym index_in_turn ∙ h) in
         record { at = a.0; at_is = a.1; by_map = by a.0 (a.0 == 0) refl a.2 }
       where
-        by : (at : ℕ) (b : Bool) → (at == 0) ≡ b → cond b (Some (0, g)) (tail hvar at >>= λ map. mapped_index map g) ≡ Some index → (at ≡ 0) ⊎ ((at ≤ length hvar) × (mapped_index (drop at hvar) g ≡ Some index))
+        by : (at : ℕ) (b : Bool) → (at == 0) ≡ b → cond b (Some (0, g)) (from_offset hvar at >>= λ map. mapped_index map g) ≡ Some index → (at ≡ 0) ⊎ ((at ≤ length hvar) × (mapped_index (drop at hvar) g ≡ Some index))
         by at true t k = inl (eqb-true at 0 t)
         by at false t k =
-            let m = bind_some (tail hvar at) (λ map. mapped_index map g) index k in
+            let m = bind_some (from_offset hvar at) (λ map. mapped_index map g) index k in
             let p = tail_some hvar m.0 at m.1 in
             inr (p.0, ap (λ map. mapped_index map g) p.1 ∙ m.2)
 

@@ -6,7 +6,7 @@ use Rattle.std.proofs.lemmas.Bool.{eqb-false, eqb-true}
 use Rattle.subsetter_base.specs.Bytes.{number}
 use Rattle.subsetter_base.proofs.ByteLemmas.{number-fits, number-short}
 use Rattle.subsetter_base.proofs.Options.{bind_some, just_is, map_none, map_some}
-use Rattle.subsetter_variation.specs.Optional.{◌>>=◌}
+use Rattle.subsetter_base.specs.Options.{◌>>=◌}
 use Rattle.subsetter_variation.specs.ItemVariations.{entry_place, map_head, mapped_index, split_index}
 use Rattle.subsetter_instance.specs.ItemFault.{HasMapFault, cut_map_head, other_map_format, cut_map_count, cut_long_map_count, no_entries, cut_entry}
 use Rattle.subsetter_instance.proofs.FaultLaws.Parts.{bind_none, not_long, unless_none, unless_some}

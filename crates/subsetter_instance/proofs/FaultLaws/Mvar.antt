@@ -3,14 +3,13 @@ use Rattle.std.proofs.Common.{◌≡◌, ◌≢◌, ℕ, zero, suc, ◌+◌, ◌
 use Rattle.std.specs.Prelude.{◌==◌, nat_lt, if◌then◌else◌}
 use Rattle.std.specs.Str.{bytes_eq}
 use Rattle.std.proofs.lemmas.Bool.{eqb-false, eqb-true, ltb-false, ltb-true}
-use Rattle.subsetter_base.specs.Bytes.{number, range}
+use Rattle.subsetter_base.specs.Bytes.{number, range, from_offset}
 use Rattle.subsetter_base.proofs.ByteLemmas.{number-short, range-fits, range-short}
 use Rattle.subsetter_base.proofs.Lists.{bytes_eq_is, bytes_eq_self}
 use Rattle.subsetter_base.proofs.Options.{bind_some, just_is}
-use Rattle.subsetter_variation.specs.Optional.{◌>>=◌}
+use Rattle.subsetter_base.specs.Options.{◌>>=◌}
 use Rattle.subsetter_variation.specs.FontMetrics.{metric_delta, metric_store, store_for, value_delta, value_from, value_indexes, value_of}
 use Rattle.subsetter_variation.specs.ItemVariations.{Store, item_delta, item_store}
-use Rattle.subsetter_variation.specs.Tuples.{tail}
 use Rattle.subsetter_instance.specs.ItemFault.{HasStoreFault, HasIndexedFault, HasRecordFault, HasMvarFault, cut_record, later_record, cut_mvar, short_record, in_records, cut_store_offset, no_metric_store, far_metric_store, in_metric_store, in_metric_item}
 use Rattle.subsetter_instance.proofs.FaultLaws.Parts.{bind_none, if_none, if_some, not_long, some_is_not, unless_none, unless_some}
 use Rattle.subsetter_instance.proofs.FaultLaws.Stores.{other_store, store_clean, store_refused, tail_none, tail_some}
@@ -93,7 +92,7 @@ module _ (mvar : List ℕ) (axes : ℕ) where
   after_metric_bytes bytes = item_store bytes >>= store_for axes
 
   abbrev after_metric_at : ℕ → Option Store
-  after_metric_at at = (if at == 0 then None else tail mvar at) >>= after_metric_bytes
+  after_metric_at at = (if at == 0 then None else from_offset mvar at) >>= after_metric_bytes
 
   metric_in_turn : metric_store mvar axes ≡ (number mvar 10 2 >>= after_metric_at)
   unfolding metric_store
@@ -112,13 +111,13 @@ module _ (mvar : List ℕ) (axes : ℕ) where
   metric_store_refused tag outer inner there h =
       elim (bind_none (number mvar 10 2) after_metric_at (sym metric_in_turn ∙ h)) [
         | inl k ↦ cut_store_offset outer inner there (number-short mvar 10 2 k)
-        | inr a ↦ elim (bind_none (cond (a.0 == 0) None (tail mvar a.0)) after_metric_bytes a.2) [
-          | inl k ↦ elim (unless_none (a.0 == 0) (tail mvar a.0) k) [
+        | inr a ↦ elim (bind_none (cond (a.0 == 0) None (from_offset mvar a.0)) after_metric_bytes a.2) [
+          | inl k ↦ elim (unless_none (a.0 == 0) (from_offset mvar a.0) k) [
             | inl l ↦ no_metric_store outer inner there (a.1 ∙ ap (λ (n : ℕ). Some n) (eqb-true a.0 0 l))
             | inr l ↦ far_metric_store outer inner a.0 there a.1 (tail_none mvar a.0 l.1)
           ]
           | inr b ↦
-              let t = unless_some (a.0 == 0) (tail mvar a.0) b.0 b.1 in
+              let t = unless_some (a.0 == 0) (from_offset mvar a.0) b.0 b.1 in
               in_metric_store outer inner a.0 there a.1 (subst (HasStoreFault axes) (sym (tail_some mvar b.0 a.0 t.1).1) (no_store_for b.0 b.2))
         ]
       ]
@@ -134,8 +133,8 @@ module _ (mvar : List ℕ) (axes : ℕ) where
   mvar_steps : (s : Store) → metric_store mvar axes ≡ Some s → MvarSteps s
   mvar_steps s h =
       let a = bind_some (number mvar 10 2) after_metric_at s (sym metric_in_turn ∙ h) in
-      let b = bind_some (cond (a.0 == 0) None (tail mvar a.0)) after_metric_bytes s a.2 in
-      let u = unless_some (a.0 == 0) (tail mvar a.0) b.0 b.1 in
+      let b = bind_some (cond (a.0 == 0) None (from_offset mvar a.0)) after_metric_bytes s a.2 in
+      let u = unless_some (a.0 == 0) (from_offset mvar a.0) b.0 b.1 in
       let t = tail_some mvar b.0 a.0 u.1 in
       let c = bind_some (item_store b.0) (store_for axes) s b.2 in
       let d = if_some (c.0.axis_count == axes) (Some c.0) s c.2 in

@@ -14,7 +14,7 @@ use Rattle.subsetter_base.specs.declared.error.Error.TheVariants.{MalformedFont,
 use Rattle.subsetter_base.proofs.ByteLemmas.{number-short, range-fits, range-short}
 use Rattle.subsetter_base.proofs.Options.{bind_some, is_some_of, just, just_is, some_of}
 use Rattle.subsetter_base.proofs.Results.{failed_is, named_err, named_ok}
-use Rattle.subsetter_variation.specs.Optional.{◌>>=◌}
+use Rattle.subsetter_base.specs.Options.{◌>>=◌}
 use Rattle.subsetter_variation.specs.Axes.{axes, axes_at, axis_of}
 use Rattle.subsetter_variation.specs.Segments.{axis_value_maps, segment_map_at}
 use Rattle.subsetter_variation.specs.Coordinates.{coordinate, coordinates_at, coordinates_by, is_other, is_other_version, mapped_coordinates, normalized, normalized_or_fault}

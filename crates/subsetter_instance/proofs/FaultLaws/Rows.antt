@@ -11,7 +11,7 @@ use Rattle.subsetter_base.specs.Bytes.{number, range}
 use Rattle.subsetter_base.specs.Items.{Items}
 use Rattle.subsetter_base.proofs.ByteLemmas.{number-fits, number-short, range-fits, range-length, range-short}
 use Rattle.subsetter_base.proofs.Options.{bind_some, just, just_is, map_none}
-use Rattle.subsetter_variation.specs.Optional.{◌>>=◌}
+use Rattle.subsetter_base.specs.Options.{◌>>=◌}
 use Rattle.subsetter_variation.specs.ItemVariations.{Row, Store, byte_delta, delta, item_delta, item_row, item_store, offset_at, region_items, region_of, row_in, row_size, term, terms, word_delta}
 use Rattle.subsetter_variation.specs.Region.{scalar}
 use Rattle.subsetter_instance.specs.ItemFault.{HasRowFault, HasItemFault, HasIndexedFault, cut_counts, no_row, many_words, cut_indexes, cut_row, cut_data_count, no_data, cut_data_offset, null_data, in_row, no_region}

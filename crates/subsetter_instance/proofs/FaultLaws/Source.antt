@@ -4,14 +4,14 @@
 use Rattle.std.proofs.Common.{◌≡◌, ℕ, ◌+◌, ◌*◌, ◌<◌, ◌≤◌, Bool, true, false, cond, List, length, drop, Option, Some, None, refl, sym, ap, subst, ◌∙◌, inl, inr, arith}
 use Rattle.std.specs.Prelude.{codes, ◌||◌, ◌%◌, ◌==◌, nat_le, if◌then◌else◌}
 use Rattle.std.proofs.lemmas.Bool.{cases_lt, eqb-false, eqb-true, leb-false, leb-true, or_cases, or_left, or_right}
-use Rattle.subsetter_base.specs.Bytes.{number, range}
+use Rattle.subsetter_base.specs.Bytes.{number, range, from_offset}
 use Rattle.subsetter_base.specs.declared.error.Error.{Error}
 use Rattle.subsetter_base.specs.declared.error.Error.TheVariants.{Unimplemented}
 use Rattle.subsetter_base.proofs.ByteLemmas.{number-short, range-fits, range-short}
 use Rattle.subsetter_base.proofs.Options.{bind_some, just_is, some_not_none}
-use Rattle.subsetter_variation.specs.Optional.{◌>>=◌}
+use Rattle.subsetter_base.specs.Options.{◌>>=◌}
 use Rattle.subsetter_variation.specs.Coordinates.{is_other_version}
-use Rattle.subsetter_variation.specs.Tuples.{Gvar, gvar_table, parts, tail, tuple_size}
+use Rattle.subsetter_variation.specs.Tuples.{Gvar, gvar_table, parts, tuple_size}
 use Rattle.subsetter_instance.specs.Source.{Source, has_other_version, source_in, variations_in}
 use Rattle.subsetter_instance.specs.SourceFault.{HasVersionFault, HasGvarFault, HasSourceFault, other_gvar, other_hvar, other_mvar, cut_gvar, other_axes, cut_shared, cut_offsets, far_variations, no_glyf, no_loca, no_head, no_maxp, no_hhea, no_hmtx, cut_head, cut_maxp, cut_hhea, in_gvar}
 use Rattle.subsetter_instance.proofs.FaultLaws.Parts.{bind_none, if_none, if_some, not_long, not_short, some_is_not}
@@ -51,7 +51,7 @@ module _ (axes : ℕ) (gvar : List ℕ) where
     table_of shared offsets variations = Some (record { axis_count = axis_count; glyph_count = glyph_count; long = flags % 2 == 1; shared = shared; offsets = offsets; variations = variations })
 
     abbrev after_offsets : ℕ → List ℕ → List ℕ → Option Gvar
-    after_offsets from shared offsets = tail gvar from >>= table_of shared offsets
+    after_offsets from shared offsets = from_offset gvar from >>= table_of shared offsets
 
     abbrev after_shared : ℕ → List ℕ → Option Gvar
     after_shared from shared = range gvar 20 ((glyph_count + 1) * width flags) >>= after_offsets from shared
@@ -93,7 +93,7 @@ module _ (axes : ℕ) (gvar : List ℕ) where
               | inl k ↦ cut_shared axis_count a.0 b.0 a_is a.1 b.1 (range-short gvar b.0 (a.0 * tuple_size axis_count) k)
               | inr d ↦ elim (bind_none (range gvar 20 ((glyph_count + 1) * width flags)) (after_offsets axis_count glyph_count flags c.0 d.0) d.2) [
                 | inl k ↦ cut_offsets glyph_count flags g_is f_is (range-short gvar 20 ((glyph_count + 1) * width flags) k)
-                | inr e ↦ elim (bind_none (tail gvar c.0) (table_of axis_count glyph_count flags d.0 e.0) e.2) [
+                | inr e ↦ elim (bind_none (from_offset gvar c.0) (table_of axis_count glyph_count flags d.0 e.0) e.2) [
                   | inl k ↦ far_variations c.0 c.1 (no_tail c.0 (nat_le c.0 (length gvar)) refl k)
                   | inr k ↦ absurd cc
                 ]
@@ -147,7 +147,7 @@ module _ (axes : ℕ) (gvar : List ℕ) where
       let f = bind_some (number gvar 16 4) (after_from a.0 b.0 c.0 d.0 e.0) t e.2 in
       let g = bind_some (range gvar e.0 (d.0 * tuple_size a.0)) (after_shared a.0 b.0 c.0 f.0) t f.2 in
       let i = bind_some (range gvar 20 ((b.0 + 1) * width c.0)) (after_offsets a.0 b.0 c.0 f.0 g.0) t g.2 in
-      let j = bind_some (tail gvar f.0) (table_of a.0 b.0 c.0 g.0 i.0) t i.2 in
+      let j = bind_some (from_offset gvar f.0) (table_of a.0 b.0 c.0 g.0 i.0) t i.2 in
       let made : Gvar = record { axis_count = a.0; glyph_count = b.0; long = c.0 % 2 == 1; shared = g.0; offsets = i.0; variations = j.0 } in
       let same : a.0 ≡ t.axis_count = ap (λ (x : Gvar). x.axis_count) (just_is made t j.2) in
       record {

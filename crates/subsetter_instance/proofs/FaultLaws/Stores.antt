@@ -4,12 +4,11 @@
 use Rattle.std.proofs.Common.{◌≡◌, ◌≢◌, ℕ, ◌+◌, ◌*◌, ◌<◌, ◌≤◌, cond, List, length, drop, Option, Some, None, refl, sym, ap, subst, ◌∙◌, ◌⊎◌, inl, inr, arith}
 use Rattle.std.specs.Prelude.{◌==◌, nat_le}
 use Rattle.std.proofs.lemmas.Bool.{eqb-false, eqb-true, leb-false, leb-true}
-use Rattle.subsetter_base.specs.Bytes.{number, range}
+use Rattle.subsetter_base.specs.Bytes.{number, range, from_offset}
 use Rattle.subsetter_base.proofs.ByteLemmas.{number-fits, number-short, range-fits, range-length, range-short}
 use Rattle.subsetter_base.proofs.Options.{bind_some, just_is}
-use Rattle.subsetter_variation.specs.Optional.{◌>>=◌}
+use Rattle.subsetter_base.specs.Options.{◌>>=◌}
 use Rattle.subsetter_variation.specs.ItemVariations.{Store, item_store, offset_at}
-use Rattle.subsetter_variation.specs.Tuples.{tail}
 use Rattle.subsetter_instance.specs.ItemFault.{HasStoreFault, cut_store, other_format, no_regions, cut_region_counts, cut_regions, other_region_axes}
 use Rattle.subsetter_instance.proofs.FaultLaws.Parts.{bind_none, if_none, if_some, not_long, some_is_not, unless_none, unless_some}
 
@@ -33,10 +32,10 @@ offset_none bytes at h =
       ]
     ]
 
-pub tail_some : (bytes rest : List ℕ) (at : ℕ) → tail bytes at ≡ Some rest → (at ≤ length bytes) × (drop at bytes ≡ rest)
+pub tail_some : (bytes rest : List ℕ) (at : ℕ) → from_offset bytes at ≡ Some rest → (at ≤ length bytes) × (drop at bytes ≡ rest)
 tail_some bytes rest at h = let p = if_some (nat_le at (length bytes)) (Some (drop at bytes)) rest h in (leb-true at (length bytes) p.0, just_is (drop at bytes) rest p.1)
 
-pub tail_none : (bytes : List ℕ) (at : ℕ) → tail bytes at ≡ None → length bytes < at
+pub tail_none : (bytes : List ℕ) (at : ℕ) → from_offset bytes at ≡ None → length bytes < at
 tail_none bytes at h = elim (if_none (nat_le at (length bytes)) (Some (drop at bytes)) h) [
   | inl k ↦ leb-false at (length bytes) k
   | inr k ↦ absurd (some_is_not (drop at bytes) k.1)

@@ -5,14 +5,14 @@ use Rattle.std.proofs.Common.{◌≡◌, ℕ, ◌+◌, ◌-◌, ◌*◌, ◌<◌
 use Rattle.std.specs.Prelude.{◌==◌, nat_le, nat_lt, if◌then◌else◌}
 use Rattle.std.specs.Option.{option_map}
 use Rattle.std.proofs.lemmas.Bool.{eqb-false, eqb-true, leb-false, leb-true, ltb-false, ltb-true}
-use Rattle.subsetter_base.specs.Bytes.{number, range}
+use Rattle.subsetter_base.specs.Bytes.{number, range, between_offsets}
 use Rattle.subsetter_base.proofs.ByteLemmas.{number-fits, number-short, range-fits, range-short}
 use Rattle.subsetter_base.proofs.Options.{bind_some, just_is, map_none, map_some}
 use Rattle.subsetter_sfnt.specs.declared.fields.hmtx.LongHorMetric.{LongHorMetric}
-use Rattle.subsetter_instance.specs.Source.{Source, between_offsets, description, metric, offset}
+use Rattle.subsetter_instance.specs.Source.{Source, description, metric, offset}
 use Rattle.subsetter_sfnt.specs.Fields.Hmtx.{metric_at}
 use Rattle.subsetter_instance.specs.Unfolded.{counted_description}
-use Rattle.subsetter_instance.specs.Optional.{◌>>=◌}
+use Rattle.subsetter_base.specs.Options.{◌>>=◌}
 use Rattle.subsetter_instance.specs.GlyphFault.{HasDescriptionFault, HasHmtxFault, past_count, cut_loca, descending, past_glyf, no_pairs, cut_pair, cut_bearing}
 use Rattle.subsetter_instance.proofs.FaultLaws.Parts.{bind_none, if_none, if_some}
 

@@ -3,12 +3,12 @@ use Rattle.std.proofs.Common.{◌≡◌, ℕ, zero, suc, ◌+◌, ◌<◌, ◌�
 use Rattle.std.specs.Prelude.{◌&&◌, ◌-ℤ◌, nat_lt, slice_index_or}
 use Rattle.std.specs.Option.{ok_or}
 use Rattle.std.proofs.lemmas.Bool.{ltb-false, ltb-true}
-use Rattle.subsetter_base.specs.Bytes.{◌>>=◌}
+use Rattle.subsetter_base.specs.Bytes.{◌>>=◌, has_flag}
 use Rattle.subsetter_base.specs.declared.error.Error.{Error}
 use Rattle.subsetter_base.specs.declared.error.Error.TheVariants.{MalformedFont, Unimplemented, OverflowError}
 use Rattle.subsetter_base.proofs.Results.{done, failed_is, bind_ok, bind_err, named_ok, named_err}
 use Rattle.subsetter_points.specs.declared.outline.Point.{Point}
-use Rattle.subsetter_points.specs.Simple.{after, has, parts}
+use Rattle.subsetter_points.specs.Simple.{after, parts}
 use Rattle.subsetter_variation.specs.GvarFault.{HasVariationFault}
 use Rattle.subsetter_variation.specs.Movement.{Outline, spent}
 use Rattle.subsetter_variation.specs.Tuples.{Gvar}
@@ -99,7 +99,7 @@ abbrev alone : Component → ℕ → Result (List Component × ℕ) Error
 alone c steps = Ok (c ∷ [], steps)
 
 abbrev next : ℕ → Component × List ℕ → Result (List Component × ℕ) Error
-next k c = cond (has c.0.flags 0x0020) (components_at k c.1 >>= in_front c.0) (alone c.0 k)
+next k c = cond (has_flag c.0.flags 0x0020) (components_at k c.1 >>= in_front c.0) (alone c.0 k)
 
 components_refused : (steps : ℕ) (rest : List ℕ) (e : Error) → components_at steps rest ≡ Err e → HasComponentFault steps rest e
 unfolding components_at
@@ -107,10 +107,10 @@ components_refused zero rest e h = subst (HasComponentFault zero rest) (failed_i
 components_refused (suc steps) rest e h =
     elim (bind_err (ok_or (component_at rest) MalformedFont) (next steps) e h) [
       | inl k ↦ let f = named_err (component_at rest) MalformedFont e k in subst (HasComponentFault (suc steps) rest) f.1 (cut_component steps rest f.0)
-      | inr k ↦ by (λ r. components_refused steps r e) k.0 (named_ok (component_at rest) MalformedFont k.0 k.1) (has k.0.0.flags 0x0020) refl k.2
+      | inr k ↦ by (λ r. components_refused steps r e) k.0 (named_ok (component_at rest) MalformedFont k.0 k.1) (has_flag k.0.0.flags 0x0020) refl k.2
     ]
   where
-    by : ((r : List ℕ) → components_at steps r ≡ Err e → HasComponentFault steps r e) → (c : Component × List ℕ) → component_at rest ≡ Some c → (b : Bool) → has c.0.flags 0x0020 ≡ b
+    by : ((r : List ℕ) → components_at steps r ≡ Err e → HasComponentFault steps r e) → (c : Component × List ℕ) → component_at rest ≡ Some c → (b : Bool) → has_flag c.0.flags 0x0020 ≡ b
         → cond b (components_at steps c.1 >>= in_front c.0) (alone c.0 steps) ≡ Err e → HasComponentFault (suc steps) rest e
     by deeper c is false t k = absurd cc
     by deeper c is true t k = elim (bind_err (components_at steps c.1) (in_front c.0) e k) [

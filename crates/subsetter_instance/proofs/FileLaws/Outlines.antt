@@ -5,10 +5,10 @@ use Rattle.std.specs.Option.{option_and_then, option_map}
 use Rattle.std.specs.Int.{w16, w32, to_be_bytes}
 use Rattle.std.proofs.lemmas.Bool.{le-leb, ltb-false}
 use Rattle.std.proofs.lemmas.List.{length-append, length-replicate}
-use Rattle.subsetter_base.specs.Bytes.{be, range, number, aligned}
+use Rattle.subsetter_base.specs.Bytes.{be, range, number, aligned, between_offsets}
 use Rattle.subsetter_base.proofs.ByteLemmas.{be-u16, be-u32, range-middle}
 use Rattle.subsetter_points.specs.Simple.{parts_bytes}
-use Rattle.subsetter_instance.specs.Source.{Source, offset, between_offsets, description}
+use Rattle.subsetter_instance.specs.Source.{Source, offset, description}
 use Rattle.subsetter_instance.specs.Drawn.{Drawn}
 use Rattle.subsetter_instance.specs.Written.{outline_bytes, glyf_bytes, is_long, offset_bytes, offsets_from, loca_bytes}
 

@@ -3,11 +3,11 @@ use Rattle.std.proofs.Common.{◌≡◌, ℕ, zero, suc, ◌+◌, Bool, true, fa
 use Rattle.std.specs.Prelude.{nat_lt, slice_index_or}
 use Rattle.std.specs.List.{range_with_len}
 use Rattle.std.specs.Option.{ok_or}
-use Rattle.subsetter_base.specs.Bytes.{◌>>=◌}
+use Rattle.subsetter_base.specs.Bytes.{◌>>=◌, has_flag}
 use Rattle.subsetter_base.specs.declared.error.Error.{Error}
 use Rattle.subsetter_base.specs.declared.error.Error.TheVariants.{MalformedFont, OverflowError}
 use Rattle.subsetter_base.proofs.Results.{done_is, bind_ok}
-use Rattle.subsetter_points.specs.Simple.{after, has}
+use Rattle.subsetter_points.specs.Simple.{after}
 use Rattle.subsetter_variation.specs.Movement.{Outline, spent}
 use Rattle.subsetter_instance.specs.declared.components.Component.{Component}
 use Rattle.subsetter_sfnt.specs.declared.fields.hmtx.LongHorMetric.{LongHorMetric}
@@ -26,7 +26,7 @@ abbrev AreAlike : ℕ → ℕ → Type 0
 AreAlike m n = (rest : List ℕ) (a b : List Component × ℕ) → components_at m rest ≡ Ok a → components_at n rest ≡ Ok b → a.0 ≡ b.0
 
 abbrev next : ℕ → Component × List ℕ → Result (List Component × ℕ) Error
-next k c = cond (has c.0.flags 0x0020) (components_at k c.1 >>= λ more. Ok (c.0 ∷ more.0, more.1)) (Ok (c.0 ∷ [], k))
+next k c = cond (has_flag c.0.flags 0x0020) (components_at k c.1 >>= λ more. Ok (c.0 ∷ more.0, more.1)) (Ok (c.0 ∷ [], k))
 
 chain_by : (m n : ℕ) → AreAlike m n → (a b : List Component × ℕ) (c : Component × List ℕ) (t : Bool)
     → cond t (components_at m c.1 >>= λ more. Ok (c.0 ∷ more.0, more.1)) (Ok (c.0 ∷ [], m)) ≡ Ok a → cond t (components_at n c.1 >>= λ more. Ok (c.0 ∷ more.0, more.1)) (Ok (c.0 ∷ [], n)) ≡ Ok b → a.0 ≡ b.0
@@ -45,7 +45,7 @@ chain_alike (suc m) (suc n) rest a b e f =
     let p = bind_ok (ok_or (component_at rest) MalformedFont) (next m) a e in
     let q = bind_ok (ok_or (component_at rest) MalformedFont) (next n) b f in
     let same : q.0 ≡ p.0 = one_answer (ok_or (component_at rest) MalformedFont) q.0 p.0 q.1 p.1 in
-    chain_by m n (chain_alike m n) a b p.0 (has p.0.0.flags 0x0020) p.2 (ap (next n) (sym same) ∙ q.2)
+    chain_by m n (chain_alike m n) a b p.0 (has_flag p.0.0.flags 0x0020) p.2 (ap (next n) (sym same) ∙ q.2)
 
 -- ---- their offsets
 

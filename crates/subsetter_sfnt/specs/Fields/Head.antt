@@ -1,7 +1,6 @@
 -- The fields that are read of `head` (OpenType, "head - Font Header Table").
 use Rattle.std.specs.Prelude.{ℕ, List, Option, ℤ}
-use Rattle.subsetter_base.specs.Bytes.{number}
-use Rattle.subsetter_sfnt.specs.Fields.Numbers.{field, signed_field}
+use Rattle.subsetter_base.specs.Bytes.{number, field, signed_field}
 
 abbrev pub units_per_em : List ℕ → Option ℕ
 units_per_em head = number head 18 2

@@ -1,7 +1,6 @@
 -- The fields that are read of `hhea` (OpenType, "hhea - Horizontal Header Table").
 use Rattle.std.specs.Prelude.{ℕ, List, Option, ℤ}
-use Rattle.subsetter_base.specs.Bytes.{number}
-use Rattle.subsetter_sfnt.specs.Fields.Numbers.{signed_field}
+use Rattle.subsetter_base.specs.Bytes.{number, signed_field}
 
 abbrev pub ascender : Option (List ℕ) → Option ℤ
 ascender hhea = signed_field hhea 4

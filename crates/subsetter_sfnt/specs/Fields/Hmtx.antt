@@ -1,7 +1,7 @@
 -- Metrics of glyphs (OpenType, "hmtx - Horizontal Metrics Table").
 use Rattle.std.specs.Prelude.{ℕ, ◌+◌, ◌-◌, ◌*◌, min, List, Option, Some, None, nat_lt, ◌==◌, if◌then◌else◌}
 use Rattle.subsetter_base.specs.Bytes.{number}
-use Rattle.subsetter_sfnt.specs.Optional.{◌>>=◌}
+use Rattle.subsetter_base.specs.Options.{◌>>=◌}
 use Rattle.subsetter_sfnt.specs.declared.fields.hmtx.LongHorMetric.{LongHorMetric}
 
 -- an advance and a bearing at two places

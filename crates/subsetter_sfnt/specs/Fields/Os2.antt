@@ -1,7 +1,7 @@
 -- The fields that are read of `OS/2` (OpenType, "OS/2 - OS/2 and Windows Metrics Table").
 use Rattle.std.specs.Prelude.{ℕ, ◌/◌, nat_le, if◌then◌else◌, List, Option, None, ℤ}
 use Rattle.std.specs.Option.{option_and_then, option_map}
-use Rattle.subsetter_sfnt.specs.Fields.Numbers.{field, signed_field}
+use Rattle.subsetter_base.specs.Bytes.{field, signed_field}
 
 abbrev pub version : Option (List ℕ) → Option ℕ
 version os2 = field os2 0 2

@@ -2,8 +2,7 @@
 use Rattle.std.specs.Prelude.{ℕ, List, Option, ℤ}
 use Rattle.std.specs.Int.{w32, cast_signed}
 use Rattle.std.specs.Option.{option_map}
-use Rattle.subsetter_base.specs.Bytes.{number}
-use Rattle.subsetter_sfnt.specs.Fields.Numbers.{field}
+use Rattle.subsetter_base.specs.Bytes.{number, field}
 
 -- italicAngle, in 65536ths of a degree, counterclockwise from the vertical
 abbrev pub italic_angle : Option (List ℕ) → Option ℤ

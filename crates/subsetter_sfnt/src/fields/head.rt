@@ -4,7 +4,7 @@ ghost use Rattle.std.specs.Prelude.{◌≡◌, ◌≤◌, length, IfSome};
 ghost use Rattle.std.specs.Option.{option_copied};
 ghost use Rattle.subsetter_sfnt.specs.Fields.Head.{units_per_em, x_min, y_min, x_max, y_max, mac_style, index_to_loc_format};
 
-use crate::fields::{number_in, signed_in};
+use subsetter_base::fields::{number_in, signed_in};
 use subsetter_base::read::Reader;
 
 /// checksumAdjustment, four bytes.

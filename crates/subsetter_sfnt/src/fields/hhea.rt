@@ -4,7 +4,7 @@ ghost use Rattle.std.specs.Prelude.{◌≡◌, ◌≤◌, length, IfSome};
 ghost use Rattle.std.specs.Option.{option_copied};
 ghost use Rattle.subsetter_sfnt.specs.Fields.Hhea.{ascender, descender, number_of_h_metrics};
 
-use crate::fields::signed_in;
+use subsetter_base::fields::signed_in;
 use subsetter_base::read::Reader;
 
 /// ascender, and behind it descender and lineGap, two bytes each.

@@ -4,7 +4,7 @@ ghost use Rattle.std.specs.Prelude.{◌≡◌};
 ghost use Rattle.std.specs.Option.{option_copied, option_map};
 ghost use Rattle.subsetter_sfnt.specs.Fields.Os2.{version, us_weight_class, fs_type, s_family_class, b_family_type, b_serif_style, fs_selection, s_typo_ascender, s_typo_descender, us_win_ascent, us_win_descent, of_version_2, sx_height, s_cap_height};
 
-use crate::fields::{byte_in, number_in, signed_in};
+use subsetter_base::fields::{byte_in, number_in, signed_in};
 
 /// version, two bytes.
 const VERSION: usize = 0;

@@ -4,7 +4,7 @@ ghost use Rattle.std.specs.Prelude.{◌≡◌};
 ghost use Rattle.std.specs.Option.{option_copied};
 ghost use Rattle.subsetter_sfnt.specs.Fields.Post.{italic_angle, is_fixed_pitch, version, num_glyphs};
 
-use crate::fields::{long_in, long_signed_in};
+use subsetter_base::fields::{long_in, long_signed_in};
 use subsetter_base::read::Reader;
 
 /// version, four bytes.

@@ -20,3 +20,7 @@ pub use array::write_widths;
 #[cfg(feature = "variable-fonts")]
 pub use embedding::mapper_for;
 pub use embedding::{embed_with_options, Embedded};
+#[cfg(feature = "variable-fonts")]
+pub use reader::Metrics;
+#[cfg(feature = "variable-fonts")]
+pub use widths::all_widths;

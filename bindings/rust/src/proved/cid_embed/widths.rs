@@ -16,7 +16,7 @@ fn thousandths(length: u16, units_per_em: u16) -> u32 {
 }
 
 /// The widths of so many glyphs, from glyph 0 on. An advance that isn't there is `MalformedFont`.
-fn all_widths(alloc: Global, metrics: &Metrics<'_>, count: u16) -> Result<Vec<u32>, Error> {
+pub fn all_widths(alloc: Global, metrics: &Metrics<'_>, count: u16) -> Result<Vec<u32>, Error> {
     let mut widths = Vec::with_capacity(alloc, usize::from(count))?;
     for glyph in 0..count {
         let advance = metrics.advance(glyph).ok_or(Error::MalformedFont)?;

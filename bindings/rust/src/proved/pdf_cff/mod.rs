@@ -8,4 +8,4 @@
 mod said;
 mod stems;
 
-pub use said::{said_in, Said};
+pub use said::{said_in, unless_memory, Said};

@@ -42,7 +42,7 @@ fn first_stem(units: u16, table: &Table<'_>) -> Option<u32> {
 }
 
 /// The error, where memory ran out; another one is passed over.
-fn unless_memory(error: Error) -> Result<(), Error> {
+pub fn unless_memory(error: Error) -> Result<(), Error> {
     match error {
         Error::OutOfMemory => Err(Error::OutOfMemory),
         _ => Ok(()),

@@ -4,8 +4,8 @@
 use crate::proved::pdf_glyphs::boxes::{glyph_box, OutlineTables};
 use crate::proved::pdf_glyphs::heights::{varied_height, HeightVariation};
 use crate::proved::pdf_text::Column;
-use crate::proved::pdf_values::fields::{number_in, signed_in};
 use crate::proved::pdf_values::{thousandths, units_per_em};
+use crate::proved::subsetter_base::fields::{number_in, signed_in};
 
 /// The tables that vertical metrics are found by; none where the font lacks one.
 #[derive(Clone, Copy)]

@@ -3,7 +3,7 @@
 
 use crate::rattle::prelude::Vec;
 
-use crate::proved::pdf_values::fields::{number_in, signed_in};
+use crate::proved::subsetter_base::fields::{number_in, signed_in};
 use crate::proved::subsetter_base::{Error, GlyphRemapper};
 use crate::rattle::alloc::Global;
 

@@ -2,8 +2,9 @@
 //! Ascent, Descent, CapHeight and XHeight (ISO 32000-1, Table 122) of a font that is moved (OpenType, "MVAR").
 
 use crate::proved::pdf_moved::movement::{varied, Movement};
-use crate::proved::pdf_values::fields::{number_in, says_bit, signed_in};
+use crate::proved::pdf_values::fields::says_bit;
 use crate::proved::pdf_values::{thousandths, Heights};
+use crate::proved::subsetter_base::fields::{number_in, signed_in};
 use crate::proved::subsetter_base::Tag;
 
 /// How far a line of text reaches above the baseline, and, as a number below 0, below it, in the font's units.

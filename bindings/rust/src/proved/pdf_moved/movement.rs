@@ -2,7 +2,7 @@
 //! Where a font is moved to along its axes (OpenType, "fvar", "MVAR").
 
 use crate::proved::subsetter_base::Tag;
-use crate::proved::subsetter_variation::axes::{user_coordinate, Axis};
+use crate::proved::subsetter_variation::axes::{find_axis, user_coordinate, Axis};
 use crate::proved::subsetter_variation::font_metrics::metric_delta;
 
 /// Where a font is moved to.
@@ -29,19 +29,9 @@ pub fn clamped(axis: Axis, settings: &[(Tag, i32)]) -> i32 {
     within(greatest, least, user_coordinate(&axis, settings))
 }
 
-/// The first axis of a tag.
-fn axis_of(axes: &[Axis], tag: Tag) -> Option<Axis> {
-    for axis in axes {
-        if axis.tag == tag {
-            return Some(*axis);
-        }
-    }
-    None
-}
-
 /// The user coordinate on the first axis of a tag, clamped to it, if there is such an axis.
 pub fn coordinate_on(movement: Movement<'_>, tag: Tag) -> Option<i32> {
-    let axis = axis_of(movement.axes, tag)?;
+    let axis = find_axis(movement.axes, tag)?;
     Some(clamped(axis, movement.settings))
 }
 

@@ -3,6 +3,7 @@
 
 use crate::rattle::prelude::Vec;
 
+use crate::proved::pdf_text::write_sign;
 use crate::proved::subsetter_base::Error;
 use crate::rattle::io::Write;
 
@@ -91,14 +92,6 @@ fn write_whole(text: &mut Vec<u8>, n: u64) -> Result<(), Error> {
 fn write_decimal(text: &mut Vec<u8>, k: u32, m: u64) -> Result<(), Error> {
     write_whole(text, m / power(k))?;
     write_fraction(text, k, m)
-}
-
-/// Writes the sign of a number.
-fn write_sign(text: &mut Vec<u8>, value: i32) -> Result<(), Error> {
-    if value < 0 {
-        text.extend_from_slice(b"-")?;
-    }
-    Ok(())
 }
 
 /// Writes a number of 65536ths.

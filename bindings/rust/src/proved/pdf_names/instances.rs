@@ -6,18 +6,10 @@ use crate::rattle::prelude::{Cast, Vec};
 use crate::proved::pdf_moved::clamped;
 use crate::proved::pdf_names::letters::plain_name;
 use crate::proved::pdf_values::table_name;
-use crate::proved::subsetter_base::read::Reader;
+use crate::proved::subsetter_base::read::{after_four, Reader};
 use crate::proved::subsetter_base::{Error, Tag};
 use crate::proved::subsetter_variation::axes::Axis;
 use crate::rattle::alloc::Global;
-
-/// The bytes behind the first four.
-fn after_four(bytes: &[u8]) -> &[u8] {
-    match bytes {
-        [_, _, _, _, rest @ ..] => rest,
-        _ => &[],
-    }
-}
 
 /// Whether bytes begin with the coordinate of an axis.
 fn is_coordinate(axis: Axis, settings: &[(Tag, i32)], bytes: &[u8]) -> bool {

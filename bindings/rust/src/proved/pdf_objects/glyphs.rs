@@ -4,7 +4,7 @@
 use crate::rattle::prelude::Vec;
 
 use crate::proved::pdf_font::{Columns, PdfFont, Shown};
-use crate::proved::pdf_sheet::SheetGlyph;
+use crate::proved::pdf_sheet::{width_of, SheetGlyph};
 use crate::proved::subsetter_base::Error;
 use crate::rattle::alloc::Global;
 
@@ -13,15 +13,6 @@ fn column_advance(columns: &Columns, cid: u16) -> u32 {
     let place = cid as usize;
     if place < columns.each.len() {
         return columns.each[place].advance.unsigned_abs();
-    }
-    0
-}
-
-/// The width of a CID.
-fn width_of(widths: &[u32], cid: u16) -> u32 {
-    let place = cid as usize;
-    if place < widths.len() {
-        return widths[place];
     }
     0
 }

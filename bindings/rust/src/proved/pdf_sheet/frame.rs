@@ -4,7 +4,7 @@
 use crate::rattle::prelude::Vec;
 
 use crate::proved::pdf_sheet::glyphs::SheetGlyph;
-use crate::proved::pdf_sheet::hex::write_count;
+use crate::proved::pdf_text::write_count;
 use crate::proved::subsetter_base::Error;
 
 /// How a sheet shows its glyphs.

@@ -17,6 +17,15 @@ pub struct SheetGlyph<'a> {
     pub advance: u32,
 }
 
+/// The width of a CID, 0 where there is none.
+pub fn width_of(widths: &[u32], cid: u16) -> u32 {
+    let place = cid as usize;
+    if place < widths.len() {
+        return widths[place];
+    }
+    0
+}
+
 /// Writes the operator that shows a code.
 fn write_code(text: &mut Vec<u8>, code: u16) -> Result<(), Error> {
     write_code_string(text, code)?;

@@ -17,5 +17,5 @@ mod pages;
 mod sheet;
 
 pub use frame::Layout;
-pub use glyphs::SheetGlyph;
+pub use glyphs::{width_of, SheetGlyph};
 pub use sheet::write_sheet;

@@ -6,7 +6,7 @@ use crate::rattle::prelude::Vec;
 use crate::proved::pdf_sheet::content::content_of;
 use crate::proved::pdf_sheet::frame::{Frame, Layout};
 use crate::proved::pdf_sheet::glyphs::SheetGlyph;
-use crate::proved::pdf_sheet::hex::write_count;
+use crate::proved::pdf_text::write_count;
 use crate::proved::subsetter_base::Error;
 use crate::rattle::alloc::Global;
 

@@ -3,6 +3,7 @@
 
 use crate::rattle::prelude::Vec;
 
+use crate::proved::pdf_cff::unless_memory;
 use crate::proved::pdf_moved::Movement;
 use crate::proved::subsetter_base::{Error, Tag};
 use crate::proved::subsetter_instance::source::place;
@@ -15,14 +16,6 @@ pub struct Location {
     /// The normalized coordinates, in 16384ths.
     pub at: Vec<i32>,
     pub axes: Vec<Axis>,
-}
-
-/// The error, where memory ran out; another one is passed over.
-fn unless_memory(error: Error) -> Result<(), Error> {
-    match error {
-        Error::OutOfMemory => Err(Error::OutOfMemory),
-        _ => Ok(()),
-    }
 }
 
 /// The normalized coordinates, if they can be read.

@@ -3,21 +3,12 @@
 
 use crate::rattle::prelude::Vec;
 
+use crate::proved::cid_embed::{all_widths, Metrics};
 use crate::proved::subsetter_base::read::Reader;
 use crate::proved::subsetter_base::{Error, Tag};
 use crate::proved::subsetter_sfnt::face::Face;
 use crate::rattle::alloc::Global;
 use crate::rattle::collections::HashMap;
-
-/// What advances and widths are found by.
-#[derive(Clone, Copy)]
-pub struct Metrics<'a> {
-    pub hmtx: &'a [u8],
-    /// numberOfHMetrics of `hhea`.
-    pub pairs: u16,
-    /// unitsPerEm of `head`, above 0.
-    pub units: u16,
-}
 
 /// The metrics of a font. What is missing or cut, and a unitsPerEm of 0, is `MalformedFont`.
 fn metrics_of<'a>(face: &Face<'a>) -> Result<Metrics<'a>, Error> {
@@ -34,30 +25,6 @@ fn metrics_of<'a>(face: &Face<'a>) -> Result<Metrics<'a>, Error> {
         .read::<u16>()
         .ok_or(Error::MalformedFont)?;
     Ok(Metrics { hmtx, pairs, units })
-}
-
-impl Metrics<'_> {
-    /// The advance of a glyph, in font design units.
-    fn advance(&self, glyph: u16) -> Option<u16> {
-        let pair = glyph.min(self.pairs.saturating_sub(1));
-        Reader::new_at(self.hmtx, 4 * usize::from(pair)).read::<u16>()
-    }
-}
-
-/// A length in thousandths of the em, rounded half up.
-fn thousandths(length: u16, units_per_em: u16) -> u32 {
-    let units = u32::from(units_per_em);
-    (2 * (u32::from(length) * 1000) + units) / (2 * units)
-}
-
-/// The widths of so many glyphs, from glyph 0 on. An advance that isn't there is `MalformedFont`.
-fn all_widths(alloc: Global, metrics: &Metrics<'_>, count: u16) -> Result<Vec<u32>, Error> {
-    let mut widths = Vec::with_capacity(alloc, usize::from(count))?;
-    for glyph in 0..count {
-        let advance = metrics.advance(glyph).ok_or(Error::MalformedFont)?;
-        widths.push(thousandths(advance, metrics.units))?;
-    }
-    Ok(widths)
 }
 
 /// The widths of so many glyphs of a font, from glyph 0 on. What is missing is `MalformedFont`.

@@ -3,6 +3,7 @@
 
 use crate::rattle::prelude::Vec;
 
+use crate::proved::subsetter_base::decimals::{write_decimal, write_decimals};
 use crate::proved::subsetter_base::Error;
 use crate::rattle::alloc::Global;
 use crate::rattle::io::Write;
@@ -127,32 +128,11 @@ pub fn write_cid(text: &mut Vec<u8>, cid: usize) -> Result<(), Error> {
     write!(text, "{cid}").map_err(|_| Error::OutOfMemory)
 }
 
-/// Writes a width in decimal.
-fn write_width(text: &mut Vec<u8>, width: u32) -> Result<(), Error> {
-    write!(text, "{width}").map_err(|_| Error::OutOfMemory)
-}
-
-/// Writes widths with one space between each two.
-fn write_list(text: &mut Vec<u8>, widths: &[u32]) -> Result<(), Error> {
-    let (first, rest) = match widths {
-        [first, rest @ ..] => (first, rest),
-        _ => {
-            return Ok(());
-        }
-    };
-    write_width(text, *first)?;
-    for width in rest {
-        text.push(b' ')?;
-        write_width(text, *width)?;
-    }
-    Ok(())
-}
-
 /// Writes `first [width ..]`.
 fn write_each(text: &mut Vec<u8>, first: usize, widths: &[u32]) -> Result<(), Error> {
     write_cid(text, first)?;
     text.extend_from_slice(b" [")?;
-    write_list(text, widths)?;
+    write_decimals(text, widths)?;
     text.extend_from_slice(b"]")?;
     Ok(())
 }
@@ -163,7 +143,7 @@ fn write_same(text: &mut Vec<u8>, first: usize, last: usize, width: u32) -> Resu
     text.extend_from_slice(b" ")?;
     write_cid(text, last)?;
     text.extend_from_slice(b" ")?;
-    write_width(text, width)
+    write_decimal(text, width)
 }
 
 /// Writes a part of W.

@@ -26,7 +26,7 @@ pub fn digits(n: u16) -> [u8; 4] {
 }
 
 /// Writes four digits of base 16.
-fn write_word(text: &mut Vec<u8>, n: u16) -> Result<(), Error> {
+pub fn write_word(text: &mut Vec<u8>, n: u16) -> Result<(), Error> {
     text.extend_from_slice(&digits(n))?;
     Ok(())
 }

@@ -54,7 +54,7 @@ fn write_fraction(text: &mut Vec<u8>, n: u32) -> Result<(), Error> {
 }
 
 /// Writes the sign of a number.
-fn write_sign(text: &mut Vec<u8>, z: i32) -> Result<(), Error> {
+pub fn write_sign(text: &mut Vec<u8>, z: i32) -> Result<(), Error> {
     if z < 0 {
         text.extend_from_slice(b"-")?;
     }

@@ -2,8 +2,9 @@
 //! Ascent, Descent, CapHeight and XHeight (ISO 32000-1, Table 122), by `hhea`, `OS/2` and `head` (OpenType, "hhea",
 //! "OS/2", "head").
 
-use crate::proved::pdf_values::fields::{number_in, says_bit, signed_in};
+use crate::proved::pdf_values::fields::says_bit;
 use crate::proved::pdf_values::rounding::thousandths;
+use crate::proved::subsetter_base::fields::{number_in, signed_in};
 
 /// How far a line of text reaches above the baseline, and, as a number below 0, below it, in the font's units.
 #[derive(Clone, Copy)]

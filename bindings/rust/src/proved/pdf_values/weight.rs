@@ -2,7 +2,8 @@
 //! How bold a font is: FontWeight and StemV (ISO 32000-1, Table 122), by `OS/2` and `head` (OpenType, "OS/2",
 //! usWeightClass).
 
-use crate::proved::pdf_values::fields::{number_in, says_bit};
+use crate::proved::pdf_values::fields::says_bit;
+use crate::proved::subsetter_base::fields::number_in;
 
 /// Old fonts count from 1 to 9.
 fn in_hundreds(class: u16) -> u16 {

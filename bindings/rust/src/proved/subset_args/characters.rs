@@ -4,7 +4,7 @@
 use crate::rattle::prelude::{IteratorExt, String, Vec};
 
 use crate::proved::subset_args::jobs::ArgsError;
-use crate::proved::subset_args::lists::{is_blank, with_commas, GlyphList};
+use crate::proved::subset_args::lists::{is_blank, is_less, with_commas, GlyphList};
 use crate::proved::subsetter_words::parts_of;
 use crate::rattle::alloc::{AllocError, Global};
 
@@ -82,15 +82,6 @@ fn codes_in(part: &str) -> Option<Codes> {
                 last: code,
             })
         }
-    }
-}
-
-/// Whether of two codes the one is less.
-fn is_less(one: Option<u32>, other: Option<u32>) -> bool {
-    match (one, other) {
-        (Some(one), Some(other)) => one < other,
-        (Some(_), None) => false,
-        (None, _) => false,
     }
 }
 

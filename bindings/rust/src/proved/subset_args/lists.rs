@@ -97,7 +97,7 @@ fn ends_in(part: &str) -> Option<Ends> {
 }
 
 /// Whether of two numbers the one is less.
-fn is_less(one: Option<u16>, other: Option<u16>) -> bool {
+pub fn is_less(one: Option<u32>, other: Option<u32>) -> bool {
     match (one, other) {
         (Some(one), Some(other)) => one < other,
         (Some(_), None) => false,
@@ -105,10 +105,18 @@ fn is_less(one: Option<u16>, other: Option<u16>) -> bool {
     }
 }
 
+/// A number of 16 bits in 32.
+fn wide(number: Option<u16>) -> Option<u32> {
+    match number {
+        Some(number) => Some(u32::from(number)),
+        None => None,
+    }
+}
+
 /// Whether a part of a list is a range whose ends are numbers, and not in order.
 pub fn descends(part: &str) -> bool {
     match part.split_once('-') {
-        Some((first, last)) => is_less(u16_of(last), u16_of(first)),
+        Some((first, last)) => is_less(wide(u16_of(last)), wide(u16_of(first))),
         None => false,
     }
 }

@@ -108,13 +108,3 @@ pub fn axes_there(alloc: Global, font: &[u8], index: u32) -> Result<Vec<Axis>, E
         None => Ok(Vec::new(alloc)),
     }
 }
-
-/// The first axis that bears a tag.
-pub fn find_axis(axes: &[Axis], tag: Tag) -> Option<Axis> {
-    for axis in axes {
-        if axis.tag == tag {
-            return Some(*axis);
-        }
-    }
-    None
-}

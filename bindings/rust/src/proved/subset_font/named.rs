@@ -6,9 +6,9 @@ use crate::rattle::prelude::{Cast, Vec};
 use crate::proved::subset_font::axes::names_of;
 use crate::proved::subset_font::face::{header_place, table};
 use crate::proved::subset_font::failure::Failure;
-use crate::proved::subset_lines::{after_four, name_of, read_axes, text_of_name, FontAxes};
+use crate::proved::subset_lines::{name_of, read_axes, text_of_name, FontAxes};
 use crate::proved::subsetter::{Error, Tag};
-use crate::proved::subsetter_base::read::Reader;
+use crate::proved::subsetter_base::read::{after_four, Reader};
 use crate::proved::subsetter_variation::axes::Axis;
 use crate::rattle::alloc::{AllocError, Global};
 

@@ -8,7 +8,7 @@ use crate::proved::subset_lines::fixed::write_fixed;
 use crate::proved::subset_lines::names::{string_for, write_behind};
 use crate::proved::subset_lines::plain::flush;
 use crate::proved::subset_lines::text::write_text;
-use crate::proved::subsetter_base::read::Reader;
+use crate::proved::subsetter_base::read::{after_four, Reader};
 use crate::proved::subsetter_base::{Error, Tag};
 use crate::proved::subsetter_variation::axes::{axes, Axis};
 use crate::rattle::alloc::Global;
@@ -167,14 +167,6 @@ fn write_setting<W: Write>(
     write_tag(tag, out)?;
     write_text(b"=", out)?;
     write_coordinate(bytes, out)
-}
-
-/// The bytes behind the first four.
-pub fn after_four(bytes: &[u8]) -> &[u8] {
-    match bytes {
-        [_, _, _, _, rest @ ..] => rest,
-        _ => &[],
-    }
 }
 
 /// Writes each axis with its coordinate, as `--at` takes them.

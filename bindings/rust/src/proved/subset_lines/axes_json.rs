@@ -3,15 +3,14 @@
 
 use crate::rattle::prelude::Vec;
 
-use crate::proved::subset_lines::axes::{
-    after_four, name_of, tag_bytes, write_coordinate, FontAxes,
-};
+use crate::proved::subset_lines::axes::{name_of, tag_bytes, write_coordinate, FontAxes};
 use crate::proved::subset_lines::entry::Unwritten;
 use crate::proved::subset_lines::fixed::write_labelled;
 use crate::proved::subset_lines::names::write_units;
 use crate::proved::subset_lines::plain::flush;
 use crate::proved::subset_lines::quoted::write_quoted;
 use crate::proved::subset_lines::text::write_text;
+use crate::proved::subsetter_base::read::after_four;
 use crate::proved::subsetter_base::Tag;
 use crate::proved::subsetter_variation::axes::Axis;
 use crate::rattle::alloc::Global;

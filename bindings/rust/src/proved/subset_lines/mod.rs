@@ -25,7 +25,7 @@ mod quoted;
 mod sizes;
 mod text;
 
-pub use axes::{after_four, name_of, read_axes, write_axes, FontAxes};
+pub use axes::{name_of, read_axes, write_axes, FontAxes};
 pub use axes_json::{text_of_name, write_axes_json};
 pub use entry::{take_first, Numbering};
 pub use info::{write_info, write_info_json, Info, Outlines};

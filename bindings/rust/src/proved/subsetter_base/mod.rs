@@ -11,9 +11,16 @@
 //! w.write(&count)?;
 //! ```
 
+#[cfg(feature = "variable-fonts")]
+pub mod compare;
+#[cfg(feature = "variable-fonts")]
+pub mod decimals;
 pub mod error;
+#[cfg(feature = "variable-fonts")]
+pub mod fields;
 pub mod glyph_remapper;
 pub mod lazy_array;
+pub mod numbers;
 pub mod read;
 #[cfg(feature = "variable-fonts")]
 pub mod remapper;

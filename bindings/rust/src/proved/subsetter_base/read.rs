@@ -3,6 +3,8 @@
 //!
 //! `new_at` and `jump` take any offset, and one past the end has to be told from the end, where no bytes can be read.
 
+use crate::rattle::prelude::Cast;
+
 pub use crate::proved::subsetter_base::lazy_array::LazyArray16;
 
 /// Bytes, and a place in them from which values are read. What is read never leads past the end: a place inside the data
@@ -86,6 +88,63 @@ pub fn u32_at(bytes: &[u8], at: usize) -> u32 {
 pub fn u16_at(bytes: &[u8], at: usize) -> u16 {
     let b = &bytes[at..at + 2];
     u16::from_be_bytes([b[0], b[1]])
+}
+
+/// The number that two bytes are.
+#[inline]
+pub fn u16_of(bytes: &[u8]) -> u16 {
+    u16::from_be_bytes([bytes[0], bytes[1]])
+}
+
+/// The number that four bytes are.
+#[inline]
+pub fn u32_of(bytes: &[u8]) -> u32 {
+    u32::from_be_bytes([bytes[0], bytes[1], bytes[2], bytes[3]])
+}
+
+/// The signed number that two bytes spell.
+#[cfg(feature = "variable-fonts")]
+#[inline]
+pub fn signed_at(bytes: &[u8], at: usize) -> i16 {
+    u16_at(bytes, at).to_signed()
+}
+
+/// The signed number that four bytes spell.
+#[cfg(feature = "variable-fonts")]
+#[inline]
+pub fn long_signed_at(bytes: &[u8], at: usize) -> i32 {
+    u32_at(bytes, at).to_signed()
+}
+
+/// The number of 16 bits at an offset, if its bytes are there.
+#[cfg(feature = "variable-fonts")]
+pub fn number_at(bytes: &[u8], at: usize) -> Option<u16> {
+    Reader::new_at(bytes, at).read::<u16>()
+}
+
+/// The bytes from an offset on, if it isn't past the end.
+#[cfg(feature = "variable-fonts")]
+pub fn from_offset(bytes: &[u8], at: usize) -> Option<&[u8]> {
+    bytes.get(at..)
+}
+
+/// The bytes behind the first four.
+#[cfg(feature = "variable-fonts")]
+pub fn after_four(bytes: &[u8]) -> &[u8] {
+    match bytes {
+        [_, _, _, _, rest @ ..] => rest,
+        _ => &[],
+    }
+}
+
+/// The bytes between two offsets.
+#[cfg(feature = "variable-fonts")]
+pub fn between_offsets(bytes: &[u8], from: usize, to: usize) -> Option<&[u8]> {
+    if from <= to {
+        Reader::new_at(bytes, from).read_bytes(to - from)
+    } else {
+        None
+    }
 }
 
 impl Readable<'_> for u8 {

@@ -11,7 +11,6 @@
 //! while let Some(operator) = parser.parse_next() { .. }
 //! ```
 
-mod card;
 pub mod charstring_number;
 pub mod dict;
 pub mod index;

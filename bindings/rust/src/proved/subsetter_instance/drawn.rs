@@ -7,7 +7,7 @@ use crate::proved::subsetter_base::{Error, GlyphRemapper};
 use crate::proved::subsetter_instance::kept::Kept;
 use crate::proved::subsetter_instance::source::{Metric, Source};
 use crate::proved::subsetter_instance::unfolding::{unfold, Unfolded};
-use crate::proved::subsetter_points::{fits, Outline, Point};
+use crate::proved::subsetter_points::{fits, least_x, Outline, Point};
 use crate::proved::subsetter_variation::item_variations::advance_delta;
 use crate::rattle::alloc::Global;
 
@@ -36,8 +36,8 @@ fn whole(value: i64) -> i64 {
     (above / UNIT) as i64 - ABOVE_UNITS
 }
 
-/// A coordinate, `OverflowError` where it has no 16 bits.
-fn word_or_fault(value: i64) -> Result<i16, Error> {
+/// A number of 16 bits, `OverflowError` where it has more.
+pub fn word_or_fault(value: i128) -> Result<i16, Error> {
     if value >= -32768 && value < 32768 {
         Ok(value as i16)
     } else {
@@ -52,8 +52,8 @@ fn distance(from: i64, to: i64) -> i64 {
 
 /// A point, of which x begins at the left phantom point. `OverflowError` where a coordinate has no 16 bits.
 fn point_or_fault(left: i64, on_curve: bool, x: i64, y: i64) -> Result<Point, Error> {
-    let across = word_or_fault(whole(distance(left, x)))?;
-    let up = word_or_fault(whole(y))?;
+    let across = word_or_fault(i128::from(whole(distance(left, x))))?;
+    let up = word_or_fault(i128::from(whole(y)))?;
     Ok(Point {
         x: across,
         y: up,
@@ -101,24 +101,6 @@ fn advance(
             advance_or_fault(i128::from(before) + i128::from(advance_delta(hvar, at, glyph)?))
         }
     }
-}
-
-/// The smaller of two numbers.
-fn smaller(a: i16, b: i16) -> i16 {
-    if b < a {
-        b
-    } else {
-        a
-    }
-}
-
-/// The least x of a point's, `first`, and of others.
-fn least_x(first: i16, rest: &[Point]) -> i16 {
-    let mut least = first;
-    for point in rest {
-        least = smaller(least, point.x);
-    }
-    least
 }
 
 /// The left side bearing: the least x, 0 without points.

@@ -3,6 +3,7 @@
 
 use crate::rattle::prelude::Vec;
 
+use crate::proved::subsetter_base::compare::{larger, smaller};
 use crate::proved::subsetter_instance::drawn::Drawn;
 use crate::proved::subsetter_points::Point;
 use crate::rattle::alloc::AllocError;
@@ -27,24 +28,6 @@ pub struct Extents {
     pub bounds: Bounds,
     /// The least right side bearing, at most 32767.
     pub right: i16,
-}
-
-/// The smaller of two numbers.
-fn smaller(a: i16, b: i16) -> i16 {
-    if b < a {
-        b
-    } else {
-        a
-    }
-}
-
-/// The larger of two numbers.
-fn larger(a: i16, b: i16) -> i16 {
-    if b < a {
-        a
-    } else {
-        b
-    }
 }
 
 /// The least box around a box and a point.

@@ -3,25 +3,17 @@
 
 use crate::rattle::prelude::Vec;
 
+use crate::proved::subsetter_base::read::signed_at;
 use crate::proved::subsetter_base::{Error, Tag};
+use crate::proved::subsetter_instance::drawn::word_or_fault;
 use crate::proved::subsetter_sfnt::face::Face;
 use crate::proved::subsetter_variation::font_metrics::metric_delta;
-use crate::proved::subsetter_variation::item_variations::signed_at;
 use crate::rattle::alloc::{AllocError, Global};
 
 /// `hhea` and `post` with the metrics that vary.
 pub struct Lines {
     pub hhea: Vec<u8>,
     pub post: Option<Vec<u8>>,
-}
-
-/// A number of 16 bits, `OverflowError` where it has more.
-fn word_or_fault(value: i128) -> Result<i16, Error> {
-    if value >= -32768 && value < 32768 {
-        Ok(value as i16)
-    } else {
-        Err(Error::OverflowError)
-    }
 }
 
 /// A number with what the metric of a tag varies by.

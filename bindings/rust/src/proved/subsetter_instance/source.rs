@@ -3,7 +3,7 @@
 
 use crate::rattle::prelude::Vec;
 
-use crate::proved::subsetter_base::read::Reader;
+use crate::proved::subsetter_base::read::{between_offsets, Reader};
 use crate::proved::subsetter_base::{Error, Tag};
 use crate::proved::subsetter_sfnt::face::Face;
 use crate::proved::subsetter_variation::coordinates::{coordinates, is_other_version};
@@ -90,15 +90,6 @@ pub fn source_or_fault<'a>(face: &Face<'a>, axes: usize) -> Result<Source<'a>, E
         return Err(Error::Unimplemented);
     }
     source_in(face, axes).ok_or(Error::MalformedFont)
-}
-
-/// The bytes between two offsets.
-fn between_offsets(bytes: &[u8], from: usize, to: usize) -> Option<&[u8]> {
-    if from <= to {
-        Reader::new_at(bytes, from).read_bytes(to - from)
-    } else {
-        None
-    }
 }
 
 /// An advance and a left side bearing at two places of `hmtx`.

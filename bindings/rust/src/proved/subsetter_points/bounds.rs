@@ -3,29 +3,12 @@
 
 use crate::rattle::prelude::Vec;
 
+use crate::proved::subsetter_base::compare::{larger, smaller};
 use crate::proved::subsetter_base::Error;
 use crate::proved::subsetter_points::outline::Point;
 
-/// The smaller of two numbers.
-fn smaller(a: i16, b: i16) -> i16 {
-    if b < a {
-        b
-    } else {
-        a
-    }
-}
-
-/// The larger of two numbers.
-fn larger(a: i16, b: i16) -> i16 {
-    if b < a {
-        a
-    } else {
-        b
-    }
-}
-
 /// The least x of a point's, `first`, and of others.
-fn least_x(first: i16, rest: &[Point]) -> i16 {
+pub fn least_x(first: i16, rest: &[Point]) -> i16 {
     let mut least = first;
     for point in rest {
         least = smaller(least, point.x);

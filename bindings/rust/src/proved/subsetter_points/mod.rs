@@ -27,6 +27,7 @@ mod outline;
 mod reading;
 mod writing;
 
+pub use bounds::least_x;
 pub use fitting::fits;
 pub use outline::{Columns, Outline, Point};
 pub use reading::read_columns;

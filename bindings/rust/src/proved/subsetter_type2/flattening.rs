@@ -8,29 +8,7 @@ use crate::proved::subsetter_type2::fixed_stack::FixedStack;
 use crate::proved::subsetter_type2::limits::Limits;
 use crate::proved::subsetter_type2::machine::{Flow, Machine, Subroutines};
 use crate::proved::subsetter_type2::output::Output;
-
-/// What is left of the innermost charstring that is not at its end, taken off the stack.
-#[inline(always)]
-fn next_rest<'a, const N: usize>(rests: &mut FixedStack<&'a [u8], N>) -> Option<&'a [u8]> {
-    while let Some(rest) = rests.pop() {
-        if !rest.is_empty() {
-            return Some(rest);
-        }
-    }
-    None
-}
-
-/// The innermost charstring that is not at its end: the running one, or else one of its callers.
-#[inline(always)]
-fn innermost<'a, const N: usize>(
-    running: &'a [u8],
-    rests: &mut FixedStack<&'a [u8], N>,
-) -> Option<&'a [u8]> {
-    if !running.is_empty() {
-        return Some(running);
-    }
-    next_rest(rests)
-}
+use crate::proved::subsetter_type2::rests::innermost;
 
 /// What runs after a token that leads there; nothing, where a charstring is at its end.
 #[inline(always)]

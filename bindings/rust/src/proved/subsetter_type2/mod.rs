@@ -20,6 +20,7 @@ mod machine;
 pub mod operators;
 mod output;
 mod plain;
+pub mod rests;
 mod scanning;
 mod sink;
 mod stretch;

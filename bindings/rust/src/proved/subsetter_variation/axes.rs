@@ -3,9 +3,9 @@
 //!
 //! An axis whose least coordinate lies above its default, which OpenType doesn't allow, has nothing below its default.
 
-use crate::rattle::prelude::{Cast, Vec};
+use crate::rattle::prelude::Vec;
 
-use crate::proved::subsetter_base::read::{u32_at, Reader};
+use crate::proved::subsetter_base::read::{long_signed_at, Reader};
 use crate::proved::subsetter_base::{Error, Tag};
 use crate::proved::subsetter_variation::rounding::part;
 use crate::rattle::alloc::Global;
@@ -20,19 +20,24 @@ pub struct Axis {
     pub maximum: i32,
 }
 
-/// The signed number of four bytes.
-fn fixed_at(bytes: &[u8], at: usize) -> i32 {
-    u32_at(bytes, at).to_signed()
-}
-
 /// The axis whose record these bytes begin.
 fn axis_of(bytes: &[u8]) -> Axis {
     Axis {
         tag: Tag::new(&[bytes[0], bytes[1], bytes[2], bytes[3]]),
-        minimum: fixed_at(bytes, 4),
-        default: fixed_at(bytes, 8),
-        maximum: fixed_at(bytes, 12),
+        minimum: long_signed_at(bytes, 4),
+        default: long_signed_at(bytes, 8),
+        maximum: long_signed_at(bytes, 12),
     }
+}
+
+/// The first axis of a tag.
+pub fn find_axis(axes: &[Axis], tag: Tag) -> Option<Axis> {
+    for axis in axes {
+        if axis.tag == tag {
+            return Some(*axis);
+        }
+    }
+    None
 }
 
 /// So many axes, of size bytes each.

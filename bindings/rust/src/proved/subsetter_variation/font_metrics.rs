@@ -4,12 +4,11 @@
 //! The records are looked through in turn, and the first one with a tag counts. A metric without a record doesn't vary, and a
 //! table without records needs no store. The version has to be 1.
 
-use crate::proved::subsetter_base::read::{u16_at, Reader};
+use crate::proved::subsetter_base::read::{from_offset, u16_at, Reader};
 use crate::proved::subsetter_base::{Error, Tag};
 use crate::proved::subsetter_variation::item_variations::{
     in_whole_units, item_delta, item_store, Store,
 };
-use crate::proved::subsetter_variation::tuples::tail;
 
 /// The indexes of a value record.
 fn value_indexes(bytes: &[u8]) -> (u16, u16) {
@@ -57,7 +56,7 @@ fn metric_store(mvar: &[u8], axis_count: usize) -> Option<Store<'_>> {
     if at == 0 {
         return None;
     }
-    store_for(axis_count, item_store(tail(mvar, at as usize)?)?)
+    store_for(axis_count, item_store(from_offset(mvar, at as usize)?)?)
 }
 
 /// What a metric varies by, by its indexes, in parts of 2^30.

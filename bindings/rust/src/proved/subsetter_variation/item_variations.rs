@@ -9,11 +9,11 @@
 
 use crate::rattle::prelude::Cast;
 
-use crate::proved::subsetter_base::read::{u16_at, LazyArray16, Readable, Reader};
+use crate::proved::subsetter_base::numbers::number_of;
+use crate::proved::subsetter_base::read::{from_offset, signed_at, LazyArray16, Readable, Reader};
 use crate::proved::subsetter_base::Error;
 use crate::proved::subsetter_variation::region::{counted, RegionAxis};
 use crate::proved::subsetter_variation::rounding::{nearest, scaled, wide_plus};
-use crate::proved::subsetter_variation::tuples::tail;
 
 /// An offset of 32 bits, unless it is 0, which stands for no table.
 fn offset_at(bytes: &[u8], at: usize) -> Option<u32> {
@@ -47,11 +47,6 @@ struct Row<'a> {
     long: bool,
     indexes: &'a [u8],
     deltas: &'a [u8],
-}
-
-/// The signed number of two bytes.
-pub fn signed_at(bytes: &[u8], at: usize) -> i16 {
-    u16_at(bytes, at).to_signed()
 }
 
 /// A region on one axis.
@@ -247,17 +242,6 @@ fn map_head(map: &[u8]) -> Option<(u32, usize)> {
     }
 }
 
-/// The number of up to four bytes.
-fn be(bytes: &[u8]) -> u32 {
-    match bytes {
-        [] => 0,
-        [a] => u32::from(*a),
-        [a, b] => u32::from_be_bytes([0, 0, *a, *b]),
-        [a, b, c] => u32::from_be_bytes([0, *a, *b, *c]),
-        [a, b, c, d, ..] => u32::from_be_bytes([*a, *b, *c, *d]),
-    }
-}
-
 /// An entry's outer and inner index.
 fn split_index(bits: u8, entry: u32) -> (u32, u32) {
     (entry >> bits, entry % (1 << bits))
@@ -282,7 +266,7 @@ fn mapped_index(map: &[u8], glyph: u16) -> Option<(u32, u32)> {
     let size = (form / 16 % 4 + 1) as usize;
     let place = entry_place(count, glyph);
     let bytes = Reader::new_at(map, from + place as usize * size).read_bytes(size)?;
-    Some(split_index(form % 16 + 1, be(bytes)))
+    Some(split_index(form % 16 + 1, number_of(bytes)))
 }
 
 /// The indexes of a glyph's advance.
@@ -291,13 +275,13 @@ fn advance_index(hvar: &[u8], glyph: u16) -> Option<(u32, u32)> {
     if at == 0 {
         return Some((0, u32::from(glyph)));
     }
-    mapped_index(tail(hvar, at as usize)?, glyph)
+    mapped_index(from_offset(hvar, at as usize)?, glyph)
 }
 
 /// The store of `HVAR`, if its regions have as many axes as the font.
 fn store_of(hvar: &[u8], axis_count: usize) -> Option<Store<'_>> {
     let at = offset_at(hvar, 4)?;
-    let s = item_store(tail(hvar, at as usize)?)?;
+    let s = item_store(from_offset(hvar, at as usize)?)?;
     if s.axis_count as usize == axis_count {
         Some(s)
     } else {

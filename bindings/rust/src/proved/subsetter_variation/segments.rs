@@ -4,7 +4,7 @@
 //! OpenType asks for the pairs of -1, 0 and 1, past which no number lies, for numbers that ascend, and for new numbers that
 //! don't descend. Where an axis has anything else, its coordinate isn't modified. The major version has to be 1.
 
-use crate::proved::subsetter_base::read::{LazyArray16, Readable, Reader};
+use crate::proved::subsetter_base::read::{signed_at, LazyArray16, Readable, Reader};
 use crate::proved::subsetter_variation::rounding::{minus, part, plus};
 
 /// The end of a segment: a number and its new one, in 16384ths.
@@ -20,8 +20,8 @@ impl Readable<'_> for AxisValueMap {
     fn read(r: &mut Reader<'_>) -> Option<Self> {
         let b = r.read_bytes(4)?;
         Some(AxisValueMap {
-            from: i16::from_be_bytes([b[0], b[1]]),
-            to: i16::from_be_bytes([b[2], b[3]]),
+            from: signed_at(b, 0),
+            to: signed_at(b, 2),
         })
     }
 }

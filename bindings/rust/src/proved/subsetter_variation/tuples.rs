@@ -7,7 +7,7 @@
 
 use crate::rattle::prelude::Vec;
 
-use crate::proved::subsetter_base::read::Reader;
+use crate::proved::subsetter_base::read::{between_offsets, from_offset, Reader};
 use crate::proved::subsetter_base::Error;
 use crate::proved::subsetter_variation::packed::{deltas, point_numbers, word_in};
 use crate::proved::subsetter_variation::tuple_region::{tuple_region, TupleRegion};
@@ -39,11 +39,6 @@ fn split(n: usize, bytes: &[u8]) -> Option<(&[u8], &[u8])> {
     }
 }
 
-/// The bytes from a place on, which isn't past the end.
-pub(crate) fn tail(bytes: &[u8], at: usize) -> Option<&[u8]> {
-    bytes.get(at..)
-}
-
 /// The parts of the table, for these numbers of its header.
 fn parts(gvar: &[u8], axis_count: u16, glyph_count: u16, long: bool) -> Option<Gvar<'_>> {
     let shared_count = Reader::new_at(gvar, 6).read::<u16>()?;
@@ -53,7 +48,7 @@ fn parts(gvar: &[u8], axis_count: u16, glyph_count: u16, long: bool) -> Option<G
     let shared = Reader::new_at(gvar, shared_at as usize).read_bytes(size)?;
     let entry = if long { 4 } else { 2 };
     let offsets = Reader::new_at(gvar, 20).read_bytes((glyph_count as usize + 1) * entry)?;
-    let variations = tail(gvar, from as usize)?;
+    let variations = from_offset(gvar, from as usize)?;
     Some(Gvar {
         axis_count,
         glyph_count,
@@ -98,20 +93,11 @@ impl<'a> Gvar<'a> {
     }
 }
 
-/// The bytes between two offsets.
-fn between_offsets(bytes: &[u8], from: usize, to: usize) -> Option<&[u8]> {
-    if from <= to {
-        Reader::new_at(bytes, from).read_bytes(to - from)
-    } else {
-        None
-    }
-}
-
 /// Whether point numbers are shared, and the tuples of a glyph, by the bytes of its variations.
 pub fn tuple_headers(bytes: &[u8]) -> Option<(bool, TupleHeaders<'_>)> {
     let count = Reader::new(bytes).read::<u16>()?;
     let at = Reader::new_at(bytes, 2).read::<u16>()?;
-    let serialized = tail(bytes, at as usize)?;
+    let serialized = from_offset(bytes, at as usize)?;
     Some((
         count >= 32768,
         TupleHeaders {

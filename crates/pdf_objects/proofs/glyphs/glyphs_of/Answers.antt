@@ -1,5 +1,6 @@
 use Rattle.std.proofs.Common.{false, [], arith}
-use Rattle.pdf_objects.specs.Glyphs.{advance_of, texts_of}
+use Rattle.pdf_objects.specs.Glyphs.{advance_of}
+use Rattle.pdf_codes.specs.Shown.{texts_of}
 use Rattle.pdf_objects.proofs.Steps.{length-texts, one_more, one_more_by}
 use Rattle.pdf_objects.proofs.glyphs.glyphs_of.Goals as goal
 use Rattle.pdf_sheet.specs.declared.glyphs.SheetGlyph.{SheetGlyph}

@@ -1,5 +1,6 @@
 use Rattle.std.proofs.Common.{◌≡◌, map, take}
-use Rattle.pdf_objects.specs.Glyphs.{advance_of, texts_of}
+use Rattle.pdf_objects.specs.Glyphs.{advance_of}
+use Rattle.pdf_codes.specs.Shown.{texts_of}
 use Rattle.pdf_sheet.specs.declared.glyphs.SheetGlyph.{SheetGlyph}
 use Rattle.pdf_objects.proofs.glyphs.glyphs_of.Given as goal
 

@@ -1,7 +1,7 @@
 use Rattle.std.proofs.Common.{◌≡◌, ◌++◌, map, drop}
 use Rattle.std.specs.List.{join_with_byte}
 use Rattle.pdf_text.specs.Columns.{column_text, column_at}
-use Rattle.pdf_text.proofs.Written.{spaced}
+use Rattle.subsetter_base.proofs.TextLemmas.{spaced}
 use Rattle.pdf_text.proofs.columns.write_list.Given as goal
 
 abbrev pub invariant-loop-m : goal.invariant-loop-m

@@ -2,7 +2,7 @@ use Rattle.std.proofs.Common.{◌≡◌, ◌++◌, map, drop}
 use Rattle.std.specs.List.{join_with_byte}
 use Rattle.pdf_text.specs.View.{part_view}
 use Rattle.pdf_text.specs.Columns.{span_text, span_of}
-use Rattle.pdf_text.proofs.Written.{spaced}
+use Rattle.subsetter_base.proofs.TextLemmas.{spaced}
 use Rattle.pdf_text.proofs.columns.write_spans.Given as goal
 
 abbrev pub invariant-loop-part : goal.invariant-loop-part

@@ -1,6 +1,6 @@
 use Rattle.std.proofs.Common.{◌≡◌, ◌+◌, ◌-◌, ◌++◌, filter}
 use Rattle.subset_args.specs.Lists.{counting}
-use Rattle.subset_args.specs.Characters.{is_scalar}
+use Rattle.subsetter_base.specs.Texts.{is_scalar}
 use Rattle.subset_args.proofs.characters.push_codes.Given as goal
 
 abbrev pub invariant-loop-code : goal.invariant-loop-code

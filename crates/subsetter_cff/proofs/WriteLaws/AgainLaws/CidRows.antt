@@ -1,7 +1,8 @@
 -- A CID-keyed table, computed: two font dicts, a global and a local subroutine, a real matrix in a font dict and none at the top.
 use Rattle.std.proofs.Common.{◌≡◌, ℕ, List, [], ◌∷◌, length, refl}
 use Rattle.std.specs.Prelude.{Result, Ok, Err}
-use Rattle.subsetter_cffdata.specs.Bytes.{byte, card, part}
+use Rattle.subsetter_cffdata.specs.Bytes.{card, part}
+use Rattle.subsetter_base.specs.Bytes.{byte, ◌>>=◌}
 use Rattle.subsetter_cffdata.specs.Decimals.{decimal_digits, real_text, real_at, text_at, real_of, unsigned_real}
 use Rattle.subsetter_cffdata.specs.Numbers.{integer, as_i32, as_u32, in_i32, integer_from, short_integer, dict_number_from, signed16, signed32}
 use Rattle.subsetter_cffdata.specs.Index.{index, header, index_data, index_body, index_of}
@@ -19,7 +20,6 @@ use Rattle.subsetter_cff.specs.Read.Private.{local_subroutines, private_in, priv
 use Rattle.subsetter_cff.specs.Write.Layout.{strings, charset_bytes, select_bytes, private_bytes, entries_of_font_dict_by, top_entries_by, front, font_dicts_of, cff_table}
 use Rattle.subsetter_cff.specs.Read.Opened.{opened, opened_parts, opened_cid}
 use Rattle.subsetter_cff.specs.Write.Plain.{kept_glyph, new_font_dict, parts_for, counted_parts, limited, parts_of, cff_subset}
-use Rattle.subsetter_base.specs.Bytes.{◌>>=◌}
 
 abbrev cid_source : List ℕ
 cid_source =

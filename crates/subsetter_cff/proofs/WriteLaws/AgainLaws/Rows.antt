@@ -1,7 +1,8 @@
 -- A worked row, computed: the table of 134 bytes of a SID-keyed font subset again, and once more.
 use Rattle.std.proofs.Common.{◌≡◌, ℕ, List, [], ◌∷◌, length, refl, ap, arith, ◌∙◌, sym}
 use Rattle.std.specs.Prelude.{Ok}
-use Rattle.subsetter_cffdata.specs.Bytes.{byte, card, part}
+use Rattle.subsetter_cffdata.specs.Bytes.{card, part}
+use Rattle.subsetter_base.specs.Bytes.{byte}
 use Rattle.subsetter_cffdata.specs.Decimals.{decimal_digits, real_text, real_at, text_at, real_of, unsigned_real}
 use Rattle.subsetter_cffdata.specs.Numbers.{integer, as_i32, as_u32, in_i32, integer_from, short_integer, dict_number_from, signed16, signed32}
 use Rattle.subsetter_cffdata.specs.Index.{index, header, index_data, index_body, index_of}

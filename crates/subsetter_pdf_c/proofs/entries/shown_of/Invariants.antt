@@ -1,6 +1,7 @@
 use Rattle.std.proofs.Common.{◌≡◌, ◌++◌, drop, length, map, true}
 use Rattle.pdf_codes.specs.declared.shown.Shown.{Shown}
-use Rattle.subsetter_pdf_c.specs.Entries.{are_ascending, texts_from, texts_of}
+use Rattle.subsetter_pdf_c.specs.Entries.{are_ascending, texts_from}
+use Rattle.pdf_codes.specs.Shown.{texts_of}
 use Rattle.subsetter_pdf_c.proofs.entries.shown_of.Given as goal
 
 abbrev pub invariant-loop-place : goal.invariant-loop-place

@@ -1,6 +1,6 @@
 use Rattle.std.proofs.Common.{false, [], arith}
 use Rattle.pdf_sheet.specs.declared.glyphs.SheetGlyph.{SheetGlyph}
-use Rattle.subsetter_pdf_c.specs.Entries.{texts_of}
+use Rattle.pdf_codes.specs.Shown.{texts_of}
 use Rattle.subsetter_pdf_c.specs.Written.{advance_of}
 use Rattle.subsetter_pdf_c.proofs.Steps.{length_texts, one_more, one_more_by}
 use Rattle.subsetter_pdf_c.proofs.sheet.glyphs_of.Goals as goal

@@ -1,6 +1,6 @@
 use Rattle.std.proofs.Common.{◌≡◌, map, take}
 use Rattle.pdf_sheet.specs.declared.glyphs.SheetGlyph.{SheetGlyph}
-use Rattle.subsetter_pdf_c.specs.Entries.{texts_of}
+use Rattle.pdf_codes.specs.Shown.{texts_of}
 use Rattle.subsetter_pdf_c.specs.Written.{advance_of}
 use Rattle.subsetter_pdf_c.proofs.sheet.glyphs_of.Given as goal
 

@@ -1,4 +1,4 @@
-use Rattle.subsetter_pdf_c.specs.Entries.{texts_of}
+use Rattle.pdf_codes.specs.Shown.{texts_of}
 use Rattle.subsetter_pdf_c.proofs.Steps.{sheet_made, sheet_refused}
 use Rattle.subsetter_pdf_c.proofs.sheet.write_sheet.Goals as goal
 

@@ -1,6 +1,6 @@
 use Rattle.std.proofs.Common.{◌≡◌, ◌<◌, length, Some, sym, ap, ◌∙◌, arith}
 use Rattle.std.proofs.lemmas.Bool.{eqb-true, eqb-false}
-use Rattle.subsetter_points.specs.Optional.{◌>>=◌}
+use Rattle.subsetter_base.specs.Options.{◌>>=◌}
 use Rattle.subsetter_points.specs.Simple.{description_at, parts}
 use Rattle.subsetter_points.proofs.ReadLemmas.{parts_of_none, parts_of_bytes, if_ok, no_columns, if_ok_three}
 use Rattle.subsetter_points.proofs.Sound.{sound_of_columns}

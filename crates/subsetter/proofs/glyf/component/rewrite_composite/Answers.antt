@@ -2,14 +2,14 @@ use Rattle.std.proofs.Common.{◌≡◌, ℕ, ◌-◌, List, Option, ◌++◌, l
 use Rattle.std.specs.Option.{ok_or}
 use Rattle.subsetter_base.proofs.Lists.{rest_of}
 use Rattle.subsetter_base.specs.declared.error.Error.TheVariants.{MalformedFont}
-use Rattle.subsetter.specs.Glyf.Plain.{written_behind}
+use Rattle.subsetter_base.specs.Gives.{behind}
 use Rattle.subsetter.specs.Glyf.View.{component_seen}
 use Rattle.subsetter.proofs.GlyfLaws.Chains.{with_front, chain_text, text_fails, composite_short, composite_behind}
 use Rattle.subsetter.proofs.GlyfLaws.Renumbering.{underway_starts, underway_next, underway_ends, behind_starts, behind_next}
 use Rattle.subsetter.proofs.glyf.component.rewrite_composite.Goals as goal
 
 pub returns-then-outline-lt10-clause-err : goal.returns-then-outline-lt10-clause-err
-returns-then-outline-lt10-clause-err c = ap (written_behind c.args.out.now.items) (composite_short c.args.hinting c.args.order.now c.args.outline.now (omega arith))
+returns-then-outline-lt10-clause-err c = ap (behind c.args.out.now.items) (composite_short c.args.hinting c.args.order.now c.args.outline.now (omega arith))
 
 pub loop-component-init : goal.loop-component-init
 loop-component-init c =

@@ -1,6 +1,6 @@
 use Rattle.std.proofs.Common.{◌≡◌, ◌++◌, drop, map}
-use Rattle.subsetter_cff.specs.Write.UsedFontDicts.{new_place}
+use Rattle.subsetter_base.specs.Places.{new_index}
 use Rattle.subsetter_cff.proofs.write.font_dict_remapper.renumber.Given as goal
 
 abbrev pub invariant-loop-number : goal.invariant-loop-number
-invariant-loop-number l = l.places.items ++ map (new_place l.remapper) (drop l.number-index l.numbers) ≡ map (new_place l.remapper) l.numbers
+invariant-loop-number l = l.places.items ++ map (new_index l.remapper) (drop l.number-index l.numbers) ≡ map (new_index l.remapper) l.numbers

@@ -6,7 +6,8 @@ use Rattle.subsetter_cffdata.specs.Views.{number_of, operator_of}
 use Rattle.subsetter_cffdata.specs.Dict.{entry_bytes}
 use Rattle.subsetter_cffdata.specs.Numbers.{Number}
 use Rattle.subsetter_cff.specs.Write.Layout.{plain_entry}
-use Rattle.subsetter_cff.specs.Write.Rewritten.{behind, written_entry, rewritten_private}
+use Rattle.subsetter_cff.specs.Write.Rewritten.{written_entry, rewritten_private}
+use Rattle.subsetter_base.specs.Gives.{behind}
 use Rattle.subsetter_cff.specs.Write.TableLimits.{limit, short}
 use Rattle.subsetter_cff.proofs.WriteLaws.Checked.{entry_checked}
 use Rattle.subsetter_cff.proofs.ReadLaws.Failing.{fails_on, goes_on}

@@ -3,7 +3,8 @@ use Rattle.subsetter_cffdata.specs.Dict.{entries, operand_limit}
 use Rattle.subsetter_cffdata.specs.ParserView.{left}
 use Rattle.subsetter_cff.specs.Read.Lookup.{without}
 use Rattle.subsetter_cff.specs.Read.Operators.{subroutines_operator}
-use Rattle.subsetter_cff.specs.Write.Rewritten.{behind, written_entries}
+use Rattle.subsetter_cff.specs.Write.Rewritten.{written_entries}
+use Rattle.subsetter_base.specs.Gives.{behind}
 use Rattle.subsetter_cff.proofs.write.private_dict.rewrite_private_dict.Given as goal
 
 abbrev pub invariant-loop-operator : goal.invariant-loop-operator

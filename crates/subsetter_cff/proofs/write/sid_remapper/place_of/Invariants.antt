@@ -2,7 +2,7 @@ use Rattle.std.proofs.Common.{◌≡◌, ◌+◌, ℕ, drop}
 use Rattle.std.specs.Option.{option_map}
 use Rattle.std.specs.Str.{bytes_eq}
 use Rattle.subsetter_base.specs.Remap.{place_by}
-use Rattle.subsetter_cff.specs.Write.SidRemapping.{views}
+use Rattle.subsetter_base.specs.Texts.{views}
 use Rattle.subsetter_cff.proofs.write.sid_remapper.place_of.Given as goal
 
 abbrev pub invariant-loop-i : goal.invariant-loop-i

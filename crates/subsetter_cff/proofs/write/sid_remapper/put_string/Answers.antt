@@ -2,7 +2,7 @@ use Rattle.std.proofs.Common.{◌≡◌, ◌+◌, ℕ, List, length, arith, ap, 
 use Rattle.std.specs.Borrow.{Bor}
 use Rattle.std.specs.Str.{bytes_eq}
 use Rattle.subsetter_base.specs.Remap.{place_by}
-use Rattle.subsetter_cff.specs.Write.SidRemapping.{views}
+use Rattle.subsetter_base.specs.Texts.{views}
 use Rattle.subsetter_cff.proofs.WriteLaws.StringPlaces.{number_added}
 use Rattle.subsetter_cff.proofs.write.sid_remapper.put_string.Goals as goal
 

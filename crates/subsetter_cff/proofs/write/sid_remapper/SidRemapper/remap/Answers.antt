@@ -1,4 +1,4 @@
-use Rattle.subsetter_cff.specs.Write.SidRemapping.{views}
+use Rattle.subsetter_base.specs.Texts.{views}
 use Rattle.subsetter_cff.proofs.WriteLaws.StringPlaces.{once_after}
 use Rattle.subsetter_cff.proofs.write.sid_remapper.SidRemapper.remap.Goals as goal
 

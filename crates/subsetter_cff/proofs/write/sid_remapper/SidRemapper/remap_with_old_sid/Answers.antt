@@ -1,6 +1,7 @@
 use Rattle.std.proofs.Common.{◌≡◌, ◌++◌, ◌∷◌, [], None, sym, ap, ◌∙◌}
 use Rattle.std.proofs.lemmas.Slice.{pushed}
-use Rattle.subsetter_cff.specs.Write.SidRemapping.{Remapped, new_number, views, with_old}
+use Rattle.subsetter_cff.specs.Write.SidRemapping.{Remapped, new_number, with_old}
+use Rattle.subsetter_base.specs.Texts.{views}
 use Rattle.subsetter_cff.proofs.WriteLaws.StringPlaces.{new_noted, old_noted, once_after}
 use Rattle.subsetter_cff.proofs.write.sid_remapper.SidRemapper.remap_with_old_sid.Goals as goal
 

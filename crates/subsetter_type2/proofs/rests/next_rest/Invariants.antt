@@ -1,7 +1,7 @@
 use Rattle.std.proofs.Common.{◌≡◌, ◌≤◌, length}
 use Rattle.subsetter_type2.specs.Machine.{unended}
 use Rattle.subsetter_type2.specs.View.{rests_of}
-use Rattle.subsetter_type2.proofs.flattening.next_rest.Given as goal
+use Rattle.subsetter_type2.proofs.rests.next_rest.Given as goal
 
 abbrev pub invariant-loop-rest : goal.invariant-loop-rest
 invariant-loop-rest g l = record {
