@@ -10,7 +10,6 @@ ghost use Rattle.pdf_glyphs.specs.Vertical.{by_record, origin_at, origin_of, rec
 use std::alloc::Global;
 use subsetter_base::fields::{number_in, signed_in};
 use subsetter_base::{Error, GlyphRemapper};
-use subsetter_base::fields::{number_in, signed_in};
 
 /// defaultVertOriginY, two bytes.
 const DEFAULT_VERT_ORIGIN_Y: usize = 4;

@@ -5,7 +5,6 @@ ghost use Rattle.std.specs.Prelude.{◌≡◌, ◌≤◌, ◌<◌, ◌^◌, [], 
 ghost use Rattle.std.specs.Option.{option_copied, option_map_or};
 ghost use Rattle.subsetter_base.specs.declared.error.Error.TheVariants.{OutOfMemory};
 ghost use Rattle.pdf_values.specs.Name.{is_of, string_at, string_from, string_of, is_name_character, plain_text, wide_text, text_of, text_in, table_name, postscript_name, IsNameText};
-ghost use Rattle.subsetter_sfnt.specs.Fields.Name.{name_record_of};
 ghost use Rattle.subsetter_base.specs.Texts.{or_else};
 
 use std::alloc::Global;
@@ -41,12 +40,10 @@ fn string_at(name: &[u8], kind: Kind, id: u16, storage: usize, at: usize) -> Opt
     requires { storage < 2 ^ 16 }
     ensures { option_copied result ≡ string_at kind id name.now storage at }
 {
-    let bytes = Reader::new_at(name, at).read_bytes(12)?;
-    let entry = name_record_of(bytes);
-    if entry.name == id && is_of(kind, entry) {
-        return Reader::new_at(name, storage + usize::from(entry.offset)).read_bytes(usize::from(
-            entry.size,
-        ));
+    let entry = Reader::new_at(name, at).read::<NameRecord>()?;
+    if entry.name_id == id && is_of(kind, entry) {
+        return Reader::new_at(name, storage + usize::from(entry.string_offset))
+            .read_bytes(usize::from(entry.length));
     }
     None
 }
@@ -58,8 +55,13 @@ fn string_from(name: &[u8], kind: Kind, id: u16, storage: usize, count: u16) -> 
     ensures { option_copied result ≡ string_from kind id name.now storage count 6 }
 {
     for place in 0..count {
-        let at = HEADER_SIZE + NAME_RECORD_SIZE * usize::from(place);
-        if let Some(string) = string_at(name, kind, id, storage, at) {
+        if let Some(string) = string_at(
+            name,
+            kind,
+            id,
+            storage,
+            HEADER_SIZE + NAME_RECORD_SIZE * usize::from(place),
+        ) {
             return Some(string);
         }
     }

@@ -68,7 +68,6 @@ pub mod subsetter_cff;
 pub mod subsetter_cffdata;
 #[cfg(feature = "variable-fonts")]
 pub mod subsetter_instance;
-#[cfg(feature = "variable-fonts")]
 pub mod subsetter_points;
 pub mod subsetter_sfnt;
 pub mod subsetter_type2;

@@ -3,15 +3,11 @@
 //!
 //! That `head` is cut before unitsPerEm is no fault of its own, as a `head` under 52 bytes is one of `subset`.
 
-use crate::proved::subsetter_base::read::{u32_at, Reader};
 use crate::proved::subsetter_base::{Error, Tag};
-
-/// Where a table stands in a file, in bytes.
-#[derive(Clone, Copy)]
-pub struct Place {
-    pub offset: u32,
-    pub length: u32,
-}
+use crate::proved::subsetter_sfnt::directory::{records_at, table_in};
+use crate::proved::subsetter_sfnt::fields::head::units_per_em;
+use crate::proved::subsetter_sfnt::fields::hhea::number_of_h_metrics;
+use crate::proved::subsetter_sfnt::fields::hmtx::glyph_advance;
 
 /// What the advances of glyphs and their widths are found by.
 #[derive(Clone, Copy)]
@@ -24,41 +20,10 @@ pub struct Metrics<'a> {
     pub units: u16,
 }
 
-/// The bytes of the directory's records, at the start of a file.
-fn records(file: &[u8]) -> Option<&[u8]> {
-    let count = Reader::new_at(file, 4).read::<u16>()?;
-    Reader::new_at(file, 12).read_bytes(16 * usize::from(count))
-}
-
-/// Whether a record bears a tag.
-fn bears(bytes: &[u8], tag: Tag) -> bool {
-    Tag::new(&[bytes[0], bytes[1], bytes[2], bytes[3]]) == tag
-}
-
-/// Where a record says that its table stands.
-fn place_in(bytes: &[u8]) -> Place {
-    Place {
-        offset: u32_at(bytes, 8),
-        length: u32_at(bytes, 12),
-    }
-}
-
-/// Where the first record that bears a tag says that its table stands.
-fn find_place(records: &[u8], tag: Tag) -> Option<Place> {
-    let mut r = Reader::new(records);
-    while let Some(bytes) = r.read_bytes(16) {
-        if bears(bytes, tag) {
-            return Some(place_in(bytes));
-        }
-    }
-    None
-}
-
 /// The bytes of a table.
 fn table(file: &[u8], tag: Tag) -> Option<&[u8]> {
-    let records = records(file)?;
-    let place = find_place(records, tag)?;
-    Reader::new_at(file, place.offset as usize).read_bytes(place.length as usize)
+    let records = records_at(file, 0)?;
+    table_in(file, records, tag)
 }
 
 /// What the advances and widths of a font's glyphs are found by. A missing or cut table, and a unitsPerEm of 0, are
@@ -66,23 +31,18 @@ fn table(file: &[u8], tag: Tag) -> Option<&[u8]> {
 pub fn read_metrics(file: &[u8]) -> Result<Metrics<'_>, Error> {
     let hmtx = table(file, Tag::HMTX).ok_or(Error::MalformedFont)?;
     let head = table(file, Tag::HEAD).ok_or(Error::MalformedFont)?;
-    let units = Reader::new_at(head, 18)
-        .read::<u16>()
-        .ok_or(Error::MalformedFont)?;
+    let units = units_per_em(head).ok_or(Error::MalformedFont)?;
     if units == 0 {
         return Err(Error::MalformedFont);
     }
     let hhea = table(file, Tag::HHEA).ok_or(Error::MalformedFont)?;
-    let pairs = Reader::new_at(hhea, 34)
-        .read::<u16>()
-        .ok_or(Error::MalformedFont)?;
+    let pairs = number_of_h_metrics(hhea).ok_or(Error::MalformedFont)?;
     Ok(Metrics { hmtx, pairs, units })
 }
 
 impl Metrics<'_> {
     /// The advance of a glyph, in font design units.
     pub fn advance(&self, glyph: u16) -> Option<u16> {
-        let pair = glyph.min(self.pairs.saturating_sub(1));
-        Reader::new_at(self.hmtx, 4 * usize::from(pair)).read::<u16>()
+        glyph_advance(self.hmtx, self.pairs, glyph)
     }
 }

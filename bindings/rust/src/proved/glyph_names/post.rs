@@ -4,6 +4,7 @@
 use crate::rattle::prelude::Vec;
 
 use crate::proved::subsetter_base::read::Reader;
+use crate::proved::subsetter_sfnt::fields::post::{num_glyphs, version, INDEXES};
 use crate::rattle::alloc::{AllocError, Global};
 
 /// How many names of its own a font can name by indexes of 16 bits.
@@ -38,8 +39,8 @@ fn strings_in(alloc: Global, most: usize, bytes: &[u8]) -> Result<Vec<&[u8]>, Al
 
 /// The bytes behind the indexes.
 fn behind_indexes(post: &[u8]) -> &[u8] {
-    match Reader::new_at(post, 32).read::<u16>() {
-        Some(count) => post.get(34 + 2 * usize::from(count)..).unwrap_or(&[]),
+    match num_glyphs(post) {
+        Some(count) => post.get(INDEXES + 2 * usize::from(count)..).unwrap_or(&[]),
         None => &[],
     }
 }
@@ -79,7 +80,7 @@ fn name_by_index<'a>(
     if glyph >= count {
         return &[];
     }
-    match Reader::new_at(post, 34 + 2 * usize::from(glyph)).read::<u16>() {
+    match Reader::new_at(post, INDEXES + 2 * usize::from(glyph)).read::<u16>() {
         Some(index) => name_of_index(macintosh, own, index),
         None => &[],
     }
@@ -99,7 +100,7 @@ fn name_by_version<'a>(
     if version != 0x0002_0000 {
         return &[];
     }
-    match Reader::new_at(post, 32).read::<u16>() {
+    match num_glyphs(post) {
         Some(count) => name_by_index(macintosh, own, post, glyph, count),
         None => &[],
     }
@@ -107,7 +108,7 @@ fn name_by_version<'a>(
 
 /// The name of a glyph, by the names of the Macintosh and the font's own; an empty one where there is none.
 pub fn post_name<'a>(macintosh: &[&'a str], own: &[&'a [u8]], post: &[u8], glyph: u16) -> &'a [u8] {
-    match Reader::new(post).read::<u32>() {
+    match version(post) {
         Some(version) => name_by_version(macintosh, own, post, glyph, version),
         None => &[],
     }

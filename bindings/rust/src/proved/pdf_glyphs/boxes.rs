@@ -3,7 +3,9 @@
 
 use crate::proved::pdf_values::GlyphBox;
 use crate::proved::subsetter_base::compare::{larger, smaller};
-use crate::proved::subsetter_base::fields::{long_in, number_in, signed_in};
+use crate::proved::subsetter_base::fields::signed_in;
+use crate::proved::subsetter_sfnt::fields::head::index_to_loc_format;
+use crate::proved::subsetter_sfnt::fields::loca::loca_offset;
 
 /// The tables that outlines are found by; none where the font lacks one.
 #[derive(Clone, Copy)]
@@ -15,7 +17,13 @@ pub struct OutlineTables<'a> {
 
 /// Whether the entries of `loca` have two bytes, as `head` says.
 fn is_short(head: Option<&[u8]>) -> bool {
-    match number_in(head, 50) {
+    let bytes = match head {
+        Some(bytes) => bytes,
+        _ => {
+            return true;
+        }
+    };
+    match index_to_loc_format(bytes) {
         Some(format) => format == 0,
         None => true,
     }
@@ -23,12 +31,11 @@ fn is_short(head: Option<&[u8]>) -> bool {
 
 /// An entry of `loca`.
 fn entry(tables: OutlineTables<'_>, index: usize) -> Option<usize> {
+    let loca = tables.loca?;
     if is_short(tables.head) {
-        let half = number_in(tables.loca, 2 * index)?;
-        return Some(2 * usize::from(half));
+        return loca_offset(loca, false, index);
     }
-    let offset = long_in(tables.loca, 4 * index)?;
-    Some(offset as usize)
+    loca_offset(loca, true, index)
 }
 
 /// The box of the header at an offset of `glyf`.

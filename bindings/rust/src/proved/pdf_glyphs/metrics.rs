@@ -3,9 +3,12 @@
 
 use crate::proved::pdf_glyphs::boxes::{glyph_box, OutlineTables};
 use crate::proved::pdf_glyphs::heights::{varied_height, HeightVariation};
+use crate::proved::pdf_glyphs::origins::default_origin;
 use crate::proved::pdf_text::Column;
 use crate::proved::pdf_values::{thousandths, units_per_em};
-use crate::proved::subsetter_base::fields::{number_in, signed_in};
+use crate::proved::subsetter_base::fields::signed_in;
+use crate::proved::subsetter_sfnt::fields::hhea::number_of_h_metrics;
+use crate::proved::subsetter_sfnt::fields::hmtx::glyph_advance;
 
 /// The tables that vertical metrics are found by; none where the font lacks one.
 #[derive(Clone, Copy)]
@@ -19,7 +22,13 @@ pub struct VerticalTables<'a> {
 
 /// For how many glyphs `vmtx` has an advance height.
 fn pair_count(tables: VerticalTables<'_>) -> u16 {
-    match number_in(tables.vhea, 34) {
+    let vhea = match tables.vhea {
+        Some(vhea) => vhea,
+        _ => {
+            return 0;
+        }
+    };
+    match number_of_h_metrics(vhea) {
         Some(count) => count,
         None => 0,
     }
@@ -31,7 +40,8 @@ fn advance_of(tables: VerticalTables<'_>, glyph: u16) -> Option<u16> {
     if count == 0 {
         return None;
     }
-    number_in(tables.vmtx, 4 * usize::from(glyph.min(count - 1)))
+    let vmtx = tables.vmtx?;
+    glyph_advance(vmtx, count, glyph)
 }
 
 /// The same with what it varies by, if it does.
@@ -79,7 +89,7 @@ fn origin_y(tables: VerticalTables<'_>, glyph: u16, recorded: Option<i16>) -> Op
     }
     match recorded {
         Some(y) => Some(i32::from(y)),
-        None => Some(i32::from(signed_in(tables.vorg, 4)?)),
+        None => Some(i32::from(default_origin(tables.vorg)?)),
     }
 }
 

@@ -7,6 +7,17 @@ use crate::proved::subsetter_base::fields::{number_in, signed_in};
 use crate::proved::subsetter_base::{Error, GlyphRemapper};
 use crate::rattle::alloc::Global;
 
+/// defaultVertOriginY, two bytes.
+const DEFAULT_VERT_ORIGIN_Y: usize = 4;
+/// numVertOriginYMetrics, two bytes.
+const NUM_VERT_ORIGIN_Y_METRICS: usize = 6;
+/// Where the first record's glyphIndex is, two bytes, and behind it vertOriginY.
+const GLYPH_INDEX: usize = 8;
+
+const VERT_ORIGIN_Y: usize = 10;
+/// How many bytes a record has.
+const RECORD_SIZE: usize = 4;
+
 /// The y of a glyph's origin, in the font's units.
 #[derive(Clone, Copy)]
 struct GlyphOrigin {
@@ -14,9 +25,14 @@ struct GlyphOrigin {
     y: i16,
 }
 
+/// The y of the origins that no record has.
+pub fn default_origin(vorg: Option<&[u8]>) -> Option<i16> {
+    signed_in(vorg, DEFAULT_VERT_ORIGIN_Y)
+}
+
 /// How many records there are.
 fn record_count(vorg: Option<&[u8]>) -> u16 {
-    match number_in(vorg, 6) {
+    match number_in(vorg, NUM_VERT_ORIGIN_Y_METRICS) {
         Some(count) => count,
         None => 0,
     }
@@ -24,9 +40,9 @@ fn record_count(vorg: Option<&[u8]>) -> u16 {
 
 /// A record.
 fn origin_at(vorg: Option<&[u8]>, index: u16) -> Option<GlyphOrigin> {
-    let at = 4 * usize::from(index);
-    let glyph = number_in(vorg, at + 8)?;
-    let y = signed_in(vorg, at + 10)?;
+    let at = RECORD_SIZE * usize::from(index);
+    let glyph = number_in(vorg, at + GLYPH_INDEX)?;
+    let y = signed_in(vorg, at + VERT_ORIGIN_Y)?;
     Some(GlyphOrigin { glyph, y })
 }
 

@@ -9,6 +9,9 @@ use crate::proved::pdf_values::table_name;
 use crate::proved::subsetter_base::read::{after_four, Reader};
 use crate::proved::subsetter_base::{Error, Tag};
 use crate::proved::subsetter_variation::axes::Axis;
+use crate::proved::subsetter_variation::fvar::{
+    axes_array_offset, axis_count, axis_size, instance_count, instance_size,
+};
 use crate::rattle::alloc::Global;
 
 /// Whether bytes begin with the coordinate of an axis.
@@ -66,11 +69,11 @@ fn record_from<'a>(
 
 /// The first record that has the font's coordinates.
 fn record_in<'a>(axes: &[Axis], settings: &[(Tag, i32)], fvar: &'a [u8]) -> Option<&'a [u8]> {
-    let at = Reader::new_at(fvar, 4).read::<u16>()?;
-    let axis_count = Reader::new_at(fvar, 8).read::<u16>()?;
-    let axis_size = Reader::new_at(fvar, 10).read::<u16>()?;
-    let count = Reader::new_at(fvar, 12).read::<u16>()?;
-    let size = Reader::new_at(fvar, 14).read::<u16>()?;
+    let at = axes_array_offset(fvar)?;
+    let axis_count = axis_count(fvar)?;
+    let axis_size = axis_size(fvar)?;
+    let count = instance_count(fvar)?;
+    let size = instance_size(fvar)?;
     let start = usize::from(at) + usize::from(axis_count) * usize::from(axis_size);
     record_from(axes, settings, fvar, size, count, start)
 }

@@ -13,7 +13,8 @@ use crate::proved::pdf_values::Values;
 use crate::proved::subsetter_base::read::Reader;
 use crate::proved::subsetter_base::{Error, Tag};
 use crate::proved::subsetter_sfnt::extras::Extras;
-use crate::proved::subsetter_sfnt::face::Face;
+use crate::proved::subsetter_sfnt::face::{Face, OTTO};
+use crate::proved::subsetter_sfnt::fields::maxp::num_glyphs;
 use crate::proved::subsetter_sfnt::flavor::FontFlavor;
 use crate::proved::subsetter_sfnt::parse::parse;
 use crate::rattle::alloc::Global;
@@ -36,7 +37,7 @@ pub struct NewFont {
 
 /// The kind of the outlines of a file that begins with a word.
 fn flavor_by(word: u32) -> FontFlavor {
-    if word == 0x4F54544F {
+    if word == OTTO {
         FontFlavor::Cff
     } else {
         FontFlavor::TrueType
@@ -69,9 +70,7 @@ fn count_in(new: &Face<'_>, flavor: FontFlavor, requested: u16) -> Result<u16, E
         FontFlavor::Cff => Ok(requested),
         FontFlavor::TrueType => {
             let maxp = new.stored(Tag::MAXP).ok_or(Error::MalformedFont)?;
-            Reader::new_at(maxp, 4)
-                .read::<u16>()
-                .ok_or(Error::MalformedFont)
+            num_glyphs(maxp).ok_or(Error::MalformedFont)
         }
     }
 }

@@ -4,9 +4,10 @@
 use crate::rattle::prelude::Vec;
 
 use crate::proved::cid_embed::{all_widths, Metrics};
-use crate::proved::subsetter_base::read::Reader;
 use crate::proved::subsetter_base::{Error, Tag};
 use crate::proved::subsetter_sfnt::face::Face;
+use crate::proved::subsetter_sfnt::fields::head::units_per_em;
+use crate::proved::subsetter_sfnt::fields::hhea::number_of_h_metrics;
 use crate::rattle::alloc::Global;
 use crate::rattle::collections::HashMap;
 
@@ -14,16 +15,12 @@ use crate::rattle::collections::HashMap;
 fn metrics_of<'a>(face: &Face<'a>) -> Result<Metrics<'a>, Error> {
     let hmtx = face.stored(Tag::HMTX).ok_or(Error::MalformedFont)?;
     let head = face.stored(Tag::HEAD).ok_or(Error::MalformedFont)?;
-    let units = Reader::new_at(head, 18)
-        .read::<u16>()
-        .ok_or(Error::MalformedFont)?;
+    let units = units_per_em(head).ok_or(Error::MalformedFont)?;
     if units == 0 {
         return Err(Error::MalformedFont);
     }
     let hhea = face.stored(Tag::HHEA).ok_or(Error::MalformedFont)?;
-    let pairs = Reader::new_at(hhea, 34)
-        .read::<u16>()
-        .ok_or(Error::MalformedFont)?;
+    let pairs = number_of_h_metrics(hhea).ok_or(Error::MalformedFont)?;
     Ok(Metrics { hmtx, pairs, units })
 }
 

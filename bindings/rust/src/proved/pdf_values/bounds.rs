@@ -2,7 +2,7 @@
 //! FontBBox, the box that all glyphs lie in (ISO 32000-1, Table 122), by `head` (OpenType, "head").
 
 use crate::proved::pdf_values::rounding::{lowered, raised};
-use crate::proved::subsetter_base::fields::signed_in;
+use crate::proved::subsetter_sfnt::fields::head::{x_max, x_min, y_max, y_min};
 
 /// Which glyphs FontBBox is to hold.
 #[derive(Clone, Copy, PartialEq, Eq)]
@@ -41,10 +41,10 @@ fn extended(glyphs: GlyphBox) -> Option<GlyphBox> {
 
 /// The box of `head`, if it has a width and a height.
 fn head_box(head: Option<&[u8]>) -> Option<GlyphBox> {
-    let x_min = signed_in(head, 36)?;
-    let y_min = signed_in(head, 38)?;
-    let x_max = signed_in(head, 40)?;
-    let y_max = signed_in(head, 42)?;
+    let x_min = x_min(head)?;
+    let y_min = y_min(head)?;
+    let x_max = x_max(head)?;
+    let y_max = y_max(head)?;
     extended(GlyphBox {
         x_min,
         y_min,

@@ -2,11 +2,15 @@
 //! Flags, what a font looks like (ISO 32000-1, Table 123), by `post`, `OS/2` and `head` (OpenType, "post", "OS/2", "head").
 
 use crate::proved::pdf_values::fields::{has_bit, says_bit};
-use crate::proved::subsetter_base::fields::{byte_in, long_in, number_in};
+use crate::proved::subsetter_sfnt::fields::head::mac_style;
+use crate::proved::subsetter_sfnt::fields::os2::{
+    b_family_type, b_serif_style, fs_selection, s_family_class,
+};
+use crate::proved::subsetter_sfnt::fields::post::is_fixed_pitch;
 
 /// Whether all advances are equal: isFixedPitch of `post`.
 fn is_fixed(post: Option<&[u8]>) -> bool {
-    match long_in(post, 12) {
+    match is_fixed_pitch(post) {
         Some(n) => n != 0,
         None => false,
     }
@@ -19,13 +23,13 @@ fn is_serif_class(class: u16) -> bool {
 
 /// Whether panose has a Latin text family with serifs.
 fn is_serif_face(os2: Option<&[u8]>) -> bool {
-    let family = match byte_in(os2, 32) {
+    let family = match b_family_type(os2) {
         Some(family) => family,
         _ => {
             return false;
         }
     };
-    let style = match byte_in(os2, 33) {
+    let style = match b_serif_style(os2) {
         Some(style) => style,
         _ => {
             return false;
@@ -36,7 +40,7 @@ fn is_serif_face(os2: Option<&[u8]>) -> bool {
 
 /// Whether a font has serifs.
 fn has_serifs(os2: Option<&[u8]>) -> bool {
-    let class = match number_in(os2, 30) {
+    let class = match s_family_class(os2) {
         Some(class) => class,
         _ => {
             return false;
@@ -47,7 +51,7 @@ fn has_serifs(os2: Option<&[u8]>) -> bool {
 
 /// Whether panose has a Latin hand written family.
 fn is_script_face(os2: Option<&[u8]>) -> bool {
-    match byte_in(os2, 32) {
+    match b_family_type(os2) {
         Some(family) => family == 3,
         None => false,
     }
@@ -55,7 +59,7 @@ fn is_script_face(os2: Option<&[u8]>) -> bool {
 
 /// Whether a font looks written by hand.
 fn is_script(os2: Option<&[u8]>) -> bool {
-    let class = match number_in(os2, 30) {
+    let class = match s_family_class(os2) {
         Some(class) => class,
         _ => {
             return false;
@@ -66,9 +70,9 @@ fn is_script(os2: Option<&[u8]>) -> bool {
 
 /// Whether fsSelection calls a font italic or oblique (bits 0 and 9), or without it macStyle italic (bit 1).
 fn is_slanted(os2: Option<&[u8]>, head: Option<&[u8]>) -> bool {
-    match number_in(os2, 62) {
+    match fs_selection(os2) {
         Some(n) => has_bit(n, 0) || has_bit(n, 9),
-        None => says_bit(number_in(head, 44), 1),
+        None => says_bit(mac_style(head), 1),
     }
 }
 

@@ -4,7 +4,12 @@
 
 use crate::proved::pdf_values::fields::says_bit;
 use crate::proved::pdf_values::rounding::thousandths;
-use crate::proved::subsetter_base::fields::{number_in, signed_in};
+use crate::proved::subsetter_sfnt::fields::head::{y_max, y_min};
+use crate::proved::subsetter_sfnt::fields::hhea::{ascender, descender};
+use crate::proved::subsetter_sfnt::fields::os2::{
+    fs_selection, s_cap_height, s_typo_ascender, s_typo_descender, sx_height, us_win_ascent,
+    us_win_descent,
+};
 
 /// How far a line of text reaches above the baseline, and, as a number below 0, below it, in the font's units.
 #[derive(Clone, Copy)]
@@ -31,25 +36,25 @@ fn counted(ascent: i32, descent: i32) -> Option<Line> {
 }
 
 /// The line of two signed fields.
-fn line_in(table: Option<&[u8]>, ascent: usize, descent: usize) -> Option<Line> {
-    let above = signed_in(table, ascent)?;
-    let below = signed_in(table, descent)?;
+fn line_in(ascent: Option<i16>, descent: Option<i16>) -> Option<Line> {
+    let above = ascent?;
+    let below = descent?;
     counted(i32::from(above), i32::from(below))
 }
 
 /// The line that Windows clips to: usWinAscent, and usWinDescent, which is counted downwards.
 fn windows_line(os2: Option<&[u8]>) -> Option<Line> {
-    let above = number_in(os2, 74)?;
-    let below = number_in(os2, 76)?;
+    let above = us_win_ascent(os2)?;
+    let below = us_win_descent(os2)?;
     counted(i32::from(above), -i32::from(below))
 }
 
 /// The line of `hhea`, unless the typographic one is to be used (fsSelection, bit 7, USE_TYPO_METRICS).
 fn first_line(hhea: Option<&[u8]>, os2: Option<&[u8]>) -> Option<Line> {
-    if says_bit(number_in(os2, 62), 7) {
+    if says_bit(fs_selection(os2), 7) {
         return None;
     }
-    line_in(hhea, 4, 6)
+    line_in(ascender(hhea), descender(hhea))
 }
 
 /// The first line that is said.
@@ -57,13 +62,13 @@ fn line_of(hhea: Option<&[u8]>, os2: Option<&[u8]>, head: Option<&[u8]>) -> Line
     if let Some(line) = first_line(hhea, os2) {
         return line;
     }
-    if let Some(line) = line_in(os2, 68, 70) {
+    if let Some(line) = line_in(s_typo_ascender(os2), s_typo_descender(os2)) {
         return line;
     }
     if let Some(line) = windows_line(os2) {
         return line;
     }
-    if let Some(line) = line_in(head, 42, 38) {
+    if let Some(line) = line_in(y_max(head), y_min(head)) {
         return line;
     }
     Line {
@@ -79,15 +84,6 @@ fn above_0(height: Option<i16>) -> Option<i32> {
         return Some(i32::from(height));
     }
     None
-}
-
-/// A signed field of `OS/2` that is there from version 2 on.
-fn of_version_2(os2: Option<&[u8]>, at: usize) -> Option<i16> {
-    let version = number_in(os2, 0)?;
-    if version < 2 {
-        return None;
-    }
-    signed_in(os2, at)
 }
 
 /// A height that is said, else the top of a glyph.
@@ -133,11 +129,11 @@ pub fn heights_of(
     units: u16,
 ) -> Heights {
     let line = line_of(hhea, os2, head);
-    let capital = cap_height(height(of_version_2(os2, 88), cap_top), line);
+    let capital = cap_height(height(s_cap_height(os2), cap_top), line);
     Heights {
         ascent: thousandths(line.ascent, u32::from(units)),
         descent: descent_in_thousandths(line, units),
         cap_height: thousandths(capital, u32::from(units)),
-        x_height: in_thousandths(height(of_version_2(os2, 86), x_top), units),
+        x_height: in_thousandths(height(sx_height(os2), x_top), units),
     }
 }

@@ -2,11 +2,11 @@
 //! ItalicAngle, how far the dominant vertical strokes lean (ISO 32000-1, Table 122), by `post` (OpenType, "post").
 
 use crate::proved::pdf_values::rounding::thousandths;
-use crate::proved::subsetter_base::fields::long_signed_in;
+use crate::proved::subsetter_sfnt::fields;
 
 /// ItalicAngle in thousandths of a degree, as `post` says, else 0.
 pub fn italic_angle(post: Option<&[u8]>) -> i32 {
-    match long_signed_in(post, 4) {
+    match fields::post::italic_angle(post) {
         Some(angle) => thousandths(angle, 65536),
         None => 0,
     }

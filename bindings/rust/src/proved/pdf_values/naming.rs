@@ -4,8 +4,11 @@
 
 use crate::rattle::prelude::Vec;
 
-use crate::proved::subsetter_base::read::{u16_at, Reader};
+use crate::proved::subsetter_base::read::Reader;
 use crate::proved::subsetter_base::Error;
+use crate::proved::subsetter_sfnt::fields::name::{
+    NameRecord, COUNT, HEADER_SIZE, NAME_RECORD_SIZE, STORAGE_OFFSET,
+};
 use crate::rattle::alloc::Global;
 
 /// Whose a name is.
@@ -17,46 +20,22 @@ enum Kind {
     MacintoshRoman,
 }
 
-/// The record of a name.
-#[derive(Clone, Copy)]
-struct NameRecord {
-    platform: u16,
-    encoding: u16,
-    language: u16,
-    name: u16,
-    size: u16,
-    offset: u16,
-}
-
-/// The record that twelve bytes spell.
-fn record_of(bytes: &[u8]) -> NameRecord {
-    NameRecord {
-        platform: u16_at(bytes, 0),
-        encoding: u16_at(bytes, 2),
-        language: u16_at(bytes, 4),
-        name: u16_at(bytes, 6),
-        size: u16_at(bytes, 8),
-        offset: u16_at(bytes, 10),
-    }
-}
-
 /// Whether a name is of a kind.
 fn is_of(kind: Kind, record: NameRecord) -> bool {
     match kind {
-        Kind::WindowsEnglish => record.platform == 3 && record.language == 1033,
-        Kind::Windows => record.platform == 3,
-        Kind::Unicode => record.platform == 0,
-        Kind::MacintoshRoman => record.platform == 1 && record.encoding == 0,
+        Kind::WindowsEnglish => record.platform_id == 3 && record.language_id == 1033,
+        Kind::Windows => record.platform_id == 3,
+        Kind::Unicode => record.platform_id == 0,
+        Kind::MacintoshRoman => record.platform_id == 1 && record.encoding_id == 0,
     }
 }
 
 /// The string of the record at a place, if it is a name of a kind with this ID.
 fn string_at(name: &[u8], kind: Kind, id: u16, storage: usize, at: usize) -> Option<&[u8]> {
-    let bytes = Reader::new_at(name, at).read_bytes(12)?;
-    let entry = record_of(bytes);
-    if entry.name == id && is_of(kind, entry) {
-        return Reader::new_at(name, storage + usize::from(entry.offset))
-            .read_bytes(usize::from(entry.size));
+    let entry = Reader::new_at(name, at).read::<NameRecord>()?;
+    if entry.name_id == id && is_of(kind, entry) {
+        return Reader::new_at(name, storage + usize::from(entry.string_offset))
+            .read_bytes(usize::from(entry.length));
     }
     None
 }
@@ -64,7 +43,13 @@ fn string_at(name: &[u8], kind: Kind, id: u16, storage: usize, at: usize) -> Opt
 /// The first such string of that many records.
 fn string_from(name: &[u8], kind: Kind, id: u16, storage: usize, count: u16) -> Option<&[u8]> {
     for place in 0..count {
-        if let Some(string) = string_at(name, kind, id, storage, 6 + 12 * usize::from(place)) {
+        if let Some(string) = string_at(
+            name,
+            kind,
+            id,
+            storage,
+            HEADER_SIZE + NAME_RECORD_SIZE * usize::from(place),
+        ) {
             return Some(string);
         }
     }
@@ -73,8 +58,8 @@ fn string_from(name: &[u8], kind: Kind, id: u16, storage: usize, count: u16) -> 
 
 /// The first name of a kind with this ID.
 fn string_of(name: &[u8], kind: Kind, id: u16) -> Option<&[u8]> {
-    let count = Reader::new_at(name, 2).read::<u16>()?;
-    let storage = Reader::new_at(name, 4).read::<u16>()?;
+    let count = Reader::new_at(name, COUNT).read::<u16>()?;
+    let storage = Reader::new_at(name, STORAGE_OFFSET).read::<u16>()?;
     string_from(name, kind, id, usize::from(storage), count)
 }
 

@@ -2,7 +2,7 @@
 //! What a font's maker permits (OpenType, "OS/2", "fsType").
 
 use crate::proved::pdf_values::fields::has_bit;
-use crate::proved::subsetter_base::fields::number_in;
+use crate::proved::subsetter_sfnt::fields::os2::{fs_type, version};
 
 /// What a document may do with a font.
 #[derive(Clone, Copy, PartialEq, Eq, Debug)]
@@ -53,7 +53,7 @@ fn usage_of(fs_type: u16) -> Usage {
 
 /// Whether bits 8 and 9 of `fsType` are assigned: from version 2 of `OS/2` on.
 fn has_later_bits(os2: Option<&[u8]>) -> bool {
-    match number_in(os2, 0) {
+    match version(os2) {
         Some(version) => 2 <= version,
         None => false,
     }
@@ -70,7 +70,7 @@ fn permission_in(later: bool, fs_type: u16) -> Permission {
 
 /// What `OS/2` says of embedding; where it doesn't, nothing is forbidden.
 pub fn permission_of(os2: Option<&[u8]>) -> Permission {
-    match number_in(os2, 8) {
+    match fs_type(os2) {
         Some(fs_type) => permission_in(has_later_bits(os2), fs_type),
         None => Permission {
             usage: Usage::Unsaid,

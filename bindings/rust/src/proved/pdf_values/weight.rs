@@ -3,7 +3,8 @@
 //! usWeightClass).
 
 use crate::proved::pdf_values::fields::says_bit;
-use crate::proved::subsetter_base::fields::number_in;
+use crate::proved::subsetter_sfnt::fields::head::mac_style;
+use crate::proved::subsetter_sfnt::fields::os2::us_weight_class;
 
 /// Old fonts count from 1 to 9.
 fn in_hundreds(class: u16) -> u16 {
@@ -24,7 +25,7 @@ fn class_weight(class: u16) -> Option<u16> {
 
 /// Bold or regular.
 fn style_weight(head: Option<&[u8]>) -> u16 {
-    if says_bit(number_in(head, 44), 0) {
+    if says_bit(mac_style(head), 0) {
         700
     } else {
         400
@@ -33,7 +34,7 @@ fn style_weight(head: Option<&[u8]>) -> u16 {
 
 /// The weight that `OS/2` says, else bold or regular, as `head` says: from 1 to 1000.
 pub fn weight_of(os2: Option<&[u8]>, head: Option<&[u8]>) -> u16 {
-    if let Some(class) = number_in(os2, 4) {
+    if let Some(class) = us_weight_class(os2) {
         if let Some(weight) = class_weight(class) {
             return weight;
         }

@@ -4,10 +4,10 @@
 use crate::rattle::prelude::Vec;
 
 use crate::proved::subset_font::carried::read_whole;
-use crate::proved::subset_font::face::{header_place, table};
 use crate::proved::subset_font::failure::Failure;
 use crate::proved::subset_lines::{read_axes, write_axes, write_axes_json, FontAxes};
 use crate::proved::subsetter::{Error, Tag};
+use crate::proved::subsetter_sfnt::directory::{header_offset, table};
 use crate::proved::subsetter_variation::axes::{axes, Axis};
 use crate::rattle::alloc::Global;
 use crate::rattle::io::{Read, Write};
@@ -75,7 +75,7 @@ pub fn tell_axes<L: Write>(
     json: bool,
     lines: &mut L,
 ) -> Result<(), Failure> {
-    if header_place(font, index).is_none() {
+    if header_offset(font, index).is_none() {
         return Err(Failure::Error(Error::UnknownKind));
     }
     match table(font, index, Tag::new(b"fvar")) {

@@ -2,7 +2,7 @@
 //! What more is known of a refusal: what the program sees at once.
 
 use crate::proved::subset_font::broken::{cut_table, missing_table, no_font};
-use crate::proved::subset_font::face::{count_glyphs, find_place, table};
+use crate::proved::subset_font::face::count_glyphs;
 use crate::proved::subset_font::failure::Failure;
 use crate::proved::subset_font::info::outlines_of;
 use crate::proved::subset_font::tables::directory_of;
@@ -10,7 +10,11 @@ use crate::proved::subset_font::task::{Asked, Task};
 use crate::proved::subset_lines::Outlines;
 use crate::proved::subset_pdf::{Permission, Usage};
 use crate::proved::subsetter::{Error, Tag};
-use crate::proved::subsetter_base::read::Reader;
+use crate::proved::subsetter_sfnt::directory::{find_record, table};
+use crate::proved::subsetter_sfnt::fields::head::index_to_loc_format;
+use crate::proved::subsetter_sfnt::fields::hhea::number_of_h_metrics;
+use crate::proved::subsetter_sfnt::fields::hmtx::last_advance;
+use crate::proved::subsetter_sfnt::fields::loca::loca_offset;
 use crate::rattle::fmt;
 
 /// What more is known of a refusal.
@@ -194,11 +198,11 @@ fn no_table_for(font: &[u8], task: &Task<'_>) -> Option<Hint> {
 /// An entry of `loca`: an offset, or in the format 0 half of one.
 fn entry(loca: &[u8], format: u16, index: usize) -> Option<u64> {
     if format == 0 {
-        let half = Reader::new_at(loca, 2 * index).read::<u16>()?;
-        return Some(2 * u64::from(half));
+        let offset = loca_offset(loca, false, index)?;
+        return Some(offset as u64);
     }
-    let offset = Reader::new_at(loca, 4 * index).read::<u32>()?;
-    Some(u64::from(offset))
+    let offset = loca_offset(loca, true, index)?;
+    Some(offset as u64)
 }
 
 /// What is wrong with the range of an outline in `glyf`.
@@ -263,7 +267,7 @@ fn no_outline(font: &[u8], task: &Task<'_>) -> Option<Hint> {
             return Some(missing_table(font, task.index, Tag::HEAD));
         }
     };
-    let format = Reader::new_at(head, 50).read::<u16>()?;
+    let format = index_to_loc_format(head)?;
     first_wrong(glyf, loca, format, listed(&task.asked))
 }
 
@@ -277,11 +281,11 @@ fn is_cff2(font: &[u8], index: u32) -> Option<Hint> {
 
 /// What is wrong with the number of metrics in `hhea`, by the length of `hmtx`.
 fn wrong_metrics_of(hhea: &[u8], hmtx: &[u8]) -> Option<Hint> {
-    let count = Reader::new_at(hhea, 34).read::<u16>()?;
+    let count = number_of_h_metrics(hhea)?;
     if count == 0 {
         return Some(Hint::NoMetrics);
     }
-    match Reader::new_at(hmtx, 4 * (usize::from(count) - 1)).read::<u16>() {
+    match last_advance(hmtx, count) {
         Some(_) => None,
         None => Some(Hint::FewMetrics(count)),
     }
@@ -372,7 +376,7 @@ fn axes_hint_of_error(error: Error, font: &[u8], index: u32) -> Option<Hint> {
 /// What is noted of a face without axes: it has no `fvar`, or the file is cut before its end.
 pub fn no_axes(font: &[u8], index: u32) -> Option<Hint> {
     let tag = Tag::new(b"fvar");
-    let place = find_place(directory_of(font, index), tag);
+    let place = find_record(directory_of(font, index), tag);
     match (table(font, index, tag), place) {
         (Some(_), _) => None,
         (None, None) => Some(Hint::NoAxes),

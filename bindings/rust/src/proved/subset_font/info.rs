@@ -6,7 +6,7 @@ use crate::rattle::prelude::{String, Vec};
 use crate::proved::subset_font::asked::first_glyphs;
 use crate::proved::subset_font::broken::face_count;
 use crate::proved::subset_font::carried::read_whole;
-use crate::proved::subset_font::face::{count_glyphs, header_place, table};
+use crate::proved::subset_font::face::count_glyphs;
 use crate::proved::subset_font::failure::Failure;
 use crate::proved::subset_font::hint::find_hint;
 use crate::proved::subset_font::subset::make_of;
@@ -15,6 +15,7 @@ use crate::proved::subset_font::task::{Asked, Form, Task};
 use crate::proved::subset_lines::{write_info, write_info_json, Info, Outlines};
 use crate::proved::subsetter::{Error, Extras, Limits, Options, Tag};
 use crate::proved::subsetter_base::read::Reader;
+use crate::proved::subsetter_sfnt::directory::{header_offset, table};
 use crate::rattle::alloc::{AllocError, Global};
 use crate::rattle::io::{Read, Write};
 
@@ -146,7 +147,7 @@ pub fn show_info<L: Write>(
     json: bool,
     lines: &mut L,
 ) -> Result<(), Failure> {
-    if header_place(font, index).is_none() {
+    if header_offset(font, index).is_none() {
         return Err(Failure::Error(Error::UnknownKind));
     }
     let tables = match tables_of(alloc, directory_of(font, index)) {

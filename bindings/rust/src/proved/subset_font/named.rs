@@ -4,11 +4,11 @@
 use crate::rattle::prelude::{Cast, Vec};
 
 use crate::proved::subset_font::axes::names_of;
-use crate::proved::subset_font::face::{header_place, table};
 use crate::proved::subset_font::failure::Failure;
 use crate::proved::subset_lines::{name_of, read_axes, text_of_name, FontAxes};
 use crate::proved::subsetter::{Error, Tag};
 use crate::proved::subsetter_base::read::{after_four, Reader};
+use crate::proved::subsetter_sfnt::directory::{header_offset, table};
 use crate::proved::subsetter_variation::axes::Axis;
 use crate::rattle::alloc::{AllocError, Global};
 
@@ -94,7 +94,7 @@ pub fn face_settings(
     let fvar = match table(font, index, Tag::new(b"fvar")) {
         Some(fvar) => fvar,
         _ => {
-            if header_place(font, index).is_none() {
+            if header_offset(font, index).is_none() {
                 return Err(Failure::Error(Error::UnknownKind));
             }
             return Err(Failure::NoInstance);

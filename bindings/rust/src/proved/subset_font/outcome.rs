@@ -4,7 +4,6 @@
 use crate::rattle::prelude::Vec;
 
 use crate::proved::glyph_names::glyph_names;
-use crate::proved::subset_font::face::table;
 use crate::proved::subset_font::failure::Failure;
 use crate::proved::subset_font::missing::missing;
 use crate::proved::subset_font::named::face_settings;
@@ -16,6 +15,7 @@ use crate::proved::subset_font::task::{Form, Plan, Task};
 use crate::proved::subset_lines::{json_members, size_lines, TableSize};
 use crate::proved::subset_pdf::Sheet;
 use crate::proved::subsetter::{Error, Tag};
+use crate::proved::subsetter_sfnt::directory::table;
 use crate::rattle::alloc::{AllocError, Global};
 
 /// What a plan makes of a font.

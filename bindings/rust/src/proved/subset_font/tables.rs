@@ -3,10 +3,11 @@
 
 use crate::rattle::prelude::Vec;
 
-use crate::proved::subset_font::face::{find_place, place_in, records, tag_in};
 use crate::proved::subset_lines::TableSize;
 use crate::proved::subsetter::Tag;
 use crate::proved::subsetter_base::read::Reader;
+use crate::proved::subsetter_sfnt::directory::{find_record, records};
+use crate::proved::subsetter_sfnt::face::TableRecord;
 use crate::rattle::alloc::{AllocError, Global};
 
 /// The records of a face's directory, no bytes where it has none.
@@ -19,39 +20,37 @@ pub fn directory_of(font: &[u8], index: u32) -> &[u8] {
 
 /// The size of a table of a directory, if it has the table.
 fn size_among(records: &[u8], tag: Tag) -> Option<u32> {
-    match find_place(records, tag) {
-        Some(place) => Some(place.length),
+    match find_record(records, tag) {
+        Some(found) => Some(found.length),
         None => None,
     }
 }
 
 /// The row of a table of the font that is read, from its record.
-fn old_row(bytes: &[u8], new: &[u8]) -> TableSize {
-    let tag = tag_in(bytes);
+fn old_row(one: TableRecord, new: &[u8]) -> TableSize {
     TableSize {
-        tag,
-        old: Some(place_in(bytes).length),
-        new: size_among(new, tag),
+        tag: one.tag,
+        old: Some(one.length),
+        new: size_among(new, one.tag),
     }
 }
 
 /// Adds the rows of the tables of the font that is read.
 fn push_old_rows(rows: &mut Vec<TableSize>, old: &[u8], new: &[u8]) -> Result<(), AllocError> {
     let mut r = Reader::new(old);
-    while let Some(bytes) = r.read_bytes(16) {
-        rows.push(old_row(bytes, new))?;
+    while let Some(one) = r.read::<TableRecord>() {
+        rows.push(old_row(one, new))?;
     }
     Ok(())
 }
 
 /// Adds the row of a table of the new font, from its record, if the other one has no such table.
-fn push_new_row(rows: &mut Vec<TableSize>, old: &[u8], bytes: &[u8]) -> Result<(), AllocError> {
-    let tag = tag_in(bytes);
-    if size_among(old, tag).is_none() {
+fn push_new_row(rows: &mut Vec<TableSize>, old: &[u8], one: TableRecord) -> Result<(), AllocError> {
+    if size_among(old, one.tag).is_none() {
         rows.push(TableSize {
-            tag,
+            tag: one.tag,
             old: None,
-            new: Some(place_in(bytes).length),
+            new: Some(one.length),
         })?;
     }
     Ok(())
@@ -60,8 +59,8 @@ fn push_new_row(rows: &mut Vec<TableSize>, old: &[u8], bytes: &[u8]) -> Result<(
 /// Adds the rows of the tables that the new font alone has.
 fn push_new_rows(rows: &mut Vec<TableSize>, old: &[u8], new: &[u8]) -> Result<(), AllocError> {
     let mut r = Reader::new(new);
-    while let Some(bytes) = r.read_bytes(16) {
-        push_new_row(rows, old, bytes)?;
+    while let Some(one) = r.read::<TableRecord>() {
+        push_new_row(rows, old, one)?;
     }
     Ok(())
 }
@@ -75,16 +74,16 @@ pub fn table_sizes(alloc: Global, old: &[u8], new: &[u8]) -> Result<Vec<TableSiz
 }
 
 /// The tag of a table and its size, from its record.
-fn tag_and_size(bytes: &[u8]) -> (Tag, u32) {
-    (tag_in(bytes), place_in(bytes).length)
+fn tag_and_size(one: TableRecord) -> (Tag, u32) {
+    (one.tag, one.length)
 }
 
 /// The tables of a directory with their sizes.
 pub fn tables_of(alloc: Global, records: &[u8]) -> Result<Vec<(Tag, u32)>, AllocError> {
     let mut tables = Vec::new(alloc);
     let mut r = Reader::new(records);
-    while let Some(bytes) = r.read_bytes(16) {
-        tables.push(tag_and_size(bytes))?;
+    while let Some(one) = r.read::<TableRecord>() {
+        tables.push(tag_and_size(one))?;
     }
     Ok(tables)
 }

@@ -11,6 +11,9 @@ use crate::proved::subset_lines::text::write_text;
 use crate::proved::subsetter_base::read::{after_four, Reader};
 use crate::proved::subsetter_base::{Error, Tag};
 use crate::proved::subsetter_variation::axes::{axes, Axis};
+use crate::proved::subsetter_variation::fvar::{
+    axes_array_offset, axis_count, axis_size, instance_count, instance_size,
+};
 use crate::rattle::alloc::Global;
 use crate::rattle::io::Write;
 
@@ -58,20 +61,13 @@ fn instances_of(
     records_at(alloc, count, size, fvar, at + axes * axis_size)
 }
 
-/// A uint16 of `fvar`.
-fn field(fvar: &[u8], at: usize) -> Result<u16, Error> {
-    Reader::new_at(fvar, at)
-        .read::<u16>()
-        .ok_or(Error::MalformedFont)
-}
-
 /// The records of the named instances.
 fn instances(alloc: Global, fvar: &[u8]) -> Result<Vec<&[u8]>, Error> {
-    let at = field(fvar, 4)?;
-    let axes = field(fvar, 8)?;
-    let axis_size = field(fvar, 10)?;
-    let count = field(fvar, 12)?;
-    let size = field(fvar, 14)?;
+    let at = axes_array_offset(fvar).ok_or(Error::MalformedFont)?;
+    let axes = axis_count(fvar).ok_or(Error::MalformedFont)?;
+    let axis_size = axis_size(fvar).ok_or(Error::MalformedFont)?;
+    let count = instance_count(fvar).ok_or(Error::MalformedFont)?;
+    let size = instance_size(fvar).ok_or(Error::MalformedFont)?;
     instances_of(alloc, at, axes, axis_size, count, size, fvar)
 }
 

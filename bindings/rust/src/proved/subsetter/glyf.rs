@@ -23,10 +23,11 @@ mod pieces;
 
 use crate::proved::subsetter::glyf::component::{is_composite, push_components, Count};
 use crate::proved::subsetter::glyf::outlines::OutlineList;
-use crate::proved::subsetter::head::loca_format;
 use crate::proved::subsetter_base::read::Reader;
 use crate::proved::subsetter_base::{Error, GlyphRemapper, Tag};
 use crate::proved::subsetter_sfnt::face::Face;
+use crate::proved::subsetter_sfnt::fields::head::index_to_loc_format;
+use crate::proved::subsetter_sfnt::fields::loca::loca_offset;
 use crate::rattle::alloc::Global;
 
 /// The tables that outlines are read from.
@@ -47,7 +48,7 @@ impl<'a> GlyfTables<'a> {
         let loca = face.table(Tag::LOCA).ok_or(Error::MalformedFont)?;
         let glyf = face.table(Tag::GLYF).ok_or(Error::MalformedFont)?;
         let head = face.table(Tag::HEAD).ok_or(Error::MalformedFont)?;
-        let format = loca_format(head).ok_or(Error::MalformedFont)?;
+        let format = index_to_loc_format(head).ok_or(Error::MalformedFont)?;
         Ok(Self {
             loca,
             glyf,
@@ -59,13 +60,7 @@ impl<'a> GlyfTables<'a> {
 
     /// An entry of `loca`.
     fn offset(&self, entry: usize) -> Option<usize> {
-        if self.long {
-            let offset = Reader::new_at(self.loca, 4 * entry).read::<u32>()?;
-            Some(offset as usize)
-        } else {
-            let half = Reader::new_at(self.loca, 2 * entry).read::<u16>()?;
-            Some(2 * half as usize)
-        }
+        loca_offset(self.loca, self.long, entry)
     }
 
     /// The outline of a glyph.

@@ -6,19 +6,11 @@
 
 use crate::rattle::prelude::Vec;
 
-use crate::proved::subsetter_base::read::Reader;
 use crate::proved::subsetter_base::Error;
+use crate::proved::subsetter_sfnt::fields::head::{
+    CHECKSUM_ADJUSTMENT, GLYPH_DATA_FORMAT, INDEX_TO_LOC_FORMAT, MAGIC_NUMBER,
+};
 use crate::proved::subsetter_sfnt::room::put;
-
-/// Where indexToLocFormat begins, two bytes.
-const FORMAT_START: usize = 50;
-/// Where it ends.
-const FORMAT_END: usize = 52;
-
-/// indexToLocFormat, none where `head` ends before it does. `loca` has the long format where it is not 0.
-pub fn loca_format(head: &[u8]) -> Option<u16> {
-    Reader::new_at(head, FORMAT_START).read::<u16>()
-}
 
 /// Writes indexToLocFormat: 0 for halves of offsets, 1 for offsets.
 fn write_format(out: &mut Vec<u8>, long: bool) {
@@ -41,11 +33,11 @@ impl<'a> NewHead<'a> {
     /// Writes it.
     pub fn write(&self, out: &mut Vec<u8>) {
         let source = self.source;
-        put(out, &source[..8]);
+        put(out, &source[..CHECKSUM_ADJUSTMENT]);
         put(out, &[0, 0, 0, 0]);
-        put(out, &source[12..FORMAT_START]);
+        put(out, &source[MAGIC_NUMBER..INDEX_TO_LOC_FORMAT]);
         write_format(out, self.long);
-        put(out, &source[FORMAT_END..]);
+        put(out, &source[GLYPH_DATA_FORMAT..]);
     }
 }
 
@@ -58,7 +50,7 @@ pub fn subset<'a>(head: Option<&'a [u8]>, long: bool) -> Result<Option<NewHead<'
             return Ok(None);
         }
     };
-    if head.len() < FORMAT_END {
+    if head.len() < GLYPH_DATA_FORMAT {
         return Err(Error::MalformedFont);
     }
     Ok(Some(NewHead { source: head, long }))

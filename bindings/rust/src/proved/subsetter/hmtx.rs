@@ -10,51 +10,21 @@
 
 use crate::rattle::prelude::Vec;
 
-use crate::proved::subsetter_base::read::Reader;
 use crate::proved::subsetter_base::{Error, GlyphRemapper};
+use crate::proved::subsetter_sfnt::fields::hhea::{
+    number_of_h_metrics, NUMBER_OF_H_METRICS, SIZE as HHEA_SIZE,
+};
+use crate::proved::subsetter_sfnt::fields::hmtx::{glyph_metric, last_advance, LongHorMetric};
 use crate::proved::subsetter_sfnt::room::put;
 use crate::rattle::alloc::Global;
 
-/// The horizontal metric of a glyph, in font design units.
-#[derive(Clone, Copy, PartialEq, Eq)]
-pub struct Metric {
-    /// The advance width.
-    pub advance: u16,
-    /// The left side bearing: the two bytes of an i16, which is kept and never computed with.
-    pub bearing: u16,
-}
-
-/// An advance and a bearing at two places of `hmtx`.
-fn metric_at(hmtx: &[u8], advance_at: usize, bearing_at: usize) -> Option<Metric> {
-    let advance = Reader::new_at(hmtx, advance_at).read::<u16>()?;
-    let bearing = Reader::new_at(hmtx, bearing_at).read::<u16>()?;
-    Some(Metric { advance, bearing })
-}
-
-/// The metric of a glyph: among the first `count` a pair of its own, after them the last advance with a bearing of its own.
-fn glyph_metric(hmtx: &[u8], count: u16, glyph: u16) -> Option<Metric> {
-    let pairs = count as usize;
-    let glyph = glyph as usize;
-    if glyph < pairs {
-        metric_at(hmtx, 4 * glyph, 4 * glyph + 2)
-    } else if pairs == 0 {
-        None
-    } else {
-        metric_at(hmtx, 4 * (pairs - 1), 4 * pairs + 2 * (glyph - pairs))
-    }
-}
-
 /// numberOfHMetrics of the source, whose last pair has its advance. No pairs are `OverflowError`; a cut table is `MalformedFont`.
 fn source_count(hhea: &[u8], hmtx: &[u8]) -> Result<u16, Error> {
-    let count = Reader::new_at(hhea, 34)
-        .read::<u16>()
-        .ok_or(Error::MalformedFont)?;
+    let count = number_of_h_metrics(hhea).ok_or(Error::MalformedFont)?;
     if count == 0 {
         return Err(Error::OverflowError);
     }
-    Reader::new_at(hmtx, 4 * (count as usize - 1))
-        .read::<u16>()
-        .ok_or(Error::MalformedFont)?;
+    last_advance(hmtx, count).ok_or(Error::MalformedFont)?;
     Ok(count)
 }
 
@@ -64,7 +34,7 @@ fn metrics(
     hmtx: &[u8],
     count: u16,
     mapper: &GlyphRemapper,
-) -> Result<Vec<Metric>, Error> {
+) -> Result<Vec<LongHorMetric>, Error> {
     let mut metrics = Vec::with_capacity(alloc, mapper.num_gids() as usize)?;
     for glyph in mapper.remapped_gids() {
         metrics.push(glyph_metric(hmtx, count, glyph).ok_or(Error::MalformedFont)?)?;
@@ -73,7 +43,7 @@ fn metrics(
 }
 
 /// The least number of pairs: up to the first glyph after which all share its advance.
-fn least_count(metrics: &[Metric]) -> usize {
+fn least_count(metrics: &[LongHorMetric]) -> usize {
     let (first, rest) = match metrics {
         [first, rest @ ..] => (first, rest),
         _ => {
@@ -94,7 +64,7 @@ fn least_count(metrics: &[Metric]) -> usize {
 }
 
 /// Writes pairs of advance and bearing.
-fn write_pairs(out: &mut Vec<u8>, metrics: &[Metric]) {
+fn write_pairs(out: &mut Vec<u8>, metrics: &[LongHorMetric]) {
     for metric in metrics {
         let [a, b] = metric.advance.to_be_bytes();
         let [c, d] = metric.bearing.to_be_bytes();
@@ -103,7 +73,7 @@ fn write_pairs(out: &mut Vec<u8>, metrics: &[Metric]) {
 }
 
 /// Writes bearings alone.
-fn write_bearings(out: &mut Vec<u8>, metrics: &[Metric]) {
+fn write_bearings(out: &mut Vec<u8>, metrics: &[LongHorMetric]) {
     for metric in metrics {
         put(out, &metric.bearing.to_be_bytes());
     }
@@ -114,7 +84,7 @@ fn write_bearings(out: &mut Vec<u8>, metrics: &[Metric]) {
 pub struct NewMetrics<'a> {
     /// The source's `hhea`.
     header: &'a [u8],
-    metrics: Vec<Metric>,
+    metrics: Vec<LongHorMetric>,
     pairs: u16,
 }
 
@@ -132,9 +102,9 @@ impl<'a> NewMetrics<'a> {
     /// Writes `hhea`.
     pub fn write_hhea(&self, out: &mut Vec<u8>) {
         let header = self.header;
-        put(out, &header[..34]);
+        put(out, &header[..NUMBER_OF_H_METRICS]);
         put(out, &self.pairs.to_be_bytes());
-        put(out, &header[36..]);
+        put(out, &header[HHEA_SIZE..]);
     }
 
     /// Writes `hmtx`.

@@ -10,6 +10,7 @@ use crate::rattle::prelude::Vec;
 use crate::proved::subsetter::glyf::outlines::{outlines_len, OutlineList};
 use crate::proved::subsetter_base::write::Writer;
 use crate::proved::subsetter_base::Error;
+use crate::proved::subsetter_sfnt::fields::loca::{OFFSET16_SIZE, OFFSET32_SIZE};
 use crate::rattle::alloc::Global;
 
 /// Whether the offsets need the long format: halves of them don't fit 16 bits.
@@ -28,7 +29,7 @@ fn write_offset(w: &mut Writer, long: bool, offset: usize) -> Result<(), Error> 
 
 /// `loca`: where each outline begins, and where the last one ends.
 pub fn subset(alloc: Global, outlines: &OutlineList<'_>, long: bool) -> Result<Vec<u8>, Error> {
-    let entry = if long { 4 } else { 2 };
+    let entry = if long { OFFSET32_SIZE } else { OFFSET16_SIZE };
     let room = outlines.len().saturating_add(1).saturating_mul(entry);
     let mut w = Writer::with_capacity(alloc, room)?;
     let mut offset: usize = 0;

@@ -8,6 +8,7 @@
 use crate::rattle::prelude::Vec;
 
 use crate::proved::subsetter_base::Error;
+use crate::proved::subsetter_sfnt::fields::maxp::NUM_GLYPHS_END;
 use crate::proved::subsetter_sfnt::flavor::FontFlavor;
 use crate::proved::subsetter_sfnt::room::put;
 
@@ -22,7 +23,7 @@ fn version(flavor: FontFlavor) -> u32 {
 /// The fields of the source after numGlyphs that the new version has.
 fn further_fields(maxp: &[u8], flavor: FontFlavor) -> &[u8] {
     match flavor {
-        FontFlavor::TrueType => &maxp[6..],
+        FontFlavor::TrueType => &maxp[NUM_GLYPHS_END..],
         FontFlavor::Cff => &[],
     }
 }
@@ -61,7 +62,7 @@ pub struct NewMaxp<'a> {
 impl<'a> NewMaxp<'a> {
     /// How many bytes it has.
     pub fn len(&self) -> usize {
-        6 + further_fields(self.source, self.flavor).len()
+        NUM_GLYPHS_END + further_fields(self.source, self.flavor).len()
     }
 
     /// Writes it.
@@ -85,7 +86,7 @@ pub fn subset<'a>(
             return Ok(None);
         }
     };
-    if maxp.len() < 6 {
+    if maxp.len() < NUM_GLYPHS_END {
         return Err(Error::MalformedFont);
     }
     Ok(Some(NewMaxp {

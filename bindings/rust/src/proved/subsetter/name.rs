@@ -14,69 +14,17 @@ use crate::rattle::prelude::Vec;
 mod text;
 
 use crate::proved::subsetter::name::text::Text;
-use crate::proved::subsetter_base::read::{u16_at, LazyArray16, Readable, Reader};
+use crate::proved::subsetter_base::read::{LazyArray16, Reader};
 use crate::proved::subsetter_base::write::{Writeable, Writer};
 use crate::proved::subsetter_base::Error;
+use crate::proved::subsetter_sfnt::fields::name::{NameRecord, COUNT};
 use crate::proved::subsetter_sfnt::room::put;
 use crate::rattle::alloc::Global;
 use crate::rattle::collections::HashMap;
 
-/// A record of `name`: the string of a name, by its length and its offset in the storage, in bytes.
-#[derive(Clone, Copy, Debug)]
-pub struct NameRecord {
-    pub platform_id: u16,
-    pub encoding_id: u16,
-    pub language_id: u16,
-    pub name_id: u16,
-    pub length: u16,
-    pub string_offset: u16,
-}
-
-impl NameRecord {
-    /// Whether its string is Unicode: on the platform Unicode, and on Windows in three encodings.
-    pub fn is_unicode(&self) -> bool {
-        self.platform_id == 0
-            || (self.platform_id == 3
-                && (self.encoding_id == 0 || self.encoding_id == 1 || self.encoding_id == 10))
-    }
-
-    /// The bytes of its string, if they are inside the storage.
-    fn string<'a>(&self, storage: &'a [u8]) -> Option<&'a [u8]> {
-        Reader::new_at(storage, self.string_offset as usize).read_bytes(self.length as usize)
-    }
-
-    /// Whether a subset keeps it: its string is Unicode, and it isn't the description.
-    fn is_kept(&self) -> bool {
-        self.is_unicode() && self.name_id < 15 && self.name_id != 10
-    }
-}
-
-impl Readable<'_> for NameRecord {
-    const SIZE: usize = 12;
-
-    fn read(r: &mut Reader<'_>) -> Option<Self> {
-        let b = r.read_bytes(12)?;
-        Some(NameRecord {
-            platform_id: u16_at(b, 0),
-            encoding_id: u16_at(b, 2),
-            language_id: u16_at(b, 4),
-            name_id: u16_at(b, 6),
-            length: u16_at(b, 8),
-            string_offset: u16_at(b, 10),
-        })
-    }
-}
-
-impl Writeable for NameRecord {
-    fn write(&self, w: &mut Writer) -> Result<(), Error> {
-        let [a, b] = self.platform_id.to_be_bytes();
-        let [c, d] = self.encoding_id.to_be_bytes();
-        let [e, f] = self.language_id.to_be_bytes();
-        let [g, h] = self.name_id.to_be_bytes();
-        let [i, j] = self.length.to_be_bytes();
-        let [k, l] = self.string_offset.to_be_bytes();
-        w.extend(&[a, b, c, d, e, f, g, h, i, j, k, l])
-    }
+/// Whether a subset keeps a record: its string is Unicode, and it isn't the description.
+fn is_kept(one: &NameRecord) -> bool {
+    one.is_unicode() && one.name_id < 15 && one.name_id != 10
 }
 
 /// How many strings are looked through one by one.
@@ -185,7 +133,7 @@ pub struct Table<'a> {
 
 /// The parts of a table of version 0, if its header, its records and the start of its storage are there.
 fn parse_parts(data: &[u8]) -> Option<Table<'_>> {
-    let mut r = Reader::new_at(data, 2);
+    let mut r = Reader::new_at(data, COUNT);
     let count = r.read::<u16>()?;
     let offset = r.read::<u16>()?;
     let records = r.read_array16::<NameRecord>(count)?;
@@ -265,7 +213,7 @@ fn collect_names<'a>(
     strings: &mut Strings<'a>,
 ) -> Result<(), Error> {
     for record in table.records.iter() {
-        if record.is_kept() {
+        if is_kept(&record) {
             let string = record.string(table.storage).ok_or(Error::SubsetError)?;
             let string_offset = strings.place(string)?;
             front.write(&NameRecord {

@@ -15,6 +15,7 @@ use crate::rattle::prelude::Vec;
 use crate::proved::subsetter_base::read::{LazyArray16, Reader};
 use crate::proved::subsetter_base::write::Writer;
 use crate::proved::subsetter_base::{Error, GlyphRemapper};
+use crate::proved::subsetter_sfnt::fields::post::{version, HEADER_SIZE};
 use crate::rattle::alloc::Global;
 use crate::rattle::borrow::CowSlice;
 
@@ -61,11 +62,11 @@ pub struct Version2Table<'a> {
 impl<'a> Version2Table<'a> {
     /// Parses a table, if it is one of version 2.0 and its header and its indexes are there.
     pub fn parse(data: &'a [u8]) -> Option<Self> {
-        if Reader::new(data).read::<u32>()? != 0x0002_0000 {
+        if version(data)? != 0x0002_0000 {
             return None;
         }
         let mut r = Reader::new(data);
-        let header = r.read_bytes(32)?;
+        let header = r.read_bytes(HEADER_SIZE)?;
         let count = r.read::<u16>()?;
         let glyph_indexes = r.read_array16::<u16>(count)?;
         let names_data = r.tail()?;

@@ -5,20 +5,11 @@ use crate::rattle::prelude::{Cast, Vec};
 
 use crate::proved::subsetter_base::read::Reader;
 use crate::proved::subsetter_base::Error;
+use crate::proved::subsetter_points::component::{
+    ARGS_ARE_XY_VALUES, ARG_1_AND_2_ARE_WORDS, MORE_COMPONENTS, WE_HAVE_AN_X_AND_Y_SCALE,
+    WE_HAVE_A_SCALE, WE_HAVE_A_TWO_BY_TWO,
+};
 use crate::rattle::alloc::{AllocError, Global};
-
-/// The arguments are two words, and not two bytes.
-const ARG_1_AND_2_ARE_WORDS: u16 = 0x0001;
-/// The arguments are an offset, and not two points.
-const ARGS_ARE_XY_VALUES: u16 = 0x0002;
-/// A scale follows.
-const WE_HAVE_A_SCALE: u16 = 0x0008;
-/// Another component follows.
-const MORE_COMPONENTS: u16 = 0x0020;
-/// Two scales follow.
-const WE_HAVE_AN_X_AND_Y_SCALE: u16 = 0x0040;
-/// A matrix of four numbers follows.
-const WE_HAVE_A_TWO_BY_TWO: u16 = 0x0080;
 
 /// How a component is placed.
 #[derive(Clone, Copy)]

@@ -10,8 +10,9 @@ use crate::proved::subsetter_instance::components::{
 };
 use crate::proved::subsetter_instance::placing::{with_metrics, with_part};
 use crate::proved::subsetter_instance::simple::{coordinate_at, left_point, moved, right_point};
-use crate::proved::subsetter_instance::source::{Metric, Source};
+use crate::proved::subsetter_instance::source::Source;
 use crate::proved::subsetter_instance::unfolding::Unfolded;
+use crate::proved::subsetter_sfnt::fields::hmtx::LongHorMetric;
 use crate::proved::subsetter_variation::movement::{spent, Outline as DefaultOutline};
 use crate::proved::subsetter_variation::tuples::Gvar;
 use crate::rattle::alloc::{AllocError, Global};
@@ -57,7 +58,7 @@ pub fn read_composite(
     steps: u32,
     glyph: u16,
     bytes: &[u8],
-    metric: Metric,
+    metric: LongHorMetric,
 ) -> Result<Composite, Error> {
     let steps = spent(5, steps)?;
     let body = Reader::new_at(bytes, 10)

@@ -5,9 +5,10 @@ use crate::rattle::prelude::Vec;
 
 use crate::proved::subsetter_base::{Error, GlyphRemapper};
 use crate::proved::subsetter_instance::kept::Kept;
-use crate::proved::subsetter_instance::source::{Metric, Source};
+use crate::proved::subsetter_instance::source::Source;
 use crate::proved::subsetter_instance::unfolding::{unfold, Unfolded};
 use crate::proved::subsetter_points::{fits, least_x, Outline, Point};
+use crate::proved::subsetter_sfnt::fields::hmtx::LongHorMetric;
 use crate::proved::subsetter_variation::item_variations::advance_delta;
 use crate::rattle::alloc::Global;
 
@@ -130,7 +131,7 @@ fn rounded(
     source: &Source<'_>,
     at: &[i32],
     glyph: u16,
-    metric: Metric,
+    metric: LongHorMetric,
     unfolded: Unfolded,
 ) -> Result<Drawn, Error> {
     let width = distance(unfolded.left, unfolded.right);

@@ -5,6 +5,12 @@ use crate::rattle::prelude::Vec;
 
 use crate::proved::subsetter_instance::drawn::Drawn;
 use crate::proved::subsetter_instance::extremes::{all_extents, write_box, write_extremes};
+use crate::proved::subsetter_sfnt::fields::head::{
+    CHECKSUM_ADJUSTMENT, GLYPH_DATA_FORMAT, INDEX_TO_LOC_FORMAT, MAC_STYLE, MAGIC_NUMBER, X_MIN,
+};
+use crate::proved::subsetter_sfnt::fields::hhea::{
+    ADVANCE_WIDTH_MAX, CARET_SLOPE_RISE, NUMBER_OF_H_METRICS, SIZE as HHEA_SIZE,
+};
 use crate::rattle::alloc::{AllocError, Global};
 
 /// indexToLocFormat: 1 for long offsets.
@@ -20,13 +26,13 @@ pub fn head(
     drawn: &[Drawn],
 ) -> Result<Vec<u8>, AllocError> {
     let mut head = Vec::with_capacity(alloc, source.len())?;
-    head.extend_from_slice(&source[..8])?;
+    head.extend_from_slice(&source[..CHECKSUM_ADJUSTMENT])?;
     head.extend_from_slice(&[0; 4])?;
-    head.extend_from_slice(&source[12..36])?;
+    head.extend_from_slice(&source[MAGIC_NUMBER..X_MIN])?;
     write_box(&mut head, all_extents(drawn))?;
-    head.extend_from_slice(&source[44..50])?;
+    head.extend_from_slice(&source[MAC_STYLE..INDEX_TO_LOC_FORMAT])?;
     head.extend_from_slice(&[0, loca_format(long)])?;
-    head.extend_from_slice(&source[52..])?;
+    head.extend_from_slice(&source[GLYPH_DATA_FORMAT..])?;
     Ok(head)
 }
 
@@ -38,11 +44,11 @@ pub fn hhea(
     drawn: &[Drawn],
 ) -> Result<Vec<u8>, AllocError> {
     let mut hhea = Vec::with_capacity(alloc, source.len())?;
-    hhea.extend_from_slice(&source[..10])?;
+    hhea.extend_from_slice(&source[..ADVANCE_WIDTH_MAX])?;
     write_extremes(&mut hhea, drawn)?;
-    hhea.extend_from_slice(&source[18..34])?;
+    hhea.extend_from_slice(&source[CARET_SLOPE_RISE..NUMBER_OF_H_METRICS])?;
     hhea.extend_from_slice(&count.to_be_bytes())?;
-    hhea.extend_from_slice(&source[36..])?;
+    hhea.extend_from_slice(&source[HHEA_SIZE..])?;
     Ok(hhea)
 }
 

@@ -7,6 +7,12 @@ use crate::proved::subsetter_base::read::signed_at;
 use crate::proved::subsetter_base::{Error, Tag};
 use crate::proved::subsetter_instance::drawn::word_or_fault;
 use crate::proved::subsetter_sfnt::face::Face;
+use crate::proved::subsetter_sfnt::fields::hhea::{
+    ADVANCE_WIDTH_MAX, ASCENDER, CARET_SLOPE_RISE, RESERVED,
+};
+use crate::proved::subsetter_sfnt::fields::post::{
+    IS_FIXED_PITCH, UNDERLINE_POSITION, UNDERLINE_THICKNESS,
+};
 use crate::proved::subsetter_variation::font_metrics::metric_delta;
 use crate::rattle::alloc::{AllocError, Global};
 
@@ -53,11 +59,11 @@ fn moved_hhea(
     caret: (i16, i16, i16),
 ) -> Result<Vec<u8>, AllocError> {
     let mut new = Vec::with_capacity(alloc, hhea.len())?;
-    new.extend_from_slice(&hhea[..4])?;
+    new.extend_from_slice(&hhea[..ASCENDER])?;
     write_lines(&mut new, lines)?;
-    new.extend_from_slice(&hhea[10..18])?;
+    new.extend_from_slice(&hhea[ADVANCE_WIDTH_MAX..CARET_SLOPE_RISE])?;
     write_lines(&mut new, caret)?;
-    new.extend_from_slice(&hhea[24..])?;
+    new.extend_from_slice(&hhea[RESERVED..])?;
     Ok(new)
 }
 
@@ -84,11 +90,11 @@ fn varied_hhea(
     let ascender = Tag::new(b"hasc");
     let descender = Tag::new(b"hdsc");
     let line_gap = Tag::new(b"hlgp");
-    let lines = three_lines(mvar, at, hhea, 4, ascender, descender, line_gap)?;
+    let lines = three_lines(mvar, at, hhea, ASCENDER, ascender, descender, line_gap)?;
     let rise = Tag::new(b"hcrs");
     let run = Tag::new(b"hcrn");
     let offset = Tag::new(b"hcof");
-    let caret = three_lines(mvar, at, hhea, 18, rise, run, offset)?;
+    let caret = three_lines(mvar, at, hhea, CARET_SLOPE_RISE, rise, run, offset)?;
     Ok(moved_hhea(alloc, hhea, lines, caret)?)
 }
 
@@ -100,17 +106,27 @@ fn moved_post(
     thickness: i16,
 ) -> Result<Vec<u8>, AllocError> {
     let mut new = Vec::with_capacity(alloc, post.len())?;
-    new.extend_from_slice(&post[..8])?;
+    new.extend_from_slice(&post[..UNDERLINE_POSITION])?;
     new.extend_from_slice(&position.to_be_bytes())?;
     new.extend_from_slice(&thickness.to_be_bytes())?;
-    new.extend_from_slice(&post[12..])?;
+    new.extend_from_slice(&post[IS_FIXED_PITCH..])?;
     Ok(new)
 }
 
 /// `post` at a place, where it has the numbers of the underline.
 fn varied_underline(alloc: Global, mvar: &[u8], at: &[i32], post: &[u8]) -> Result<Vec<u8>, Error> {
-    let position = varied(mvar, at, Tag::new(b"undo"), signed_at(post, 8))?;
-    let thickness = varied(mvar, at, Tag::new(b"unds"), signed_at(post, 10))?;
+    let position = varied(
+        mvar,
+        at,
+        Tag::new(b"undo"),
+        signed_at(post, UNDERLINE_POSITION),
+    )?;
+    let thickness = varied(
+        mvar,
+        at,
+        Tag::new(b"unds"),
+        signed_at(post, UNDERLINE_THICKNESS),
+    )?;
     Ok(moved_post(alloc, post, position, thickness)?)
 }
 

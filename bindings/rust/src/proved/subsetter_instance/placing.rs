@@ -6,15 +6,11 @@ use crate::rattle::prelude::Vec;
 use crate::proved::subsetter_base::Error;
 use crate::proved::subsetter_instance::components::{has, Arguments, Component, Matrix};
 use crate::proved::subsetter_instance::unfolding::Unfolded;
+use crate::proved::subsetter_points::component::{
+    SCALED_COMPONENT_OFFSET, UNSCALED_COMPONENT_OFFSET, USE_MY_METRICS,
+};
 use crate::proved::subsetter_variation::rounding::{minus, nearest, plus};
 use crate::rattle::alloc::{AllocError, Global};
-
-/// The glyph has the phantom points of the component.
-const USE_MY_METRICS: u16 = 0x0200;
-/// An offset is to be scaled by the matrix.
-const SCALED_COMPONENT_OFFSET: u16 = 0x0800;
-/// It isn't, which is the default.
-const UNSCALED_COMPONENT_OFFSET: u16 = 0x1000;
 
 /// A coordinate times a scale.
 fn product(scale: i16, v: i64) -> i64 {

@@ -5,9 +5,10 @@ use crate::rattle::prelude::{Cast, Vec};
 
 use crate::proved::subsetter_base::read::Reader;
 use crate::proved::subsetter_base::Error;
-use crate::proved::subsetter_instance::source::{Metric, Source};
+use crate::proved::subsetter_instance::source::Source;
 use crate::proved::subsetter_instance::unfolding::Unfolded;
 use crate::proved::subsetter_points::{read_columns, Columns};
+use crate::proved::subsetter_sfnt::fields::hmtx::LongHorMetric;
 use crate::proved::subsetter_variation::movement::{
     moved_points, spent, Outline as DefaultOutline,
 };
@@ -25,7 +26,7 @@ fn x_min(bytes: &[u8]) -> i16 {
 }
 
 /// Where the left side of the default lies.
-fn left_side(bytes: &[u8], metric: Metric) -> i32 {
+fn left_side(bytes: &[u8], metric: LongHorMetric) -> i32 {
     i32::from(x_min(bytes)) - i32::from(metric.bearing.to_signed())
 }
 
@@ -43,17 +44,17 @@ pub fn coordinate_at(xs: &[i64], number: usize) -> i64 {
 }
 
 /// x of the left phantom point behind n points.
-pub fn left_point(bytes: &[u8], metric: Metric, n: usize, xs: &[i64]) -> i64 {
+pub fn left_point(bytes: &[u8], metric: LongHorMetric, n: usize, xs: &[i64]) -> i64 {
     plus(in_parts(left_side(bytes, metric)), coordinate_at(xs, n))
 }
 
 /// Where the right side of the default lies.
-fn right_side(bytes: &[u8], metric: Metric) -> i32 {
+fn right_side(bytes: &[u8], metric: LongHorMetric) -> i32 {
     left_side(bytes, metric) + i32::from(metric.advance)
 }
 
 /// x of the right phantom point behind n points.
-pub fn right_point(bytes: &[u8], metric: Metric, n: usize, xs: &[i64]) -> i64 {
+pub fn right_point(bytes: &[u8], metric: LongHorMetric, n: usize, xs: &[i64]) -> i64 {
     plus(
         in_parts(right_side(bytes, metric)),
         coordinate_at(xs, n + 1),
@@ -145,7 +146,7 @@ fn moved_simple(
 fn simple_outline(
     alloc: Global,
     bytes: &[u8],
-    metric: Metric,
+    metric: LongHorMetric,
     ends: Vec<u16>,
     flags: &[u8],
     xs: Vec<i64>,
@@ -177,7 +178,7 @@ fn unfold_columns(
     steps: u32,
     glyph: u16,
     bytes: &[u8],
-    metric: Metric,
+    metric: LongHorMetric,
     columns: Columns,
 ) -> Result<(Unfolded, u32), Error> {
     let Columns {
@@ -200,7 +201,7 @@ pub fn unfold_simple(
     steps: u32,
     glyph: u16,
     bytes: &[u8],
-    metric: Metric,
+    metric: LongHorMetric,
 ) -> Result<(Unfolded, u32), Error> {
     let columns = read_columns(alloc, bytes)?.ok_or(Error::MalformedFont)?;
     unfold_columns(alloc, source, at, steps, glyph, bytes, metric, columns)

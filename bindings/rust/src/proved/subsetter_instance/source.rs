@@ -3,21 +3,17 @@
 
 use crate::rattle::prelude::Vec;
 
-use crate::proved::subsetter_base::read::{between_offsets, Reader};
+use crate::proved::subsetter_base::read::between_offsets;
 use crate::proved::subsetter_base::{Error, Tag};
 use crate::proved::subsetter_sfnt::face::Face;
+use crate::proved::subsetter_sfnt::fields::head::index_to_loc_format;
+use crate::proved::subsetter_sfnt::fields::hhea::number_of_h_metrics;
+use crate::proved::subsetter_sfnt::fields::hmtx::{glyph_metric, LongHorMetric};
+use crate::proved::subsetter_sfnt::fields::loca::loca_offset;
+use crate::proved::subsetter_sfnt::fields::maxp::num_glyphs;
 use crate::proved::subsetter_variation::coordinates::{coordinates, is_other_version};
 use crate::proved::subsetter_variation::tuples::{gvar_table, Gvar};
 use crate::rattle::alloc::Global;
-
-/// The horizontal metric of a glyph, in font design units.
-#[derive(Clone, Copy, PartialEq, Eq)]
-pub struct Metric {
-    /// The advance width.
-    pub advance: u16,
-    /// The two bytes of the left side bearing, which is an int16.
-    pub bearing: u16,
-}
 
 /// The tables of outlines and metrics, and what varies.
 pub struct Source<'a> {
@@ -61,11 +57,11 @@ pub fn source_in<'a>(face: &Face<'a>, axes: usize) -> Option<Source<'a>> {
     let glyf = face.stored(Tag::GLYF)?;
     let loca = face.stored(Tag::LOCA)?;
     let head = face.stored(Tag::HEAD)?;
-    let format = Reader::new_at(head, 50).read::<u16>()?;
+    let format = index_to_loc_format(head)?;
     let maxp = face.stored(Tag::MAXP)?;
-    let count = Reader::new_at(maxp, 4).read::<u16>()?;
+    let count = num_glyphs(maxp)?;
     let hhea = face.stored(Tag::HHEA)?;
-    let pairs = Reader::new_at(hhea, 34).read::<u16>()?;
+    let pairs = number_of_h_metrics(hhea)?;
     let hmtx = face.stored(Tag::HMTX)?;
     let gvar = variations_in(face.stored(Tag::new(b"gvar")), axes)?;
     Some(Source {
@@ -92,13 +88,6 @@ pub fn source_or_fault<'a>(face: &Face<'a>, axes: usize) -> Result<Source<'a>, E
     source_in(face, axes).ok_or(Error::MalformedFont)
 }
 
-/// An advance and a left side bearing at two places of `hmtx`.
-fn metric_at(hmtx: &[u8], advance_at: usize, bearing_at: usize) -> Option<Metric> {
-    let advance = Reader::new_at(hmtx, advance_at).read::<u16>()?;
-    let bearing = Reader::new_at(hmtx, bearing_at).read::<u16>()?;
-    Some(Metric { advance, bearing })
-}
-
 impl<'a> Source<'a> {
     /// How many glyphs there are.
     pub fn count(&self) -> u16 {
@@ -117,11 +106,7 @@ impl<'a> Source<'a> {
 
     /// An offset of `loca`.
     fn offset(&self, number: usize) -> Option<usize> {
-        if self.long {
-            Some(Reader::new_at(self.loca, 4 * number).read::<u32>()? as usize)
-        } else {
-            Some(2 * Reader::new_at(self.loca, 2 * number).read::<u16>()? as usize)
-        }
+        loca_offset(self.loca, self.long, number)
     }
 
     /// The description of a glyph, if it is there.
@@ -132,15 +117,7 @@ impl<'a> Source<'a> {
     }
 
     /// The metric of a glyph: a pair of its own, or the last advance with a bearing of its own.
-    pub fn metric(&self, glyph: u16) -> Option<Metric> {
-        let pairs = self.pairs as usize;
-        let glyph = glyph as usize;
-        if glyph < pairs {
-            metric_at(self.hmtx, 4 * glyph, 4 * glyph + 2)
-        } else if pairs == 0 {
-            None
-        } else {
-            metric_at(self.hmtx, 4 * (pairs - 1), 4 * pairs + 2 * (glyph - pairs))
-        }
+    pub fn metric(&self, glyph: u16) -> Option<LongHorMetric> {
+        glyph_metric(self.hmtx, self.pairs, glyph)
     }
 }

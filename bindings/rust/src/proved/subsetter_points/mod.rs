@@ -13,22 +13,41 @@
 //! write_simple(&mut out, &outline)?;
 //! ```
 
+#[cfg(feature = "variable-fonts")]
 mod bounds;
+pub mod component;
+#[cfg(feature = "variable-fonts")]
 mod coordinates;
+#[cfg(feature = "variable-fonts")]
 mod delta_bytes;
+#[cfg(feature = "variable-fonts")]
 mod deltas;
+#[cfg(feature = "variable-fonts")]
 mod end_bytes;
+#[cfg(feature = "variable-fonts")]
 mod ends;
+#[cfg(feature = "variable-fonts")]
 mod fitting;
+#[cfg(feature = "variable-fonts")]
 mod flag_bytes;
+#[cfg(feature = "variable-fonts")]
 mod flags;
+#[cfg(feature = "variable-fonts")]
 mod front;
+#[cfg(feature = "variable-fonts")]
 mod outline;
+#[cfg(feature = "variable-fonts")]
 mod reading;
+#[cfg(feature = "variable-fonts")]
 mod writing;
 
+#[cfg(feature = "variable-fonts")]
 pub use bounds::least_x;
+#[cfg(feature = "variable-fonts")]
 pub use fitting::fits;
+#[cfg(feature = "variable-fonts")]
 pub use outline::{Columns, Outline, Point};
+#[cfg(feature = "variable-fonts")]
 pub use reading::read_columns;
+#[cfg(feature = "variable-fonts")]
 pub use writing::write_simple;

@@ -6,6 +6,15 @@ use crate::proved::subsetter_base::write::{Writeable, Writer};
 use crate::proved::subsetter_base::{Error, Tag};
 use crate::proved::subsetter_sfnt::extras::Extras;
 
+/// What a font with TrueType outlines begins with.
+pub const TRUETYPE_VERSION: u32 = 0x00010000;
+/// What such a font of Apple's may begin with: `true`.
+pub const TRUE: u32 = 0x74727565;
+/// What a font with the outlines of CFF begins with.
+pub const OTTO: u32 = 0x4F54544F;
+/// What a collection begins with: `ttcf`.
+pub const TTC_TAG: u32 = 0x74746366;
+
 /// What a file or a part of it begins with.
 #[derive(Clone, Copy, Debug, PartialEq, Eq)]
 pub enum FontKind {
@@ -21,8 +30,8 @@ impl Readable<'_> for FontKind {
     fn read(r: &mut Reader<'_>) -> Option<Self> {
         let word = r.peak::<u32>()?;
         let kind = match word {
-            0x00010000 | 0x74727565 | 0x4F54544F => FontKind::Single,
-            0x74746366 => FontKind::Collection,
+            TRUETYPE_VERSION | TRUE | OTTO => FontKind::Single,
+            TTC_TAG => FontKind::Collection,
             _ => return None,
         };
         r.skip_bytes(4);

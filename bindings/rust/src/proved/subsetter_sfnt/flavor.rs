@@ -3,7 +3,7 @@
 
 use crate::proved::subsetter_base::write::{Writeable, Writer};
 use crate::proved::subsetter_base::{Error, Tag};
-use crate::proved::subsetter_sfnt::face::Face;
+use crate::proved::subsetter_sfnt::face::{Face, OTTO, TRUETYPE_VERSION};
 
 /// The kind of a font's outlines.
 #[derive(Clone, Copy, Debug, PartialEq, Eq)]
@@ -18,8 +18,8 @@ impl FontFlavor {
     /// The word that begins a file with outlines of this kind.
     pub fn kind(self) -> u32 {
         match self {
-            FontFlavor::TrueType => 0x00010000,
-            FontFlavor::Cff => 0x4F54544F,
+            FontFlavor::TrueType => TRUETYPE_VERSION,
+            FontFlavor::Cff => OTTO,
         }
     }
 }

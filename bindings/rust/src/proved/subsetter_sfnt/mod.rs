@@ -12,8 +12,10 @@
 
 pub mod checksum;
 pub mod construct;
+pub mod directory;
 pub mod extras;
 pub mod face;
+pub mod fields;
 pub mod flavor;
 pub mod parse;
 pub mod room;

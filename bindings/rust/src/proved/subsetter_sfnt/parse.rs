@@ -3,8 +3,9 @@
 
 use crate::proved::subsetter_base::read::Reader;
 use crate::proved::subsetter_base::{Error, Tag};
+use crate::proved::subsetter_sfnt::directory::{records_at, table_in};
 use crate::proved::subsetter_sfnt::extras::Extras;
-use crate::proved::subsetter_sfnt::face::{Face, FontKind, TableRecord};
+use crate::proved::subsetter_sfnt::face::{Face, FontKind};
 
 /// Where the font's header stands.
 fn header(file: &[u8], index: u32, _extras: Extras) -> Result<usize, Error> {
@@ -25,34 +26,15 @@ fn header(file: &[u8], index: u32, _extras: Extras) -> Result<usize, Error> {
     }
 }
 
-/// The bytes of the directory's records.
-fn records(file: &[u8], at: usize) -> Option<&[u8]> {
-    let mut r = Reader::new_at(file, at + 4);
-    let count = r.read::<u16>()?;
-    let mut r = Reader::new_at(file, at + 12);
-    r.read_bytes(16 * (count as usize))
-}
-
 /// Parses the directory of a font, of which these extras are asked for.
 pub fn parse(file: &[u8], index: u32, extras: Extras) -> Result<Face<'_>, Error> {
     let at = header(file, index, extras)?;
-    let records = records(file, at).ok_or(Error::MalformedFont)?;
+    let records = records_at(file, at).ok_or(Error::MalformedFont)?;
     Ok(Face {
         data: file,
         records,
         extras,
     })
-}
-
-/// The first record that bears a tag.
-fn find_record(records: &[u8], tag: Tag) -> Option<TableRecord> {
-    let mut r = Reader::new(records);
-    while let Some(record) = r.read::<TableRecord>() {
-        if record.tag == tag {
-            return Some(record);
-        }
-    }
-    None
 }
 
 impl<'a> Face<'a> {
@@ -73,7 +55,6 @@ impl<'a> Face<'a> {
 
     /// The bytes of a table.
     pub fn stored(&self, tag: Tag) -> Option<&'a [u8]> {
-        let record = find_record(self.records, tag)?;
-        Reader::new_at(self.data, record.offset as usize).read_bytes(record.length as usize)
+        table_in(self.data, self.records, tag)
     }
 }

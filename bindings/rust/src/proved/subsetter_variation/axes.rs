@@ -7,6 +7,7 @@ use crate::rattle::prelude::Vec;
 
 use crate::proved::subsetter_base::read::{long_signed_at, Reader};
 use crate::proved::subsetter_base::{Error, Tag};
+use crate::proved::subsetter_variation::fvar::{axes_array_offset, axis_count, axis_size};
 use crate::proved::subsetter_variation::rounding::part;
 use crate::rattle::alloc::Global;
 
@@ -59,15 +60,9 @@ fn axes_at(
 
 /// The axes that `fvar` lists. A cut table is `MalformedFont`.
 pub fn axes(alloc: Global, fvar: &[u8]) -> Result<Vec<Axis>, Error> {
-    let at = Reader::new_at(fvar, 4)
-        .read::<u16>()
-        .ok_or(Error::MalformedFont)?;
-    let count = Reader::new_at(fvar, 8)
-        .read::<u16>()
-        .ok_or(Error::MalformedFont)?;
-    let size = Reader::new_at(fvar, 10)
-        .read::<u16>()
-        .ok_or(Error::MalformedFont)?;
+    let at = axes_array_offset(fvar).ok_or(Error::MalformedFont)?;
+    let count = axis_count(fvar).ok_or(Error::MalformedFont)?;
+    let size = axis_size(fvar).ok_or(Error::MalformedFont)?;
     if size < 20 {
         return Err(Error::MalformedFont);
     }

@@ -20,6 +20,7 @@ pub mod axes;
 pub mod contour;
 pub mod coordinates;
 pub mod font_metrics;
+pub mod fvar;
 pub mod glyph;
 pub mod inference;
 pub mod item_variations;

@@ -8,19 +8,13 @@ use crate::rattle::prelude::Vec;
 
 use crate::proved::subsetter_base::read::u16_at;
 use crate::proved::subsetter_base::{Error, GlyphRemapper};
+use crate::proved::subsetter_points::component::{
+    ARG_1_AND_2_ARE_WORDS, MORE_COMPONENTS, WE_HAVE_AN_X_AND_Y_SCALE, WE_HAVE_A_SCALE,
+    WE_HAVE_A_TWO_BY_TWO, WE_HAVE_INSTRUCTIONS,
+};
 
-/// Two words of arguments follow, and not two bytes.
-const ARG_1_AND_2_ARE_WORDS: u16 = 0x0001;
-/// A scale follows.
-const WE_HAVE_A_SCALE: u16 = 0x0008;
-/// Another component follows.
-const MORE_COMPONENTS: u16 = 0x0020;
-/// Two scales follow.
-const WE_HAVE_AN_X_AND_Y_SCALE: u16 = 0x0040;
-/// A matrix of four numbers follows.
-const WE_HAVE_A_TWO_BY_TWO: u16 = 0x0080;
-/// Instructions follow the last component.
-const WE_HAVE_INSTRUCTIONS: u16 = 0x0100;
+/// All flags but WE_HAVE_INSTRUCTIONS.
+const WITHOUT_INSTRUCTIONS: u16 = 0xFEFF;
 
 /// A component: its flags, its glyph, and the bytes of its arguments and its transform.
 #[derive(Clone, Copy)]
@@ -160,7 +154,7 @@ fn flags_asked(hinting: bool, flags: u16) -> u16 {
     if hinting {
         flags
     } else {
-        flags & 0xFEFF
+        flags & WITHOUT_INSTRUCTIONS
     }
 }
 
