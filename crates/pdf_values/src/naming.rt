@@ -42,8 +42,9 @@ fn string_at(name: &[u8], kind: Kind, id: u16, storage: usize, at: usize) -> Opt
 {
     let entry = Reader::new_at(name, at).read::<NameRecord>()?;
     if entry.name_id == id && is_of(kind, entry) {
-        return Reader::new_at(name, storage + usize::from(entry.string_offset))
-            .read_bytes(usize::from(entry.length));
+        return Reader::new_at(name, storage + usize::from(entry.string_offset)).read_bytes(
+            usize::from(entry.length),
+        );
     }
     None
 }
