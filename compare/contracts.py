@@ -11,8 +11,8 @@ FILE has a line for each change of name, and `#` before a comment:
   crate OLD -> NEW         a crate's name
   module A.x -> B.y        a module, with all that is below it
   OLD -> NEW               a name wherever it stands; or a full name (crate.module.name), also of another module
-  .OLD -> .NEW             a field; several lines for one field, where no record has two that could be meant
-  OLD => NEW               full names: a definition that is dropped, as NEW says the same
+  .OLD -> .NEW             a field; several lines for one field, where no record has two that could be meant (.OLD -> .OLD: it stays elsewhere)
+  OLD => NEW               full names: a definition that is dropped, as NEW says the same; a type, whose fields may be public in NEW
   OLD == NEW by LAW        the same, where LAW, which stands in a proof of OLD's checkout, says that they are equal
   - OLD                    a full name that is gone; + NEW one that is new
 All but `=>` have to be one-to-one. Each difference is printed, then counts. The status is 0 where nothing differs, 1 where
@@ -142,7 +142,7 @@ class Comparison:
     def run(self):
         roots, taken = self.old.roots(), set()
         for id in roots:
-            new = None if id in self.names.gone else self.find(id)
+            new = self.find(id)
             if new is None:
                 if id not in self.names.gone:
                     self.differ(f"{id}: it isn't in the new checkout", self.shown(self.old, id))
@@ -171,6 +171,8 @@ class Comparison:
     def find(self, id):
         """Where a public item stands in the new checkout: by its name, else as the one of this name in its crate, else in all."""
         item, wanted = self.old.tree.items[id], self.names.id(id)
+        if id in self.names.gone:
+            return None
         if item.kind == "impl":
             return self.find_instance(item)
         if wanted in self.new.tree.items:
@@ -231,7 +233,7 @@ class Comparison:
         for label, own in renamed.items():
             if label not in news:
                 self.differ(f"{self.title(a, b)}: `{own}` is gone", olds[own][1])
-            elif not self.same(olds[own][0], news[label][0], a):
+            elif not self.same(*self.dropped(a, b, own, olds[own][0], news[label][0]), a):
                 self.differ(f"{self.title(a, b)}: `{own}`", olds[own][1], news[label][1])
         for label in news:
             if label not in renamed:
@@ -244,10 +246,22 @@ class Comparison:
         elif any(models):
             self.differ(f"{self.title(a, b)}: only one of the checkouts has a model of it")
 
+    def dropped(self, a, b, own, old, new):
+        """Of a type that is dropped for another one (`=>`): that one may have public fields and further derives."""
+        if self.names.merged.get(a) != b:
+            return old, new
+        if own.endswith("attributes") and set(old) <= set(new):
+            return old, old
+        return [[it for it in words if it != "pub"] for words in (old, new)] if own == "struct" else (old, new)
+
     def label(self, label):
         """A part's label, with the new name of its clause or member."""
-        return re.sub(r"(\S+)$", lambda found: next(iter(sorted(self.names.field(found[1]) - {found[1]})), self.names.word(found[1])), label) \
-            if " " in label and not label.endswith("attributes") else label
+        def renamed(found):
+            # (a line `.NAME -> .NAME` beside others keeps the name of a clause)
+            stays = found[1] in self.names.fields.get(found[1], ())
+            return found[1] if stays else next(iter(sorted(self.names.field(found[1]) - {found[1]})), self.names.word(found[1]))
+
+        return re.sub(r"(\S+)$", renamed, label) if " " in label and not label.endswith("attributes") else label
 
     def title(self, a, b):
         why, seen = self.pairs.get((a, b), ""), {a}

@@ -136,7 +136,7 @@ class Tree:
 
     # ---- paths of code
 
-    def path(self, module, segments, seen=None):
+    def path(self, module, segments):
         """What a path of code means: ("def", id), ("con", id, name), ("mod", module), ("lib", path), or None; with what is left of it."""
         if not segments:
             return None
@@ -147,8 +147,11 @@ class Tree:
             found = ("mod", module)
         elif first == "super":
             found = ("mod", module.parent or module)
+        elif first in self.crates and module.uses.get(first, [])[:1] == [first]:
+            # (a crate, of which an item of the same name is brought in)
+            found = ("mod", self.crates[first])
         else:
-            found = self.look(module, first, set() if seen is None else seen)
+            found = self.look(module, first, set())
             if found is None and first in self.crates:
                 found = ("mod", self.crates[first])
             elif found is None and (first in PRELUDE or first in ("std", "core", "alloc") or len(segments) > 1):
@@ -190,7 +193,7 @@ class Tree:
 
     def used(self, module, path, seen):
         if path[0] in ("crate", "self", "super") or path[0] in self.crates or path[0] in module.modules or path[0] in module.uses:
-            return self.path(module, path, seen)
+            return self.path(module, path)
         return ("lib", "::".join(path))
 
     # ---- names of antt
