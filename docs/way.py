@@ -80,6 +80,10 @@ def steps():
         if len(cells) != 4 or cells[0] not in (*COLUMNS, *BANDS) or not cells[3]:
             raise Trouble(f"{STEPS}: can't read `{line}`")
         found.append(Step(*cells[:3], cells[3].split()))
+    for part in BANDS:
+        count = len([it for it in found if it.part == part])
+        if count > 1:
+            raise Trouble(f"{STEPS} has {count} steps of {part}, which is one band")
     lacking = [it for it in (*COLUMNS, *BANDS) if it not in {step.part for step in found}]
     if lacking:
         raise Trouble(f"{STEPS} has no step of {', '.join(lacking)}")
