@@ -23,6 +23,7 @@ PLANTS = [
     ("a crate for developers that becomes a product", LAYERS, re.compile(r"(fonts: .*)\n([\s\S]*) pdf_tests"), r"\1 pdf_tests\n\2", r"no step has a file of the crate pdf_tests"),
     ("a crate in another layer", LAYERS, re.compile(r"(formats: .*) cmap\n([\s\S]*?fonts: )"), r"\1\n\2cmap ", r"ARCHITECTURE\.md: no row for the crate cmap below fonts"),
     ("a layer more", LAYERS, "doors: subsetter_c ", "gates: subset_font\ndoors: subsetter_c ", r"layers bytes, formats, fonts, calls, doors, developers, and .* calls, gates, doors"),
+    ("doors that use nothing", LAYERS, re.compile(r"doors: (.*) subsetter_words"), r"calls: \1\ndoors: subsetter_words", r"^way: no crate of doors uses a step of "),
     ("no layers", LAYERS, EVERYTHING, "", r"^way: \.ci/conventions/layers\.txt has 0 layers"),
     ("a row of a crate that goes", HOUSE, re.compile(r"\| `crates/late_file` \|.*\n"), "", r"no row for the crate late_file below doors"),
     ("a row of a crate below another layer", HOUSE, re.compile(r"(\| `crates/cmap` .*\n)([\s\S]*\| \*\*fonts\*\* \| \|\n)"), r"\2\1", r"no row for the crate cmap below formats"),

@@ -260,9 +260,13 @@ def arrow(*points):
     return f'<polyline points="{path}" fill="none" stroke="#5d6d7e" stroke-width="1.4" marker-end="url(#head)"/>\n'
 
 
+def is_used(box, used):
+    """Whether a product reaches a crate of a box."""
+    return any(path.split("/")[0] in used for path in box.step.files)
+
+
 def drawn_box(box, colour_of, used):
-    crates = {path.split("/")[0] for path in box.step.files}
-    dashes = "" if crates & used else ' stroke-dasharray="5 3"'
+    dashes = "" if is_used(box, used) else ' stroke-dasharray="5 3"'
     drawn = f'<rect x="{box.x}" y="{box.y:.1f}" width="{box.width}" height="{box.height:.1f}" rx="5" fill="#f6f8fa" stroke="#8b98a5"{dashes}/>\n'
     for number, line in enumerate(box.lines):
         y = box.y + PAD + 10 + 14.5 * number
@@ -276,13 +280,13 @@ def arrows(made):
     """The way between the boxes: down each column, from column to column in the gaps between them."""
     drawn = ""
     for part in COLUMNS:
-        boxes = made[part][:-1] if part == "coordinates" else made[part]
+        boxes = made[part]
         drawn += "".join(arrow((a.middle, a.bottom), (a.middle, b.y)) for a, b in zip(boxes, boxes[1:]))
     request, answer, opening, tables, file = made["request"][0], made["answer"][0], made["opening"], made["file"][0], made["file"][-1]
     for lane in (made["truetype"], made["cff"]):
         drawn += arrow((lane[0].middle, opening[-1].bottom), (lane[0].middle, lane[0].y))
         drawn += arrow((lane[-1].middle, lane[-1].bottom), (lane[-1].middle, tables.y))
-    default, static, first = made["coordinates"][0], made["coordinates"][-2], made["pdf"][0]
+    default, static, first = made["coordinates"][0], made["coordinates"][-1], made["pdf"][0]
     level, gap = opening[0].y + opening[0].height / 2, (default.x + default.width + opening[0].x) / 2
     side = static.y + static.height / 2
     drawn += arrow((default.x + default.width, level), (opening[0].x, level))
@@ -329,7 +333,11 @@ def picture(all_steps, crates, layered):
     colour_of = {crate: COLOURS[k] for k, group in enumerate(layered.values()) for crate in group}
     used = used_by(crates, list(layered.values())[-2])
     boxes = [box for group in made.values() for box in group]
-    has_dashes = any(not {it.split("/")[0] for it in box.step.files} & used for box in boxes)
+    reached = {part: [box for box in group if is_used(box, used)] for part, group in made.items()}
+    unreached = [part for part, group in reached.items() if not group]
+    if unreached:
+        raise Trouble(f"no crate of {list(layered)[-2]} uses a step of {', '.join(unreached)}")
+    has_dashes = reached != made
     below, high = legend(layered, made["answer"][0].bottom + 24, has_dashes)
     head = ('<svg xmlns="http://www.w3.org/2000/svg" viewBox="0 0 {0} {1:.0f}" width="{0}" height="{1:.0f}" '
             'font-family="Helvetica, Arial, \'Liberation Sans\', \'DejaVu Sans\', sans-serif" fill="#1b2631">\n').format(WIDTH, high)
@@ -337,7 +345,7 @@ def picture(all_steps, crates, layered):
     head += ('<defs><marker id="head" viewBox="0 0 8 8" refX="7" refY="4" markerWidth="7" markerHeight="7" orient="auto">'
              '<path d="M0,0.5 L8,4 L0,7.5 z" fill="#5d6d7e"/></marker></defs>\n')
     ground = f'<rect width="{WIDTH}" height="{high:.0f}" fill="#ffffff"/>\n'
-    return head + ground + "".join(drawn_box(box, colour_of, used) for box in boxes) + arrows(made) + titles(made) + below + "</svg>\n"
+    return head + ground + "".join(drawn_box(box, colour_of, used) for box in boxes) + arrows(reached) + titles(made) + below + "</svg>\n"
 
 
 def main():
