@@ -32,8 +32,8 @@ COLOURS = "#4e79a7", "#59a14f", "#e8871e", "#9467bd", "#d1495b", "#8d99a6", "#76
 TITLES = {"coordinates": "before: a font at coordinates", "opening": "a subset of a font", "pdf": "after: a font in a PDF",
           "truetype": "outlines in glyf", "cff": "outlines in CFF"}
 # The advances of DejaVu Sans, the widest of the common fonts, in parts of the size.
-NARROW = {"ijl|": 0.28, ".,:;'!": 0.34, "tfr/()- ": 0.41, "_": 0.5, "m": 0.98, "wMW": 0.99, "CDGHNOQU": 0.78}
-SIZE = {"title": 13, "what": 11.5, "path": 11, "crate": 11, "file": 11, "label": 11.5}
+NARROW = {"ijl|": 0.28, ".,:;'!": 0.34, "tfr/()- ": 0.41, "_": 0.5, "m": 0.98, "w": 0.82, "MW": 0.99, "CDGHNOQU": 0.78}
+SIZE = {"title": 13, "what": 11.5, "path": 11, "label": 11.5}
 
 
 class Step(NamedTuple):
@@ -153,7 +153,7 @@ def faults_of_table(layered):
 
 def width_of(text, style):
     """How wide a text is, rather too much than too little."""
-    bold = 1.1 if style in ("title", "crate") else 1
+    bold = 1.1 if style == "title" else 1
     return SIZE[style] * bold * sum(next((width for signs, width in NARROW.items() if it in signs), 0.63) for it in text)
 
 
@@ -174,7 +174,7 @@ def lines_for(step, room):
         if fits(path, "path", room - 13):
             lines.append([(13, "path", path, crate)])
         else:
-            lines += [[(13, "crate", crate, crate)], [(13, "file", file, None)]]
+            lines += [[(13, "path", crate + "/", crate)], [(13, "path", file, None)]]
     wide = [text for line in lines for x, style, text, _ in line if not fits(text, style, room - x)]
     if wide:
         raise Trouble(f"{STEPS}: {step.name}: too wide for its box: {', '.join(wide)}")
@@ -185,12 +185,12 @@ def lines_across(step, room):
     """The lines of a band: its title, and its files side by side."""
     cell = room / len(step.files)
     parts = [path.partition("/")[::2] for path in step.files]
-    wide = [text for pair in parts for text in pair if not fits(text, "crate", cell - 20)]
+    wide = [text for pair in parts for text in pair if not fits(text, "path", cell - 26)]
     if wide:
         raise Trouble(f"{STEPS}: {step.name}: too wide for its part of the band: {', '.join(wide)}")
     front = [(0, "title", step.name, None), (width_of(step.name + ": ", "title"), "what", step.what, None)]
-    return [front, [(13 + k * cell, "crate", crate, crate) for k, (crate, _) in enumerate(parts)],
-            [(13 + k * cell, "file", file, None) for k, (_, file) in enumerate(parts)]]
+    return [front, [(13 + k * cell, "path", crate + "/", crate) for k, (crate, _) in enumerate(parts)],
+            [(13 + k * cell, "path", file, None) for k, (_, file) in enumerate(parts)]]
 
 
 # ---- where all is
@@ -244,7 +244,7 @@ def layout(all_steps):
 # ---- what is drawn
 
 STYLES = {"title": 'font-weight="bold" font-size="13"', "what": 'font-size="11.5" fill="#42505c"', "path": 'font-size="11"',
-          "crate": 'font-size="11" font-weight="bold"', "file": 'font-size="11"', "label": 'font-size="11.5" fill="#42505c"'}
+          "label": 'font-size="11.5" fill="#42505c"'}
 
 
 def text(x, y, style, words, more=""):
@@ -294,8 +294,8 @@ def arrows(made):
     gap, level = (file.x + file.width + first.x) / 2, first.y + first.height / 2
     side = file.y + file.height / 2
     drawn += arrow((file.x + file.width, side), (gap, side), (gap, level), (first.x, level))
-    for box in (default, opening[0]):
-        drawn += arrow((box.middle, request.bottom), (box.middle, box.y))
+    for box, x in ((default, default.x + default.width - 12), (opening[0], opening[0].middle)):
+        drawn += arrow((x, request.bottom), (x, box.y))
     return drawn + "".join(arrow((box.middle, box.bottom), (box.middle, answer.y)) for box in (file, made["pdf"][-1]))
 
 
@@ -321,10 +321,10 @@ def legend(layered, y, has_dashes):
     drawn += text(x, y, "label", front)
     x += width_of(front, "label") + 8
     for crate in listed:
-        if x + width_of(crate, "crate") + 13 > WIDTH - MARGIN:
+        if x + width_of(crate, "path") + 13 > WIDTH - MARGIN:
             x, y = MARGIN + 2, y + 17
         drawn += square(x, y - 8.5, COLOURS[len(products)]) + text(x + 13, y, "path", crate)
-        x += width_of(crate, "crate") + 24
+        x += width_of(crate, "path") + 22
     return drawn, y + MARGIN
 
 
