@@ -315,7 +315,7 @@ def legend(layered, y, has_dashes):
     for colour, (name, _) in zip(COLOURS, products):
         drawn += square(x, y - 8.5, colour) + text(x + 13, y, "label", name)
         x += width_of(name, "label") + 30
-    drawn += text(x, y, "label", "Dashed: nothing uses it yet.") if has_dashes else ""
+    drawn += text(x, y, "label", "Dashed: no call uses it yet.") if has_dashes else ""
     y += 20
     x, front = MARGIN + 2, f"For {tools}:"
     drawn += text(x, y, "label", front)
