@@ -3,7 +3,7 @@
 
     compare/again.py [--faces N] [--program FILE] [--verify FILE] [--no-install]
 
-It needs Debian with fonts installed (those of fonts.py are, unless --no-install), fontTools, and subset_bench, which
+It needs Debian with fonts installed (those of lib/fonts.py are, unless --no-install), fontTools, and subset_bench, which
 `rt run` builds in crates/subset_bench (--program names another).
 
     chain        five subsets, each of the one before, of a TrueType font, of a SID-keyed and of a CID-keyed one: each
@@ -24,13 +24,12 @@ import subprocess
 import sys
 import tempfile
 
-from fontTools.pens.recordingPen import DecomposingRecordingPen
-from fontTools.ttLib import TTFont
+sys.path.insert(0, os.path.join(os.path.dirname(os.path.realpath(__file__)), "lib"))
 
-import build
-import cff
-import fonts
-from fonts import directory, label, u16, u32
+import build  # noqa: E402
+import cff  # noqa: E402
+import fonts  # noqa: E402
+from fonts import directory, label, u16, u32  # noqa: E402
 
 FOLDERS = ["/usr/share/fonts", "/usr/share/texmf/fonts"]
 CHAINS = [
@@ -81,6 +80,8 @@ def count(data):
 # ---- the chain
 
 def drawing(font, name):
+    from fontTools.pens.recordingPen import DecomposingRecordingPen
+
     pen = DecomposingRecordingPen(font)
     font[name].draw(pen)
     return pen.value, font[name].width
@@ -88,6 +89,8 @@ def drawing(font, name):
 
 def draws_alike(first, index, out, glyphs):
     """The glyphs of a file that don't draw as their sources."""
+    from fontTools.ttLib import TTFont
+
     old, new = TTFont(first, fontNumber=index, lazy=True), TTFont(out, lazy=True)
     before, after = old.getGlyphSet(), new.getGlyphSet()
     names = old.getGlyphOrder(), new.getGlyphOrder()

@@ -1,17 +1,21 @@
 #!/usr/bin/python3
-"""Lays the original crate out for Cargo, without a network: assemble.py
+"""Lays the original crate out for Cargo, without a network: ORIGINAL=FOLDER compare/assemble.py
 
 Reads the environment variable ORIGINAL, the folder of the crate as published (or of its files alone, a file src/a.rs
 as src--src--a.rs.txt). Writes compare/build/subsetter with the features off, and compare/build/rustc-hash from Debian's
-librust-rustc-hash-dev (or the folder RUSTC_HASH). Nothing of what it writes belongs to the repository.
+librust-rustc-hash-dev (or the folder RUSTC_HASH). Nothing of what it writes belongs to the repository. The status is 1 where a
+folder is missing, or holds another crate.
 """
+import argparse
 import glob
 import os
 import re
 import shutil
 import sys
 
-from build import BUILD
+sys.path.insert(0, os.path.join(os.path.dirname(os.path.realpath(__file__)), "lib"))
+
+from build import BUILD  # noqa: E402
 
 VERSION = "0.2.6"
 HOW = "compare/README.md says how to get it"
@@ -106,7 +110,7 @@ def lay_hash():
     return version
 
 
-def main():
+def lay_out():
     source = original_folder()
     os.makedirs(BUILD, exist_ok=True)
     lay_crate(source)
@@ -114,4 +118,5 @@ def main():
 
 
 if __name__ == "__main__":
-    main()
+    argparse.ArgumentParser(description=__doc__, formatter_class=argparse.RawDescriptionHelpFormatter).parse_args()
+    lay_out()

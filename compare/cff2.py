@@ -32,10 +32,12 @@ import random
 import subprocess
 import sys
 
-import build
-import by_font
-import fonts
-import instance
+sys.path.insert(0, os.path.join(os.path.dirname(os.path.realpath(__file__)), "lib"))
+
+import build  # noqa: E402
+import by_font  # noqa: E402
+import font_at  # noqa: E402
+import fonts  # noqa: E402
 
 PACKAGES = ["libharfbuzz0b", "python3-fonttools"]
 OWN = os.path.join(build.ROOT, "crates", "cff2_parts", "data")
@@ -276,7 +278,7 @@ def rounded_hints(found):
 
 # ---- HarfBuzz
 
-class HarfBuzz(instance.HarfBuzz):
+class HarfBuzz(font_at.HarfBuzz):
     """A font of HarfBuzz's library, drawn with its cubic curves."""
 
     def __init__(self, path):
@@ -409,7 +411,7 @@ def font_paths(folders, only):
 def versions():
     from fontTools import version
 
-    return f"{instance.harfbuzz_version()}, fontTools {version}"
+    return f"{font_at.harfbuzz_version()}, fontTools {version}"
 
 
 def lacking(words, paths):
@@ -430,7 +432,7 @@ def main():
     if lacking(words, paths):
         sys.exit(f"cff2.py: {' and '.join(lacking(words, paths))} lacks")
     reports = by_font.reports(words, compare_font, paths)
-    print(f"Commit {instance.commit()}; {versions()}; seed {words.seed}, {words.places} locations.\n")
+    print(f"Commit {font_at.commit()}; {versions()}; seed {words.seed}, {words.places} locations.\n")
     print("| Font | Glyphs at the default | Glyphs at locations | Coordinates | Of them near a half | Edges of stems | Differ |\n|---|---|---|---|---|---|---|")
     for it in reports:
         print(f"| {it.label} | {it.defaults} | {it.drawn} | {it.coordinates} | {it.halves} | {it.edges} | {len(it.wrong)} |")

@@ -4,7 +4,7 @@
 It compiles the driver subset_bench twice from what is proved, for x86-64 and for x86-64-v2, and times both on the fonts and
 glyphs of `run.py --all`, in N (8) rounds that take turns. It prints a row for each case with the least nanoseconds of a call,
 then the sums and the mean ratio, and writes them to results/cpu.csv. The packages are built for x86-64 as long as that
-costs at most 5 % of the sum. `rt check` in crates/subset_bench comes first; the drivers are left in FOLDER, or taken from it.
+costs at most 5 % of the sum; the status is 1 where it costs more. `rt check` in crates/subset_bench comes first; the drivers are left in FOLDER, or taken from it.
 """
 import argparse
 import math
@@ -13,8 +13,10 @@ import subprocess
 import sys
 import tempfile
 
-import fonts
-import run
+sys.path.insert(0, os.path.join(os.path.dirname(os.path.realpath(__file__)), "lib"))
+
+import fonts  # noqa: E402
+import run  # noqa: E402
 
 HERE = os.path.dirname(os.path.realpath(__file__))
 ROOT = os.path.dirname(HERE)
@@ -48,7 +50,7 @@ def measured(programs, taken, seconds, room):
 
 
 def main():
-    words = argparse.ArgumentParser(usage=__doc__)
+    words = argparse.ArgumentParser(description=__doc__, formatter_class=argparse.RawDescriptionHelpFormatter)
     words.add_argument("--seconds", type=float, default=0.03)
     words.add_argument("--rounds", type=int, default=run.ROUNDS)
     words.add_argument("--only", default="")

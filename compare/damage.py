@@ -5,11 +5,11 @@
     ORIGINAL=FOLDER compare/damage.py --kinds [FOLDER ..] [--library] [--pieces FILE] [--copies N] ..
 
 builds both drivers, as run.py does, gives N damaged copies (20,000) of fonts to both, and prints how often each pair of
-answers came, and for those that differ which intended difference stands in the copy and not in the font (explain.py), or
+answers came, and for those that differ which intended difference stands in the copy and not in the font (lib/explain.py), or
 `not explained`; then the status is 1. The fonts have CFF outlines; with --truetype they are those of run.py without --cff.
 
-With --kinds they are of all kinds (kinds.py), with the variable fonts of a FOLDER besides, and their damage keeps them
-plausible (plausible.py). --library takes the C library under AddressSanitizer (fuzz) in the port's place. --pieces FILE
+With --kinds they are of all kinds (lib/kinds.py), with the variable fonts of a FOLDER besides, and their damage keeps them
+plausible (lib/plausible.py). --library takes the C library under AddressSanitizer (fuzz) in the port's place. --pieces FILE
 makes the copies in pieces of 100,000 (10,000 with --library), each with a seed of its own, S and its number; each is a line of FILE when it is done.
 Those that stand there aren't made again, so that a run may be stopped at any time; --backwards takes the last piece first,
 for a second run at the same time. --tell makes none, and prints what those that stand there say together.
@@ -25,12 +25,14 @@ import sys
 import tempfile
 from concurrent.futures import ThreadPoolExecutor
 
-import build
-import copies
-import explain
-import fonts
-from build import BUILD
-from fonts import glyph_count
+sys.path.insert(0, os.path.join(os.path.dirname(os.path.realpath(__file__)), "lib"))
+
+import build  # noqa: E402
+import copies  # noqa: E402
+import explain  # noqa: E402
+import fonts  # noqa: E402
+from build import BUILD  # noqa: E402
+from fonts import glyph_count  # noqa: E402
 
 # Seconds for a task, and for a list of them; how many copies are made at once, and are a piece.
 AT_MOST, FOR_ALL, AT_ONCE, PIECE = 30, 200, 100, 100000

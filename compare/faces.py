@@ -5,7 +5,7 @@
 
 Each face of the files below /usr/share that end in .ttf, .otf or .ttc is subset to four lists of glyphs (none but 0, 3, 40
 and 400 spread over it), by both drivers. The answers are the same bytes, or the same error, or one of the differences that
-explain.py knows stands in the font; else the status is 1. With N only as many faces are taken, spread over all.
+lib/explain.py knows stands in the font; else the status is 1. With N only as many faces are taken, spread over all.
 """
 import argparse
 import collections
@@ -15,10 +15,12 @@ import sys
 import tempfile
 from concurrent.futures import ThreadPoolExecutor
 
-import explain
-import fonts
-from damage import ROOM, answers_of, kind_of, names_of
-from fonts import u16, u32
+sys.path.insert(0, os.path.join(os.path.dirname(os.path.realpath(__file__)), "lib"))
+
+import explain  # noqa: E402
+import fonts  # noqa: E402
+from damage import ROOM, answers_of, kind_of, names_of  # noqa: E402
+from fonts import u16, u32  # noqa: E402
 
 SIZES = (0, 3, 40, 400)
 

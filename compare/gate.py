@@ -6,7 +6,7 @@
                                         takes what such a run of a commit printed, and its minutes
 
 Only a gate that passed is recorded: the last line of what it printed is `N passed, 0 failed`, and no part failed or was left
-out. What was skipped has to be named, and the record names it.
+out. What was skipped has to be named, and the record names it. The status is 1 where none is recorded.
 """
 import argparse
 import datetime
@@ -17,7 +17,7 @@ import sys
 import tempfile
 import time
 
-sys.path.insert(0, os.path.dirname(os.path.realpath(__file__)))
+sys.path.insert(0, os.path.join(os.path.dirname(os.path.realpath(__file__)), "lib"))
 
 import comparisons  # noqa: E402
 import figures  # noqa: E402

@@ -34,13 +34,15 @@ import sys
 import tempfile
 import time
 
-import build
-import by_font
-import fonts
-import instance
-import made
-import variable
-from variable import UNIT
+sys.path.insert(0, os.path.join(os.path.dirname(os.path.realpath(__file__)), "lib"))
+
+import build  # noqa: E402
+import by_font  # noqa: E402
+import font_at  # noqa: E402
+import fonts  # noqa: E402
+import made  # noqa: E402
+import variable  # noqa: E402
+from variable import UNIT  # noqa: E402
 
 STEPS = 1000000
 DAMAGED = ["fvar", "avar", "gvar", "HVAR", "MVAR", "glyf"]
@@ -195,7 +197,7 @@ def metrics_of(source, path, at):
     with TTFont(path, lazy=True) as font:
         there = {name: places for name, places in METRICS.items() if places[0] in font}
         ours = [getattr(font[tag], field) for tag, field in there.values()]
-    return ours, [getattr(source.font[tag], field) + instance.half_up(deltas.get(name, 0)) for name, (tag, field) in there.items()]
+    return ours, [getattr(source.font[tag], field) + font_at.half_up(deltas.get(name, 0)) for name, (tag, field) in there.items()]
 
 
 def advance_by(harfbuzz, glyph):
@@ -244,7 +246,7 @@ def beside_freetype(report, path, font, drawn):
         face.load_glyph(glyph, freetype.FT_LOAD_NO_SCALE)
         report.counts["FreeType advance"] += 1
         theirs = max(face.glyph.metrics.horiAdvance, 0)
-        if abs(advance - theirs) > instance.FREETYPE_BOUND:
+        if abs(advance - theirs) > font_at.FREETYPE_BOUND:
             report.say("FreeType advance", f"glyph {glyph} at {font.at}: {advance}, and not {theirs}")
 
 
@@ -266,10 +268,10 @@ def beside_others(report, font, drawn, floats, harfbuzz):
     for glyph, (_, points, advance, _, it) in drawn.items():
         fine = [((x - it.left) / UNIT, y / UNIT) for x, y, _ in it.points]
         flags = [p[2] for p in it.points]
-        distance = instance.path_distance(instance.outline_path(fine, it.ends, flags), harfbuzz.drawn(glyph))
+        distance = font_at.path_distance(font_at.outline_path(fine, it.ends, flags), harfbuzz.drawn(glyph))
         report.counts["HarfBuzz"] += 1
         report.worst = max(report.worst, distance or 0)
-        if distance is None or distance > instance.HARFBUZZ_BOUND:
+        if distance is None or distance > font_at.HARFBUZZ_BOUND:
             report.say("HarfBuzz", f"glyph {glyph} at {font.at}: {distance} off")
         report.counts["HarfBuzz advance"] += 1
         # (no advance in a file is under 0)
@@ -279,7 +281,7 @@ def beside_others(report, font, drawn, floats, harfbuzz):
         if floats:
             theirs, left = floats.unfolded(glyph, font.at)
             report.counts["fontTools"] += 1
-            if [(instance.half_up(x - left), instance.half_up(y)) for x, y in theirs] != [p[:2] for p in points]:
+            if [(font_at.half_up(x - left), font_at.half_up(y)) for x, y in theirs] != [p[:2] for p in points]:
                 report.say("fontTools", f"glyph {glyph} at {font.at}: other points")
 
 
@@ -325,14 +327,14 @@ def compare_place(report, path, data, place, glyphs, others, room):
 
 def compare_font(words, path):
     report = Report(path)
-    source, harfbuzz = instance.Source(path), instance.HarfBuzz(path)
+    source, harfbuzz = font_at.Source(path), font_at.HarfBuzz(path)
     others = source, None if source.has_twins else Floats(source), harfbuzz
     rng = random.Random(f"{words.seed} {report.label}")
     with open(path, "rb") as file:
         data = file.read()
     with tempfile.TemporaryDirectory(prefix="instances-") as room:
         for _ in range(words.places):
-            place = instance.random_place(source.axes, rng)
+            place = font_at.random_place(source.axes, rng)
             glyphs = rng.sample(range(len(source.names)), min(words.glyphs, len(source.names)))
             compare_place(report, path, data, place, glyphs, others, room)
     return report
@@ -374,7 +376,7 @@ def answer_of(data, place, glyphs):
 def damage_piece(words, path, number, copies):
     """So many damaged copies of a font."""
     report = Report(path)
-    source = instance.Source(path)
+    source = font_at.Source(path)
     rng = random.Random(f"{words.seed} {report.label} {number}")
     with open(path, "rb") as file:
         data = file.read()
@@ -382,7 +384,7 @@ def damage_piece(words, path, number, copies):
         tasks, kept = [], []
         for k in range(copies):
             tag, copy = damaged(rng, data, source)
-            place = instance.random_place(source.axes, rng)
+            place = font_at.random_place(source.axes, rng)
             glyphs = rng.sample(range(1, len(source.names)), min(12, len(source.names) - 1))
             name = os.path.join(room, f"{k}")
             with open(name, "wb") as file:
@@ -496,7 +498,7 @@ def say_damage(reports):
 
 def say_fonts(words, reports):
     counts = joined(reports)
-    head = f"Commit {instance.commit()}; {instance.versions()}; seed {words.seed}, {words.places} places, at most {words.glyphs} glyphs at each"
+    head = f"Commit {font_at.commit()}; {font_at.versions()}; seed {words.seed}, {words.places} places, at most {words.glyphs} glyphs at each"
     refused = sum(len(report.refused) for report in reports)
     print(f"{head}.\n\n| Beside | Glyphs at places |\n|---|---|")
     for kind in KINDS:
@@ -521,8 +523,8 @@ def main():
     build.program(build.BENCH)
     if words.hostile:
         sys.exit(0 if hostile() else 1)
-    fonts.install(instance.PACKAGES)
-    paths = instance.font_paths(words.folders, words.only)
+    fonts.install(font_at.PACKAGES)
+    paths = font_at.font_paths(words.folders, words.only)
     if words.damage:
         pieces = [(path, number) for number in range(-(-words.damage // (50 * len(paths)))) for path in paths]
         reports = by_font.reports(words, damage_piece, *zip(*pieces), [50] * len(pieces))

@@ -32,10 +32,12 @@ import subprocess
 import sys
 import tempfile
 
-import build
-import fonts
-from again import drawing, kind, table
-from fonts import directory, label, u16, u32, spread
+sys.path.insert(0, os.path.join(os.path.dirname(os.path.realpath(__file__)), "lib"))
+
+import build  # noqa: E402
+import fonts  # noqa: E402
+from again import drawing, kind, table  # noqa: E402
+from fonts import directory, label, u16, u32, spread  # noqa: E402
 
 FOLDERS = ["/usr/share/fonts", "/usr/share/texmf/fonts"]
 WORDS = {"hinting": "--no-hinting", "names": "--no-names", "glyph_names": "--no-glyph-names"}

@@ -9,8 +9,8 @@ takes up to 40 characters, ligatures, and texts of several characters, with rand
 `vhea`, `vmtx`, `VORG` or `VVAR` that is missing, cut, changed or another font's, or other numbers in `head` or `hhea`. Of each font
 
 - codes, widths, columns, descriptor, permission, ToUnicode, CMap and CIDSet, both as the crate says them and as qpdf reads them in the
-  file that `sheet` writes, are those of pdf_rules.py; the dictionaries have these entries and no others;
-- an error is that of `embed`, or comes as pdf_rules.py says that the font isn't permitted;
+  file that `sheet` writes, are those of lib/pdf_rules.py; the dictionaries have these entries and no others;
+- an error is that of `embed`, or comes as lib/pdf_rules.py says that the font isn't permitted;
 
 and of one in K (6; 0 for none), in turn:
 
@@ -35,13 +35,15 @@ import tempfile
 from concurrent.futures import ThreadPoolExecutor
 from fractions import Fraction
 
-import faces as machine
-import fonts
-import pdf_harness
-import pdf_readers as readers
-import pdf_rules as rules
-from cff import cids as cids_of_cff
-from pdf_file import Face, Pdf, embedded
+sys.path.insert(0, os.path.join(os.path.dirname(os.path.realpath(__file__)), "lib"))
+
+import faces as machine  # noqa: E402
+import fonts  # noqa: E402
+import pdf_harness  # noqa: E402
+import pdf_readers as readers  # noqa: E402
+import pdf_rules as rules  # noqa: E402
+from cff import cids as cids_of_cff  # noqa: E402
+from pdf_file import Face, Pdf, embedded  # noqa: E402
 
 FONTS = [it[0] for it in fonts.TRUETYPE_FONTS + fonts.CFF_FONTS] + ["fonts-inter-variable"]
 OF_THE_CRATE = [os.path.join(pdf_harness.CRATE, "tests", "data", it) for it in ("made.ttf", "made.otf", "made_variable.ttf")]

@@ -16,12 +16,14 @@ import subprocess
 import sys
 import tempfile
 
-import fonts
-import pdf_font
-import pdf_harness
-import pdf_readers as readers
-import pdf_rules as rules
-from pdf_file import Face
+sys.path.insert(0, os.path.join(os.path.dirname(os.path.realpath(__file__)), "lib"))
+
+import fonts  # noqa: E402
+import pdf_font  # noqa: E402
+import pdf_harness  # noqa: E402
+import pdf_readers as readers  # noqa: E402
+import pdf_rules as rules  # noqa: E402
+from pdf_file import Face  # noqa: E402
 
 DEJAVU, LIBERTINE = f"{fonts.TRUETYPE}/dejavu/DejaVuSans.ttf", f"{fonts.OPENTYPE}/linux-libertine/LinLibertine_R.otf"
 INTER, MPLUS = f"{fonts.TRUETYPE}/inter-vf/Inter.var.ttf", f"{fonts.OPENTYPE}/mplus/Mplus1-Regular.otf"

@@ -20,8 +20,10 @@ import resource
 import subprocess
 import sys
 
-import fonts
-import pdf_harness
+sys.path.insert(0, os.path.join(os.path.dirname(os.path.realpath(__file__)), "lib"))
+
+import fonts  # noqa: E402
+import pdf_harness  # noqa: E402
 
 FONTS = [
     ("fonts-dejavu-core", f"{fonts.TRUETYPE}/dejavu/DejaVuSans.ttf", 0),

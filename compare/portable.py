@@ -6,7 +6,7 @@
 
     faces    each face of the machine's fonts (spread over all, with --faces N so many), with lists of 0 to 2,000 glyphs, options,
              CIDs and widths, coordinates, and faces that aren't there
-    memory   of 60 of these faces and of fonts of all kinds (kinds.py) each request for memory is refused in turn: a call answers
+    memory   of 60 of these faces and of fonts of all kinds (lib/kinds.py) each request for memory is refused in turn: a call answers
              `OutOfMemory`, or as without
     damage   N damaged copies (20,000) of fonts of all kinds and of those under 900 KB, each by one call, and of a variable one by
              one at coordinates
@@ -25,8 +25,10 @@ import sys
 import tempfile
 import time
 
-import build
-import portable_build
+sys.path.insert(0, os.path.join(os.path.dirname(os.path.realpath(__file__)), "lib"))
+
+import build  # noqa: E402
+import portable_build  # noqa: E402
 
 PIECE = 20000
 # How many of the machine's faces have their requests refused, and of how large a file at most.

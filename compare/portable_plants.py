@@ -12,7 +12,9 @@ import subprocess
 import sys
 import tempfile
 
-import build
+sys.path.insert(0, os.path.join(os.path.dirname(os.path.realpath(__file__)), "lib"))
+
+import build  # noqa: E402
 
 CRATE = os.path.join(build.ROOT, "bindings", "rust")
 

@@ -23,9 +23,11 @@ import subprocess
 import sys
 import tempfile
 
-import build
-import fonts
-import portable_build
+sys.path.insert(0, os.path.join(os.path.dirname(os.path.realpath(__file__)), "lib"))
+
+import build  # noqa: E402
+import fonts  # noqa: E402
+import portable_build  # noqa: E402
 
 FONTS = [
     ("fonts-dejavu-core", f"{fonts.TRUETYPE}/dejavu/DejaVuSans.ttf", 0),

@@ -17,7 +17,7 @@ At the first disagreement it tells it, and ends with status 1. What is demanded:
                   leaves OUT as it was, and is whole where OUT can't be written
     given back    no block of memory is held at the end that isn't held at the end of a run without a refusal
 
-The fonts are small ones of made.py; with --more also some of Debian's (fonts.py). With --program only what is said of
+The fonts are small ones of lib/made.py; with --more also some of Debian's (lib/fonts.py). With --program only what is said of
 subset_font and files is looked at.
 """
 import argparse
@@ -29,9 +29,11 @@ import sys
 import tempfile
 from dataclasses import dataclass
 
-import build
-import fonts
-import made
+sys.path.insert(0, os.path.join(os.path.dirname(os.path.realpath(__file__)), "lib"))
+
+import build  # noqa: E402
+import fonts  # noqa: E402
+import made  # noqa: E402
 
 REFUSE = os.path.join(build.BUILD, "refuse.so")
 CALLS = ("open", "size", "read", "write", "write1", "write2", "rename", "sync")

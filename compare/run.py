@@ -4,7 +4,7 @@
     ORIGINAL=FOLDER compare/run.py [--cff | --all] [--original-only] [--only WORD] [--copies N] [--seconds S]
                                    [--no-install] [--no-build] [--to FILE] [--growth FILE] [--binding]
 
-FOLDER holds the original crate (README.md says how to get it). Needs Debian (fonts.py names the packages), Cargo, gcc
+FOLDER holds the original crate (README.md says how to get it). Needs Debian (lib/fonts.py names the packages), Cargo, gcc
 and `rt`.
 
 It builds both drivers, which have the same words, print the same lines and time the same call:
@@ -31,7 +31,8 @@ It prints four tables and writes them to compare/build/report.md:
 The fonts have TrueType outlines; with --cff they have CFF outlines, and with --all both kinds stand in one run.
 --original-only leaves the port out; --only WORD takes the fonts whose file names have this word; --copies N takes N
 damaged copies (2000; 0 for none); --seconds S gives each driver about S seconds a case and round (0.05). --growth FILE
-does none of this: it times growing numbers of glyphs of four fonts (growth.py), and draws them into FILE, an SVG.
+does none of this: it times growing numbers of glyphs of four fonts (lib/growth.py), and draws them into FILE, an SVG.
+The status is 0 where all ran, whatever it found, and 1 where the crate, a program or a font is missing.
 """
 import argparse
 import os
@@ -39,14 +40,16 @@ import subprocess
 import sys
 import tempfile
 
-import assemble
-import binding
-import build
-import fonts
-import growth
-from build import BUILD
-from damage import refusals, summed
-from fonts import GLYPHS_AT_MOST, directory, glyph_count, glyph_sets, label, spread
+sys.path.insert(0, os.path.join(os.path.dirname(os.path.realpath(__file__)), "lib"))
+
+import assemble  # noqa: E402
+import binding  # noqa: E402
+import build  # noqa: E402
+import fonts  # noqa: E402
+import growth  # noqa: E402
+from build import BUILD  # noqa: E402
+from damage import refusals, summed  # noqa: E402
+from fonts import GLYPHS_AT_MOST, directory, glyph_count, glyph_sets, label, spread  # noqa: E402
 
 ORIGINAL = build.cargo_driver("original")
 COUNTER = os.path.join(BUILD, "peak.so")
@@ -186,7 +189,7 @@ def kibibytes(count):
 
 
 def build_all(original_only, with_binding):
-    assemble.main()
+    assemble.lay_out()
     build.preload("peak.c", to="peak.so")
     build.gcc("floor.c", to="floor_bench")
     build.gcc("harfbuzz.c", "-I/usr/include/harfbuzz", "-lharfbuzz-subset", "-lharfbuzz", to="harfbuzz_bench")

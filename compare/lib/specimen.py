@@ -46,7 +46,7 @@ def size_of(path):
 
 def label(pdf, labels, name, room):
     """A font for labels, and the labels: (text, x, y)."""
-    from pdf import subset
+    from pdf_drawn import subset
     lines = [(shaped(LABELS, 0, text), x, y) for text, x, y in labels]
     out = os.path.join(room, "labels")
     numbers, widths = subset(LABELS, 0, [it["g"] for glyphs, *_ in lines for it in glyphs], out)
@@ -58,7 +58,7 @@ def label(pdf, labels, name, room):
 
 def draw(png):
     """Draws the four scripts, and prints the sizes of each source and its subset."""
-    from pdf import subset
+    from pdf_drawn import subset
     pdf, fonts, content, labels = Pdf(), [], [], []
     with tempfile.TemporaryDirectory() as room:
         for place, (font, index, text) in enumerate(LINES):
@@ -104,7 +104,7 @@ def weights_file(reader, room):
 
 def draw_weights(png):
     """Draws the line at five weights by each reader, side by side, in sixteen greys, and prints the sizes of the subsets."""
-    from pdf import READERS, drawn
+    from pdf_drawn import READERS, drawn
     from PIL import Image
     columns = []
     with tempfile.TemporaryDirectory() as room:
