@@ -12,8 +12,6 @@ import tempfile
 
 sys.dont_write_bytecode = True
 
-sys.path.insert(0, os.path.join(os.path.dirname(os.path.realpath(__file__)), "lib"))
-
 import contracts  # noqa: E402
 
 FILES = {
