@@ -3,7 +3,7 @@
 
 - each answers `--help` with what it compares and when its status is 1, starts no program for that, and leaves no file;
 - README.md has one row for each, with its question;
-- what is only imported is in lib/, which each script puts on its path in one way; C is in drivers/.
+- what is only imported is in lib/, which each script puts on its path in one way; none imports another, but tests; C is in drivers/.
 
 It prints a line for each fault, and the status is 1 where there is one, or a plant gets through."""
 import concurrent.futures
@@ -71,19 +71,26 @@ def faults_of_folders(root, scripts):
             faults.append(f"{path}: it belongs to compare/drivers")
         elif path.endswith(".py") and path not in scripts:
             faults.append(f"{path}: it isn't run, so it belongs to compare/lib")
-    modules = {os.path.basename(it)[:-3] for it in files_in(root, "compare/lib")}
-    for path in files_in(root, "compare/lib"):
-        text = read(root, path)
-        if MAIN in text or os.access(os.path.join(root, path), os.X_OK):
+    modules = files_in(root, "compare/lib")
+    for path in modules:
+        if MAIN in read(root, path) or os.access(os.path.join(root, path), os.X_OK):
             faults.append(f"{path}: it is run, so it belongs to compare")
-        own = {os.path.basename(it)[:-3] for it in scripts} & set(re.findall(r"^\s*(?:import|from) (\w+)", text, re.M))
-        faults += [f"{path}: it imports {it}, which is a script" for it in sorted(own)]
+    for path in [*modules, *files_in(root, "compare")]:
+        imported = names_in(it for it in scripts if it != path) & imported_by(root, path)
+        faults += [f"{path}: it imports {it}, which is a script" for it in sorted(imported) if not path.endswith("_test.py")]
     for path in files_in(root, "compare"):
-        text = read(root, path) if path in scripts else ""
-        imported = modules & set(re.findall(r"^\s*(?:import|from) (\w+)", text, re.M))
-        if text.count(FRONT) != bool(imported):
+        if path in scripts and read(root, path).count(FRONT) != bool(names_in(modules) & imported_by(root, path)):
             faults.append(f"{path}: it puts lib/ on its path in another way")
     return faults
+
+
+def names_in(paths):
+    """The modules of these files."""
+    return {os.path.basename(it)[:-3] for it in paths if it.endswith(".py")}
+
+
+def imported_by(root, path):
+    return set(re.findall(r"^\s*(?:import|from) (\w+)", read(root, path), re.M)) if path.endswith((".py", "/all")) else set()
 
 
 def faults_of(root, plant=None):
@@ -111,6 +118,7 @@ PLANTS = [
     ("a row that is no question", "compare/README.md", re.compile(r"^(\| `faces\.py` .*)\?", re.M), r"\1.", r"compare/README\.md: the row of faces\.py is no question"),
     ("a module that is run", "compare/lib/growth.py", None, f"\n\n{MAIN}\n    pass\n", r"compare/lib/growth\.py: it is run"),
     ("a module that imports a script", "compare/lib/growth.py", None, "\nimport run\n", r"compare/lib/growth\.py: it imports run"),
+    ("a script that imports another", "compare/cpu.py", "import fonts  # noqa: E402\n", "import fonts  # noqa: E402\nimport run  # noqa: E402\n", r"compare/cpu\.py: it imports run"),
     ("another way to lib", "compare/hostile.py", FRONT, 'sys.path.insert(0, "compare/lib")\n', r"compare/hostile\.py: (it puts lib/|--help ends)"),
 ]
 

@@ -29,7 +29,8 @@ sys.path.insert(0, os.path.join(os.path.dirname(os.path.realpath(__file__)), "li
 import build  # noqa: E402
 import cff  # noqa: E402
 import fonts  # noqa: E402
-from fonts import directory, label, u16, u32  # noqa: E402
+from fonts import label, u16, u32  # noqa: E402
+from outlines import charstrings, drawing, kind, table  # noqa: E402
 
 FOLDERS = ["/usr/share/fonts", "/usr/share/texmf/fonts"]
 CHAINS = [
@@ -50,25 +51,6 @@ def subset(program, path, index, glyphs, out):
         return file.read()
 
 
-def table(data, tag, index=0):
-    found = directory(data, index).get(tag)
-    return None if found is None else data[found[0]:found[0] + found[1]]
-
-
-def charstrings(data):
-    """The charstrings of a font's CFF table."""
-    found = cff.charstrings(table(data, "CFF "))
-    return [found.item(k) for k in range(found.count)]
-
-
-def kind(data, index):
-    """`TrueType`, `SID`, `CID`, or nothing for a font without such outlines."""
-    if table(data, "glyf", index) is not None:
-        return "TrueType"
-    outlines = table(data, "CFF ", index)
-    return None if outlines is None else "CID" if cff.is_keyed(outlines) else "SID"
-
-
 def count(data):
     """How many glyphs a font has."""
     loca = table(data, "loca")
@@ -78,13 +60,6 @@ def count(data):
 
 
 # ---- the chain
-
-def drawing(font, name):
-    from fontTools.pens.recordingPen import DecomposingRecordingPen
-
-    pen = DecomposingRecordingPen(font)
-    font[name].draw(pen)
-    return pen.value, font[name].width
 
 
 def draws_alike(first, index, out, glyphs):

@@ -17,6 +17,7 @@ import tempfile
 
 sys.path.insert(0, os.path.join(os.path.dirname(os.path.realpath(__file__)), "lib"))
 
+import bench  # noqa: E402
 import build  # noqa: E402
 from fonts import OPENTYPE, TRUETYPE  # noqa: E402
 
@@ -30,18 +31,12 @@ FONTS = [
 GLYPHS = [("3", "36-38"), ("80", "1-80")]
 
 
-def build_binding():
-    """The driver over the binding, and the library under it."""
-    build.library()
-    return build.cargo("binding")
-
-
 def drivers_of(wanted):
     """The drivers by their names."""
     if wanted:
         build.program(build.BENCH)
     drivers = {"port": build.BENCH} if os.path.exists(build.BENCH) else {}
-    drivers["binding"] = build_binding() if wanted else build.cargo_driver("binding")
+    drivers["binding"] = bench.build_binding() if wanted else build.cargo_driver("binding")
     if os.environ.get("ORIGINAL"):
         if wanted:
             subprocess.run([sys.executable, os.path.join(build.HERE, "assemble.py")], check=True)

@@ -15,8 +15,8 @@ import tempfile
 
 sys.path.insert(0, os.path.join(os.path.dirname(os.path.realpath(__file__)), "lib"))
 
+import bench  # noqa: E402
 import fonts  # noqa: E402
-import run  # noqa: E402
 
 HERE = os.path.dirname(os.path.realpath(__file__))
 ROOT = os.path.dirname(HERE)
@@ -44,7 +44,7 @@ def measured(programs, taken, seconds, room):
     for _, path, index in taken:
         for name, glyphs in fonts.glyph_sets(fonts.glyph_count(path, index)):
             timed = {it: (program, [path, index, glyphs]) for it, program in programs.items()}
-            least = run.least_times(timed, seconds, room)
+            least = bench.least_times(timed, seconds, room)
             if len(least) == len(programs):
                 yield [fonts.label(path, index), name, *[least[it][0] for it in programs]]
 
@@ -52,12 +52,12 @@ def measured(programs, taken, seconds, room):
 def main():
     words = argparse.ArgumentParser(description=__doc__, formatter_class=argparse.RawDescriptionHelpFormatter)
     words.add_argument("--seconds", type=float, default=0.03)
-    words.add_argument("--rounds", type=int, default=run.ROUNDS)
+    words.add_argument("--rounds", type=int, default=bench.ROUNDS)
     words.add_argument("--only", default="")
     words.add_argument("--no-install", action="store_true")
     words.add_argument("--keep")
     given = words.parse_args()
-    run.ROUNDS = given.rounds
+    bench.ROUNDS = given.rounds
     taken = [it for it in fonts.TRUETYPE_FONTS + fonts.CFF_FONTS if given.only in it[1]]
     if not given.no_install:
         fonts.install(["time", *[it[0] for it in taken]])

@@ -15,9 +15,9 @@ import tempfile
 
 sys.path.insert(0, os.path.join(os.path.dirname(os.path.realpath(__file__)), "lib"))
 
+import bench  # noqa: E402
 import build  # noqa: E402
 import damage  # noqa: E402
-import run  # noqa: E402
 
 # Name, and what is done to the lines (`lines`, numbered from 0) of a list.
 PLANTS = [
@@ -48,7 +48,7 @@ def main():
     through = 0
     for name, change in PLANTS:
         with tempfile.TemporaryDirectory(prefix="plants-") as room:
-            run.PORT = lying(room, change)
+            bench.PORT = lying(room, change)
             sys.argv = ["damage.py", "--kinds", "--no-build", "--copies", copies, "--seed", "plants"]
             told, status = io.StringIO(), 0
             with contextlib.redirect_stdout(told), contextlib.redirect_stderr(io.StringIO()):

@@ -17,27 +17,13 @@ from concurrent.futures import ThreadPoolExecutor
 
 sys.path.insert(0, os.path.join(os.path.dirname(os.path.realpath(__file__)), "lib"))
 
+import bench  # noqa: E402
 import explain  # noqa: E402
 import fonts  # noqa: E402
-from damage import ROOM, answers_of, kind_of, names_of  # noqa: E402
+from damaged import ROOM, answers_of, kind_of, names_of  # noqa: E402
 from fonts import u16, u32  # noqa: E402
 
 SIZES = (0, 3, 40, 400)
-
-
-def faces():
-    """Each face of the machine, as a path and an index."""
-    found = []
-    for folder, _, names in sorted(os.walk("/usr/share")):
-        for name in sorted(names):
-            path = os.path.join(folder, name)
-            if not name.lower().endswith((".ttf", ".otf", ".ttc")) or os.path.islink(path):
-                continue
-            with open(path, "rb") as file:
-                head = file.read(12)
-            count = u32(head, 8) if head[:4] == b"ttcf" else 1
-            found += [(path, index) for index in range(count)]
-    return found
 
 
 def glyphs_of(data, index):
@@ -79,13 +65,11 @@ def main():
     words.add_argument("--faces", type=int, default=0)
     words.add_argument("--jobs", type=int, default=2)
     given = words.parse_args()
-    import run
-
     fonts.install(fonts.TOOLS + [it[0] for it in fonts.TRUETYPE_FONTS + fonts.CFF_FONTS])
     if not given.no_build:
-        run.build_all(False, False)
-    drivers = {"original": run.ORIGINAL, "port": run.PORT}
-    found = faces()
+        bench.build_all(False, False)
+    drivers = {"original": bench.ORIGINAL, "port": bench.PORT}
+    found = fonts.faces()
     if given.faces and len(found) > given.faces:
         found = [found[k * len(found) // given.faces] for k in range(given.faces)]
     rows, unexplained = collections.Counter(), []

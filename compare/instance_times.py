@@ -26,7 +26,7 @@ sys.path.insert(0, os.path.join(os.path.dirname(os.path.realpath(__file__)), "li
 import build  # noqa: E402
 import font_at  # noqa: E402
 import fonts  # noqa: E402
-import instances  # noqa: E402
+import instance_read  # noqa: E402
 import variable  # noqa: E402
 
 NAMES = ["Inter.var.ttf", "RobotoFlex-Variable.ttf", "SourceSerifVariable-Roman.ttf"]
@@ -76,12 +76,12 @@ def tasks_of(path, words, room):
     place = place_inside(source.axes, rng)
     with open(path, "rb") as file:
         data = file.read()
-    at = variable.Font(data, instances.place_in(place)).at
+    at = variable.Font(data, instance_read.place_in(place)).at
     whole = None if words.no_instancer else instancer(path, place)
     for count in COUNTS:
         count = min(count, len(source.names))
         glyphs = fonts.spread(len(source.names), count)
-        port = [build.BENCH, *instances.words_of(path, glyphs.split(","), os.path.join(room, "out"), place)]
+        port = [build.BENCH, *instance_read.words_of(path, glyphs.split(","), os.path.join(room, "out"), place)]
         draw = [os.path.join(build.BUILD, "harfbuzz_draw"), path, glyphs, "1", *map(str, at)]
         yield count, port, draw, whole
 

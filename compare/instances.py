@@ -29,7 +29,6 @@ much, each of which has to be refused within a tenth of a second. The status is 
 import collections
 import os
 import random
-import subprocess
 import sys
 import tempfile
 import time
@@ -40,81 +39,16 @@ import build  # noqa: E402
 import by_font  # noqa: E402
 import font_at  # noqa: E402
 import fonts  # noqa: E402
-import made  # noqa: E402
 import variable  # noqa: E402
+from instance_read import is_as_read, place_in, port, words_of  # noqa: E402
 from variable import UNIT  # noqa: E402
+from variable_hostile import hostile_fonts  # noqa: E402
 
 STEPS = 1000000
 DAMAGED = ["fvar", "avar", "gvar", "HVAR", "MVAR", "glyf"]
 TEXTS = {"UnknownKind": "unknown font kind", "MalformedFont": "malformed font", "Unimplemented": "unsupported feature in font",
          "OverflowError": "overflow occurred"}
 KINDS = ["reading", "HarfBuzz", "HarfBuzz advance", "fontTools", "extremes", "MVAR", "FreeType advance", "FreeType"]
-
-
-# ---- the port
-
-def words_of(path, glyphs, out, place):
-    """A task of subset_bench: an instance at a place, or without one a subset."""
-    return [path, "0", ",".join(map(str, glyphs)) or "0", "1", out, *(f"{tag}={value % 2 ** 32}" for tag, value in place)]
-
-
-def lines_of(words, tasks):
-    run = subprocess.run([build.BENCH, *words], stdout=subprocess.PIPE, stderr=subprocess.PIPE)
-    lines = run.stdout.decode().splitlines()
-    if run.returncode or len(lines) != len(tasks):
-        raise RuntimeError(f"subset_bench: status {run.returncode}, {len(lines)} lines of {len(tasks)}, {run.stderr.decode()}: {tasks[0]}")
-    return lines
-
-
-def port(tasks, room):
-    """The line that subset_bench prints for each task. (In a list blanks divide words, and a tag may have one.)"""
-    if any(" " in word for task in tasks for word in task):
-        return [lines_of(task, [task])[0] for task in tasks]
-    path = os.path.join(room, "tasks")
-    with open(path, "w", encoding="latin-1") as file:
-        file.write("".join(" ".join(task) + "\n" for task in tasks))
-    return lines_of(["--list", path], tasks)
-
-
-def place_in(place):
-    return [(tag.encode("latin-1"), value) for tag, value in place]
-
-
-def flags_of(description):
-    """The flags of a simple glyph as they are stored."""
-    ends = variable.number(description, 0) * 2 + 8
-    size = variable.number(description, ends + 2)
-    return description[ends + 4 + size:][:variable.number(description, ends) + 1]
-
-
-def headers_of(lines, drawn, count):
-    """`hhea` and `post` of an instance, for those at the place: with the extremes of what is drawn, and the count of metrics."""
-    hhea, post = bytearray(lines[0]), lines[1]
-    box, sides = variable.extremes(drawn.values())
-    hhea[10:18], hhea[34:36] = u16(*sides), u16(count)
-    return u16(*box), bytes(hhea), post
-
-
-def is_as_read(data, drawn, lines):
-    """What is wrong with an instance's file for what was computed of each glyph, and of `hhea` and `post`, if anything is."""
-    font = variable.Font(data, [])
-    tables = set(font.tables) - {b"name", b"post"}
-    if tables != {b"glyf", b"head", b"hhea", b"hmtx", b"loca", b"maxp"}:
-        return f"tables {sorted(tables)}"
-    for glyph in range(font.count):
-        ends, points, advance, bearing = drawn.get(glyph, ([], [], 0, 0))
-        if variable.simple(font.description(glyph)) != (ends, points):
-            return f"glyph {glyph} has other points"
-        if font.metric(glyph) != (advance, bearing):
-            return f"glyph {glyph}: {font.metric(glyph)}, and not {(advance, bearing)}"
-        if not ends and font.description(glyph) and glyph not in drawn:
-            return f"glyph {glyph} isn't empty"
-        if ends and [flag & 0x40 for flag in flags_of(font.description(glyph))] != [0x40] + [0] * (len(points) - 1):
-            return f"glyph {glyph} has other flags of overlaps"
-    headers = font.tables[b"head"][36:44], font.tables[b"hhea"], font.tables.get(b"post")
-    if headers != headers_of(lines, drawn, font.count):
-        return f"`head`, `hhea` or `post`: {headers}, and not {headers_of(lines, drawn, font.count)}"
-    return None
 
 
 # ---- others
@@ -414,49 +348,6 @@ def judge_copy(report, out, line, tag, wanted, label):
 
 
 # ---- hostile fonts
-
-def u16(*numbers):
-    return b"".join((n % 65536).to_bytes(2, "big") for n in numbers)
-
-
-def variable_font(outlines, variations):
-    """A font with the axis wght from 100 by 400 to 900, and of each glyph its description and its variations."""
-    n = len(outlines)
-    fvar = u16(1, 0, 16, 2, 1, 20, 0, 4) + b"wght" + b"".join((v << 16).to_bytes(4, "big") for v in (100, 400, 900)) + u16(0, 256)
-
-    def offsets(parts):
-        return b"".join(sum(map(len, parts[:k])).to_bytes(4, "big") for k in range(n + 1))
-    gvar = u16(1, 0, 1, 0) + (20 + 4 * (n + 1)).to_bytes(4, "big") + u16(n, 1) + (20 + 4 * (n + 1)).to_bytes(4, "big") + offsets(variations)
-    tables = {"fvar": fvar, "glyf": b"".join(outlines), "gvar": gvar + b"".join(variations), "head": bytes(50) + u16(1, 0),
-              "hhea": bytes(34) + u16(n), "hmtx": u16(500, 0) * n, "loca": offsets(outlines), "maxp": u16(1, 0, n) + bytes(26)}
-    return made.font(sorted(tables.items()))
-
-
-def simple_bytes(points):
-    """One contour of so many points, all at one place."""
-    flags = b"".join(bytes([0x39, min(255, points - 1 - k)]) for k in range(0, points, 256))
-    return u16(1, 0, 0, 0, 0, points - 1, 0) + flags
-
-
-def tuples_bytes(count, packed):
-    """So many tuples with private numbers, each with its peak at the axis's end, and the same packed bytes."""
-    return u16(count, 4 + 6 * count) + u16(len(packed), 0xA000, 16384) * count + packed * count
-
-
-def composite_bytes(glyphs):
-    more = [0x0020] * (len(glyphs) - 1) + [0]
-    return u16(-1, 0, 0, 0, 0) + b"".join(u16(flags | 0x0002, glyph, 0) for flags, glyph in zip(more, glyphs))
-
-
-def hostile_fonts():
-    """Each with its name and the glyph to ask for."""
-    zeros = b"\xbf" * 250 + b"\x83"
-    yield "a long outline with 4,095 tuples", variable_font([b"", simple_bytes(16000)], [b"", tuples_bytes(4095, b"\0" + zeros * 2)]), 1
-    two = b"\2\1\0\1" + b"\1\1\1" * 2
-    yield "4,095 tuples of two points each", variable_font([b"", simple_bytes(65000)], [b"", tuples_bytes(4095, two)]), 1
-    doubles = [b""] + [composite_bytes([k + 2, k + 2]) for k in range(40)] + [simple_bytes(3)]
-    yield "composites that double at each of 40 levels", variable_font(doubles, [b""] * len(doubles)), 1
-    yield "a composite of itself", variable_font([b"", composite_bytes([1])], [b"", b""]), 1
 
 
 def hostile():

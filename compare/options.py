@@ -36,8 +36,8 @@ sys.path.insert(0, os.path.join(os.path.dirname(os.path.realpath(__file__)), "li
 
 import build  # noqa: E402
 import fonts  # noqa: E402
-from again import drawing, kind, table  # noqa: E402
 from fonts import directory, label, u16, u32, spread  # noqa: E402
+from outlines import drawing, kind, table  # noqa: E402
 
 FOLDERS = ["/usr/share/fonts", "/usr/share/texmf/fonts"]
 WORDS = {"hinting": "--no-hinting", "names": "--no-names", "glyph_names": "--no-glyph-names"}

@@ -19,7 +19,8 @@ import tempfile
 sys.path.insert(0, os.path.join(os.path.dirname(os.path.realpath(__file__)), "lib"))
 
 import fonts  # noqa: E402
-import pdf_font  # noqa: E402
+import pdf_cases  # noqa: E402
+import pdf_faults  # noqa: E402
 import pdf_harness  # noqa: E402
 import pdf_readers as readers  # noqa: E402
 import pdf_rules as rules  # noqa: E402
@@ -53,7 +54,7 @@ TEXTS = {"Poppler": readers.text_by_poppler, "MuPDF": readers.text_by_mupdf, "Gh
 PICTURES = {"Poppler": readers.by_poppler, "MuPDF": readers.by_mupdf, "Ghostscript": readers.by_ghostscript}
 
 
-class Row(pdf_font.Case):
+class Row(pdf_cases.Case):
     """A row's font, as a case of pdf_font.py."""
 
     def __init__(self, row, folder):
@@ -115,12 +116,12 @@ def write(case, pages):
     values = pdf_harness.values(case.folder)
     if "error" in values:
         sys.exit(f"pdf_font_readers: {case.name}: {values['error']}")
-    font = pdf_font.Font(case, values)
-    face = Face(pdf_font.instance_of(case.source, [glyph for glyph, _ in case.shown]) if case.source.is_moved else case.data)
+    font = pdf_faults.Font(case, values)
+    face = Face(pdf_faults.instance_of(case.source, [glyph for glyph, _ in case.shown]) if case.source.is_moved else case.data)
     with open(case.file("whole.pdf"), "wb") as file:
-        file.write(pdf_font.whole_page(case, font, face, False, (595, 842)))
+        file.write(pdf_faults.whole_page(case, font, face, False, (595, 842)))
     page = os.path.join(pages, os.path.basename(case.folder) + ".pdf")
-    pdf_font.archival_page(case, values, page)
+    pdf_faults.archival_page(case, values, page)
     return [f"{case.name}: {it}" for path in (case.file("grid.pdf"), page) for it in readers.faults_by_qpdf(path)]
 
 

@@ -106,12 +106,11 @@ class Results:
 
 
 def compare(given, program, room):
-    import faces as machine
     import fonts
     import kinds
 
     fonts.install(kinds.PACKAGES + [it[0] for it in fonts.TRUETYPE_FONTS + fonts.CFF_FONTS])
-    all_faces, known = machine.faces(), known_faces()
+    all_faces, known = fonts.faces(), known_faces()
     some = spread(all_faces, given.faces)
     results = Results(given)
     if given.only in ("", "faces"):
