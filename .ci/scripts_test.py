@@ -60,7 +60,7 @@ def faults_of_readme(root, scripts):
     names, wanted = [it for it, _ in rows], [os.path.relpath(it, "compare") for it in scripts]
     faults = [f"compare/README.md: {it} has no row" for it in wanted if it not in names]
     faults += [f"compare/README.md: {it} is no script, or has two rows" for it in dict.fromkeys(names) if it not in wanted or names.count(it) > 1]
-    return faults + [f"compare/README.md: the row of {it} is no question" for it, text in rows if not text.endswith("?") and it != "assemble.py"]
+    return faults + [f"compare/README.md: the row of {it} is no question" for it, text in rows if not text.endswith("?")]
 
 
 def faults_of_folders(root, scripts):
@@ -111,7 +111,7 @@ PLANTS = [
     ("something is started for --help", "compare/cpu.py", "    given = words.parse_args()\n", "    fonts.install(['time'])\n    given = words.parse_args()\n", r"compare/cpu\.py: --help ends with 1"),
     ("a file is left by --help", "compare/all", "    given = words.parse_args()\n", "    open('left', 'w').close()\n    given = words.parse_args()\n", r"--help leaves left"),
     ("a module of fontTools at the top", "compare/again.py", "import argparse\n", "import argparse\nimport fontTools\n", r"compare/again\.py: --help ends with 1: ModuleNotFoundError"),
-    ("no word of what it compares", "compare/portable.py", "words = argparse.ArgumentParser(usage=__doc__)", "words = argparse.ArgumentParser()", r"compare/portable\.py: --help lacks what it compares, its status"),
+    ("no word of what it compares", "compare/portable.py", "words = argparse.ArgumentParser(description=__doc__, formatter_class=argparse.RawDescriptionHelpFormatter)", "words = argparse.ArgumentParser()", r"compare/portable\.py: --help lacks what it compares, its status"),
     ("no word of the status", "compare/binding.py", "The status is 1 where a driver can't be built.", "", r"compare/binding\.py: --help lacks its status"),
     ("a script without a row", "compare/README.md", re.compile(r"^\| `faces\.py` .*\n", re.M), "", r"compare/README\.md: faces\.py has no row"),
     ("a row without a script", "compare/README.md", "| `faces.py` |", "| `face.py` |", r"compare/README\.md: face\.py is no script"),

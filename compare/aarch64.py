@@ -53,9 +53,9 @@ def answers(words, line, room):
 
 
 def main():
-    words = argparse.ArgumentParser(usage=__doc__)
-    words.add_argument("--fonts", type=int, default=200)
-    words.add_argument("--from", dest="folder", default=os.path.join(build.ROOT, "dist", "out"))
+    words = argparse.ArgumentParser(description=__doc__, formatter_class=argparse.RawDescriptionHelpFormatter)
+    words.add_argument("--fonts", type=int, default=200, metavar="N", help="so many fonts, spread over all")
+    words.add_argument("--from", dest="folder", default=os.path.join(build.ROOT, "dist", "out"), metavar="FOLDER", help="where the packages are")
     given = words.parse_args()
     with open(os.path.join(build.ROOT, "VERSION"), encoding="utf-8") as file:
         version = file.read().strip()

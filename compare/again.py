@@ -151,10 +151,10 @@ def fixed_point(program, path, index, room):
 
 def main():
     parser = argparse.ArgumentParser(description=__doc__, formatter_class=argparse.RawDescriptionHelpFormatter)
-    parser.add_argument("--faces", type=int, default=200)
-    parser.add_argument("--program", default=build.BENCH)
+    parser.add_argument("--faces", type=int, default=200, metavar="N", help="so many faces, spread over all")
+    parser.add_argument("--program", default=build.BENCH, metavar="FILE", help="in place of what is built")
     parser.add_argument("--verify")
-    parser.add_argument("--no-install", action="store_true")
+    parser.add_argument("--no-install", action="store_true", help="install no packages")
     words = parser.parse_args()
     if not words.no_install:
         fonts.install([it[0] for it in fonts.TRUETYPE_FONTS + fonts.CFF_FONTS])

@@ -76,9 +76,9 @@ def write(folder, rows):
 
 def main():
     parser = argparse.ArgumentParser(description=__doc__, formatter_class=argparse.RawDescriptionHelpFormatter)
-    parser.add_argument("--program")
-    parser.add_argument("--results")
-    parser.add_argument("--no-install", action="store_true")
+    parser.add_argument("--program", metavar="FILE", help="in place of what is built")
+    parser.add_argument("--results", metavar="FOLDER", help="write the figures there as CSV")
+    parser.add_argument("--no-install", action="store_true", help="install no packages")
     given = parser.parse_args()
     if not given.no_install:
         packages = {os.path.basename(path): package for package, path, _ in fonts.TRUETYPE_FONTS + fonts.CFF_FONTS}

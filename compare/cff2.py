@@ -422,8 +422,8 @@ def lacking(words, paths):
 
 def main():
     parser = by_font.parser(__doc__, glyphs=0)
-    parser.add_argument("--program", default=build.built("cff2_parts"))
-    parser.add_argument("--no-install", action="store_true")
+    parser.add_argument("--program", default=build.built("cff2_parts"), metavar="FILE", help="in place of what is built")
+    parser.add_argument("--no-install", action="store_true", help="install no packages")
     words = parser.parse_args()
     if not words.no_install:
         fonts.install(PACKAGES)

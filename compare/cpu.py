@@ -51,11 +51,11 @@ def measured(programs, taken, seconds, room):
 
 def main():
     words = argparse.ArgumentParser(description=__doc__, formatter_class=argparse.RawDescriptionHelpFormatter)
-    words.add_argument("--seconds", type=float, default=0.03)
-    words.add_argument("--rounds", type=int, default=bench.ROUNDS)
-    words.add_argument("--only", default="")
-    words.add_argument("--no-install", action="store_true")
-    words.add_argument("--keep")
+    words.add_argument("--seconds", type=float, default=0.03, metavar="S", help="seconds for each case and round")
+    words.add_argument("--rounds", type=int, default=bench.ROUNDS, metavar="N", help="rounds that take turns")
+    words.add_argument("--only", default="", metavar="WORD", help="take those whose names have this word")
+    words.add_argument("--no-install", action="store_true", help="install no packages")
+    words.add_argument("--keep", metavar="FOLDER", help="leave the files there")
     given = words.parse_args()
     bench.ROUNDS = given.rounds
     taken = [it for it in fonts.TRUETYPE_FONTS + fonts.CFF_FONTS if given.only in it[1]]

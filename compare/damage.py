@@ -103,18 +103,18 @@ def in_pieces(drivers, make, given, count):
 
 
 def main():
-    words = argparse.ArgumentParser(usage=__doc__)
-    words.add_argument("--no-build", action="store_true")
-    words.add_argument("--copies", type=int, default=20000)
-    words.add_argument("--seed", default="aimed")
-    words.add_argument("--jobs", type=int, default=2)
-    words.add_argument("--only", default="")
+    words = argparse.ArgumentParser(description=__doc__, formatter_class=argparse.RawDescriptionHelpFormatter)
+    words.add_argument("--no-build", action="store_true", help="take what is built")
+    words.add_argument("--copies", type=int, default=20000, metavar="N", help="so many damaged copies")
+    words.add_argument("--seed", default="aimed", metavar="S", help="the seed of the random choices")
+    words.add_argument("--jobs", type=int, default=2, metavar="J", help="so many at a time")
+    words.add_argument("--only", default="", metavar="WORD", help="take those whose names have this word")
     words.add_argument("--truetype", action="store_true")
     words.add_argument("--library", action="store_true")
     words.add_argument("--kinds", nargs="*", metavar="FOLDER")
     words.add_argument("--pieces", metavar="FILE")
-    words.add_argument("--backwards", action="store_true")
-    words.add_argument("--tell", action="store_true")
+    words.add_argument("--backwards", action="store_true", help="the last piece first")
+    words.add_argument("--tell", action="store_true", help="make none, and print what the pieces that are there come to")
     given = words.parse_args()
     if given.tell:
         there = pieces_there(given.pieces, given.seed)

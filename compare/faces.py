@@ -60,10 +60,10 @@ def judged(drivers, face):
 
 
 def main():
-    words = argparse.ArgumentParser(usage=__doc__)
-    words.add_argument("--no-build", action="store_true")
-    words.add_argument("--faces", type=int, default=0)
-    words.add_argument("--jobs", type=int, default=2)
+    words = argparse.ArgumentParser(description=__doc__, formatter_class=argparse.RawDescriptionHelpFormatter)
+    words.add_argument("--no-build", action="store_true", help="take what is built")
+    words.add_argument("--faces", type=int, default=0, metavar="N", help="so many faces, spread over all")
+    words.add_argument("--jobs", type=int, default=2, metavar="J", help="so many at a time")
     given = words.parse_args()
     fonts.install(fonts.TOOLS + [it[0] for it in fonts.TRUETYPE_FONTS + fonts.CFF_FONTS])
     if not given.no_build:

@@ -83,9 +83,9 @@ def record(lines, minutes, commit, date, command):
 def main():
     parser = argparse.ArgumentParser(description=__doc__, formatter_class=argparse.RawDescriptionHelpFormatter)
     parser.add_argument("words", nargs="*", metavar="SKIP=NAME,..")
-    parser.add_argument("--from", dest="log")
-    parser.add_argument("--minutes", type=int)
-    parser.add_argument("--commit")
+    parser.add_argument("--from", dest="log", metavar="LOG", help="what a gate printed")
+    parser.add_argument("--minutes", type=int, metavar="N", help="how long it took")
+    parser.add_argument("--commit", metavar="HASH", help="its commit")
     given = parser.parse_args()
     if len({bool(given.log), given.minutes is not None, bool(given.commit)}) != 1:
         parser.error("--from, --minutes and --commit go together")

@@ -137,12 +137,12 @@ def all_families(bounds, only):
 
 
 def main():
-    words = argparse.ArgumentParser(usage=__doc__)
-    words.add_argument("--no-build", action="store_true")
+    words = argparse.ArgumentParser(description=__doc__, formatter_class=argparse.RawDescriptionHelpFormatter)
+    words.add_argument("--no-build", action="store_true", help="take what is built")
     words.add_argument("--instructions", action="store_true")
     words.add_argument("--families", action="store_true")
     words.add_argument("--bytes", type=int, nargs="*", default=BOUNDS)
-    words.add_argument("--only", default="")
+    words.add_argument("--only", default="", metavar="WORD", help="take those whose names have this word")
     given = words.parse_args()
     if not given.no_build:
         build.preload("peak.c", to="peak.so")

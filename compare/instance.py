@@ -254,10 +254,10 @@ def write_results(folder, words, reports):
 
 def main():
     parser = by_font.parser(__doc__, glyphs=100)
-    parser.add_argument("--program", default=build.PARTS)
-    parser.add_argument("--to")
-    parser.add_argument("--results", metavar="FOLDER")
-    parser.add_argument("--no-install", action="store_true")
+    parser.add_argument("--program", default=build.PARTS, metavar="FILE", help="in place of what is built")
+    parser.add_argument("--to", metavar="FILE", help="write the report there, too")
+    parser.add_argument("--results", metavar="FOLDER", help="write the figures there as CSV")
+    parser.add_argument("--no-install", action="store_true", help="install no packages")
     words = parser.parse_args()
     if not words.no_install:
         fonts.install(PACKAGES)

@@ -102,10 +102,10 @@ def rows_of(paths, words, room):
 def main():
     parser = argparse.ArgumentParser(description=__doc__, formatter_class=argparse.RawDescriptionHelpFormatter)
     parser.add_argument("folders", nargs="*", metavar="FOLDER")
-    parser.add_argument("--turns", type=int, default=12)
-    parser.add_argument("--no-build", action="store_true")
-    parser.add_argument("--no-instancer", action="store_true")
-    parser.add_argument("--results", metavar="FOLDER")
+    parser.add_argument("--turns", type=int, default=12, metavar="N", help="rounds that take turns")
+    parser.add_argument("--no-build", action="store_true", help="take what is built")
+    parser.add_argument("--no-instancer", action="store_true", help="without fontTools' instancer")
+    parser.add_argument("--results", metavar="FOLDER", help="write the figures there as CSV")
     words = parser.parse_args()
     if not words.no_build:
         fonts.install([*font_at.PACKAGES, "libharfbuzz-dev"])

@@ -408,7 +408,7 @@ def say_fonts(words, reports):
 def main():
     parser = by_font.parser(__doc__, glyphs=100)
     parser.add_argument("--damage", type=int)
-    parser.add_argument("--results", metavar="FOLDER")
+    parser.add_argument("--results", metavar="FOLDER", help="write the figures there as CSV")
     parser.add_argument("--hostile", action="store_true")
     words = parser.parse_args()
     build.program(build.BENCH)

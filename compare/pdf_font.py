@@ -159,16 +159,16 @@ def report(total, wrong, given):
 
 
 def main():
-    words = argparse.ArgumentParser(usage=__doc__)
-    words.add_argument("--faces", type=int, default=150)
-    words.add_argument("--copies", type=int, default=150)
-    words.add_argument("--seen", type=int, default=6)
-    words.add_argument("--seed", default="pdf_font")
-    words.add_argument("--jobs", type=int, default=2)
-    words.add_argument("--crate", default=pdf_harness.CRATE)
+    words = argparse.ArgumentParser(description=__doc__, formatter_class=argparse.RawDescriptionHelpFormatter)
+    words.add_argument("--faces", type=int, default=150, metavar="N", help="so many faces, spread over all")
+    words.add_argument("--copies", type=int, default=150, metavar="N", help="so many damaged copies")
+    words.add_argument("--seen", type=int, default=6, metavar="K", help="one in K goes to the readers; 0 for none")
+    words.add_argument("--seed", default="pdf_font", metavar="S", help="the seed of the random choices")
+    words.add_argument("--jobs", type=int, default=2, metavar="J", help="so many at a time")
+    words.add_argument("--crate", default=pdf_harness.CRATE, metavar="FOLDER", help="in place of bindings/rust")
     words.add_argument("--program", help="in place of the harness")
     words.add_argument("--no-pdfbox", action="store_true")
-    words.add_argument("--keep")
+    words.add_argument("--keep", metavar="FOLDER", help="leave the files there")
     given = words.parse_args()
     given.with_pdfbox = not given.no_pdfbox and given.seen > 0
     fonts.install(FONTS + readers.PACKAGES + (readers.PDFBOX if given.with_pdfbox else []))

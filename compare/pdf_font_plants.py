@@ -144,8 +144,8 @@ def is_seen(plant, folders, room):
 
 
 def main():
-    words = argparse.ArgumentParser(usage=__doc__)
-    words.add_argument("--only", default="")
+    words = argparse.ArgumentParser(description=__doc__, formatter_class=argparse.RawDescriptionHelpFormatter)
+    words.add_argument("--only", default="", metavar="WORD", help="take those whose names have this word")
     words.add_argument("--answers", action="store_true")
     given = words.parse_args()
     wanted = [it for it in PLANTS if given.only in it[0] and (not given.answers or it[1] in (ANSWERS, WORDS))]

@@ -154,10 +154,10 @@ def versions():
 
 
 def main():
-    words = argparse.ArgumentParser(usage=__doc__)
-    words.add_argument("--only", default="")
-    words.add_argument("--crate", default=pdf_harness.CRATE)
-    words.add_argument("--keep")
+    words = argparse.ArgumentParser(description=__doc__, formatter_class=argparse.RawDescriptionHelpFormatter)
+    words.add_argument("--only", default="", metavar="WORD", help="take those whose names have this word")
+    words.add_argument("--crate", default=pdf_harness.CRATE, metavar="FOLDER", help="in place of bindings/rust")
+    words.add_argument("--keep", metavar="FOLDER", help="leave the files there")
     given = words.parse_args()
     fonts.install(PACKAGES + readers.PACKAGES + readers.PDFBOX)
     if not readers.has_pdfbox():

@@ -130,13 +130,13 @@ def compare(given, program, room):
 
 
 def main():
-    words = argparse.ArgumentParser(usage=__doc__)
-    words.add_argument("--copies", type=int, default=20000)
-    words.add_argument("--faces", type=int, default=0)
-    words.add_argument("--jobs", type=int, default=2)
-    words.add_argument("--only", default="", choices=("", "faces", "memory", "damage"))
-    words.add_argument("--results", metavar="FILE")
-    words.add_argument("--name", metavar="COMMIT")
+    words = argparse.ArgumentParser(description=__doc__, formatter_class=argparse.RawDescriptionHelpFormatter)
+    words.add_argument("--copies", type=int, default=20000, metavar="N", help="so many damaged copies")
+    words.add_argument("--faces", type=int, default=0, metavar="N", help="so many faces, spread over all")
+    words.add_argument("--jobs", type=int, default=2, metavar="J", help="so many at a time")
+    words.add_argument("--only", default="", choices=("", "faces", "memory", "damage"), help="one part alone")
+    words.add_argument("--results", metavar="FILE", help="keep each part as a line of FILE")
+    words.add_argument("--name", metavar="COMMIT", help="the commit that lines of FILE name")
     portable_build.words(words)
     given = words.parse_args()
     program = portable_build.built(given, "checked")

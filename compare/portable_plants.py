@@ -62,8 +62,8 @@ def is_seen(plant, crate, other, room):
 
 
 def main():
-    words = argparse.ArgumentParser(usage=__doc__)
-    words.add_argument("--only", default="")
+    words = argparse.ArgumentParser(description=__doc__, formatter_class=argparse.RawDescriptionHelpFormatter)
+    words.add_argument("--only", default="", metavar="WORD", help="take those whose names have this word")
     given = words.parse_args()
     wanted = [plant for plant in PLANTS if given.only in plant[0]]
     with tempfile.TemporaryDirectory(prefix="portable-plants-") as room:

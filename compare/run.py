@@ -159,14 +159,14 @@ def report(rows, refusal_rows, both, beside):
 
 
 def read_words():
-    words = argparse.ArgumentParser(usage=__doc__)
+    words = argparse.ArgumentParser(description=__doc__, formatter_class=argparse.RawDescriptionHelpFormatter)
     for flag in ("--original-only", "--no-install", "--no-build", "--cff", "--all", "--binding"):
         words.add_argument(flag, action="store_true")
-    words.add_argument("--only", default="")
+    words.add_argument("--only", default="", metavar="WORD", help="take those whose names have this word")
     words.add_argument("--growth")
-    words.add_argument("--copies", type=int, default=2000)
-    words.add_argument("--seconds", type=float, default=0.05)
-    words.add_argument("--to", default=os.path.join(BUILD, "report.md"))
+    words.add_argument("--copies", type=int, default=2000, metavar="N", help="so many damaged copies")
+    words.add_argument("--seconds", type=float, default=0.05, metavar="S", help="seconds for each case and round")
+    words.add_argument("--to", default=os.path.join(BUILD, "report.md"), metavar="FILE", help="where the report goes")
     words.add_argument("--results", metavar="FOLDER", help="write the times as CSV files there, as compare/results has them")
     return words.parse_args()
 
