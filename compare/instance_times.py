@@ -27,7 +27,7 @@ import build  # noqa: E402
 import font_at  # noqa: E402
 import fonts  # noqa: E402
 import instance_read  # noqa: E402
-import variable  # noqa: E402
+import variable_font  # noqa: E402
 
 NAMES = ["Inter.var.ttf", "RobotoFlex-Variable.ttf", "SourceSerifVariable-Roman.ttf"]
 COUNTS = [3, 80, 2000]
@@ -76,7 +76,7 @@ def tasks_of(path, words, room):
     place = place_inside(source.axes, rng)
     with open(path, "rb") as file:
         data = file.read()
-    at = variable.Font(data, instance_read.place_in(place)).at
+    at = variable_font.Font(data, instance_read.place_in(place)).at
     whole = None if words.no_instancer else instancer(path, place)
     for count in COUNTS:
         count = min(count, len(source.names))

@@ -40,6 +40,7 @@ import by_font  # noqa: E402
 import font_at  # noqa: E402
 import fonts  # noqa: E402
 import variable  # noqa: E402
+import variable_font  # noqa: E402
 from instance_others import Floats, advance_by, extremes_of, freetype_points, metrics_of  # noqa: E402
 from instance_read import is_as_read, place_in, port, words_of  # noqa: E402
 from variable import UNIT  # noqa: E402
@@ -119,7 +120,7 @@ def beside_others(report, font, drawn, floats, harfbuzz):
 
 def compare_place(report, path, data, place, glyphs, others, room):
     """One instance."""
-    font = variable.Font(data, place_in(place))
+    font = variable_font.Font(data, place_in(place))
     drawn, refused = {}, []
     for glyph in sorted({0, *glyphs}):
         try:
@@ -199,7 +200,7 @@ def damaged(rng, data, source):
 def answer_of(data, place, glyphs):
     """What variable.py reads: the glyphs as drawn, and `hhea` and `post`, or the name of a fault."""
     try:
-        font = variable.Font(data, place_in(place))
+        font = variable_font.Font(data, place_in(place))
         return {glyph: font.drawn(glyph, STEPS)[:4] for glyph in sorted({0, *glyphs})}, font.lines()
     except variable.Fault as it:
         return it.args[0]

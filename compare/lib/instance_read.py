@@ -4,6 +4,7 @@ import subprocess
 
 import build
 import variable
+import variable_font
 from variable_hostile import u16
 
 
@@ -44,20 +45,20 @@ def flags_of(description):
 def headers_of(lines, drawn, count):
     """`hhea` and `post` of an instance, for those at the place: with the extremes of what is drawn, and the count of metrics."""
     hhea, post = bytearray(lines[0]), lines[1]
-    box, sides = variable.extremes(drawn.values())
+    box, sides = variable_font.extremes(drawn.values())
     hhea[10:18], hhea[34:36] = u16(*sides), u16(count)
     return u16(*box), bytes(hhea), post
 
 
 def is_as_read(data, drawn, lines):
     """What is wrong with an instance's file for what was computed of each glyph, and of `hhea` and `post`, if anything is."""
-    font = variable.Font(data, [])
+    font = variable_font.Font(data, [])
     tables = set(font.tables) - {b"name", b"post"}
     if tables != {b"glyf", b"head", b"hhea", b"hmtx", b"loca", b"maxp"}:
         return f"tables {sorted(tables)}"
     for glyph in range(font.count):
         ends, points, advance, bearing = drawn.get(glyph, ([], [], 0, 0))
-        if variable.simple(font.description(glyph)) != (ends, points):
+        if variable_font.simple(font.description(glyph)) != (ends, points):
             return f"glyph {glyph} has other points"
         if font.metric(glyph) != (advance, bearing):
             return f"glyph {glyph}: {font.metric(glyph)}, and not {(advance, bearing)}"

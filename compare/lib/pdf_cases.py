@@ -4,6 +4,7 @@ import struct
 
 import pdf_harness
 import pdf_rules as rules
+import pdf_rules_codes as codes_by
 from pdf_file import Face
 
 CHARACTERS = 40
@@ -39,7 +40,7 @@ class Case:
 
     @property
     def codes(self):
-        return rules.codes(self.shown, next((it for it in ("Source", "EachText") if self.has(it)), "Consecutive"))
+        return codes_by.codes(self.shown, next((it for it in ("Source", "EachText") if self.has(it)), "Consecutive"))
 
     def file(self, name):
         return os.path.join(self.folder, name)
@@ -61,7 +62,7 @@ def coordinates_of(source, rng):
 
 def entries(characters, rng):
     """Entries of random characters, of which some are repeated, have a further text, or several characters or none."""
-    plain = sorted(it for it in characters if characters[it] and rules.is_plain(it))
+    plain = sorted(it for it in characters if characters[it] and codes_by.is_plain(it))
     if not plain:
         return []
     shown = [(characters[it], chr(it)) for it in rng.sample(plain, min(len(plain), CHARACTERS))]

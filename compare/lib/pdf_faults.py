@@ -5,6 +5,7 @@ from fractions import Fraction
 import fonts
 import pdf_readers as readers
 import pdf_rules as rules
+import pdf_rules_codes as codes_by
 from cff import cids as cids_of_cff
 from pdf_file import Face, Pdf, embedded
 
@@ -53,11 +54,11 @@ def moved_heights(case):
 
 def wanted_columns(case, widths):
     order = list(dict.fromkeys([0, *(glyph for glyph, _ in case.shown)]))
-    found = [rules.column(case.source, glyph, width) for glyph, width in zip(order, widths)]
+    found = [codes_by.column(case.source, glyph, width) for glyph, width in zip(order, widths)]
     if case.source.is_moved and "VVAR" in case.source.tables:
         shift = moved_heights(case)
         for k, glyph in enumerate(order):
-            height, _ = rules.vertical(case.source, glyph)
+            height, _ = codes_by.vertical(case.source, glyph)
             if height is not None:
                 found[k] = (-rules.thousandths(max(height + shift(glyph), 0), case.source.units), *found[k][1:])
     return found
@@ -77,18 +78,18 @@ class Font:
         source = case.source
         self.kind = "TrueType" if not source.is_cff else "OpenType" if case.has("OpenType") else "BareCff"
         self.tables = {} if self.kind == "BareCff" else {tag: self.program[o:o + n] for tag, (o, n) in fonts.directory(self.program).items()}
-        self.cids, self.codes = rules.cids(case.shown), case.codes
+        self.cids, self.codes = codes_by.cids(case.shown), case.codes
         self.count = self.glyph_count(case)
         self.widths = wanted_widths(case, self.tables, self.count)
-        self.default = rules.most_frequent(self.widths)
+        self.default = codes_by.most_frequent(self.widths)
         self.values = rules.descriptor(source, self.tables, case.has("Kept"))
         self.name = rules.font_name(source, self.program, "QWERTY" if case.has("QWERTY") else None)
-        self.to_unicode = rules.to_unicode(case.shown, self.codes)
-        self.cmap = rules.encoding(self.cids, self.codes, case.is_vertical)
+        self.to_unicode = codes_by.to_unicode(case.shown, self.codes)
+        self.cmap = codes_by.encoding(self.cids, self.codes, case.is_vertical)
         self.columns = wanted_columns(case, self.widths) if case.is_vertical else None
         self.dw2 = None
         if self.columns:
-            y, down = rules.most_frequent([(y, down) for down, _, y in self.columns])
+            y, down = codes_by.most_frequent([(y, down) for down, _, y in self.columns])
             self.dw2 = [y, down]
 
     def glyph_count(self, case):
@@ -102,8 +103,8 @@ def faults_of_values(case, values, font):
     wrong = []
     words = {"kind": font.kind, "glyph_count": str(font.count), "name": font.name, "default_width": str(font.default), "to_unicode": font.to_unicode.encode().hex(),
              "permission": " ".join(map(str, rules.permission(case.source))), "encoding": font.cmap and f"{font.cmap[0]} {font.cmap[1].encode().hex()}",
-             "cid_set": rules.cid_set(font.count).hex() if case.has("CIDSet") else None}
-    lists = {"cids": font.cids, "codes": font.codes, "is_said": rules.is_said(case.shown, font.codes), "widths": font.widths, "dw2": font.dw2}
+             "cid_set": codes_by.cid_set(font.count).hex() if case.has("CIDSet") else None}
+    lists = {"cids": font.cids, "codes": font.codes, "is_said": codes_by.is_said(case.shown, font.codes), "widths": font.widths, "dw2": font.dw2}
     words.update({name: wanted if wanted is None else " ".join(map(str, wanted)) for name, wanted in lists.items()})
     words["columns"] = font.columns and " ".join(",".join(map(str, it)) for it in font.columns)
     for name, wanted in font.values.items():
@@ -122,7 +123,7 @@ def faults_of_calls(case, values):
     if case.characters:
         compared(wrong, "glyphs_of", values["glyphs_of"], " ".join(str(case.characters.get(ord(it), 0)) for it in text))
     for choice in ("Consecutive", "Source", "EachText"):
-        compared(wrong, f"codes_of {choice}", values[f"codes_of_{choice}"], " ".join(map(str, rules.codes(case.shown, choice))))
+        compared(wrong, f"codes_of {choice}", values[f"codes_of_{choice}"], " ".join(map(str, codes_by.codes(case.shown, choice))))
     return wrong
 
 
@@ -148,7 +149,7 @@ def faults_of_file(case, font, path):
     compared(wrong, "CIDFont", {it: below[it] for it in below if it not in ("/W", "/W2", "/DW", "/DW2", "/FontDescriptor")},
              {"/Type": "/Font", "/Subtype": "/CIDFontType0" if is_cff else "/CIDFontType2", "/BaseFont": name, "/CIDSystemInfo": identity,
               **({} if is_cff else {"/CIDToGIDMap": "/Identity"})})
-    compared(wrong, "W", (below["/DW"], rules.widths_in(below.get("/W", []), below["/DW"], font.count)), (font.default, font.widths))
+    compared(wrong, "W", (below["/DW"], codes_by.widths_in(below.get("/W", []), below["/DW"], font.count)), (font.default, font.widths))
     wrong += faults_of_columns(font, below)
     program_key = "/FontFile3" if is_cff else "/FontFile2"
     compared(wrong, "descriptor", {it: values[it] for it in values if it not in ("/CIDSet", program_key)}, entries_of_descriptor(font))
@@ -170,7 +171,7 @@ def faults_of_columns(font, below):
     wrong = []
     if font.columns is None:
         return ["W2 in horizontal writing"] if "/W2" in below or "/DW2" in below else []
-    found = rules.columns_in(below.get("/W2", []), below.get("/DW2", [880, -1000]), font.widths, len(font.columns))
+    found = codes_by.columns_in(below.get("/W2", []), below.get("/DW2", [880, -1000]), font.widths, len(font.columns))
     compared(wrong, "DW2", below.get("/DW2", [880, -1000]), font.dw2)
     for cid, (has, wants) in enumerate(zip(found, font.columns)):
         if (has[0], has[2]) != (wants[0], wants[2]) or abs(has[1] - wants[1]) > Fraction(1, 2):
@@ -186,7 +187,7 @@ def faults_of_streams(case, font, objects, values):
     more = {"TrueType": {"/Length1": len(font.program)}, "BareCff": {"/Subtype": "/CIDFontType0C"}, "OpenType": {"/Subtype": "/OpenType"}}
     compared(wrong, "its dictionary", kept, more[font.kind])
     compared(wrong, "ToUnicode", stream(objects, top["/ToUnicode"])[0].decode(), font.to_unicode)
-    compared(wrong, "CIDSet", cid_set and stream(objects, cid_set)[0], rules.cid_set(font.count) if case.has("CIDSet") else None)
+    compared(wrong, "CIDSet", cid_set and stream(objects, cid_set)[0], codes_by.cid_set(font.count) if case.has("CIDSet") else None)
     if font.cmap:
         data, entries = stream(objects, top["/Encoding"])
         compared(wrong, "CMap", data.decode(), font.cmap[1])
@@ -199,11 +200,11 @@ def faults_of_streams(case, font, objects, values):
 def faults_of_text(case, font):
     """The grid's text by Poppler and MuPDF; and whether MuPDF was asked."""
     wrong, wants = [], readers.letters("".join(text for _, text in case.shown))
-    is_simple = all(rules.is_said(case.shown, font.codes)) and len(set(case.shown)) == len({glyph for glyph, _ in case.shown})
+    is_simple = all(codes_by.is_said(case.shown, font.codes)) and len(set(case.shown)) == len({glyph for glyph, _ in case.shown})
     is_simple = is_simple and all(len(text) == 1 or max(text) < "\U00010000" for _, text in case.shown)
     for reader, read in (("Poppler", readers.text_by_poppler), ("MuPDF", readers.text_by_mupdf))[:1 + is_simple]:
         has = readers.letters(read(case.file("grid.pdf")))
-        if has != wants and not (rules.is_right_to_left(wants) and sorted(has) == sorted(wants)):
+        if has != wants and not (codes_by.is_right_to_left(wants) and sorted(has) == sorted(wants)):
             compared(wrong, f"the text by {reader}", has, wants)
     return wrong, is_simple
 
