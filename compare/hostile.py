@@ -139,9 +139,9 @@ def all_families(bounds, only):
 def main():
     words = argparse.ArgumentParser(description=__doc__, formatter_class=argparse.RawDescriptionHelpFormatter)
     words.add_argument("--no-build", action="store_true", help="take what is built")
-    words.add_argument("--instructions", action="store_true")
-    words.add_argument("--families", action="store_true")
-    words.add_argument("--bytes", type=int, nargs="*", default=BOUNDS)
+    words.add_argument("--instructions", action="store_true", help="count instructions, too")
+    words.add_argument("--families", action="store_true", help="more fonts, under bounds on the new font")
+    words.add_argument("--bytes", type=int, nargs="*", default=BOUNDS, metavar="N", help="bounds, with --families")
     words.add_argument("--only", default="", metavar="WORD", help="take those whose names have this word")
     given = words.parse_args()
     if not given.no_build:

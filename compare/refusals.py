@@ -316,8 +316,8 @@ def debian_fonts():
 def main():
     words = argparse.ArgumentParser(description=__doc__, formatter_class=argparse.RawDescriptionHelpFormatter)
     words.add_argument("--no-build", action="store_true", help="take what is built")
-    words.add_argument("--more", action="store_true")
-    words.add_argument("--program", action="store_true", help="in place of what is built")
+    words.add_argument("--more", action="store_true", help="some of Debian's fonts, too")
+    words.add_argument("--program", action="store_true", help="the program alone")
     given = words.parse_args()
     build.preload("refuse.c", to="refuse.so")
     if not given.no_build:
