@@ -16,7 +16,7 @@ import sys
 
 sys.dont_write_bytecode = True
 HERE = os.path.dirname(os.path.dirname(os.path.realpath(__file__)))
-sys.path.insert(0, os.path.join(HERE, "compare"))
+sys.path.insert(0, os.path.join(HERE, "compare", "lib"))
 
 import rattle_tree  # noqa: E402
 import twins  # noqa: E402

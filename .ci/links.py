@@ -18,7 +18,7 @@ import sys
 
 sys.dont_write_bytecode = True
 ROOT = os.path.dirname(os.path.dirname(os.path.realpath(__file__)))
-sys.path.insert(0, os.path.join(ROOT, "compare"))
+sys.path.insert(0, os.path.join(ROOT, "compare", "lib"))
 
 import repository  # noqa: E402
 

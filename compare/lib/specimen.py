@@ -5,7 +5,9 @@ import os
 import subprocess
 import tempfile
 
+from pdf_drawn import READERS, drawn, subset
 from pdf_file import Face, Pdf, embedded, pages
+from pdf_variable import subset_at
 
 NOTO = "/usr/share/fonts/truetype/noto"
 CJK = "/usr/share/fonts/opentype/noto"
@@ -46,7 +48,6 @@ def size_of(path):
 
 def label(pdf, labels, name, room):
     """A font for labels, and the labels: (text, x, y)."""
-    from pdf import subset
     lines = [(shaped(LABELS, 0, text), x, y) for text, x, y in labels]
     out = os.path.join(room, "labels")
     numbers, widths = subset(LABELS, 0, [it["g"] for glyphs, *_ in lines for it in glyphs], out)
@@ -58,7 +59,6 @@ def label(pdf, labels, name, room):
 
 def draw(png):
     """Draws the four scripts, and prints the sizes of each source and its subset."""
-    from pdf import subset
     pdf, fonts, content, labels = Pdf(), [], [], []
     with tempfile.TemporaryDirectory() as room:
         for place, (font, index, text) in enumerate(LINES):
@@ -85,7 +85,6 @@ def draw(png):
 
 def weights_file(reader, room):
     """A PDF file of the line at each weight, under a reader's name, and the size of each subset."""
-    from pdf_variable import subset_at
     pdf, fonts, content, sizes = Pdf(), [], [], []
     labels = [(reader, 12, COLUMN[1] - 16)]
     for place, weight in enumerate(WEIGHTS):
@@ -104,7 +103,6 @@ def weights_file(reader, room):
 
 def draw_weights(png):
     """Draws the line at five weights by each reader, side by side, in sixteen greys, and prints the sizes of the subsets."""
-    from pdf import READERS, drawn
     from PIL import Image
     columns = []
     with tempfile.TemporaryDirectory() as room:

@@ -8,6 +8,8 @@ import subprocess
 import unicodedata
 from fractions import Fraction
 
+import build
+
 JAVA = "/usr/share/java"
 JARS = "preflight pdfbox2 pdfbox2-tools fontbox2 xmpbox commons-logging javax.activation jaxb-api".split()
 PACKAGES = ["qpdf", "poppler-utils", "mupdf-tools", "ghostscript", "python3-pil", "python3-fonttools"]
@@ -96,7 +98,7 @@ def pictures_by_pdfbox(paths, room, dpi=DPI):
 
 
 def text_by_pdfjs(path):
-    return ran("node", os.path.join(os.path.dirname(os.path.realpath(__file__)), "pdf_text.mjs"), path).decode("utf-8", "replace")
+    return ran("node", os.path.join(build.DRIVERS, "pdf_text.mjs"), path).decode("utf-8", "replace")
 
 
 # ---- pictures

@@ -190,7 +190,7 @@ COMPARISONS = [
     Comparison("bytes", "How many bytes has a subset, of how many of the source?", "compare/bytes.py --results compare/results",
                bytes_of_source, ("bindings/rust/src/**",), data=("bytes.csv",)),
     Comparison("gate", "Does the whole gate pass, and how long does it take?", "make test", lines_like(r"^\d+ passed, \d+ failed|^\d+ minutes$"),
-               ("crates/*/*/**", "bindings/**", "dist/*", ".ci/*", "Makefile"), by_hand=True, timed=True),
+               ("crates/*/*/**", "bindings/**", "dist/*", ".ci/**", "Makefile"), by_hand=True, timed=True),
     Comparison("processors", "What does a build for any x86-64 cost?", "compare/cpu.py --rounds 30 --seconds 0.02",
                lambda result: "; ".join(re.findall(r"sums .*?ratio [\d.]+|geometric mean of the ratios [\d.]+", " ".join(result.body))),
                SUBSET + C, data=("cpu.csv",), timed=True),

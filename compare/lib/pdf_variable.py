@@ -25,12 +25,12 @@ import os
 import random
 import tempfile
 
+import font_at
 import fonts
-import instance
-import pdf
+import pdf_drawn
 from pdf_file import Face, Pdf, embedded, pages
 
-PACKAGES = [*instance.PACKAGES, "mupdf-tools", "poppler-utils", "ghostscript", "python3-pil"]
+PACKAGES = [*font_at.PACKAGES, "mupdf-tools", "poppler-utils", "ghostscript", "python3-pil"]
 GLYPHS_A_PLACE = 24
 PAGE, BASE = (480, 180), 80
 # Pixels an inch: eight a point, so that the grid's places are whole pixels.
@@ -60,8 +60,8 @@ def words_at(place):
 
 
 def subset_at(font, place, glyphs, out):
-    """As pdf.subset, of a variable font at a place."""
-    return pdf.subset(font, 0, glyphs, out, True, ["--at", words_at(place)])
+    """As pdf_drawn.subset, of a variable font at a place."""
+    return pdf_drawn.subset(font, 0, glyphs, out, True, ["--at", words_at(place)])
 
 
 def mistaken(plant, place, axes):
@@ -98,7 +98,7 @@ class Shown:
     def advance(self, glyph):
         """The advance in thousandths of the em, to the nearest."""
         units = self.load(glyph, self.freetype.FT_LOAD_LINEAR_DESIGN).linearHoriAdvance
-        return instance.half_up(units * 1000 / self.face.units_per_EM)
+        return font_at.half_up(units * 1000 / self.face.units_per_EM)
 
     def put(self, picture, glyph, size, x, y):
         """Draws a glyph of so many points, at points from the picture's left lower corner; y is on a whole pixel."""
@@ -120,10 +120,10 @@ class Shown:
     def pictures(self, glyphs, line):
         """The two pages."""
         grid, row = blank(), blank()
-        for glyph, (x, y) in zip(glyphs, pdf.cells(len(glyphs), PAGE)):
-            self.put(grid, glyph, pdf.GRID, x, y)
+        for glyph, (x, y) in zip(glyphs, pdf_drawn.cells(len(glyphs), PAGE)):
+            self.put(grid, glyph, pdf_drawn.GRID, x, y)
         for glyph, x in zip(*line):
-            self.put(row, glyph, pdf.LINE, 20 + x, BASE)
+            self.put(row, glyph, pdf_drawn.LINE, 20 + x, BASE)
         return grid, row
 
 
@@ -180,15 +180,15 @@ def write(folder, contents, data, widths):
 def usual_lines(folder):
     """What each reader says of two empty pages."""
     write(folder, ["", ""], None, None)
-    return {reader: pdf.drawn(reader, folder, DPI)[1] for reader in pdf.READERS}
+    return {reader: pdf_drawn.drawn(reader, folder, DPI)[1] for reader in pdf_drawn.READERS}
 
 
 def is_wide(folder, line, shown):
     """Whether MuPDF moves on by FreeType's advances."""
-    places = pdf.places_by_trace(folder)
+    places = pdf_drawn.places_by_trace(folder)
     steps = [there - here for here, there in zip(places, places[1:])]
-    slack = pdf.LINE * 0.001 + 0.001
-    wanted = [shown.advance(glyph) * pdf.LINE / shown.units for glyph in line[0][:-1]]
+    slack = pdf_drawn.LINE * 0.001 + 0.001
+    wanted = [shown.advance(glyph) * pdf_drawn.LINE / shown.units for glyph in line[0][:-1]]
     return len(places) == len(line[0]) and all(abs(a - b) <= slack for a, b in zip(steps, wanted))
 
 
@@ -200,8 +200,8 @@ def differences(folder, grid, row, usual):
     limits = around(grid, ImageChops.darker), around(grid, ImageChops.lighter)
     if grid.getextrema()[0] > 128:
         wrong.append("nothing is seen")
-    for reader in pdf.READERS:
-        found, said = pdf.drawn(reader, folder, DPI)
+    for reader in pdf_drawn.READERS:
+        found, said = pdf_drawn.drawn(reader, folder, DPI)
         wrong += [f"{reader} warns: {line}" for line in sorted(said - usual[reader])[:1]]
         if found is None:
             wrong.append(f"{reader} draws nothing")
@@ -222,8 +222,8 @@ def compare_place(path, source, place, glyphs, usual, folder, plant):
         default = [(tag, round(value * 65536)) for tag, _, value, _ in source.axes]
         widths = subset_at(path, default, glyphs, out + ".default")[1]
     shown = Shown(path, source.axes, place)
-    line = pdf.line_of(shown, glyphs)
-    contents = [pdf.grid([numbers[g] for g in glyphs], PAGE, LEAN), pdf.line_by_widths([numbers[g] for g in line[0]], BASE, LEAN)]
+    line = pdf_drawn.line_of(shown, glyphs)
+    contents = [pdf_drawn.grid([numbers[g] for g in glyphs], PAGE, LEAN), pdf_drawn.line_by_widths([numbers[g] for g in line[0]], BASE, LEAN)]
     with open(out, "rb") as file:
         write(folder, contents, file.read(), widths)
     wrong, off, out = differences(folder, *shown.pictures(glyphs, line), usual)
@@ -249,19 +249,19 @@ class Report:
 
 
 def compare_font(path, count, usual, keep, plant):
-    report, source, name = Report(), instance.Source(path), os.path.basename(path)
+    report, source, name = Report(), font_at.Source(path), os.path.basename(path)
     rng = random.Random(name)
     with open(path, "rb") as file:
         there = Face(file.read()).glyphs_drawn()
     for number in range(count):
-        place = instance.random_place(source.axes, rng)
+        place = font_at.random_place(source.axes, rng)
         glyphs = rng.sample(there, min(len(there), GLYPHS_A_PLACE))
         with tempfile.TemporaryDirectory(prefix="places-") as room:
             folder = os.path.join(keep, f"{name}-{number}") if keep else room
             try:
                 wrong, off, out = compare_place(path, source, place, glyphs, usual, folder, plant)
                 report.add(Report(not wrong, bool(wrong), 0, len(glyphs), off, out))
-            except pdf.Refused as it:
+            except pdf_drawn.Refused as it:
                 wrong = [f"refused: {it}"]
                 report.add(Report(refused=1))
         if wrong:
@@ -273,8 +273,8 @@ def compare_font(path, count, usual, keep, plant):
 def all_fonts(folders, count, only, keep, plant):
     """A line a font, and the sum; whether all places are alike."""
     fonts.install(PACKAGES)
-    total, paths = Report(), instance.font_paths(folders, only)
-    print(f"Variable fonts in PDF files, commit {instance.commit()}, {count} places of each, {DPI} pixels an inch"
+    total, paths = Report(), font_at.font_paths(folders, only)
+    print(f"Variable fonts in PDF files, commit {font_at.commit()}, {count} places of each, {DPI} pixels an inch"
           + f", with a planted bug ({plant})" * bool(plant), flush=True)
     with tempfile.TemporaryDirectory(prefix="empty-") as room:
         usual = usual_lines(room)

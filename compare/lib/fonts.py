@@ -127,3 +127,18 @@ def glyph_sets(count):
     if count >= 2000:
         sets += [("2000 low", "0-1999"), ("2000 spread", spread(kept, 2000))]
     return sets + [("all in order", f"0-{kept - 1}"), ("all jumbled", spread(kept, kept))]
+
+
+def faces():
+    """Each face of the machine, as a path and an index."""
+    found = []
+    for folder, _, names in sorted(os.walk("/usr/share")):
+        for name in sorted(names):
+            path = os.path.join(folder, name)
+            if not name.lower().endswith((".ttf", ".otf", ".ttc")) or os.path.islink(path):
+                continue
+            with open(path, "rb") as file:
+                head = file.read(12)
+            count = u32(head, 8) if head[:4] == b"ttcf" else 1
+            found += [(path, index) for index in range(count)]
+    return found

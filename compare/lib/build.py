@@ -1,11 +1,12 @@
-"""What the scripts of this folder run: where each program stands, and how it is built."""
+"""What the scripts of compare/ run: where each program is, and how it is built."""
 import os
 import subprocess
 import sys
 
-HERE = os.path.dirname(os.path.realpath(__file__))
+# The folder compare/, its C drivers, and what is built of them.
+HERE = os.path.dirname(os.path.dirname(os.path.realpath(__file__)))
 ROOT = os.path.dirname(HERE)
-BUILD = os.path.join(HERE, "build")
+DRIVERS, BUILD = os.path.join(HERE, "drivers"), os.path.join(HERE, "build")
 # What the C compiler and Cargo may use, as the port does.
 PROCESSOR = "x86-64-v2"
 
@@ -34,10 +35,10 @@ def program(path):
 
 
 def gcc(source, *more, to):
-    """The path of what gcc makes of a C file of this folder."""
+    """The path of what gcc makes of a C file of drivers/."""
     os.makedirs(BUILD, exist_ok=True)
     path = os.path.join(BUILD, to)
-    subprocess.run(["gcc", "-O3", f"-march={PROCESSOR}", "-o", path, os.path.join(HERE, source), *more], check=True)
+    subprocess.run(["gcc", "-O3", f"-march={PROCESSOR}", "-o", path, os.path.join(DRIVERS, source), *more], check=True)
     return path
 
 

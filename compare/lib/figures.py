@@ -70,7 +70,7 @@ def written(path, found):
     """What a block of a document says by the results."""
     key = found[2]
     if key not in BLOCKS:
-        raise repository.Trouble(f"no figure is called {key!r}; compare/figures.py has {', '.join(sorted(BLOCKS))}")
+        raise repository.Trouble(f"no figure is called {key!r}; compare/lib/figures.py has {', '.join(sorted(BLOCKS))}")
     function, names = BLOCKS[key]
     for name in names:
         results_of.result(name)
@@ -280,8 +280,7 @@ BLOCKS = {
     "source of javascript, times": (lambda: results_of.source("javascript, times", is_linked=False) + ".", ["javascript, times"]),
 }
 # (the README's blocks, and what else has to hold of it)
-MORE_FAULTS = list
-if os.path.exists(os.path.join(results_of.HERE, "readme_figures.py")):
-    import readme_figures
-    BLOCKS.update(readme_figures.BLOCKS)
-    MORE_FAULTS = getattr(readme_figures, "faults", list)
+import readme_figures  # noqa: E402
+
+BLOCKS.update(readme_figures.BLOCKS)
+MORE_FAULTS = readme_figures.faults

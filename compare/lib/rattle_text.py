@@ -97,3 +97,37 @@ def split_at(items, text):
 def index_of(items, text):
     """Where a word stands in a list of items, or -1."""
     return next((k for k, it in enumerate(items) if isinstance(it, Word) and it.text == text), -1)
+
+
+STARTS = re.compile(r"(?:abbrev |unfoldable |pub )*(use|mod|infixl|infixr|infix|data|record|unfolding|mutual|ruleset|axiom|open)\b")
+
+
+class Chunk:
+    """What begins at a line's start: its first line, its text."""
+    __slots__ = ("line", "text", "kind")
+
+    def __init__(self, line, text):
+        self.line, self.text = line, text
+        found = STARTS.match(text)
+        self.kind = found[1] if found else None
+
+
+def chunks(text):
+    """The pieces of a file, each from a line that isn't indented to the next."""
+    found = []
+    for number, line in enumerate(text.split("\n"), 1):
+        if not line.strip() or re.match(r"\s*--", line):
+            continue
+        if line[0] in " )}]" and found:
+            found[-1][1].append((number, line))
+        else:
+            found.append((number, [(number, line)]))
+    return [Chunk(start, padded(lines)) for start, lines in found]
+
+
+def padded(lines):
+    """The lines of a piece, with empty ones for those that were left out."""
+    text, last = lines[0][1], lines[0][0]
+    for number, line in lines[1:]:
+        text, last = text + "\n" * (number - last) + line, number
+    return text

@@ -1,45 +1,13 @@
 """Definitions of antt files: their imports, and each definition with its names resolved and its variables numbered."""
 import re
 
-from rattle_text import Group, Trouble, Word, antt_words, grouped, index_of, split_at
+from rattle_text import Group, Trouble, Word, antt_words, chunks, grouped, index_of, split_at
 
 # Words with a meaning of their own.
 BUILT_IN = set("→ × ¬ ⊥ Unit tt absurd Type λ : = . , ; ↦ | let in do ← elim as record where data _ ∥ ∥₁ result Prim".split())
 # Constructors of the library whose names begin with a small letter or a sign.
 SMALL_CONSTRUCTORS = set("true false zero suc pos negsuc inl inr refl tt [] ◌∷◌".split())
-STARTS = re.compile(r"(?:abbrev |unfoldable |pub )*(use|mod|infixl|infixr|infix|data|record|unfolding|mutual|ruleset|axiom|open)\b")
 IMPORT = re.compile(r"use\s+([\w.«»]+?)(?:\.\{(.*)\}|\s+as\s+(\w+))?\s*;?\s*$", re.S)
-
-
-class Chunk:
-    """What begins at a line's start: its first line, its text."""
-    __slots__ = ("line", "text", "kind")
-
-    def __init__(self, line, text):
-        self.line, self.text = line, text
-        found = STARTS.match(text)
-        self.kind = found[1] if found else None
-
-
-def chunks(text):
-    """The pieces of a file, each from a line that isn't indented to the next."""
-    found = []
-    for number, line in enumerate(text.split("\n"), 1):
-        if not line.strip() or re.match(r"\s*--", line):
-            continue
-        if line[0] in " )}]" and found:
-            found[-1][1].append((number, line))
-        else:
-            found.append((number, [(number, line)]))
-    return [Chunk(start, padded(lines)) for start, lines in found]
-
-
-def padded(lines):
-    """The lines of a piece, with empty ones for those that were left out."""
-    text, last = lines[0][1], lines[0][0]
-    for number, line in lines[1:]:
-        text, last = text + "\n" * (number - last) + line, number
-    return text
 
 
 def parts_of_operator(name):

@@ -11,11 +11,11 @@ def parser(text, glyphs, jobs=2):
     """The arguments that all of them take."""
     words = argparse.ArgumentParser(description=text, formatter_class=argparse.RawDescriptionHelpFormatter)
     words.add_argument("folders", nargs="*", metavar="FOLDER")
-    words.add_argument("--places", type=int, default=20)
-    words.add_argument("--glyphs", type=int, default=glyphs)
-    words.add_argument("--seed", default="1")
-    words.add_argument("--only", default="")
-    words.add_argument("--jobs", type=int, default=jobs)
+    words.add_argument("--places", type=int, default=20, metavar="N", help="random coordinates for each font")
+    words.add_argument("--glyphs", type=int, default=glyphs, metavar="N", help="glyphs at each")
+    words.add_argument("--seed", default="1", metavar="S", help="the seed of the random choices")
+    words.add_argument("--only", default="", metavar="WORD", help="take those whose names have this word")
+    words.add_argument("--jobs", type=int, default=jobs, metavar="J", help="so many at a time")
     return words
 
 

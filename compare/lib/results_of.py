@@ -14,8 +14,7 @@ import re
 import comparisons
 import repository
 
-HERE = os.path.dirname(os.path.realpath(__file__))
-RESULTS = os.path.join(HERE, "results")
+RESULTS = os.path.join(repository.ROOT, "compare", "results")
 # What stands for a commit in results from before these pages.
 NOT_RUN, NOT_RECORDED = "not in this history; not run since", "not recorded; not run since"
 CHANGED = "code changed since"
