@@ -17,7 +17,7 @@ from xml.sax.saxutils import escape
 
 sys.dont_write_bytecode = True
 ROOT = os.path.dirname(os.path.dirname(os.path.realpath(__file__)))
-sys.path.insert(0, os.path.join(ROOT, "compare"))
+sys.path.insert(0, os.path.join(ROOT, "compare", "lib"))
 
 import rattle_tree  # noqa: E402
 from rattle_text import Trouble  # noqa: E402
