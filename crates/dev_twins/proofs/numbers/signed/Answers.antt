@@ -1,0 +1,10 @@
+use Rattle.dev_twins.proofs.Numbers.{natural_agree, sum_agree, above_0_is, is_short_is}
+use Rattle.dev_twins.proofs.numbers.signed.Goals as goal
+
+pub returns : goal.returns
+returns c = record {
+  natural_agree = natural_agree;
+  sum_agree = sum_agree;
+  above_0_is = above_0_is;
+  is_short_is = is_short_is;
+}
