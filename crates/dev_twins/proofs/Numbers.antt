@@ -3,13 +3,16 @@
 --   new_number_is                the new number by a list of old ones
 --   natural_agree, sum_agree     a number that isn't below 0, and a sum
 --   above_0_is                   a number above 0
---   is_short_is                  a number of 16 bits with a sign
+--   is_short_is, in_32_bits_is   numbers of 16 and of 32 bits with a sign
+--   are_near_is                  numbers within a bound
+--   counting_is                  numbers in a row
 --   number_in_is                 the number that digits write
 --   digits_agree                 the last so many digits
 --   varied_is                    a value with the shares of its deltas
 --   limit_is                     one more than the greatest code
 use Rattle.std.proofs.Common.{◌≡◌, ℕ, zero, suc, ◌+◌, ◌*◌, ◌/◌, ◌%◌, ◌^◌, ◌<◌, Bool, true, false, cond, eqb, ltb, leb, ◌&&◌, List, [], ◌∷◌, ◌++◌, length, map, max, Option, Some, None, ℤ, pos, negsuc, ◌+ℤ◌, option_map, option_and_then, refl, sym, ap, ◌∙◌, arith, pow-suc}
 use Rattle.std.specs.Prelude.{◌==◌, nat_lt, if◌then◌else◌}
+use Rattle.std.specs.List.{range_with_len}
 use Rattle.std.specs.Str.{all_ascii_digits}
 use Rattle.std.specs.Str.Parse.{digits_value}
 use Rattle.std.proofs.lemmas.Bool.{lt-ltb, ne_eqb}
@@ -19,7 +22,7 @@ use Rattle.subsetter_base.specs.Places.{place}
 use Rattle.subsetter_base.specs.Remap.{place_by}
 use Rattle.subsetter.specs.Glyf.Plain.{new_number}
 use Rattle.subsetter_cff.specs.Write.UsedFontDicts.{new_place}
-use Rattle.subsetter_cffdata.specs.Numbers.{Number, not_negative}
+use Rattle.subsetter_cffdata.specs.Numbers.{Number, not_negative, in_i32}
 use Rattle.subsetter_type2.specs.Subroutines.{natural_of}
 use Rattle.subsetter_blend.specs.Split.{sum_of}
 use Rattle.subsetter_cff2.specs.PrivateText.{sum_of as cff2_sum_of}
@@ -27,6 +30,10 @@ use Rattle.pdf_cff.specs.Stems.{above_0 as stem_above_0}
 use Rattle.pdf_values.specs.Heights.{above_0}
 use Rattle.subsetter_points.specs.Simple.{has_16_bits}
 use Rattle.subsetter_blend.specs.Placed.{is_short}
+use Rattle.subset_args.specs.Coordinates.{in_32_bits}
+use Rattle.subset_args.specs.Lists.{counting}
+use Rattle.subsetter_blend.specs.Number.{is_within, are_within}
+use Rattle.subsetter_instance.specs.Unfolded.{are_near}
 use Rattle.pdf_text.specs.Tokens.{number_in}
 use Rattle.subsetter_words.specs.Numbers.{number_in_bits}
 use Rattle.pdf_names.specs.Decimal.{digits}
@@ -72,6 +79,19 @@ above_0_is (suc n) =
 pub is_short_is : (v : ℤ) → is_short v ≡ has_16_bits v
 is_short_is (pos n) = grind (arith, nat_tests)
 is_short_is (negsuc n) = grind (arith, nat_tests)
+
+pub in_32_bits_is : (v : ℤ) → in_32_bits v ≡ in_i32 v
+unfolding in_i32
+in_32_bits_is (pos n) = refl
+in_32_bits_is (negsuc n) = refl
+
+pub are_near_is : (vs : List ℤ) → are_near vs ≡ are_within vs
+are_near_is [] = refl
+are_near_is (v ∷ vs) = ap (λ b. is_within v && b) (are_near_is vs)
+
+pub counting_is : (first n : ℕ) → counting first n ≡ range_with_len first n
+counting_is first zero = refl
+counting_is first (suc n) = ap (λ (l : List ℕ). first ∷ l) (counting_is (first + 1) n)
 
 -- ---- digits
 
