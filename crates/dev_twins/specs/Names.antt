@@ -1,13 +1,7 @@
 -- Names under the records of several crates.
 use Rattle.std.specs.Prelude.{ℕ, List, [], get_or, Option, Some, None}
-use Rattle.subsetter.specs.declared.name.NameRecord.{NameRecord}
-use Rattle.pdf_values.specs.declared.naming.NameRecord.{NameRecord as ValuesRecord}
 use Rattle.subsetter.specs.Post.Read.{GlyphName, Standard as StandardName, Custom as OwnName}
 use Rattle.subsetter_cff.specs.Read.Strings.{FontString, Standard, Custom}
-
--- a record of `name`, by the fields' names in a subset
-abbrev pub record_of_subset : ValuesRecord → NameRecord
-record_of_subset r = record { platform_id = r.platform; encoding_id = r.encoding; language_id = r.language; name_id = r.name; length = r.size; string_offset = r.offset }
 
 -- the bytes of a glyph's name in `post`, by the names of the Macintosh
 abbrev pub name_bytes : List (List ℕ) → GlyphName → List ℕ

@@ -11,11 +11,11 @@ ghost use Rattle.subsetter.specs.Post.Read.{GlyphName, pascal_strings, names_in,
 ghost use Rattle.glyph_names.specs.Post.{pascal_strings as pascal_strings_of, own_names, behind_indexes, name_of_index as bytes_name_of_index, post_name};
 ghost use Rattle.glyph_names.specs.Standard.{macintosh_names};
 ghost use Rattle.glyph_names.specs.Strings.{string_of as bytes_string_of};
-ghost use Rattle.dev_twins.specs.Names.{record_of_subset, name_bytes, string_bytes};
+ghost use Rattle.dev_twins.specs.Names.{name_bytes, string_bytes};
 
 /// The fields and the string of a record of `name`.
 pub fn records()
-    ensures record_is { (bytes : List ℕ) → record_of_subset (record_of bytes) ≡ name_record_of bytes }
+    ensures record_is { (bytes : List ℕ) → ((record_of bytes).platform ≡ (name_record_of bytes).platform_id) × ((record_of bytes).encoding ≡ (name_record_of bytes).encoding_id) × ((record_of bytes).language ≡ (name_record_of bytes).language_id) × ((record_of bytes).name ≡ (name_record_of bytes).name_id) × ((record_of bytes).size ≡ (name_record_of bytes).length) × ((record_of bytes).offset ≡ (name_record_of bytes).string_offset) }
     ensures words_are { (bytes : List ℕ) → (word bytes 0 ≡ (name_record_of bytes).platform_id) × (word bytes 2 ≡ (name_record_of bytes).encoding_id) × (word bytes 4 ≡ (name_record_of bytes).language_id) × (word bytes 6 ≡ (name_record_of bytes).name_id) × (word bytes 8 ≡ (name_record_of bytes).length) × (word bytes 10 ≡ (name_record_of bytes).string_offset) }
     ensures string_agree { (table bytes : List ℕ) (storage : ℕ) → range table (storage + (record_of bytes).offset) (record_of bytes).size ≡ lines_string_of table storage bytes }
     ensures string_is { (table bytes : List ℕ) (storage : ℕ) → storage ≤ length table → string_of (drop storage table) (name_record_of bytes) ≡ lines_string_of table storage bytes }

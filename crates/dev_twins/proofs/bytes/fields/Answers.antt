@@ -1,4 +1,4 @@
-use Rattle.dev_twins.proofs.Bytes.{lines_word_is, signed_word_is}
+use Rattle.dev_twins.proofs.Laws.Bytes.{lines_word_is, signed_word_is}
 use Rattle.dev_twins.proofs.bytes.fields.Goals as goal
 
 pub returns : goal.returns

@@ -1,4 +1,4 @@
-use Rattle.dev_twins.proofs.Bytes.{has_agree, has_is_has_bit, lines_has_bit_is}
+use Rattle.dev_twins.proofs.Laws.Bytes.{has_agree, has_is_has_bit, lines_has_bit_is}
 use Rattle.dev_twins.proofs.bytes.flags.Goals as goal
 
 pub returns : goal.returns

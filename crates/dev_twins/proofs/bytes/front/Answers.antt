@@ -1,4 +1,4 @@
-use Rattle.dev_twins.proofs.Bytes.{byte_agree, first_agree, card_is, word_is, word_in_is}
+use Rattle.dev_twins.proofs.Laws.Bytes.{byte_agree, first_agree, card_is, word_is, word_in_is}
 use Rattle.dev_twins.proofs.bytes.front.Goals as goal
 
 pub returns : goal.returns

@@ -1,4 +1,4 @@
-use Rattle.dev_twins.proofs.Bytes.{tails_agree, after_is, between_agree, part_is}
+use Rattle.dev_twins.proofs.Laws.Bytes.{tails_agree, after_is, between_agree, part_is}
 use Rattle.dev_twins.proofs.bytes.parts.Goals as goal
 
 pub returns : goal.returns

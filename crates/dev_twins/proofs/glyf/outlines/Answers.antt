@@ -1,4 +1,4 @@
-use Rattle.dev_twins.proofs.Glyf.{offset_is, gvar_offset_is, entry_is, description_is}
+use Rattle.dev_twins.proofs.Laws.Glyf.{offset_is, gvar_offset_is, entry_is, description_is}
 use Rattle.dev_twins.proofs.glyf.outlines.Goals as goal
 
 pub returns : goal.returns

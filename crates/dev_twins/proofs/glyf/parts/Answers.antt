@@ -1,4 +1,4 @@
-use Rattle.dev_twins.proofs.Glyf.{matrix_end_is, component_is, joined_is}
+use Rattle.dev_twins.proofs.Laws.Glyf.{matrix_end_is, component_is, joined_is}
 use Rattle.dev_twins.proofs.glyf.parts.Goals as goal
 
 pub returns : goal.returns

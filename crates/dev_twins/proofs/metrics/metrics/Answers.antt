@@ -1,4 +1,4 @@
-use Rattle.dev_twins.proofs.Metrics.{metric_at_is, metric_is, advance_in_is, advance_of_is}
+use Rattle.dev_twins.proofs.Laws.Metrics.{metric_at_is, metric_is, advance_in_is, advance_of_is}
 use Rattle.dev_twins.proofs.metrics.metrics.Goals as goal
 
 pub returns : goal.returns

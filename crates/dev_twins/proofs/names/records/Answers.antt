@@ -1,4 +1,4 @@
-use Rattle.dev_twins.proofs.Names.{record_is, words_are, string_agree, string_is, is_unicode_is}
+use Rattle.dev_twins.proofs.Laws.Names.{record_is, words_are, string_agree, string_is, is_unicode_is}
 use Rattle.dev_twins.proofs.names.records.Goals as goal
 
 pub returns : goal.returns

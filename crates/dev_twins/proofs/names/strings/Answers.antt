@@ -1,4 +1,4 @@
-use Rattle.dev_twins.proofs.Names.{strings_agree, own_names_are, string_of_is}
+use Rattle.dev_twins.proofs.Laws.Names.{strings_agree, own_names_are, string_of_is}
 use Rattle.dev_twins.proofs.names.strings.Goals as goal
 
 pub returns : goal.returns

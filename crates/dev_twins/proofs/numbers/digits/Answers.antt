@@ -1,4 +1,4 @@
-use Rattle.dev_twins.proofs.Numbers.{number_in_is, digits_agree}
+use Rattle.dev_twins.proofs.Laws.Numbers.{number_in_is, digits_agree}
 use Rattle.dev_twins.proofs.numbers.digits.Goals as goal
 
 pub returns : goal.returns

@@ -1,4 +1,4 @@
-use Rattle.dev_twins.proofs.Numbers.{varied_is, limit_is}
+use Rattle.dev_twins.proofs.Laws.Numbers.{varied_is, limit_is}
 use Rattle.dev_twins.proofs.numbers.others.Goals as goal
 
 pub returns : goal.returns

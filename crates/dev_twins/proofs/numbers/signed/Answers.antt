@@ -1,4 +1,4 @@
-use Rattle.dev_twins.proofs.Numbers.{natural_agree, sum_agree, above_0_is, is_short_is, in_32_bits_is, are_near_is}
+use Rattle.dev_twins.proofs.Laws.Numbers.{natural_agree, sum_agree, above_0_is, is_short_is, in_32_bits_is, are_near_is}
 use Rattle.dev_twins.proofs.numbers.signed.Goals as goal
 
 pub returns : goal.returns

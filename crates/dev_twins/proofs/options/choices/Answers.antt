@@ -1,4 +1,4 @@
-use Rattle.dev_twins.proofs.Options.{first_of_is, or_name_is}
+use Rattle.dev_twins.proofs.Laws.Options.{first_of_is, or_name_is}
 use Rattle.dev_twins.proofs.options.choices.Goals as goal
 
 pub returns : goal.returns

@@ -1,4 +1,4 @@
-use Rattle.dev_twins.proofs.Options.{binds_agree, behind_agree}
+use Rattle.dev_twins.proofs.Laws.Options.{binds_agree, behind_agree}
 use Rattle.dev_twins.proofs.options.steps.Goals as goal
 
 pub returns : goal.returns

@@ -1,4 +1,4 @@
-use Rattle.dev_twins.proofs.Rounding.{nearest_says, units_per_em_is}
+use Rattle.dev_twins.proofs.Laws.Rounding.{nearest_says, units_per_em_is}
 use Rattle.dev_twins.proofs.rounding.em.Goals as goal
 
 pub returns : goal.returns

@@ -1,4 +1,4 @@
-use Rattle.dev_twins.proofs.Rounding.{rounded_is, thousandths_is, of_em_is, back_is, hundred_thousandths_is, whole_agree}
+use Rattle.dev_twins.proofs.Laws.Rounding.{rounded_is, thousandths_is, of_em_is, back_is, hundred_thousandths_is, whole_agree}
 use Rattle.dev_twins.proofs.rounding.quotients.Goals as goal
 
 pub returns : goal.returns

@@ -1,4 +1,4 @@
-use Rattle.dev_twins.proofs.Source.{source_outlines_are, source_metric_is}
+use Rattle.dev_twins.proofs.Laws.Source.{source_outlines_are, source_metric_is}
 use Rattle.dev_twins.proofs.source.source.Goals as goal
 
 pub returns : goal.returns

@@ -1,4 +1,4 @@
-use Rattle.dev_twins.proofs.Tables.{axes_are, record_from_is, record_in_is}
+use Rattle.dev_twins.proofs.Laws.Tables.{axes_are, record_from_is, record_in_is}
 use Rattle.dev_twins.proofs.tables.axes.Goals as goal
 
 pub returns : goal.returns

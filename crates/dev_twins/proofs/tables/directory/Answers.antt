@@ -1,4 +1,4 @@
-use Rattle.dev_twins.proofs.Tables.{directory_is, table_is}
+use Rattle.dev_twins.proofs.Laws.Tables.{directory_is, table_is}
 use Rattle.dev_twins.proofs.tables.directory.Goals as goal
 
 pub returns : goal.returns

@@ -1,4 +1,4 @@
-use Rattle.dev_twins.proofs.Written.{hmtx_is}
+use Rattle.dev_twins.proofs.Laws.Written.{hmtx_is}
 use Rattle.dev_twins.proofs.written.metrics.Goals as goal
 
 pub returns : goal.returns

@@ -1,4 +1,4 @@
-use Rattle.dev_twins.proofs.Written.{offset_bytes_agree, glyf_is, is_long_is, loca_is}
+use Rattle.dev_twins.proofs.Laws.Written.{offset_bytes_agree, glyf_is, is_long_is, loca_is}
 use Rattle.dev_twins.proofs.written.outlines.Goals as goal
 
 pub returns : goal.returns

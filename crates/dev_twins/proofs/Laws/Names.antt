@@ -28,12 +28,13 @@ use Rattle.subsetter.specs.Post.Read.{GlyphName, PostTable, pascal_strings, name
 use Rattle.glyph_names.specs.Post.{pascal_strings as pascal_strings_of, own_names, behind_indexes, name_of_index as bytes_name_of_index, name_by_index, post_name}
 use Rattle.glyph_names.specs.Standard.{macintosh_names}
 use Rattle.glyph_names.specs.Strings.{string_of as bytes_string_of}
-use Rattle.dev_twins.specs.Names.{record_of_subset, name_bytes, string_bytes}
+use Rattle.dev_twins.specs.Names.{name_bytes, string_bytes}
 
 -- ---- records of `name`
 
-pub record_is : (bytes : List ℕ) → record_of_subset (record_of bytes) ≡ name_record_of bytes
-record_is bytes = refl
+pub record_is : (bytes : List ℕ) → ((record_of bytes).platform ≡ (name_record_of bytes).platform_id) × ((record_of bytes).encoding ≡ (name_record_of bytes).encoding_id) × ((record_of bytes).language ≡ (name_record_of bytes).language_id)
+    × ((record_of bytes).name ≡ (name_record_of bytes).name_id) × ((record_of bytes).size ≡ (name_record_of bytes).length) × ((record_of bytes).offset ≡ (name_record_of bytes).string_offset)
+record_is bytes = (refl, refl, refl, refl, refl, refl)
 
 pub words_are : (bytes : List ℕ) → (word bytes 0 ≡ (name_record_of bytes).platform_id) × (word bytes 2 ≡ (name_record_of bytes).encoding_id) × (word bytes 4 ≡ (name_record_of bytes).language_id)
     × (word bytes 6 ≡ (name_record_of bytes).name_id) × (word bytes 8 ≡ (name_record_of bytes).length) × (word bytes 10 ≡ (name_record_of bytes).string_offset)
@@ -63,7 +64,7 @@ is_unicode_is platform encoding = by (platform == 0) (platform == 3) (encoding =
 
 -- ---- Pascal strings
 
-by_length : (F : List ℕ → List (List ℕ)) (b : Bool) (x y : List ℕ) (l : List (List ℕ)) → F y ≡ l → option_map_or (λ s. s.0 ∷ F s.1) (cond b (Some (x, y)) None) [] ≡ cond b (x ∷ l) []
+by_length : (F : List ℕ → List (List ℕ)) (b : Bool) (x y : List ℕ) (l : List (List ℕ)) → F y ≡ l → option_map_or (λ (s : List ℕ × List ℕ). s.0 ∷ F s.1) (cond b (Some (x, y)) None) [] ≡ cond b (x ∷ l) []
 by_length F true x y l e = ap (λ k. x ∷ k) e
 by_length F false x y l e = refl
 
@@ -193,6 +194,7 @@ glyph_name_is post g name small h =
 -- ---- the string of an SID
 
 pub string_of_is : (standard : List (List ℕ)) (strings : List (Option (List ℕ))) (sid : ℕ) → bytes_string_of standard strings sid ≡ string_bytes standard (cff_string_of strings sid)
+unfolding cff_string_of
 string_of_is standard strings sid = by (ltb sid 391) (entry_at strings (sid - 391))
   where
     by : (b : Bool) (o : Option (List ℕ)) → cond b (get_or standard sid []) (unwrap_or o []) ≡ string_bytes standard (cond b (Some (FontString.Standard sid)) (option_map Custom o))

@@ -44,7 +44,8 @@ whole_agree v = refl
 pub nearest_says : (v units r : ℕ) → IsNearestStem (1000 * v) units r ↔ IsNearest (pos v) units (pos r)
 nearest_says v units r = (
   λ h. record { low = let l = h.low in omega (arith, ints); high = let l = h.high in omega (arith, ints) },
-  λ h. record { low = let l = h.low in omega (arith, ints); high = let l = h.high in omega (arith, ints) })
+  λ h. record { low = let l = h.low in omega (arith, ints); high = let l = h.high in omega (arith, ints) },
+)
 
 -- a thousand where it isn't above 0 or isn't there
 pub units_per_em_is : (head : List ℕ) → units_per_em (Some head) ≡ unwrap_or (option_and_then above_0 (units_in head)) 1000

@@ -24,7 +24,7 @@ pub offset_bytes_agree : (long : Bool) (at : ℕ) → instance_offset_bytes long
 offset_bytes_agree long at = refl
 
 is_even : (bytes : List ℕ) → length (aligned 2 bytes) % 2 ≡ 0
-is_even bytes = omega (arith, length-append bytes (replicate ((2 - length bytes % 2) % 2) 0), length-replicate ((2 - length bytes % 2) % 2) 0)
+is_even bytes = omega (arith, length-append bytes (replicate ((2 - length bytes % 2) % 2) 0), length-replicate {A = ℕ} ((2 - length bytes % 2) % 2) 0)
 
 even_outline : (d : Option Drawn) → length (outline_bytes d) % 2 ≡ 0
 even_outline None = refl
@@ -42,7 +42,7 @@ padded_is false d = nothing_behind (outline_bytes d) (even_outline d)
 
 pub glyf_is : (long : Bool) (all : List (Option Drawn)) → instance_glyf_bytes all ≡ glyf_bytes long (map outline_bytes all)
 glyf_is long [] = refl
-glyf_is long (d ∷ all) = sym (ap (λ (l : List ℕ). l ++ glyf_bytes long (map outline_bytes all)) (padded_is long d)) ∙ ap (λ (l : List ℕ). outline_bytes d ++ l) (glyf_is long all)
+glyf_is long (d ∷ all) = ap (λ (l : List ℕ). outline_bytes d ++ l) (glyf_is long all) ∙ sym (ap (λ (l : List ℕ). l ++ glyf_bytes long (map outline_bytes all)) (padded_is long d))
 
 even_size_is : (all : List (Option Drawn)) → even_size (map outline_bytes all) ≡ length (instance_glyf_bytes all)
 even_size_is [] = refl

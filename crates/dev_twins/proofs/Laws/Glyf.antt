@@ -105,11 +105,12 @@ component_is bytes c rest h =
     let behind = cond_some (leb end (length bytes)) (drop end bytes) f.0 f.1 in
     let same : end ≡ 4 + rest_size c.flags = matrix_end_is a.0 ∙ ap (λ (n : ℕ). 4 + rest_size n) flags in
     let fits : end ≤ length bytes = leb-true end (length bytes) behind.0 in
-    let own : range bytes 4 (rest_size c.flags) ≡ Some (take (rest_size c.flags) (drop 4 bytes)) = range-take_drop bytes 4 (rest_size c.flags) (omega arith) in
-    (ap (λ (o : Option ℕ). option_and_then (part_with_flags bytes) o) (a.1 ∙ ap Some flags)
-     ∙ ap (λ (o : Option ℕ). option_and_then (part_with_glyph bytes c.flags) o) (b.1 ∙ ap Some glyph)
-     ∙ ap (λ (o : Option (List ℕ)). option_and_then (part_with_rest c.flags c.glyph) o) own,
-     sym (ap (λ (p : Component × List ℕ). p.1) is) ∙ sym behind.1 ∙ ap (λ (n : ℕ). drop n bytes) same)
+    let own : range bytes 4 (rest_size c.flags) ≡ Some (take (rest_size c.flags) (drop 4 bytes)) = range-take_drop bytes 4 (rest_size c.flags) (omega arith) in (
+      ap (λ (o : Option ℕ). option_and_then (part_with_flags bytes) o) (a.1 ∙ ap Some flags)
+          ∙ ap (λ (o : Option ℕ). option_and_then (part_with_glyph bytes c.flags) o) (b.1 ∙ ap Some glyph)
+          ∙ ap (λ (o : Option (List ℕ)). option_and_then (part_with_rest c.flags c.glyph) o) own,
+      sym (ap (λ (p : Component × List ℕ). p.1) is) ∙ sym behind.1 ∙ ap (λ (n : ℕ). drop n bytes) same,
+    )
 
 -- ---- boxes
 

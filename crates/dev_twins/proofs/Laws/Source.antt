@@ -12,7 +12,7 @@ use Rattle.subsetter_instance.specs.Source.{Source, source_in, metric, variation
 use Rattle.subsetter_instance.proofs.FileLaws.Steps.{in_turn, after_glyf, after_loca, after_head, after_format, after_maxp, after_count, after_hhea, after_pairs, after_hmtx, made}
 use Rattle.dev_twins.specs.Glyf.{outlines_of}
 use Rattle.dev_twins.specs.Metrics.{metric_of as subset_metric_of}
-use Rattle.dev_twins.proofs.Metrics.{metric_is}
+use Rattle.dev_twins.proofs.Laws.Metrics.{metric_is}
 
 -- what was read of the tables
 record AreRead (find : List ℕ → Option (List ℕ)) (s : Source) : Type 0 where
