@@ -12,7 +12,7 @@ use Rattle.subsetter_base.specs.Bytes.{number, range}
 use Rattle.subsetter_base.proofs.ByteLemmas.{range-take_drop}
 use Rattle.subsetter_base.proofs.Options.{just_is, bind_some}
 use Rattle.subsetter_points.specs.Simple.{after}
-use Rattle.subsetter.specs.Glyf.Read.{Outlines, offset, outline_in}
+use Rattle.subsetter.specs.Glyf.Read.{offset, outline_in}
 use Rattle.subsetter_instance.specs.Source.{Source, offset as instance_offset, description}
 use Rattle.subsetter_variation.specs.Tuples.{Gvar, offset as gvar_offset}
 use Rattle.pdf_glyphs.specs.Boxes.{entry, joined as boxes_joined}

@@ -8,7 +8,7 @@
 --   own_names_are                the names that an index can have
 --   glyph_name_is                the name of a glyph
 --   string_of_is                 the string of an SID
-use Rattle.std.proofs.Common.{◌≡◌, ℕ, ◌+◌, ◌≤◌, Bool, true, false, ◌&&◌, ◌||◌, List, length, drop, Option, refl, ap, ◌∙◌, zero, suc, ◌-◌, ◌*◌, ◌^◌, ◌<◌, cond, ltb, leb, [], ◌∷◌, ◌++◌, take, get_or, Some, None, unwrap_or, option_map, option_and_then, sym, subst, arith}
+use Rattle.std.proofs.Common.{◌≡◌, ℕ, ◌+◌, ◌≤◌, Bool, true, false, ◌&&◌, ◌||◌, List, length, drop, Option, refl, ap, ◌∙◌, zero, suc, ◌-◌, ◌*◌, ◌<◌, cond, ltb, leb, [], ◌∷◌, ◌++◌, take, get_or, Some, None, unwrap_or, option_map, option_and_then, sym, subst, arith}
 use Rattle.std.specs.Prelude.{◌==◌}
 use Rattle.std.specs.Option.{option_map_or}
 use Rattle.std.proofs.lemmas.Bool.{eqb-true}

@@ -10,7 +10,7 @@
 --   digits_agree                 the last so many digits
 --   varied_is                    a value with the shares of its deltas
 --   limit_is                     one more than the greatest code
-use Rattle.std.proofs.Common.{◌≡◌, ℕ, zero, suc, ◌+◌, ◌*◌, ◌/◌, ◌%◌, ◌^◌, ◌<◌, Bool, true, false, cond, eqb, ltb, leb, ◌&&◌, List, [], ◌∷◌, ◌++◌, length, map, max, Option, Some, None, ℤ, pos, negsuc, ◌+ℤ◌, option_map, option_and_then, refl, sym, ap, ◌∙◌, arith, pow-suc}
+use Rattle.std.proofs.Common.{◌≡◌, ℕ, zero, suc, ◌+◌, ◌*◌, ◌/◌, ◌%◌, ◌^◌, Bool, true, false, cond, eqb, ltb, ◌&&◌, List, [], ◌∷◌, ◌++◌, length, map, max, Option, Some, None, ℤ, pos, negsuc, ◌+ℤ◌, option_map, option_and_then, refl, sym, ap, ◌∙◌, arith, pow-suc}
 use Rattle.std.specs.Prelude.{◌==◌, nat_lt, if◌then◌else◌}
 use Rattle.std.specs.List.{range_with_len}
 use Rattle.std.specs.Str.{all_ascii_digits}
@@ -41,7 +41,6 @@ use Rattle.pdf_sheet.specs.File.{digits as sheet_digits}
 use Rattle.subsetter_blend.specs.Blend.{share, varied}
 use Rattle.subsetter_cff2.specs.Blend.{varied as cff2_varied}
 use Rattle.pdf_text.specs.Cmap.{Line}
-use Rattle.pdf_text.specs.Encoding.{Pair}
 use Rattle.pdf_codes.specs.Texts.{limit as texts_limit}
 use Rattle.pdf_codes.specs.Leading.{limit}
 use Rattle.subsetter_cff.specs.Write.MatrixView.{new_top_matrix}

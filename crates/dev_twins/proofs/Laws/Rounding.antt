@@ -3,7 +3,7 @@
 --   whole_agree                  parts of 2 ^ 30
 --   nearest_says                 that no thousandth is nearer
 --   units_per_em_is              unitsPerEm, which divides
-use Rattle.std.proofs.Common.{◌≡◌, ◌↔◌, ℕ, ◌+◌, ◌*◌, ◌/◌, ◌%◌, ◌^◌, ◌<◌, ◌≤◌, List, Option, Some, None, ℤ, pos, ◌+ℤ◌, ◌*ℤ◌, ◌≤ℤ◌, ◌<ℤ◌, unwrap_or, option_and_then, refl, sym, ap, ◌∙◌, arith}
+use Rattle.std.proofs.Common.{◌≡◌, ◌↔◌, ℕ, ◌+◌, ◌*◌, ◌/◌, ◌%◌, ◌^◌, List, Some, ℤ, pos, unwrap_or, option_and_then, refl, ap, arith}
 use Rattle.std.proofs.lemmas.Int.{ints}
 use Rattle.subsetter_variation.specs.Nearest.{nearest}
 use Rattle.subsetter_blend.specs.Number.{whole}

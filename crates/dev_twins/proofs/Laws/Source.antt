@@ -1,7 +1,7 @@
 -- The tables of an instance's source, as a subset reads them.
 --   source_outlines_are          those of outlines
 --   source_metric_is             the metric of a glyph
-use Rattle.std.proofs.Common.{◌≡◌, ℕ, Bool, not, List, codes, Option, Some, option_map, option_and_then, refl, sym, ap, ◌∙◌}
+use Rattle.std.proofs.Common.{◌≡◌, ℕ, Bool, not, List, codes, Option, Some, option_map, option_and_then, sym, ap, ◌∙◌}
 use Rattle.std.specs.Prelude.{◌==◌}
 use Rattle.subsetter_base.specs.Bytes.{number}
 use Rattle.subsetter_base.proofs.Options.{just_is, bind_some}

@@ -4,7 +4,7 @@
 --   axes_are                     the records of the axes
 --   record_from_is               the record of an instance among all
 --   record_in_is                 the same in the table
-use Rattle.std.proofs.Common.{◌≡◌, ℕ, zero, suc, ◌+◌, ◌*◌, Bool, true, false, cond, eqb, ltb, List, [], ◌∷◌, map, find, is_some, Option, Some, None, ℤ, option_map, option_and_then, refl, sym, ap, ◌∙◌}
+use Rattle.std.proofs.Common.{◌≡◌, ℕ, zero, suc, ◌+◌, ◌*◌, Bool, true, false, cond, ltb, List, [], ◌∷◌, map, find, is_some, Option, Some, None, ℤ, option_map, option_and_then, refl, sym, ap, ◌∙◌}
 use Rattle.std.specs.Prelude.{◌==◌}
 use Rattle.std.proofs.lemmas.Bool.{eqb-true}
 use Rattle.subsetter_sfnt.specs.declared.face.FontKind.{FontKind}

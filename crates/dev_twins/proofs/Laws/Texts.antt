@@ -17,6 +17,8 @@ use Rattle.subsetter_base.specs.Remap.{place_by, with_value}
 use Rattle.subsetter_base.proofs.Lists.{bytes_eq_is}
 use Rattle.pdf_sheet.specs.Units.{utf16, units_of}
 use Rattle.pdf_codes.specs.Units.{is_left_out, utf16 as codes_utf16, units_of as codes_units_of}
+use Rattle.subset_args.specs.Characters.{is_scalar}
+use Rattle.subsetter_pdf_c.specs.Entries.{is_scalar as c_is_scalar, text_between, texts_of as c_texts_of}
 use Rattle.pdf_codes.specs.Texts.{texts_view}
 use Rattle.subsetter_cff.specs.Write.SidRemapping.{views}
 use Rattle.subsetter.specs.Name.View.{nows}
@@ -25,6 +27,14 @@ use Rattle.subsetter_cff.specs.Write.Layout.{with_strings as cff_with_strings}
 use Rattle.subset_lines.specs.Fixed.{sign_text}
 use Rattle.pdf_text.specs.Numbers.{sign}
 use Rattle.subset_lines.specs.AxesJson.{tag_open}
+use Rattle.pdf_codes.specs.declared.shown.Shown.{Shown}
+use Rattle.pdf_text.specs.declared.values.OwnCmap.{OwnCmap}
+use Rattle.pdf_objects.specs.Glyphs.{texts_of}
+use Rattle.pdf_objects.specs.Values.{name_of, text_of}
+use Rattle.subsetter_pdf_c.specs.Made.{name_of as c_name_of, text_of as c_text_of}
+use Rattle.cid_embed.specs.Afresh.{measures_seen}
+use Rattle.pdf_source.specs.Metrics.{measures_seen as source_measures_seen}
+use Rattle.pdf_source.specs.declared.widths.Metrics.{Metrics as SourceMetrics}
 use Rattle.subset_lines.specs.Sizes.{tag_open as sizes_tag_open}
 
 pub utf16_agree : (c : ℕ) → codes_utf16 c ≡ utf16 c
@@ -39,6 +49,9 @@ pub units_are : (cs : List ℕ) → codes_units_of cs ≡ units_of (filter (λ c
 units_are [] = refl
 units_are (c ∷ cs) = units_by (is_left_out c) c (filter (λ d. not (is_left_out d)) cs) (codes_units_of cs) (units_are cs)
 
+pub is_scalar_agree : (c : ℕ) → c_is_scalar c ≡ is_scalar c
+is_scalar_agree c = refl
+
 pub texts_view_agree : (texts : List (Bor (List ℕ))) → (texts_view texts ≡ views texts) × (nows texts ≡ views texts)
 texts_view_agree texts = (refl, refl)
 
@@ -46,6 +59,9 @@ pub sign_text_is : (v : ℤ) → sign_text v ≡ sign v
 sign_text_is v = refl
 
 -- ---- parts of a text, and lists of texts
+
+pub text_between_is : (text : List ℕ) (from to : ℕ) → text_between text from to ≡ slice_range text from to
+text_between_is text from to = refl
 
 pub joined_strings_are : (ts : List (List ℕ)) → joined ts ≡ concat ts
 joined_strings_are [] = refl
@@ -76,3 +92,12 @@ with_strings_agree ts (s ∷ ss) =
 
 pub tag_open_agree : (tag : Tag) → sizes_tag_open tag ≡ tag_open tag
 tag_open_agree tag = refl
+
+pub shown_texts_agree : (shown : List Shown) → c_texts_of shown ≡ texts_of shown
+shown_texts_agree shown = refl
+
+pub own_cmap_agree : (cmap : OwnCmap) → (c_name_of cmap ≡ name_of cmap) × (c_text_of cmap ≡ text_of cmap)
+own_cmap_agree cmap = (refl, refl)
+
+pub measures_agree : (m : SourceMetrics) → source_measures_seen m ≡ measures_seen (record { hmtx = m.hmtx; pairs = m.pairs; units = m.units })
+measures_agree m = refl

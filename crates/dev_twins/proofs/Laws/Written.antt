@@ -2,7 +2,7 @@
 --   offset_bytes_agree, glyf_is, is_long_is, loca_is   `glyf` and `loca`
 --   hmtx_is                      `hmtx`
 --   head_is, instance_head_is, hhea_is, instance_hhea_is   `head` and `hhea`, by what is replaced
-use Rattle.std.proofs.Common.{◌≡◌, ℕ, ◌+◌, ◌-◌, ◌%◌, ◌*◌, ◌≤◌, Bool, true, false, List, [], ◌∷◌, ◌++◌, length, map, take, drop, replicate, slice_range, flat_map, sum_by, nat_lt, Option, Some, None, refl, sym, ap, ◌∙◌, append-nil, arith}
+use Rattle.std.proofs.Common.{◌≡◌, ℕ, ◌+◌, ◌-◌, ◌%◌, ◌≤◌, Bool, true, false, List, [], ◌∷◌, ◌++◌, length, map, take, drop, replicate, slice_range, flat_map, nat_lt, Option, Some, None, refl, sym, ap, ◌∙◌, append-nil, arith}
 use Rattle.std.proofs.lemmas.List.{length-append, length-replicate, length-map, take_all, drop_all, take-append-drop, take-take, drop-take, drop-drop}
 use Rattle.std.proofs.lemmas.List.Sums.{sum_by-cons}
 use Rattle.std.specs.Int.{w16, to_be_bytes}
