@@ -1,7 +1,9 @@
 //! Why a run of the program ended without a subset.
 
-ghost use Rattle.std.specs.Prelude.{◌≡◌, ◌≤◌};
+ghost use Rattle.std.specs.Prelude.{◌≡◌, ◌≤◌, string_bytes};
+ghost use Rattle.std.specs.Option.{option_copied, option_map};
 ghost use Rattle.subset_font.specs.Failure.{status_of, status_of_end};
+ghost use Rattle.subset_font.specs.Files.{pdf_name, failed_name};
 
 use std::fmt;
 use subset_args::{Glyphs, Job};
@@ -72,7 +74,9 @@ pub struct Told<'a> {
 }
 
 /// A name that may be missing.
-pub fn given(name: &Option<String>) -> Option<&str> {
+pub fn given(name: &Option<String>) -> Option<&str>
+    ensures { option_copied result ≡ option_map (λ name. string_bytes name) name.now }
+{
     match name {
         Some(name) => Some(name.as_str()),
         None => None,
@@ -80,7 +84,9 @@ pub fn given(name: &Option<String>) -> Option<&str> {
 }
 
 /// The name of the file of the PDF that is requested, if one is.
-pub fn pdf_file(job: &Job) -> Option<&str> {
+pub fn pdf_file(job: &Job) -> Option<&str>
+    ensures { option_copied result ≡ pdf_name job.now }
+{
     match &job.pdf {
         Some(pdf) => Some(pdf.file.as_str()),
         None => None,
@@ -88,7 +94,9 @@ pub fn pdf_file(job: &Job) -> Option<&str> {
 }
 
 /// The name of the file that failed, if one did.
-pub fn file_of<'a>(ended: &Result<(), Failure>, job: &'a Job) -> Option<&'a str> {
+pub fn file_of<'a>(ended: &Result<(), Failure>, job: &'a Job) -> Option<&'a str>
+    ensures { option_copied result ≡ failed_name ended.now job.now }
+{
     match (ended, &job.glyphs) {
         (Err(Failure::Read), _) => Some(job.input.as_str()),
         (Err(Failure::Write), _) => given(&job.output),

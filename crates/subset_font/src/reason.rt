@@ -1,5 +1,8 @@
 //! Why the system refused to read or to write.
 
+ghost use Rattle.std.specs.Prelude.{◌≡◌, Some, None};
+ghost use Rattle.subset_font.specs.Files.{IsUnread, IsReason};
+
 use crate::failure::Failure;
 use std::io;
 use std::io::{ErrorKind, Read, Write};
@@ -13,7 +16,10 @@ pub struct Noted<T: Drop> {
 
 impl<T: Drop> Noted<T> {
     /// One that hasn't failed.
-    pub fn new(inner: T) -> Self {
+    pub fn new(inner: T) -> Self
+        ensures inner { result.inner ≡ inner }
+        ensures reason { result.reason ≡ None }
+    {
         Noted {
             inner,
             reason: None,
@@ -21,7 +27,9 @@ impl<T: Drop> Noted<T> {
     }
 
     /// Why it failed last.
-    pub fn reason(&self) -> Option<io::Error> {
+    pub fn reason(&self) -> Option<io::Error>
+        ensures { result ≡ self.now.reason }
+    {
         self.reason
     }
 }
@@ -55,7 +63,9 @@ impl<T: Write + Drop> Write for Noted<T> {
 }
 
 /// Why reading failed: what the reader kept, else memory ran out.
-pub fn unread(kept: Option<io::Error>) -> Option<io::Error> {
+pub fn unread(kept: Option<io::Error>) -> Option<io::Error>
+    ensures { IsUnread kept result }
+{
     match kept {
         Some(error) => Some(error),
         None => Some(io::Error::from(ErrorKind::OutOfMemory)),
@@ -69,7 +79,9 @@ pub fn reason_of(
     page: Option<io::Error>,
     output: Option<io::Error>,
     lines: Option<io::Error>,
-) -> Option<io::Error> {
+) -> Option<io::Error>
+    ensures { IsReason ended.now (record { font = input; page = page; output = output; lines = lines }) result }
+{
     match ended {
         Err(Failure::Read) => unread(input),
         Err(Failure::WritePdf) => page,

@@ -1,5 +1,9 @@
 //! The files and the standard streams that a run reads and writes.
 
+ghost use Rattle.std.specs.Prelude.{◌≡◌, true, false, IfSome, None};
+ghost use Rattle.subset_args.specs.Request.{is_stream};
+ghost use Rattle.subset_font.specs.declared.streams.Lines.TheVariants.{Output as ToOutput, Error as ToError};
+
 use late_file::LateFile;
 use std::io::{ErrorKind, Read, Write};
 use std::os::unix::fs::MetadataExt;
@@ -119,7 +123,10 @@ fn is_standard_output<R: Files>(rt: &R, name: &str) -> bool {
 }
 
 /// Whether the font or a PDF goes to standard output, if it is named.
-pub fn goes_to_output<R: Files>(rt: &R, name: Option<&str>) -> bool {
+pub fn goes_to_output<R: Files>(rt: &R, name: Option<&str>) -> bool
+    ensures unnamed { name ≡ None → result ≡ false }
+    ensures named { IfSome name (λ name. is_stream name.now ≡ true → result ≡ true) }
+{
     match name {
         Some(name) => is_stream(name) || is_standard_output(rt, name),
         None => false,
@@ -127,7 +134,10 @@ pub fn goes_to_output<R: Files>(rt: &R, name: Option<&str>) -> bool {
 }
 
 /// What the lines go to: standard output, or if the font or a PDF goes there, standard error.
-pub fn lines_beside<'a, R: Print + Eprint>(rt: &'a R, is_font_there: bool) -> Lines<'a, R> {
+pub fn lines_beside<'a, R: Print + Eprint>(rt: &'a R, is_font_there: bool) -> Lines<'a, R>
+    ensures font_there { is_font_there ≡ true → result ≡ ToError rt }
+    ensures font_elsewhere { is_font_there ≡ false → result ≡ ToOutput rt }
+{
     if is_font_there {
         return Lines::Error(rt);
     }
