@@ -1,5 +1,5 @@
--- The files and the standard streams of a run: which one failed, why, and where the font, a PDF and the lines go.
-use Rattle.std.specs.Prelude.{ℕ, Bool, true, false, ◌≡◌, ◌×◌, Result, Ok, Err, Option, Some, None, List, string_bytes}
+-- The files and the standard streams of a run: which one failed, and why the system refused it.
+use Rattle.std.specs.Prelude.{◌≡◌, ℕ, Result, Ok, Err, Option, Some, None, List, string_bytes}
 use Rattle.std.specs.Option.{option_map}
 use Rattle.std.specs.IoError.{error_kind}
 use Rattle.std.specs.declared.io.Error.{Error as IoError}
@@ -8,7 +8,7 @@ use Rattle.subset_args.specs.declared.jobs.Glyphs.{Glyphs}
 use Rattle.subset_args.specs.declared.jobs.Glyphs.TheVariants.{Listed, Characters, InFile, ByText, Every}
 use Rattle.subset_args.specs.declared.jobs.Job.{Job}
 use Rattle.subset_font.specs.declared.failure.Failure.{Failure}
-use Rattle.subset_font.specs.declared.failure.Failure.TheVariants.{Error, NoMapping, NoInstance, NotPermitted, Usage, List, Read, ReadList, Write, WritePdf, Output}
+use Rattle.subset_font.specs.declared.failure.Failure.TheVariants.{Error, NoMapping, NoInstance, NotPermitted, Usage, List as WrongList, Read, ReadList, Write, WritePdf, Output}
 
 -- the name of the PDF's file
 abbrev pub pdf_name : Job → Option (List ℕ)
@@ -33,7 +33,7 @@ name_by NoMapping job = None
 name_by NoInstance job = None
 name_by (NotPermitted permission) job = None
 name_by Usage job = None
-name_by List job = None
+name_by WrongList job = None
 name_by Read job = Some (string_bytes job.input)
 name_by ReadList job = list_name job.glyphs
 name_by Write job = output_name job
@@ -63,7 +63,7 @@ IsReasonBy NoMapping kept reason = reason ≡ None
 IsReasonBy NoInstance kept reason = reason ≡ None
 IsReasonBy (NotPermitted permission) kept reason = reason ≡ None
 IsReasonBy Usage kept reason = reason ≡ None
-IsReasonBy List kept reason = reason ≡ None
+IsReasonBy WrongList kept reason = reason ≡ None
 IsReasonBy Read kept reason = IsUnread kept.font reason
 IsReasonBy ReadList kept reason = reason ≡ None
 IsReasonBy Write kept reason = reason ≡ kept.output
@@ -73,3 +73,8 @@ IsReasonBy Output kept reason = reason ≡ kept.lines
 abbrev pub IsReason : Result (Unit {0}) Failure → Kept → Option IoError → Type 0
 IsReason (Ok done) kept reason = reason ≡ None
 IsReason (Err failure) kept reason = IsReasonBy failure kept reason
+
+-- a call of the system keeps why it failed, and else what was kept before
+abbrev pub IsNoted : {T : Type 0} → Result T IoError → Option IoError → Option IoError → Type 0
+IsNoted (Ok done) old new = new ≡ old
+IsNoted (Err error) old new = new ≡ Some error
