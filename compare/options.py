@@ -11,7 +11,7 @@ a further folder of fonts.
 
 Of N faces (200; three of four TrueType, the others CFF), some glyphs each, by `subset_font` with and without its words:
     tables    a word leaves out what it says and nothing else: every other table is byte for byte that of the subset with
-              all (of `head` all but the adjustment, and without hinting the format of loca)
+              all (of `head` all but the adjustment, and without hinting the format of loca and what `maxp` says of instructions)
     outlines  those without hinting are those of `hb-subset --no-hinting --name-IDs=`, but for zeros at the end and the
               numbers of components, which name the same glyphs; there is no program and no `name`, and `post` is the same
     drawing   fontTools draws each glyph as its source; FreeType without hinting has the same points, and the same pixels
@@ -119,6 +119,11 @@ def plain_head(head, with_format):
     return head if with_format else head[:50] + bytes(2) + head[52:]
 
 
+def plain_maxp(maxp):
+    """`maxp` 1.0 with one zone, and 0 for the six numbers that bound instructions; another version has none of them."""
+    return maxp[:14] + b"\0\1" + bytes(12) + maxp[28:] if maxp[:4] == b"\0\1\0\0" else maxp
+
+
 def other_tables(whole, less, left_out):
     """What a subset without an extra has otherwise than it should."""
     before, after = tables(whole), tables(less)
@@ -131,6 +136,8 @@ def other_tables(whole, less, left_out):
         one, other = before[tag], after[tag]
         if tag == "head":
             one, other = (plain_head(it, left_out != "hinting") for it in (one, other))
+        if tag == "maxp" and left_out == "hinting":
+            one = plain_maxp(one)
         if one != other:
             wrong.append(f"without {left_out} {tag} differs")
     if left_out == "glyph_names" and "post" in before and after["post"] != b"\0\3\0\0" + before["post"][4:32]:
