@@ -1,35 +1,25 @@
 //! Parts of a list of bytes, and numbers at its front.
 
 ghost use Rattle.std.specs.Prelude.{◌≡◌, ℕ, ◌^◌, List, drop, Some, option_and_then};
-ghost use Rattle.subsetter_base.specs.Bytes.{number};
-ghost use Rattle.cmap.specs.Subtable.{from_place};
-ghost use Rattle.subsetter.specs.Name.Read.{bytes_from};
-ghost use Rattle.subsetter_variation.specs.Tuples.{tail, between_offsets, split};
-ghost use Rattle.subsetter_points.specs.Simple.{after, byte as points_byte, word as points_word, has as points_has};
-ghost use Rattle.subsetter.specs.Glyf.Read.{between};
-ghost use Rattle.subsetter_instance.specs.Source.{between_offsets as instance_between_offsets};
-ghost use Rattle.subsetter_cffdata.specs.Bytes.{byte, part, card};
-ghost use Rattle.subsetter_variation.specs.Packed.{byte_in, word_in};
-ghost use Rattle.subset_lines.specs.Text.{first};
-ghost use Rattle.subsetter_cff.specs.Read.Cff.{major};
+ghost use Rattle.subsetter_base.specs.Bytes.{number, from_offset, byte, signed_field, has_flag};
+ghost use Rattle.subsetter_variation.specs.Tuples.{split};
+ghost use Rattle.subsetter_points.specs.Simple.{after, byte as points_byte, word as points_word};
+ghost use Rattle.subsetter_cffdata.specs.Bytes.{part, card};
+ghost use Rattle.subsetter_variation.specs.Packed.{word_in};
 ghost use Rattle.subset_lines.specs.Names.{word as lines_word};
 ghost use Rattle.subsetter_instance.specs.Components.{signed_word};
-ghost use Rattle.pdf_values.specs.Fields.{signed_field, has_bit};
+ghost use Rattle.pdf_values.specs.Fields.{has_bit};
 ghost use Rattle.subset_lines.specs.Info.{has_bit as lines_has_bit};
-ghost use Rattle.subsetter.specs.Glyf.Parts.{has};
 
 /// The bytes from an offset on, those between two, and the first ones with those behind them.
 pub fn parts()
-    ensures tails_agree { (bytes : List ℕ) (at : ℕ) → (bytes_from bytes at ≡ from_place bytes at) × (tail bytes at ≡ from_place bytes at) }
-    ensures after_is { (bytes : List ℕ) (at : ℕ) → after at bytes ≡ from_place bytes at }
-    ensures between_agree { (bytes : List ℕ) (from to : ℕ) → (between bytes from to ≡ between_offsets bytes from to) × (instance_between_offsets bytes from to ≡ between_offsets bytes from to) }
+    ensures after_is { (bytes : List ℕ) (at : ℕ) → after at bytes ≡ from_offset bytes at }
     ensures part_is { (n : ℕ) (bytes : List ℕ) → part n bytes ≡ split n bytes }
 {}
 
 /// The first byte, and the number that the first bytes spell.
 pub fn front()
-    ensures byte_agree { (bytes : List ℕ) → (byte_in bytes ≡ byte bytes) × (points_byte bytes ≡ byte bytes) }
-    ensures first_agree { (bytes : List ℕ) → major bytes ≡ first bytes }
+    ensures byte_agree { (bytes : List ℕ) → points_byte bytes ≡ byte bytes }
     ensures card_is { (k : ℕ) (bytes : List ℕ) → card k bytes ≡ option_and_then (λ n. Some (n, drop k bytes)) (number bytes 0 k) }
     ensures word_is { (bytes : List ℕ) → points_word bytes ≡ card 2 bytes }
     ensures word_in_is { (bytes : List ℕ) → word_in bytes ≡ points_word bytes }
@@ -43,7 +33,6 @@ pub fn fields()
 
 /// A bit of flags.
 pub fn flags()
-    ensures has_agree { (flags flag : ℕ) → has flags flag ≡ points_has flags flag }
-    ensures has_is_has_bit { (flags k : ℕ) → has flags (2 ^ k) ≡ has_bit flags k }
+    ensures has_is_has_bit { (flags k : ℕ) → has_flag flags (2 ^ k) ≡ has_bit flags k }
     ensures lines_has_bit_is { (bits k : ℕ) → lines_has_bit bits (2 ^ k) ≡ has_bit bits k }
 {}

@@ -4,12 +4,7 @@ ghost use Rattle.std.specs.Prelude.{◌≡◌, ℕ, ◌^◌, List, map, Option, 
 ghost use Rattle.std.specs.List.{range_with_len};
 ghost use Rattle.subsetter_base.specs.Places.{place};
 ghost use Rattle.subsetter_base.specs.Remap.{place_by};
-ghost use Rattle.subsetter.specs.Glyf.Plain.{new_number};
-ghost use Rattle.subsetter_cff.specs.Write.UsedFontDicts.{new_place};
-ghost use Rattle.subsetter_cffdata.specs.Numbers.{Number, not_negative, in_i32};
-ghost use Rattle.subsetter_type2.specs.Subroutines.{natural_of};
-ghost use Rattle.subsetter_blend.specs.Split.{sum_of};
-ghost use Rattle.subsetter_cff2.specs.PrivateText.{sum_of as cff2_sum_of};
+ghost use Rattle.subsetter_cffdata.specs.Numbers.{Number, in_i32};
 ghost use Rattle.pdf_cff.specs.Stems.{above_0 as stem_above_0};
 ghost use Rattle.pdf_values.specs.Heights.{above_0};
 ghost use Rattle.subsetter_points.specs.Simple.{has_16_bits};
@@ -33,15 +28,12 @@ ghost use Rattle.subsetter_cff2.specs.Made2.{new_matrix};
 /// Numbers by their index in a list, and matrices.
 pub fn lists()
     ensures place_by_is { (xs : List ℕ) (x : ℕ) → place_by (λ a b. a == b) xs x ≡ place xs x }
-    ensures new_number_is { (used : List ℕ) (n : ℕ) → new_place used n ≡ new_number used n }
     ensures new_matrix_is { (own : Option (List Number)) → new_matrix own ≡ new_top_matrix own }
     ensures counting_is { (first n : ℕ) → counting first n ≡ range_with_len first n }
 {}
 
 /// Numbers with a sign.
 pub fn signed()
-    ensures natural_agree { (z : ℤ) → natural_of z ≡ not_negative z }
-    ensures sum_agree { (vs : List ℤ) → cff2_sum_of vs ≡ sum_of vs }
     ensures above_0_is { (n : ℕ) → option_map pos (stem_above_0 n) ≡ above_0 (pos n) }
     ensures is_short_is { (v : ℤ) → is_short v ≡ has_16_bits v }
     ensures in_32_bits_is { (v : ℤ) → in_32_bits v ≡ in_i32 v }

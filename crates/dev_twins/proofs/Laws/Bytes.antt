@@ -1,44 +1,30 @@
 -- Parts of a list of bytes, and numbers at its front.
---   tails_agree, after_is        the bytes from an offset on
---   between_agree                the bytes between two offsets
+--   after_is        the bytes from an offset on
 --   part_is                      the first bytes and those behind them
---   byte_agree, first_agree      the first byte
+--   byte_agree      the first byte
 --   card_is, word_is, word_in_is the number that the first bytes spell
 --   lines_word_is                two bytes of a record
 --   signed_word_is               a signed number of 16 bits
---   has_agree, has_is_has_bit, lines_has_bit_is   a bit of flags
+--   has_is_has_bit, lines_has_bit_is   a bit of flags
 use Rattle.std.proofs.Common.{◌≡◌, ℕ, zero, suc, ◌+◌, ◌*◌, ◌/◌, ◌%◌, ◌^◌, ◌<◌, Bool, true, false, not, cond, eqb, ltb, leb, List, [], ◌∷◌, length, take, drop, Option, Some, None, bit_and, option_map, option_and_then, refl, sym, ap, ◌∙◌, inl, inr, arith}
 use Rattle.std.proofs.lemmas.Bool.{le-leb, lt-leb, lt-ltb, le-ltb, eq-eqb, ne_eqb, cases_lt, cases_eq}
 use Rattle.std.proofs.lemmas.Nat.{and_mask, bit_set_by_shift}
-use Rattle.subsetter_base.specs.Bytes.{be, range, number}
+use Rattle.subsetter_base.specs.Bytes.{be, range, number, from_offset, byte, signed_field, has_flag}
 use Rattle.subsetter_base.proofs.ByteLemmas.{be-u8, range-take_drop, range-fits, range-none}
 use Rattle.subsetter_base.proofs.Options.{just_is, map_some}
-use Rattle.cmap.specs.Subtable.{from_place}
-use Rattle.subsetter.specs.Name.Read.{bytes_from}
-use Rattle.subsetter_variation.specs.Tuples.{tail, between_offsets, split}
-use Rattle.subsetter_points.specs.Simple.{after, byte as points_byte, word as points_word, has as points_has}
-use Rattle.subsetter.specs.Glyf.Read.{between}
-use Rattle.subsetter_instance.specs.Source.{between_offsets as instance_between_offsets}
-use Rattle.subsetter_cffdata.specs.Bytes.{byte, part, card}
-use Rattle.subsetter_variation.specs.Packed.{byte_in, word_in}
-use Rattle.subset_lines.specs.Text.{first}
-use Rattle.subsetter_cff.specs.Read.Cff.{major}
+use Rattle.subsetter_variation.specs.Tuples.{split}
+use Rattle.subsetter_points.specs.Simple.{after, byte as points_byte, word as points_word}
+use Rattle.subsetter_cffdata.specs.Bytes.{part, card}
+use Rattle.subsetter_variation.specs.Packed.{word_in}
 use Rattle.subset_lines.specs.Names.{word as lines_word}
 use Rattle.subsetter_instance.specs.Components.{signed_word}
-use Rattle.pdf_values.specs.Fields.{signed_field, has_bit}
+use Rattle.pdf_values.specs.Fields.{has_bit}
 use Rattle.subset_lines.specs.Info.{has_bit as lines_has_bit}
-use Rattle.subsetter.specs.Glyf.Parts.{has}
 
 -- ---- from an offset on
 
-pub tails_agree : (bytes : List ℕ) (at : ℕ) → (bytes_from bytes at ≡ from_place bytes at) × (tail bytes at ≡ from_place bytes at)
-tails_agree bytes at = (refl, refl)
-
-pub after_is : (bytes : List ℕ) (at : ℕ) → after at bytes ≡ from_place bytes at
+pub after_is : (bytes : List ℕ) (at : ℕ) → after at bytes ≡ from_offset bytes at
 after_is bytes at = refl
-
-pub between_agree : (bytes : List ℕ) (from to : ℕ) → (between bytes from to ≡ between_offsets bytes from to) × (instance_between_offsets bytes from to ≡ between_offsets bytes from to)
-between_agree bytes from to = (refl, refl)
 
 -- ---- two ways to write one test
 
@@ -69,14 +55,10 @@ number_1 b bytes = ap (option_map be) (range-take_drop (b ∷ bytes) 0 1 (omega 
 abbrev behind : ℕ → List ℕ → Option ℕ → Option (ℕ × List ℕ)
 behind size bytes o = option_and_then (λ n. Some (n, drop size bytes)) o
 
-pub byte_agree : (bytes : List ℕ) → (byte_in bytes ≡ byte bytes) × (points_byte bytes ≡ byte bytes)
+pub byte_agree : (bytes : List ℕ) → points_byte bytes ≡ byte bytes
 unfolding byte
-byte_agree [] = (refl, refl)
-byte_agree (b ∷ bytes) = (refl, ap (behind 1 (b ∷ bytes)) (number_1 b bytes))
-
-pub first_agree : (bytes : List ℕ) → major bytes ≡ first bytes
-first_agree [] = refl
-first_agree (b ∷ bytes) = refl
+byte_agree [] = refl
+byte_agree (b ∷ bytes) = ap (behind 1 (b ∷ bytes)) (number_1 b bytes)
 
 -- ---- the number that the first bytes spell
 
@@ -126,14 +108,11 @@ signed_word_is bytes at = refl
 
 -- ---- a bit of flags
 
-pub has_agree : (flags flag : ℕ) → has flags flag ≡ points_has flags flag
-has_agree flags flag = refl
-
 parity : (n : ℕ) → bit_and n 1 ≡ n % 2
 parity n = and_mask n 1
 
 -- a flag is set by the bit of its power of two
-pub has_is_has_bit : (flags k : ℕ) → has flags (2 ^ k) ≡ has_bit flags k
+pub has_is_has_bit : (flags k : ℕ) → has_flag flags (2 ^ k) ≡ has_bit flags k
 has_is_has_bit flags k = elim (cases_eq (bit_and flags (2 ^ k)) 0) [
   | inl unset ↦
       let even : flags / 2 ^ k % 2 ≡ 1 → ⊥ = λ one. (bit_set_by_shift flags k).0 (parity (flags / 2 ^ k) ∙ one) unset in

@@ -8,7 +8,7 @@ use Rattle.std.specs.Prelude.{◌==◌}
 use Rattle.std.specs.Option.{option_map_or}
 use Rattle.std.proofs.lemmas.Bool.{leb-true}
 use Rattle.std.proofs.lemmas.Option.{cond_some}
-use Rattle.subsetter_base.specs.Bytes.{number, range}
+use Rattle.subsetter_base.specs.Bytes.{number, range, has_flag}
 use Rattle.subsetter_base.proofs.ByteLemmas.{range-take_drop}
 use Rattle.subsetter_base.proofs.Options.{just_is, bind_some}
 use Rattle.subsetter_points.specs.Simple.{after}
@@ -16,7 +16,7 @@ use Rattle.subsetter.specs.Glyf.Read.{offset, outline_in}
 use Rattle.subsetter_instance.specs.Source.{Source, offset as instance_offset, description}
 use Rattle.subsetter_variation.specs.Tuples.{Gvar, offset as gvar_offset}
 use Rattle.pdf_glyphs.specs.Boxes.{entry, joined as boxes_joined}
-use Rattle.subsetter.specs.Glyf.Parts.{Component as Part, rest_size, has, component_at}
+use Rattle.subsetter.specs.Glyf.Parts.{Component as Part, rest_size, component_at}
 use Rattle.subsetter_instance.specs.Components.{arguments_at, arguments_end, matrix_at, matrix_end, component_at as instance_component_at}
 use Rattle.subsetter_instance.specs.declared.components.Arguments.{Arguments}
 use Rattle.subsetter_instance.specs.declared.components.Matrix.{Matrix}
@@ -63,7 +63,7 @@ end_by true n = omega arith
 end_by false n = omega arith
 
 pub matrix_end_is : (flags : ℕ) → matrix_end flags (arguments_end flags) ≡ 4 + rest_size flags
-matrix_end_is flags = end_by (has flags 0x0001) (cond (has flags 0x0008) 2 (cond (has flags 0x0040) 4 (cond (has flags 0x0080) 8 0)))
+matrix_end_is flags = end_by (has_flag flags 0x0001) (cond (has_flag flags 0x0008) 2 (cond (has_flag flags 0x0040) 4 (cond (has_flag flags 0x0080) 8 0)))
 
 -- what is read after each part of a component
 abbrev with_rest : List ℕ → ℕ → ℕ → Arguments → Option Matrix → Option (Component × List ℕ)

@@ -5,14 +5,13 @@
 use Rattle.std.proofs.Common.{◌≡◌, ℕ, ◌+◌, ◌-◌, ◌*◌, ◌<◌, ◌≤◌, Bool, true, false, cond, ltb, min, List, Option, Some, None, option_map, option_and_then, refl, ap, ◌∙◌, arith}
 use Rattle.std.specs.Prelude.{◌==◌, if◌then◌else◌}
 use Rattle.std.proofs.lemmas.Bool.{ltb-true, ltb-false}
-use Rattle.subsetter_base.specs.Bytes.{number}
+use Rattle.subsetter_base.specs.Bytes.{number, field}
 use Rattle.subsetter_base.proofs.Options.{just_is}
 use Rattle.subsetter.specs.declared.hmtx.Metric.{Metric}
 use Rattle.subsetter.specs.Hmtx.Read.{metric_at, metric_in}
 use Rattle.subsetter_instance.specs.Source.{Source, metric, metric_at as instance_metric_at}
 use Rattle.cid_embed.specs.Afresh.{advance_in}
 use Rattle.pdf_glyphs.specs.Vertical.{Vertical, advance_of, pair_count}
-use Rattle.pdf_values.specs.Fields.{field}
 use Rattle.dev_twins.specs.Metrics.{metric_of}
 
 -- ---- a metric

@@ -14,12 +14,12 @@ use Rattle.std.specs.Option.{option_map_or}
 use Rattle.std.proofs.lemmas.Bool.{eqb-true}
 use Rattle.std.proofs.lemmas.Option.{cond_some}
 use Rattle.std.proofs.lemmas.List.{length-drop, take-append-drop}
-use Rattle.subsetter_base.specs.Bytes.{range, be, number, IsBytes}
+use Rattle.subsetter_base.specs.Bytes.{range, be, number, IsBytes, from_offset}
 use Rattle.subsetter_base.proofs.ByteLemmas.{range-drop, range-left, range-fits, range-take_drop, number-small}
 use Rattle.subsetter_base.specs.Items.{item}
 use Rattle.subsetter_base.proofs.Options.{just_is, bind_some}
 use Rattle.cmap.specs.Subtable.{is_unicode as cmap_is_unicode}
-use Rattle.subsetter.specs.Name.Read.{name_record_of, string_of, is_unicode, bytes_from}
+use Rattle.subsetter.specs.Name.Read.{name_record_of, string_of, is_unicode}
 use Rattle.pdf_values.specs.Name.{record_of}
 use Rattle.subset_lines.specs.Names.{word, string_of as lines_string_of}
 use Rattle.subsetter_cff.specs.Read.Strings.{string_of as cff_string_of, FontString, Custom}
@@ -133,7 +133,7 @@ abbrev table_of : List ℕ → ℕ → List ℕ → List ℕ → PostTable
 table_of header count indexes names = record { header = header; indexes = record { bytes = indexes; count = count }; names_data = names }
 
 abbrev with_names : List ℕ → ℕ → List ℕ → List ℕ → Option PostTable
-with_names header count indexes post = option_and_then (λ names. Some (table_of header count indexes names)) (bytes_from post (34 + count * 2))
+with_names header count indexes post = option_and_then (λ names. Some (table_of header count indexes names)) (from_offset post (34 + count * 2))
 
 abbrev with_indexes : List ℕ → ℕ → List ℕ → Option PostTable
 with_indexes header count post = option_and_then (λ indexes. with_names header count indexes post) (range post 34 (count * 2))
@@ -146,7 +146,7 @@ is_read post t h =
     let (header, header_is, h1) = bind_some (range post 0 32) (λ header. with_count header post) t h in
     let (count, count_is, h2) = bind_some (number post 32 2) (λ count. with_indexes header count post) t h1 in
     let (indexes, indexes_are, h3) = bind_some (range post 34 (count * 2)) (λ indexes. with_names header count indexes post) t h2 in
-    let (names, names_are, h4) = bind_some (bytes_from post (34 + count * 2)) (λ names. Some (table_of header count indexes names)) t h3 in
+    let (names, names_are, h4) = bind_some (from_offset post (34 + count * 2)) (λ names. Some (table_of header count indexes names)) t h3 in
     let is : table_of header count indexes names ≡ t = just_is (table_of header count indexes names) t h4 in
     let behind : drop (34 + count * 2) post ≡ names = (cond_some (leb (34 + count * 2) (length post)) (drop (34 + count * 2) post) names names_are).1 in
     let read : IsRead post (table_of header count indexes names) = record { count_is = count_is; indexes_are = indexes_are; names_are = behind } in

@@ -1,7 +1,5 @@
 -- Numbers and lists of them.
 --   place_by_is                  the index of a number in a list
---   new_number_is                the new number by a list of old ones
---   natural_agree, sum_agree     a number that isn't below 0, and a sum
 --   above_0_is                   a number above 0
 --   is_short_is, in_32_bits_is   numbers of 16 and of 32 bits with a sign
 --   are_near_is                  numbers within a bound
@@ -20,12 +18,7 @@ use Rattle.std.proofs.lemmas.Bool.Decides.{nat_tests}
 use native.Mathlib.Nat.{div-div-eq-div-mul}
 use Rattle.subsetter_base.specs.Places.{place}
 use Rattle.subsetter_base.specs.Remap.{place_by}
-use Rattle.subsetter.specs.Glyf.Plain.{new_number}
-use Rattle.subsetter_cff.specs.Write.UsedFontDicts.{new_place}
-use Rattle.subsetter_cffdata.specs.Numbers.{Number, not_negative, in_i32}
-use Rattle.subsetter_type2.specs.Subroutines.{natural_of}
-use Rattle.subsetter_blend.specs.Split.{sum_of}
-use Rattle.subsetter_cff2.specs.PrivateText.{sum_of as cff2_sum_of}
+use Rattle.subsetter_cffdata.specs.Numbers.{Number, in_i32}
 use Rattle.pdf_cff.specs.Stems.{above_0 as stem_above_0}
 use Rattle.pdf_values.specs.Heights.{above_0}
 use Rattle.subsetter_points.specs.Simple.{has_16_bits}
@@ -52,21 +45,10 @@ pub place_by_is : (xs : List ℕ) (x : ℕ) → place_by (λ a b. a == b) xs x �
 place_by_is [] x = refl
 place_by_is (y ∷ ys) x = ap (λ (o : Option ℕ). cond (eqb y x) (Some 0) (option_map (λ i. i + 1) o)) (place_by_is ys x)
 
-pub new_number_is : (used : List ℕ) (n : ℕ) → new_place used n ≡ new_number used n
-new_number_is used n = refl
-
 pub new_matrix_is : (own : Option (List Number)) → new_matrix own ≡ new_top_matrix own
 new_matrix_is own = refl
 
 -- ---- with a sign
-
-pub natural_agree : (z : ℤ) → natural_of z ≡ not_negative z
-natural_agree (pos n) = refl
-natural_agree (negsuc n) = refl
-
-pub sum_agree : (vs : List ℤ) → cff2_sum_of vs ≡ sum_of vs
-sum_agree [] = refl
-sum_agree (v ∷ vs) = ap (λ s. v +ℤ s) (sum_agree vs)
 
 pub above_0_is : (n : ℕ) → option_map pos (stem_above_0 n) ≡ above_0 (pos n)
 above_0_is zero = refl

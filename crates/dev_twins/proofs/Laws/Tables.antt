@@ -14,14 +14,14 @@ use Rattle.subsetter_sfnt.specs.declared.face.FontKind.{FontKind}
 use Rattle.subsetter_sfnt.specs.declared.face.FontKind.TheVariants.{Single}
 use Rattle.subsetter_sfnt.specs.Read.{as_font, kind_at, header_by_kind, header_place, records_at as sfnt_records_at, table_in, table}
 use Rattle.cid_embed.specs.Afresh.{directory_bytes, table_of}
-use Rattle.subsetter_base.specs.Bytes.{be, range, number}
+use Rattle.subsetter_base.specs.Bytes.{be, range, number, byte}
 use Rattle.subsetter_base.proofs.ByteLemmas.{range-drop, range-none}
 use Rattle.subsetter_base.specs.declared.tag.Tag.{Tag}
 use Rattle.subsetter_base.proofs.Options.{just_is, bind_some, map_some}
 use Rattle.subsetter_variation.specs.declared.axes.Axis.{Axis}
 use Rattle.subsetter_variation.specs.Axes.{axis_of, axes_at}
 use Rattle.subset_lines.specs.Axes.{records_at, instances_of, instances}
-use Rattle.subsetter_cffdata.specs.Bytes.{byte, card}
+use Rattle.subsetter_cffdata.specs.Bytes.{card}
 use Rattle.subsetter_cff.specs.Read.FontDicts.{in_ranges as cff_in_ranges}
 use Rattle.subsetter_cff2.specs.Select.{Range, range_at, in_ranges}
 use Rattle.dev_twins.proofs.Laws.Bytes.{byte_agree, card_is}

@@ -1,44 +1,24 @@
 -- Texts and what they are seen as.
---   utf16_agree, units_are       UTF-16
---   is_scalar_agree              characters
+--   units_are       UTF-16
 --   texts_view_agree             texts behind references
 --   sign_text_is                 the sign of a number
 --   text_between_is, joined_strings_are, with_strings_agree   parts of a text, and lists of texts
---   tag_open_agree               the member that begins an object
---   shown_texts_agree, own_cmap_agree   what a caller of the calls for PDF gives
---   measures_agree               what advances are found by
 use Rattle.std.proofs.Common.{◌≡◌, ℕ, ◌+◌, Bool, true, false, not, ◌||◌, cond, List, [], ◌∷◌, ◌++◌, filter, slice_range, Option, Some, None, is_some, option_map, ℤ, refl, sym, ap, ◌∙◌}
 use Rattle.std.specs.List.{concat}
 use Rattle.std.specs.Str.{bytes_eq}
 use Rattle.std.proofs.lemmas.Slice.Eq.{bytes_eq-Decides}
 use Rattle.std.specs.Borrow.{Bor}
-use Rattle.subsetter_base.specs.declared.tag.Tag.{Tag}
 use Rattle.subsetter_base.specs.Remap.{place_by, with_value}
 use Rattle.subsetter_base.proofs.Lists.{bytes_eq_is}
-use Rattle.pdf_sheet.specs.Units.{utf16, units_of}
-use Rattle.pdf_codes.specs.Units.{is_left_out, utf16 as codes_utf16, units_of as codes_units_of}
-use Rattle.subset_args.specs.Characters.{is_scalar}
-use Rattle.subsetter_pdf_c.specs.Entries.{is_scalar as c_is_scalar, text_between, texts_of as c_texts_of}
-use Rattle.pdf_codes.specs.Texts.{texts_view}
-use Rattle.subsetter_cff.specs.Write.SidRemapping.{views}
+use Rattle.pdf_sheet.specs.Units.{units_of}
+use Rattle.subsetter_base.specs.Texts.{utf16, views}
+use Rattle.pdf_codes.specs.Units.{is_left_out, units_of as codes_units_of}
+use Rattle.subsetter_pdf_c.specs.Entries.{text_between}
 use Rattle.subsetter.specs.Name.View.{nows}
 use Rattle.subsetter.specs.Name.Read.{among, with_string, with_strings, joined}
 use Rattle.subsetter_cff.specs.Write.Layout.{with_strings as cff_with_strings}
 use Rattle.subset_lines.specs.Fixed.{sign_text}
 use Rattle.pdf_text.specs.Numbers.{sign}
-use Rattle.subset_lines.specs.AxesJson.{tag_open}
-use Rattle.pdf_codes.specs.declared.shown.Shown.{Shown}
-use Rattle.pdf_text.specs.declared.values.OwnCmap.{OwnCmap}
-use Rattle.pdf_objects.specs.Glyphs.{texts_of}
-use Rattle.pdf_objects.specs.Values.{name_of, text_of}
-use Rattle.subsetter_pdf_c.specs.Made.{name_of as c_name_of, text_of as c_text_of}
-use Rattle.cid_embed.specs.Afresh.{measures_seen}
-use Rattle.pdf_source.specs.Metrics.{measures_seen as source_measures_seen}
-use Rattle.pdf_source.specs.declared.widths.Metrics.{Metrics as SourceMetrics}
-use Rattle.subset_lines.specs.Sizes.{tag_open as sizes_tag_open}
-
-pub utf16_agree : (c : ℕ) → codes_utf16 c ≡ utf16 c
-utf16_agree c = refl
 
 units_by : (b : Bool) (c : ℕ) (cs more : List ℕ) → more ≡ units_of cs → cond b [] (utf16 c) ++ more ≡ units_of (cond (not b) (c ∷ cs) cs)
 units_by true c cs more e = e
@@ -49,11 +29,8 @@ pub units_are : (cs : List ℕ) → codes_units_of cs ≡ units_of (filter (λ c
 units_are [] = refl
 units_are (c ∷ cs) = units_by (is_left_out c) c (filter (λ d. not (is_left_out d)) cs) (codes_units_of cs) (units_are cs)
 
-pub is_scalar_agree : (c : ℕ) → c_is_scalar c ≡ is_scalar c
-is_scalar_agree c = refl
-
-pub texts_view_agree : (texts : List (Bor (List ℕ))) → (texts_view texts ≡ views texts) × (nows texts ≡ views texts)
-texts_view_agree texts = (refl, refl)
+pub texts_view_agree : (texts : List (Bor (List ℕ))) → nows texts ≡ views texts
+texts_view_agree texts = refl
 
 pub sign_text_is : (v : ℤ) → sign_text v ≡ sign v
 sign_text_is v = refl
@@ -89,15 +66,3 @@ with_strings_agree ts [] = refl
 with_strings_agree ts (s ∷ ss) =
     let one : with_value bytes_eq ts s ≡ with_string ts s = ap (λ b. cond b ts (ts ++ s ∷ [])) (among_is ts s) in
     ap (λ (l : List (List ℕ)). cff_with_strings l ss) one ∙ with_strings_agree (with_string ts s) ss
-
-pub tag_open_agree : (tag : Tag) → sizes_tag_open tag ≡ tag_open tag
-tag_open_agree tag = refl
-
-pub shown_texts_agree : (shown : List Shown) → c_texts_of shown ≡ texts_of shown
-shown_texts_agree shown = refl
-
-pub own_cmap_agree : (cmap : OwnCmap) → (c_name_of cmap ≡ name_of cmap) × (c_text_of cmap ≡ text_of cmap)
-own_cmap_agree cmap = (refl, refl)
-
-pub measures_agree : (m : SourceMetrics) → source_measures_seen m ≡ measures_seen (record { hmtx = m.hmtx; pairs = m.pairs; units = m.units })
-measures_agree m = refl

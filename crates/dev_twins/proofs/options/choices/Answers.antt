@@ -1,8 +1,5 @@
-use Rattle.dev_twins.proofs.Laws.Options.{first_of_is, or_name_is}
+use Rattle.dev_twins.proofs.Laws.Options.{first_of_is}
 use Rattle.dev_twins.proofs.options.choices.Goals as goal
 
 pub returns : goal.returns
-returns c = record {
-  first_of_is = first_of_is;
-  or_name_is = or_name_is;
-}
+returns c = first_of_is
