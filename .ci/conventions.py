@@ -4,7 +4,8 @@
 - no folder of sources, definitions or proofs has over 12 files, and no file over 400 lines;
 - a crate stands on crates of its own layer or of one below it (.ci/conventions/layers.txt);
 - a record or a field of a table is read by one module (.ci/conventions/tables.txt);
-- no definition and no function stands twice (`compare/contracts.py --twins`).
+- no definition and no function stands twice (`compare/contracts.py --twins`);
+- each public function, but of the developers' crates, has an `ensures`, or docs/GUARANTEES.md lists it with the test in its place.
 
 .ci/conventions/exceptions.txt lists what isn't so yet, each kind with its number, which may only fall: a new fault fails the
 check, and so does an exception that isn't needed. `--list` prints all that isn't so; `--shrink` takes from the exceptions those
@@ -16,7 +17,7 @@ import sys
 
 sys.dont_write_bytecode = True
 HERE = os.path.dirname(os.path.dirname(os.path.realpath(__file__)))
-sys.path.insert(0, os.path.join(HERE, "compare"))
+sys.path.insert(0, os.path.join(HERE, "compare", "lib"))
 
 import rattle_tree  # noqa: E402
 import twins  # noqa: E402
@@ -25,6 +26,8 @@ from rattle_text import Trouble  # noqa: E402
 FILES, LINES, FOLDER = 12, 400, ".ci/conventions"
 KINDS = ("folder", "file", "layer", "reader", "definition", "function")
 COMMENTS = re.compile(r"//[^\n]*")
+TOOLS = "developers"
+DOCUMENT, SECTION = "docs/GUARANTEES.md", "Public functions without a contract"
 
 
 def lines_of(root, name):
@@ -57,13 +60,19 @@ def long_files(root, listed):
     return found
 
 
+def crates_by_layer(root):
+    """Each line of the list of layers: a layer, and crates of it."""
+    for line in lines_of(root, "layers.txt"):
+        name, _, crates = line.partition(":")
+        yield name, crates.split()
+
+
 def layers(root):
     """Dependencies that lead upwards, and what the list of layers lacks or has too much."""
     order, layer, found = [], {}, {}
-    for line in lines_of(root, "layers.txt"):
-        name, _, crates = line.partition(":")
+    for name, crates in crates_by_layer(root):
         order += [name] if name not in order else []
-        for crate in crates.split():
+        for crate in crates:
             if crate in layer:
                 found[f"layer {crate}"] = "it stands in two layers"
             layer[crate] = order.index(name)
@@ -104,9 +113,8 @@ def readers(root, listed):
     return found
 
 
-def doubles(root):
+def doubles(tree):
     """Definitions and functions that stand twice."""
-    tree = rattle_tree.Tree(root)
     found = {}
     for group in twins.definitions(tree):
         if len({twins.name(it) for it in group}) == 1 or not twins.is_small(tree, group[0]):
@@ -118,12 +126,50 @@ def doubles(root):
     return found
 
 
+def without_ensures(root, tree):
+    """The public functions of which no clause says what they answer. A method of an instance has its trait's clauses."""
+    tools = {crate for name, crates in crates_by_layer(root) if name == TOOLS for crate in crates}
+    for id, item in tree.items.items():
+        owner = item.owner
+        is_given = owner is not None and owner.kind == "impl" and owner.trait
+        public = owner.public if owner is not None and owner.kind == "trait" else item.public
+        if item.kind == "fn" and public and not is_given and id.split(".")[0] not in tools:
+            if not any(kind.startswith("ensures") for kind, *_ in item.clauses):
+                yield id
+
+
+def tests_of(root, text):
+    """What is wrong with the tests that a row names: a file, and functions of it."""
+    names = re.findall(r"`([^`]+)`", text)
+    files = [it for it in names if os.path.isfile(os.path.join(root, it))]
+    code = "".join(rattle_tree.read(os.path.join(root, it)) for it in files)
+    lost = [it for it in names if it not in files and not re.search(rf"\b{re.escape(it)}\b", code)]
+    if not files:
+        return "its row names no file with a test"
+    return f"no test of its row is `{lost[0]}`" if lost else None
+
+
+def contracts(root, tree):
+    """Public functions without a contract that aren't listed, and rows of the list that are wrong."""
+    _, _, text = rattle_tree.read(os.path.join(root, DOCUMENT)).partition(f"# {SECTION}\n")
+    if not text:
+        raise Trouble(f"{DOCUMENT} has no section `{SECTION}`")
+    rows = dict(re.findall(r"^\| `([\w.]+)` \|.*\| ([^|\n]*) \|$", text.split("\n#")[0], re.M))
+    bare = set(without_ensures(root, tree))
+    found = {f"contract {it}": f"it has no `ensures`, and {DOCUMENT} doesn't list it" for it in bare - set(rows)}
+    for it, test in rows.items():
+        wrong = tests_of(root, test) if it in bare else f"{DOCUMENT} lists it, and no public function of this name lacks an `ensures`"
+        found.update({f"contract {it}": wrong} if wrong else {})
+    return found
+
+
 def faults(root):
     """All that isn't as it should be: what, with how it is."""
     listed = list(folders(root))
     if not any(files for _, files in listed):
         raise Trouble(f"{root} has no sources")
-    return {**heaps(listed), **long_files(root, listed), **layers(root), **readers(root, listed), **doubles(root)}
+    tree = rattle_tree.Tree(root)
+    return {**heaps(listed), **long_files(root, listed), **layers(root), **readers(root, listed), **doubles(tree), **contracts(root, tree)}
 
 
 class Exceptions:

@@ -21,7 +21,7 @@ LISTS = {
     "tables.txt": "head.unitsPerEm | low/src/head.rt | \\(head, 18\\b\n",
     "exceptions.txt": "# what isn't so\n" + NONE,
 }
-EXCEPTIONS = ".ci/conventions/exceptions.txt"
+EXCEPTIONS, GUARANTEES = ".ci/conventions/exceptions.txt", "docs/GUARANTEES.md"
 LONG = "// a line\n" * 401
 BODY = " {\n" + "".join(f"    let n{k} = {k} + {k};\n" for k in range(12)) + "}\n"
 
@@ -50,6 +50,15 @@ TWIN = both(TWIN, at("crates/high/specs/Own.antt", "{ℕ}", "{ℕ, ◌*◌}"), a
             at("crates/high/specs/Own.antt", "256 * n", "256 * n * (n * n)"))
 FUNCTIONS = both(add("crates/low/src/read.rt", "fn one()" + BODY), add("crates/high/src/lib.rt", "fn two()" + BODY))
 READER = add("crates/high/src/lib.rt", "fn units(head: &[u8]) -> Option<u16> {\n    Reader::new_at(head, 18).read::<u16>()\n}\n")
+LIST = "# Guarantees\n\n### Public functions without a contract\n\n| Function | Its request | Tests |\n|---|---|---|\n"
+BARE = add("crates/low/src/read.rt", "\npub fn opened(name: &str) -> bool {\n    name.is_empty()\n}\n")
+CHECKS = add("tests/files.py", "def check_files():\n    pass\n")
+
+
+def row(tests, function="low.read.opened"):
+    return both(CHECKS, add(GUARANTEES, f"| `{function}` | a file | {tests} |\n\n## Others\n\n| `low.read.word` | it is elsewhere | `x` |\n"))
+
+
 # Name, change, status, and a text that has to be printed.
 PLANTS = [
     ("nothing", lambda root: None, 0, "0 faults"),
@@ -81,6 +90,20 @@ PLANTS = [
     ("a number that is too high", at(EXCEPTIONS, "at most 0 of file", "at most 1 of file"), 1, "the number may only fall"),
     ("an exception without its number", both(READER, add(EXCEPTIONS, "reader crates/high/src/lib.rt of head.unitsPerEm\n")), 1, "the number may only fall"),
     ("an exception of no kind", add(EXCEPTIONS, "house crates/low\n"), 1, "has no such kind"),
+    ("a public function without a contract", BARE, 1, "contract low.read.opened: it has no `ensures`"),
+    ("one with a `requires` alone", add("crates/low/src/read.rt", "\npub fn opened(size: usize) -> usize\n    requires { size < 2 }\n{\n    size\n}\n"), 1, "contract low.read.opened: it has no"),
+    ("a method without one", at("crates/low/src/shapes.rt", "    pub fn width(&self) -> u8\n        ensures { result ≡ self.now }\n    {", "    pub fn width(&self) -> u8 {"), 1, "contract low.shapes.Strip.width"),
+    ("a method of a public trait without one", at("crates/low/src/shapes.rt", "    fn size(&self) -> u16\n        ensures { result ≡ area self.now };", "    fn size(&self) -> u16;"), 1,
+     "contract low.shapes.Figure.size"),
+    ("a function that isn't public", add("crates/low/src/read.rt", "\nfn opened(name: &str) -> bool {\n    name.is_empty()\n}\n"), 0, "0 faults"),
+    ("one of the developers' crates", both(BARE, at(".ci/conventions/layers.txt", "bytes: low\nfonts: high", "developers: low high")), 0, "0 faults"),
+    ("one that is listed with its test", both(BARE, row("`check_files` in `tests/files.py`")), 0, "0 faults"),
+    ("one that is listed without a file", both(BARE, row("`check_files`")), 1, "contract low.read.opened: its row names no file with a test"),
+    ("one that is listed with a test that isn't there", both(BARE, row("`check_streams` in `tests/files.py`")), 1, "contract low.read.opened: no test of its row is `check_streams`"),
+    ("one that is listed with a file that isn't there", both(BARE, row("`check_files` in `tests/files.py`, `tests/streams.py`")), 1, "no test of its row is `tests/streams.py`"),
+    ("a row too many", row("`check_files` in `tests/files.py`", "low.read.word"), 1, "contract low.read.word: docs/GUARANTEES.md lists it"),
+    ("a row of a function that isn't there", row("`check_files` in `tests/files.py`"), 1, "contract low.read.opened: docs/GUARANTEES.md lists it"),
+    ("no list of functions", at(GUARANTEES, "### Public functions without a contract", "### Others"), 2, "has no section"),
     ("no crates", lambda root: shutil.rmtree(os.path.join(root, "crates")), 2, "no sources"),
     ("no list of layers", lambda root: os.remove(os.path.join(root, ".ci/conventions/layers.txt")), 2, "can't be read"),
     ("a row of tables.txt without its pattern", add(".ci/conventions/tables.txt", "hmtx | low/src/hmtx.rt\n"), 2, "can't read"),
@@ -91,7 +114,7 @@ PLANTS = [
 def outcome(root, change, *options):
     """The status and what is printed for a changed repository."""
     shutil.rmtree(root, ignore_errors=True)
-    contracts_test.built(root, both(*(add(f".ci/conventions/{name}", text) for name, text in LISTS.items())))
+    contracts_test.built(root, both(add(GUARANTEES, LIST), *(add(f".ci/conventions/{name}", text) for name, text in LISTS.items())))
     change(root)
     return asked(root, *options)
 

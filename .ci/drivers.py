@@ -15,7 +15,10 @@ import sys
 import tempfile
 
 sys.dont_write_bytecode = True
-import program  # noqa: E402
+sys.path.insert(0, os.path.join(os.path.dirname(os.path.realpath(__file__)), "program"))
+
+import made_fonts  # noqa: E402
+import running  # noqa: E402
 
 BENCH_USAGE = "usage: dev_bench FONT INDEX GLYPHS COUNT [OUT [TAG=VALUE ..]] | --list FILE\n"
 PARTS_USAGE = "usage: dev_parts [--instance FONT INDEX GLYPHS [TAG=VALUE ..]] [--cff2 FONT ADVANCE GLYPHS [COORDINATE ..]]\n"
@@ -114,20 +117,20 @@ def check_parts(rows):
 
 def main():
     words = argparse.ArgumentParser(usage=__doc__)
-    words.add_argument("--crates", default=os.path.join(program.ROOT, "crates"))
+    words.add_argument("--crates", default=os.path.join(running.ROOT, "crates"))
     crates = os.path.realpath(words.parse_args().crates)
     for name in ("subset_font", "dev_bench", "dev_parts"):
         if not os.path.exists(os.path.join(crates, name, "out", name)):
             sys.exit(f"drivers.py: no {name} in {crates}")
-    parts = os.path.join(program.ROOT, "crates", "dev_parts")
+    parts = os.path.join(running.ROOT, "crates", "dev_parts")
     with open(os.path.join(parts, "stdout"), encoding="utf-8") as file:
         stored = bytes(int(it) for line in file if line.startswith("instance ") for it in line.split()[1:])
     with open(os.path.join(parts, "data", "variable.ttf"), "rb") as file:
         variable = file.read()
     with tempfile.TemporaryDirectory(prefix="drivers-") as room:
         rows = Rows(crates, room)
-        for name, font in (("six", program.FONTS["six"]), ("faces", program.TWO_FACES), ("variable", variable)):
-            program.put(room, f"{name}.ttf", font)
+        for name, font in (("six", made_fonts.FONTS["six"]), ("faces", made_fonts.TWO_FACES), ("variable", variable)):
+            running.put(room, f"{name}.ttf", font)
         check_bench(rows, stored)
         check_parts(rows)
     print(f"drivers: {rows.ran} rows, {rows.wrong} differ")

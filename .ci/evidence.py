@@ -13,7 +13,7 @@ import re
 import sys
 
 sys.dont_write_bytecode = True
-sys.path.insert(0, os.path.join(os.path.dirname(os.path.dirname(os.path.realpath(__file__))), "compare"))
+sys.path.insert(0, os.path.join(os.path.dirname(os.path.dirname(os.path.realpath(__file__))), "compare", "lib"))
 
 import comparisons  # noqa: E402
 import figures  # noqa: E402
@@ -39,7 +39,7 @@ def result_files():
 
 def strange_paths():
     """Comparisons that speak of nothing."""
-    return [f"compare/comparisons.py: {it.name} speaks of {path}, where no file is" for it in comparisons.COMPARISONS for path in it.paths
+    return [f"compare/lib/comparisons.py: {it.name} speaks of {path}, where no file is" for it in comparisons.COMPARISONS for path in it.paths
             if not repository.is_there(path)]
 
 

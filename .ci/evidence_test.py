@@ -8,7 +8,7 @@ import subprocess
 import sys
 
 sys.dont_write_bytecode = True
-sys.path.insert(0, os.path.join(os.path.dirname(os.path.dirname(os.path.realpath(__file__))), "compare"))
+sys.path.insert(0, os.path.join(os.path.dirname(os.path.dirname(os.path.realpath(__file__))), "compare", "lib"))
 
 import comparisons  # noqa: E402
 import figures  # noqa: E402
@@ -55,7 +55,7 @@ PLANTS = [
     ("a long cell of EVIDENCE", "docs/EVIDENCE.md", "| widths |", f"| widths {'x' * 300} |", r"docs/EVIDENCE\.md: a cell of 3\d\d characters"),
     ("an unknown figure", "docs/PDF.md", ": sizes -->", ": lengths -->", r"docs/PDF\.md: no figure is called 'lengths'"),
     ("a comment without an end", "docs/PDF.md", "<!-- end -->", "", r"docs/PDF\.md: a comment"),
-    ("paths where nothing is", "compare/comparisons.py", '"bindings/c/*"', '"bindings/cobol/*"', r"speaks of bindings/cobol/\*, where no file is"),
+    ("paths where nothing is", "compare/lib/comparisons.py", '"bindings/c/*"', '"bindings/cobol/*"', r"speaks of bindings/cobol/\*, where no file is"),
 ]
 
 # What functions answer.
@@ -98,7 +98,7 @@ def data_of_another(room):
     """A page whose data file is another commit's, with a sum that is right."""
     first = planted.git(room, "rev-list", "--max-parents=0", "HEAD").split()[0][:9]
     planted.edit(room, "another's data", f"{RESULTS}/cff.csv", re.compile(f"commit {COMMIT}"), f"commit {first}")
-    text = "import sys; sys.path.insert(0, 'compare'); import results_of; results_of.write(results_of.result('times'))"
+    text = "import sys; sys.path.insert(0, 'compare/lib'); import results_of; results_of.write(results_of.result('times'))"
     subprocess.run([sys.executable, "-c", text], cwd=room, env=planted.ENVIRONMENT, check=True)
     ran = planted.run(room, CHECK)
     planted.git(room, "checkout", "-q", "--", ".")

@@ -13,14 +13,17 @@ import sys
 import tempfile
 
 sys.dont_write_bytecode = True
-import program  # noqa: E402
-from program import made  # noqa: E402
+sys.path.insert(0, os.path.join(os.path.dirname(os.path.realpath(__file__)), "program"))
+
+import made_fonts  # noqa: E402
+import running  # noqa: E402
+from made_fonts import made  # noqa: E402
 
 DONE, MALFORMED, NO_SUBSET = "", "malformed font", "subsetting of font failed"
 OVERFLOW, NO_CFF, NO_FONT = "overflow occurred", "processing CFF table failed", "unknown font kind"
 
 
-class Runs(program.Table):
+class Runs(running.Table):
     """Runs of the program in one folder."""
 
     def __init__(self, path, room):
@@ -29,22 +32,22 @@ class Runs(program.Table):
 
     def subset(self, what, font, glyphs, wanted, *options):
         """The subset for a list of glyphs, where the program is to say no more than this on its first line."""
-        program.put(self.room, "in", font)
-        program.put(self.room, "list", glyphs.encode())
-        program.remove(os.path.join(self.room, "out"))
+        running.put(self.room, "in", font)
+        running.put(self.room, "list", glyphs.encode())
+        running.remove(os.path.join(self.room, "out"))
         got = self.start(["--quiet", *options, "--gids-file", "list", "in", "out", "0"], self.room)
         told = got.stderr.decode().split("\n")[0]
-        out = program.take(os.path.join(self.room, "out"))
+        out = running.take(os.path.join(self.room, "out"))
         status = 0 if wanted == DONE else 1
         self.demand((got.returncode, told, got.stdout, out is None) == (status, wanted, b"", wanted != DONE), what,
                     (got.returncode, told, out and len(out)))
         if out is not None:
-            self.demand(program.is_whole(out), what, "it isn't a whole font")
+            self.demand(made_fonts.is_whole(out), what, "it isn't a whole font")
         return out or b""
 
     def keeps(self, what, font, glyphs, *options, **tables):
         """The subset, whose tables of these names have these bytes."""
-        found = program.tables_of(self.subset(what, font, glyphs, DONE, *options)) or {}
+        found = made_fonts.tables_of(self.subset(what, font, glyphs, DONE, *options)) or {}
         for name, wanted in tables.items():
             here = found.get(name, b"")
             self.demand(here == wanted, what, f"the table {name}: {len(here)} bytes, wanted {len(wanted)}")
@@ -168,7 +171,7 @@ def check_charstrings(runs):
         ("65,535 stems", stems(30) + end, stems(32) + end),
         ("a mask of 8,192 bytes", masked + b"\xaa" + end, masked),
     ):
-        table = program.tables_of(runs.subset(what, one_charstring(charstring), "", DONE)).get("CFF ", b"")
+        table = made_fonts.tables_of(runs.subset(what, one_charstring(charstring), "", DONE)).get("CFF ", b"")
         runs.demand(table.endswith(charstring), what, "the charstring isn't the last part of the table")
         runs.subset(f"past {what}", one_charstring(past), "", NO_CFF)
 
@@ -177,17 +180,17 @@ def check_charstrings(runs):
 
 def check_cut(runs):
     """A font that is cut has the error of the place: the first word, the records, the record of `glyf`, whose bytes end at 83."""
-    font = program.SIMPLE
+    font = made_fonts.SIMPLE
     for length in range(len(font)):
         wanted = NO_FONT if length < 4 or 60 <= length < 83 else MALFORMED
         runs.subset(f"cut to {length}", font[:length], "2", wanted)
     out = runs.subset("not cut", font, "2", DONE)
-    runs.demand((len(font), out) == (156, program.SIMPLE_2), "not cut", out)
+    runs.demand((len(font), out) == (156, made_fonts.SIMPLE_2), "not cut", out)
 
 
 def check_outlines(runs):
     """A record outside of the file, offsets that descend, shared bytes, and a composite of itself."""
-    font = program.moved(outlines(b"", [0, 0]), 16)
+    font = made_fonts.moved(outlines(b"", [0, 0]), 16)
     far = font[:4] + made.u16s(4) + font[6:12] + b"head" + made.u32s(0, 0xFFFFFFFF, 54)
     runs.subset("a record outside", far + font[12:], "0", MALFORMED)
     itself = made.composite([1, 1, 1])
@@ -200,7 +203,7 @@ def check_outlines(runs):
 
 def main():
     words = argparse.ArgumentParser(usage=__doc__)
-    words.add_argument("--program", default=os.path.join(program.ROOT, "crates", "subset_font", "out", "subset_font"))
+    words.add_argument("--program", default=os.path.join(running.ROOT, "crates", "subset_font", "out", "subset_font"))
     given = words.parse_args()
     if not os.path.exists(given.program):
         sys.exit(f"large.py: no {given.program}")

@@ -2,7 +2,7 @@
 """Checks that what the documents name is there:
 
 - links: files, folders, and the sections behind `#`, in the same document or another;
-- paths in code marks, and the modules, definitions and laws of the tables in docs/ARCHITECTURE.md; a row there for each crate;
+- paths in code marks, and the modules, definitions and laws of the tables in docs/MODULES.md;
 - in blocks of code: folders that are entered, scripts that are run, their options, and those of `subset_font` (by its help);
 - targets of `make`, in blocks and in code marks;
 - options in code marks: those of `subset_font` in docs/CLI.md, elsewhere ones that some program here has.
@@ -18,7 +18,7 @@ import sys
 
 sys.dont_write_bytecode = True
 ROOT = os.path.dirname(os.path.dirname(os.path.realpath(__file__)))
-sys.path.insert(0, os.path.join(ROOT, "compare"))
+sys.path.insert(0, os.path.join(ROOT, "compare", "lib"))
 
 import repository  # noqa: E402
 
@@ -29,6 +29,7 @@ MARK = re.compile(r"(?<!`)(`+)(?!`)(.+?)(?<!`)\1(?!`)", re.S)
 SHELL = {"", "sh", "bash", "shell", "console"}
 OPTION = re.compile(r"(?<![\w-])--[a-z][a-z-]*[a-z]")
 HELP = "crates/subset_font/src/help.rt"
+MODULES = "docs/MODULES.md"
 missing = []
 
 
@@ -103,7 +104,7 @@ def paths(document, text):
 
 
 def rows_of_sections(text):
-    """The cells of the tables, with the crate and the folders that the tables of ARCHITECTURE name for them."""
+    """The cells of the tables, with the crate and the folders that the tables of MODULES name for them."""
     for section in re.split(r"^## ", text, flags=re.M)[1:]:
         crate = (re.match(r"Where is what in `(crates/\w+)`", section) or [None, None])[1]
         folders = []
@@ -128,15 +129,6 @@ def tables(document, text):
             for name in re.findall(r"`([\w/]+)`", shown) if folder else []:
                 place = os.path.join(crate, folder, name)
                 ask(document, place, place + ".rt", place + ".antt", os.path.join(crate, folder.split("/")[0], name))
-
-
-def crates():
-    """Each crate has a row in docs/ARCHITECTURE.md."""
-    house = repository.read("docs/ARCHITECTURE.md")
-    for line in repository.read("crates.txt").split("\n"):
-        crate = line.split(":")[0].split()[0] if ":" in line and not line.startswith("#") else None
-        if crate and f"| `crates/{crate}` |" not in house:
-            missing.append(f"docs/ARCHITECTURE.md: no row for the crate {crate}")
 
 
 # ---- commands
@@ -281,9 +273,10 @@ def main():
         if not document.startswith("compare/results/"):
             commands(document, text)
             marks(document, text)
-        if document.endswith("ARCHITECTURE.md"):
+        if document == MODULES:
             tables(document, text)
-    crates()
+    if MODULES not in documents:
+        missing.append(f"{MODULES} isn't there")
     found = list(dict.fromkeys(missing))
     print("\n".join([*found, f"{len(found)} missing in {len(documents)} documents"]))
     return not found

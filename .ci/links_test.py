@@ -26,7 +26,7 @@ PLANTS = [
     ("a path in code", "docs/DECISIONS.md", None, "\n`compare/gone.c`\n", r"compare/gone\.c isn't there"),
     ("a path of a crate in code", "docs/DECISIONS.md", None, "\n`subsetter/src/gone.rt`\n", r"subsetter/src/gone\.rt isn't there"),
     ("a path whose name has what isn't looked at in it", "docs/DECISIONS.md", None, "\n`compare/layout.py`\n", r"compare/layout\.py isn't there"),
-    ("the second name of a row", "docs/ARCHITECTURE.md", "`parse`, `face`, `flavor`", "`parse`, `facet`, `flavor`", r"subsetter_sfnt/src/facet isn't there"),
+    ("the second name of a row", "docs/MODULES.md", "`parse`, `face`, `flavor`", "`parse`, `facet`, `flavor`", r"subsetter_sfnt/src/facet isn't there"),
     ("a target of make in code", "docs/PACKAGES.md", None, "\n`make nothing`\n", r"make has no target nothing"),
     ("a target of make in a block", "README.md", None, "\n```sh\nmake never\n```\n", r"make has no target never in \.$"),
     ("a target of another folder", "README.md", None, "\n```sh\nmake -C bindings/c page\n```\n", r"make has no target page in bindings/c"),
@@ -42,7 +42,6 @@ PLANTS = [
     ("an option alone in CLI.md", "docs/CLI.md", None, "\n`--no-widths`\n", r"nothing has the option --no-widths"),
     ("an option that goes", "crates/subset_font/src/help.rt", "  --quiet  ", "  --silent ", r"nothing has the option --quiet"),
     ("marks of a merge", "docs/WALK.md", None, "\n<<<<<<< HEAD\n", r"docs/WALK\.md: a merge left its marks"),
-    ("a crate without a row", "crates.txt", None, "\ngone: subsetter\n", r"no row for the crate gone"),
 ]
 
 

@@ -194,7 +194,7 @@ PLANTS = [
     ("refusals of an unproved crate count", "the crate isn't proved", "if not re.search(UNPROVED, printed) else {}", ""),
     ("results come at the end", "a run that is cut off", "            keep(sums, said)\n", "            if at + AT_ONCE >= len(names):\n                keep(sums, said)\n"),
     ("half a line goes on", "a run that is cut off", '"\\n" + json.dumps(', "json.dumps("),
-    ("--anew takes what is kept", "all are refused", 'if "--anew" not in sys.argv[1:]', "if True"),
+    ("--anew takes what is kept", "all are refused", "{} if given.anew else kept()", "kept()"),
     ("earlier survivors aren't counted", "one survives", "if len(refused) == count else", "if len(refused) == count or not left else"),
     ("a group's edits stay for the next", "all are refused", "    shutil.rmtree(folder, ignore_errors=True)\n    os.makedirs(folder)", "    os.makedirs(folder, exist_ok=True)"),
 ]

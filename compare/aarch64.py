@@ -14,10 +14,11 @@ import sys
 import tarfile
 import tempfile
 
-import fonts
+sys.path.insert(0, os.path.join(os.path.dirname(os.path.realpath(__file__)), "lib"))
 
-HERE = os.path.dirname(os.path.realpath(__file__))
-ROOT = os.path.dirname(HERE)
+import build  # noqa: E402
+import fonts  # noqa: E402
+
 FOLDERS = ["/usr/share/fonts", "/usr/share/texmf/fonts"]
 # The compiler and what runs its programs, for each processor.
 BY = {"x86_64": ("cc", []), "aarch64": ("aarch64-linux-gnu-gcc", ["qemu-aarch64-static", "-L", "/usr/aarch64-linux-gnu"])}
@@ -42,7 +43,7 @@ def program(processor, folder, version, room):
         tar.extractall(room)
     made, here = os.path.join(room, f"sweep-{processor}"), os.path.join(room, name)
     words = [BY[processor][0], "-O2", "-Wall", "-Wextra", "-Werror", "-std=c11", f"-I{here}/include"]
-    subprocess.run([*words, os.path.join(HERE, "sweep.c"), f"{here}/lib/libsubsetter.a", "-o", made], check=True)
+    subprocess.run([*words, os.path.join(build.DRIVERS, "sweep.c"), f"{here}/lib/libsubsetter.a", "-o", made], check=True)
     return [*BY[processor][1], made]
 
 
@@ -52,11 +53,11 @@ def answers(words, line, room):
 
 
 def main():
-    words = argparse.ArgumentParser(usage=__doc__)
-    words.add_argument("--fonts", type=int, default=200)
-    words.add_argument("--from", dest="folder", default=os.path.join(ROOT, "dist", "out"))
+    words = argparse.ArgumentParser(description=__doc__, formatter_class=argparse.RawDescriptionHelpFormatter)
+    words.add_argument("--fonts", type=int, default=200, metavar="N", help="so many fonts, spread over all")
+    words.add_argument("--from", dest="folder", default=os.path.join(build.ROOT, "dist", "out"), metavar="FOLDER", help="where the packages are")
     given = words.parse_args()
-    with open(os.path.join(ROOT, "VERSION"), encoding="utf-8") as file:
+    with open(os.path.join(build.ROOT, "VERSION"), encoding="utf-8") as file:
         version = file.read().strip()
     taken, differ, size, refused, calls = installed(given.fonts), [], 0, 0, 0
     with tempfile.TemporaryDirectory(prefix="aarch64-") as room:

@@ -3,7 +3,7 @@
 
     compare/again.py [--faces N] [--program FILE] [--verify FILE] [--no-install]
 
-It needs Debian with fonts installed (those of fonts.py are, unless --no-install), fontTools, and dev_bench, which
+It needs Debian with fonts installed (those of lib/fonts.py are, unless --no-install), fontTools, and dev_bench, which
 `rt run` builds in crates/dev_bench (--program names another).
 
     chain        five subsets, each of the one before, of a TrueType font, of a SID-keyed and of a CID-keyed one: each
@@ -24,13 +24,13 @@ import subprocess
 import sys
 import tempfile
 
-from fontTools.pens.recordingPen import DecomposingRecordingPen
-from fontTools.ttLib import TTFont
+sys.path.insert(0, os.path.join(os.path.dirname(os.path.realpath(__file__)), "lib"))
 
-import build
-import cff
-import fonts
-from fonts import directory, label, u16, u32
+import build  # noqa: E402
+import cff  # noqa: E402
+import fonts  # noqa: E402
+from fonts import label, u16, u32  # noqa: E402
+from outlines import charstrings, drawing, kind, table  # noqa: E402
 
 FOLDERS = ["/usr/share/fonts", "/usr/share/texmf/fonts"]
 CHAINS = [
@@ -51,25 +51,6 @@ def subset(program, path, index, glyphs, out):
         return file.read()
 
 
-def table(data, tag, index=0):
-    found = directory(data, index).get(tag)
-    return None if found is None else data[found[0]:found[0] + found[1]]
-
-
-def charstrings(data):
-    """The charstrings of a font's CFF table."""
-    found = cff.charstrings(table(data, "CFF "))
-    return [found.item(k) for k in range(found.count)]
-
-
-def kind(data, index):
-    """`TrueType`, `SID`, `CID`, or nothing for a font without such outlines."""
-    if table(data, "glyf", index) is not None:
-        return "TrueType"
-    outlines = table(data, "CFF ", index)
-    return None if outlines is None else "CID" if cff.is_keyed(outlines) else "SID"
-
-
 def count(data):
     """How many glyphs a font has."""
     loca = table(data, "loca")
@@ -80,14 +61,11 @@ def count(data):
 
 # ---- the chain
 
-def drawing(font, name):
-    pen = DecomposingRecordingPen(font)
-    font[name].draw(pen)
-    return pen.value, font[name].width
-
 
 def draws_alike(first, index, out, glyphs):
     """The glyphs of a file that don't draw as their sources."""
+    from fontTools.ttLib import TTFont
+
     old, new = TTFont(first, fontNumber=index, lazy=True), TTFont(out, lazy=True)
     before, after = old.getGlyphSet(), new.getGlyphSet()
     names = old.getGlyphOrder(), new.getGlyphOrder()
@@ -173,10 +151,10 @@ def fixed_point(program, path, index, room):
 
 def main():
     parser = argparse.ArgumentParser(description=__doc__, formatter_class=argparse.RawDescriptionHelpFormatter)
-    parser.add_argument("--faces", type=int, default=200)
-    parser.add_argument("--program", default=build.BENCH)
+    parser.add_argument("--faces", type=int, default=200, metavar="N", help="so many faces, spread over all")
+    parser.add_argument("--program", default=build.BENCH, metavar="FILE", help="in place of what is built")
     parser.add_argument("--verify")
-    parser.add_argument("--no-install", action="store_true")
+    parser.add_argument("--no-install", action="store_true", help="install no packages")
     words = parser.parse_args()
     if not words.no_install:
         fonts.install([it[0] for it in fonts.TRUETYPE_FONTS + fonts.CFF_FONTS])

@@ -7,7 +7,7 @@ The three drivers are dev_bench (the port, called by Rattle), the original's dri
 Rust binding (compare/binding, which differs in one line of its manifest). Each font is subset to few glyphs by the three
 in turns, so that what a call costs besides its work is seen best; the row says the least time of N calls (2000) in five
 rounds in nanoseconds, and whether the bytes are the same. It needs what compare/run.py needs, and `make` in bindings/c.
-Without ORIGINAL that driver is left out.
+Without ORIGINAL that driver is left out. The status is 1 where a driver can't be built.
 """
 import argparse
 import os
@@ -15,8 +15,11 @@ import subprocess
 import sys
 import tempfile
 
-import build
-from fonts import OPENTYPE, TRUETYPE
+sys.path.insert(0, os.path.join(os.path.dirname(os.path.realpath(__file__)), "lib"))
+
+import bench  # noqa: E402
+import build  # noqa: E402
+from fonts import OPENTYPE, TRUETYPE  # noqa: E402
 
 FONTS = [
     (f"{TRUETYPE}/dejavu/DejaVuSans.ttf", 0),
@@ -28,18 +31,12 @@ FONTS = [
 GLYPHS = [("3", "36-38"), ("80", "1-80")]
 
 
-def build_binding():
-    """The driver over the binding, and the library under it."""
-    build.library()
-    return build.cargo("binding")
-
-
 def drivers_of(wanted):
     """The drivers by their names."""
     if wanted:
         build.program(build.BENCH)
     drivers = {"port": build.BENCH} if os.path.exists(build.BENCH) else {}
-    drivers["binding"] = build_binding() if wanted else build.cargo_driver("binding")
+    drivers["binding"] = bench.build_binding() if wanted else build.cargo_driver("binding")
     if os.environ.get("ORIGINAL"):
         if wanted:
             subprocess.run([sys.executable, os.path.join(build.HERE, "assemble.py")], check=True)
@@ -69,9 +66,9 @@ def row(drivers, path, index, glyphs, calls, room):
 
 
 def main():
-    parser = argparse.ArgumentParser()
-    parser.add_argument("--calls", type=int, default=2000)
-    parser.add_argument("--no-build", action="store_true")
+    parser = argparse.ArgumentParser(description=__doc__, formatter_class=argparse.RawDescriptionHelpFormatter)
+    parser.add_argument("--calls", type=int, default=2000, metavar="N", help="times the least of N calls")
+    parser.add_argument("--no-build", action="store_true", help="take the drivers that are there")
     words = parser.parse_args()
     drivers = drivers_of(not words.no_build)
     print("| Font | Glyphs | " + " | ".join(f"{name}, ns" for name in drivers) + " | Bytes |")

@@ -6,7 +6,7 @@
 Of each font the glyphs that run.py times are kept, by `subset_font`: as it stands, and without hinting, names and glyph
 names. FILE is the program (that of `cargo build --release --features program` in bindings/rust is built and taken else).
 It prints a table in Markdown, and with --results writes it to FOLDER/bytes.csv, with the commit, the date and the machine
-in its first line. Needs Debian (fonts.py names the packages) and Cargo. The status is 1 where a font was refused, or where
+in its first line. Needs Debian (lib/fonts.py names the packages) and Cargo. The status is 1 where a font was refused, or where
 the bytes aren't those of run.py's row in FOLDER.
 """
 import argparse
@@ -17,9 +17,11 @@ import subprocess
 import sys
 import tempfile
 
-import build
-import fonts
-import results_of
+sys.path.insert(0, os.path.join(os.path.dirname(os.path.realpath(__file__)), "lib"))
+
+import build  # noqa: E402
+import fonts  # noqa: E402
+import results_of  # noqa: E402
 
 PORTABLE = os.path.join(build.ROOT, "bindings", "rust")
 # Of each font the glyphs that are like a text of its own: low numbers for Latin, spread ones for Chinese.
@@ -74,9 +76,9 @@ def write(folder, rows):
 
 def main():
     parser = argparse.ArgumentParser(description=__doc__, formatter_class=argparse.RawDescriptionHelpFormatter)
-    parser.add_argument("--program")
-    parser.add_argument("--results")
-    parser.add_argument("--no-install", action="store_true")
+    parser.add_argument("--program", metavar="FILE", help="in place of what is built")
+    parser.add_argument("--results", metavar="FOLDER", help="write the figures there as CSV")
+    parser.add_argument("--no-install", action="store_true", help="install no packages")
     given = parser.parse_args()
     if not given.no_install:
         packages = {os.path.basename(path): package for package, path, _ in fonts.TRUETYPE_FONTS + fonts.CFF_FONTS}

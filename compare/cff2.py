@@ -23,28 +23,26 @@ It compares
 A glyph that the port refuses is counted as a difference. The last line says how many were compared, and the status is 1
 where one differs, or nothing was compared.
 """
-import fractions
 import glob
-import itertools
 import math
 import os
 import random
 import subprocess
 import sys
 
-import build
-import by_font
-import fonts
-import instance
+sys.path.insert(0, os.path.join(os.path.dirname(os.path.realpath(__file__)), "lib"))
+
+import build  # noqa: E402
+import by_font  # noqa: E402
+import font_at  # noqa: E402
+import fonts  # noqa: E402
+from cff2_exact import ADVANCE, UNIT, Source, drawn, drawn_exactly, half_up, hints, rounded_hints, written  # noqa: E402
 
 PACKAGES = ["libharfbuzz0b", "python3-fonttools"]
 OWN = os.path.join(build.ROOT, "crates", "dev_parts", "data")
-UNIT = 2 ** 30
 NEAR_A_HALF = 0.001
 # A contour whose end is as near to its beginning is closed, in floats.
 CLOSED = 0.01
-# The advance that is requested of each glyph: a number that no glyph has by chance.
-ADVANCE = 1234
 # A program is given so many glyphs at a time.
 GLYPHS_AT_ONCE = 200
 # Real fonts, of which all glyphs have to be compared.
@@ -81,202 +79,9 @@ def port_glyphs(program, path, glyphs, at):
     return answers
 
 
-# ---- fontTools, and exact fractions
-
-def scalar(region, at):
-    """The scalar of a region at normalized coordinates, as a fraction (OpenType, "Algorithm for interpolation of instance values")."""
-    product = fractions.Fraction(1)
-    for axis, coordinate in zip(region.VarRegionAxis, at):
-        start, peak, end = [round(value * 16384) for value in (axis.StartCoord, axis.PeakCoord, axis.EndCoord)]
-        if start > peak or peak > end or (start < 0 < end and peak != 0) or peak == 0 or coordinate == peak:
-            continue
-        if coordinate <= start or coordinate >= end:
-            return fractions.Fraction(0)
-        product *= fractions.Fraction(coordinate - start, peak - start) if coordinate < peak else fractions.Fraction(end - coordinate, end - peak)
-    return product
-
-
-def recorder():
-    """A reader of charstrings that keeps each operator with its operands and its mask. (The class needs fontTools, which may have
-    to be installed first.)"""
-    from fontTools.misc import psCharStrings
-
-    opcodes = {name: code if isinstance(code, tuple) else (code,) for code, name in psCharStrings.t2Operators}
-
-    class Recorder(psCharStrings.SimpleT2Decompiler):
-        def note(self, name, mask=b""):
-            self.events.append((opcodes[name], [fractions.Fraction(value) for value in self.operandStack], mask))
-
-        def __getattr__(self, name):
-            if not name.startswith("op_"):
-                raise AttributeError(name)
-
-            def drawing(index):
-                self.note(name[3:])
-                self.popall()
-
-            return drawing
-
-        def stems(self, name):
-            self.note(name)
-            self.countHints()
-
-        def op_hstem(self, index):
-            self.stems("hstem")
-
-        def op_vstem(self, index):
-            self.stems("vstem")
-
-        def op_hstemhm(self, index):
-            self.stems("hstemhm")
-
-        def op_vstemhm(self, index):
-            self.stems("vstemhm")
-
-        def masked(self, name, index):
-            operands = list(self.operandStack)
-            mask, index = super().op_hintmask(index)
-            self.events.append((opcodes[name], [fractions.Fraction(value) for value in operands], mask))
-            return mask, index
-
-        # (fontTools takes the private dict's data where those of a charstring have no regions)
-        def op_vsindex(self, index):
-            self.vsIndex = self.pop()
-
-        def op_blend(self, index):
-            count = self.pop()
-            regions = self.regions(self.vsIndex)
-            base = len(self.operandStack) - count * (regions + 1)
-            values, deltas = self.operandStack[base:base + count], self.operandStack[base + count:]
-            self.operandStack[base:] = [value + self.shared(self.vsIndex, deltas[k * regions:(k + 1) * regions]) for k, value in enumerate(values)]
-
-        def op_hintmask(self, index):
-            return self.masked("hintmask", index)
-
-        def op_cntrmask(self, index):
-            return self.masked("cntrmask", index)
-
-    return Recorder
-
-
-class Source:
-    """A font, as fontTools reads it."""
-
-    def __init__(self, path):
-        from fontTools.ttLib import TTFont
-
-        self.font = TTFont(path, lazy=True)
-        self.top = self.font["CFF2"].cff.topDictIndex[0]
-        self.count = len(self.top.CharStrings.charStringsIndex)
-        self.axes = len(self.font["fvar"].axes) if "fvar" in self.font else 0
-        self.recorder = recorder()
-        self.scalars = {}
-
-    def share(self, data, deltas, at):
-        """The sum of the deltas by the scalars of the regions of item variation data."""
-        key = (data, tuple(at))
-        if key not in self.scalars:
-            store = self.top.VarStore.otVarStore
-            regions = store.VarRegionList.Region
-            self.scalars[key] = [scalar(regions[k], at) for k in store.VarData[data].VarRegionIndex]
-        return sum((s * fractions.Fraction(delta) for s, delta in zip(self.scalars[key], deltas)), fractions.Fraction(0))
-
-    def events(self, glyph, at=None):
-        """The operators of a glyph: with the defaults of its blends, or exactly at coordinates."""
-        charstring = self.top.CharStrings.charStringsIndex[glyph]
-        private = charstring.private
-        reader = self.recorder(getattr(private, "Subrs", []), charstring.globalSubrs, private)
-        reader.events = []
-        reader.regions = lambda data: len(self.top.VarStore.otVarStore.VarData[data].VarRegionIndex)
-        reader.shared = lambda data, deltas: 0 if at is None else self.share(data, deltas, at)
-        reader.vsIndex = getattr(private, "vsindex", None) or 0
-        reader.execute(charstring)
-        return reader.events
-
-
-class Pen:
-    """Keeps a path."""
-
-    def __init__(self):
-        self.path = []
-
-    def moveTo(self, p):
-        self.path.append(("move_to", *p))
-
-    def lineTo(self, p):
-        self.path.append(("line_to", *p))
-
-    def curveTo(self, *points):
-        self.path.append(("cubic_to", *[value for p in points for value in p]))
-
-    def closePath(self):
-        pass
-
-    endPath = closePath
-
-
-def drawn(charstring):
-    """The path and the width of a charstring without subroutines, as fontTools draws it."""
-    from fontTools.misc import psCharStrings
-
-    pen = Pen()
-    extractor = psCharStrings.T2OutlineExtractor(pen, [], [], 0, 0)
-    extractor.execute(psCharStrings.T2CharString(bytecode=charstring))
-    return pen.path, extractor.width
-
-
-def drawn_exactly(events):
-    """The path of exact operators, as fontTools draws them."""
-    from fontTools.misc import psCharStrings
-
-    class Exact(psCharStrings.T2OutlineExtractor):
-        def execute_event(self, name, operands):
-            self.operandStack = list(operands)
-            getattr(self, f"op_{name}")(0)
-
-    names = {code if isinstance(code, tuple) else (code,): name for code, name in psCharStrings.t2Operators}
-    pen = Pen()
-    exact = Exact(pen, [], [], 0, 0)
-    exact.reset()
-    # (a CFF2 charstring has no width)
-    exact.gotWidth = 1
-    exact.width = 0
-    for code, operands, _ in events:
-        name = names[code]
-        if "stem" not in name and "mask" not in name:
-            exact.execute_event(name, operands)
-    return pen.path
-
-
-def written(charstring):
-    """The operators of a charstring without subroutines, but for `endchar`."""
-    from fontTools.misc import psCharStrings
-
-    reader = recorder()([], [])
-    reader.events = []
-    reader.execute(psCharStrings.T2CharString(bytecode=charstring))
-    return reader.events
-
-
-def hints(events, width=0):
-    """The edges of stems in their order, horizontal and vertical ones, and the masks; so many operands in front are the width."""
-    found = {"horizontal": [], "vertical": [], "masks": []}
-    for number, (code, operands, mask) in enumerate(events):
-        kind = {(1,): "horizontal", (18,): "horizontal", (3,): "vertical", (23,): "vertical", (19,): "vertical", (20,): "vertical"}.get(code)
-        if kind:
-            found[kind] += itertools.accumulate(operands[width if number == 0 else 0:])
-        if mask:
-            found["masks"].append((code, mask))
-    return found
-
-
-def rounded_hints(found):
-    return {kind: these if kind == "masks" else [half_up(edge) for edge in these] for kind, these in found.items()}
-
-
 # ---- HarfBuzz
 
-class HarfBuzz(instance.HarfBuzz):
+class HarfBuzz(font_at.HarfBuzz):
     """A font of HarfBuzz's library, drawn with its cubic curves."""
 
     def __init__(self, path):
@@ -285,9 +90,6 @@ class HarfBuzz(instance.HarfBuzz):
 
 
 # ---- what is compared
-
-def half_up(v):
-    return math.floor(v + fractions.Fraction(1, 2))
 
 
 def is_near_a_half(v):
@@ -409,7 +211,7 @@ def font_paths(folders, only):
 def versions():
     from fontTools import version
 
-    return f"{instance.harfbuzz_version()}, fontTools {version}"
+    return f"{font_at.harfbuzz_version()}, fontTools {version}"
 
 
 def lacking(words, paths):
@@ -420,8 +222,8 @@ def lacking(words, paths):
 
 def main():
     parser = by_font.parser(__doc__, glyphs=0)
-    parser.add_argument("--program", default=build.PARTS)
-    parser.add_argument("--no-install", action="store_true")
+    parser.add_argument("--program", default=build.built("dev_parts"), metavar="FILE", help="in place of what is built")
+    parser.add_argument("--no-install", action="store_true", help="install no packages")
     words = parser.parse_args()
     if not words.no_install:
         fonts.install(PACKAGES)
@@ -430,7 +232,7 @@ def main():
     if lacking(words, paths):
         sys.exit(f"cff2.py: {' and '.join(lacking(words, paths))} lacks")
     reports = by_font.reports(words, compare_font, paths)
-    print(f"Commit {instance.commit()}; {versions()}; seed {words.seed}, {words.places} locations.\n")
+    print(f"Commit {font_at.commit()}; {versions()}; seed {words.seed}, {words.places} locations.\n")
     print("| Font | Glyphs at the default | Glyphs at locations | Coordinates | Of them near a half | Edges of stems | Differ |\n|---|---|---|---|---|---|---|")
     for it in reports:
         print(f"| {it.label} | {it.defaults} | {it.drawn} | {it.coordinates} | {it.halves} | {it.edges} | {len(it.wrong)} |")

@@ -1,6 +1,6 @@
 #!/usr/bin/env python3
 """Compares the public contracts of two checkouts, each a folder or a commit: contracts.py OLD NEW [--names FILE] [--quiet]
-With --twins [TREE] it lists instead what stands twice: definitions of specs, and functions with equal bodies (twins.py).
+With --twins [TREE] it lists instead what stands twice: definitions of specs, and functions with equal bodies (lib/twins.py).
 
 What is compared, in the crates that crates.txt lists: of each public function and method its signature and its clauses by
 their names; public types with their fields, ghost fields and derives; traits; instances with their ghost members (models) and
@@ -25,6 +25,8 @@ import sys
 import tempfile
 
 sys.dont_write_bytecode = True
+
+sys.path.insert(0, os.path.join(os.path.dirname(os.path.realpath(__file__)), "lib"))
 
 import rattle_tree  # noqa: E402
 import twins  # noqa: E402
@@ -142,7 +144,7 @@ class Comparison:
     def run(self):
         roots, taken = self.old.roots(), set()
         for id in roots:
-            new = None if id in self.names.gone else self.find(id)
+            new = self.find(id)
             if new is None:
                 if id not in self.names.gone:
                     self.differ(f"{id}: it isn't in the new checkout", self.shown(self.old, id))

@@ -1,5 +1,8 @@
 #!/usr/bin/env python3
-"""Plants changes in a small repository, of which contracts.py has to see those that change a contract, and no other."""
+"""Plants changes in a small repository, of which contracts.py has to see those that change a contract, and no other: compare/contracts_test.py
+
+The status is 1 where one isn't seen, or another is."""
+import argparse
 import contextlib
 import io
 import os
@@ -317,4 +320,5 @@ def main():
 
 
 if __name__ == "__main__":
+    argparse.ArgumentParser(description=__doc__, formatter_class=argparse.RawDescriptionHelpFormatter).parse_args()
     sys.exit(0 if main() else 1)

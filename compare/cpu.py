@@ -4,7 +4,7 @@
 It compiles the driver dev_bench twice from what is proved, for x86-64 and for x86-64-v2, and times both on the fonts and
 glyphs of `run.py --all`, in N (8) rounds that take turns. It prints a row for each case with the least nanoseconds of a call,
 then the sums and the mean ratio, and writes them to results/cpu.csv. The packages are built for x86-64 as long as that
-costs at most 5 % of the sum. `rt check` in crates/dev_bench comes first; the drivers are left in FOLDER, or taken from it.
+costs at most 5 % of the sum; the status is 1 where it costs more. `rt check` in crates/dev_bench comes first; the drivers are left in FOLDER, or taken from it.
 """
 import argparse
 import math
@@ -13,8 +13,10 @@ import subprocess
 import sys
 import tempfile
 
-import fonts
-import run
+sys.path.insert(0, os.path.join(os.path.dirname(os.path.realpath(__file__)), "lib"))
+
+import bench  # noqa: E402
+import fonts  # noqa: E402
 
 HERE = os.path.dirname(os.path.realpath(__file__))
 ROOT = os.path.dirname(HERE)
@@ -42,20 +44,20 @@ def measured(programs, taken, seconds, room):
     for _, path, index in taken:
         for name, glyphs in fonts.glyph_sets(fonts.glyph_count(path, index)):
             timed = {it: (program, [path, index, glyphs]) for it, program in programs.items()}
-            least = run.least_times(timed, seconds, room)
+            least = bench.least_times(timed, seconds, room)
             if len(least) == len(programs):
                 yield [fonts.label(path, index), name, *[least[it][0] for it in programs]]
 
 
 def main():
-    words = argparse.ArgumentParser(usage=__doc__)
-    words.add_argument("--seconds", type=float, default=0.03)
-    words.add_argument("--rounds", type=int, default=run.ROUNDS)
-    words.add_argument("--only", default="")
-    words.add_argument("--no-install", action="store_true")
-    words.add_argument("--keep")
+    words = argparse.ArgumentParser(description=__doc__, formatter_class=argparse.RawDescriptionHelpFormatter)
+    words.add_argument("--seconds", type=float, default=0.03, metavar="S", help="seconds for each case and round")
+    words.add_argument("--rounds", type=int, default=bench.ROUNDS, metavar="N", help="rounds that take turns")
+    words.add_argument("--only", default="", metavar="WORD", help="take those whose names have this word")
+    words.add_argument("--no-install", action="store_true", help="install no packages")
+    words.add_argument("--keep", metavar="FOLDER", help="leave the files there")
     given = words.parse_args()
-    run.ROUNDS = given.rounds
+    bench.ROUNDS = given.rounds
     taken = [it for it in fonts.TRUETYPE_FONTS + fonts.CFF_FONTS if given.only in it[1]]
     if not given.no_install:
         fonts.install(["time", *[it[0] for it in taken]])

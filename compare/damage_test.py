@@ -1,10 +1,11 @@
 #!/usr/bin/python3
-"""Plants wrong answers in the port's driver, which damage.py --kinds has to tell: damage_test.py [--copies N]
+"""Plants wrong answers in the port's driver, which damage.py --kinds has to report: compare/damage_test.py [--copies N]
 
-Each plant is a program that asks the port's driver and changes some of its lines. ORIGINAL isn't needed, as the driver of the
-crate has to be built already (`compare/damage.py` builds both). The status is 1 where a plant isn't told, or the driver
+Each plant is a program that calls the port's driver and changes some of its lines. ORIGINAL isn't needed, as the driver of the
+crate has to be built already (`compare/damage.py` builds both). The status is 1 where a plant isn't reported, or the driver
 as it is has an answer that isn't explained.
 """
+import argparse
 import contextlib
 import io
 import os
@@ -12,9 +13,11 @@ import stat
 import sys
 import tempfile
 
-import build
-import damage
-import run
+sys.path.insert(0, os.path.join(os.path.dirname(os.path.realpath(__file__)), "lib"))
+
+import bench  # noqa: E402
+import build  # noqa: E402
+import damage  # noqa: E402
 
 # Name, and what is done to the lines (`lines`, numbered from 0) of a list.
 PLANTS = [
@@ -39,11 +42,13 @@ def lying(room, change):
 
 
 def main():
-    copies = sys.argv[2] if sys.argv[1:2] == ["--copies"] else "2000"
+    words = argparse.ArgumentParser(description=__doc__, formatter_class=argparse.RawDescriptionHelpFormatter)
+    words.add_argument("--copies", default="2000", metavar="N", help="damaged copies for each plant")
+    copies = words.parse_args().copies
     through = 0
     for name, change in PLANTS:
         with tempfile.TemporaryDirectory(prefix="plants-") as room:
-            run.PORT = lying(room, change)
+            bench.PORT = lying(room, change)
             sys.argv = ["damage.py", "--kinds", "--no-build", "--copies", copies, "--seed", "plants"]
             told, status = io.StringIO(), 0
             with contextlib.redirect_stdout(told), contextlib.redirect_stderr(io.StringIO()):

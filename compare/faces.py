@@ -5,7 +5,7 @@
 
 Each face of the files below /usr/share that end in .ttf, .otf or .ttc is subset to four lists of glyphs (none but 0, 3, 40
 and 400 spread over it), by both drivers. The answers are the same bytes, or the same error, or one of the differences that
-explain.py knows stands in the font; else the status is 1. With N only as many faces are taken, spread over all.
+lib/explain.py knows stands in the font; else the status is 1. With N only as many faces are taken, spread over all.
 """
 import argparse
 import collections
@@ -15,27 +15,15 @@ import sys
 import tempfile
 from concurrent.futures import ThreadPoolExecutor
 
-import explain
-import fonts
-from damage import ROOM, answers_of, kind_of, names_of
-from fonts import u16, u32
+sys.path.insert(0, os.path.join(os.path.dirname(os.path.realpath(__file__)), "lib"))
+
+import bench  # noqa: E402
+import explain  # noqa: E402
+import fonts  # noqa: E402
+from damaged import ROOM, answers_of, kind_of, names_of  # noqa: E402
+from fonts import u16, u32  # noqa: E402
 
 SIZES = (0, 3, 40, 400)
-
-
-def faces():
-    """Each face of the machine, as a path and an index."""
-    found = []
-    for folder, _, names in sorted(os.walk("/usr/share")):
-        for name in sorted(names):
-            path = os.path.join(folder, name)
-            if not name.lower().endswith((".ttf", ".otf", ".ttc")) or os.path.islink(path):
-                continue
-            with open(path, "rb") as file:
-                head = file.read(12)
-            count = u32(head, 8) if head[:4] == b"ttcf" else 1
-            found += [(path, index) for index in range(count)]
-    return found
 
 
 def glyphs_of(data, index):
@@ -72,18 +60,16 @@ def judged(drivers, face):
 
 
 def main():
-    words = argparse.ArgumentParser(usage=__doc__)
-    words.add_argument("--no-build", action="store_true")
-    words.add_argument("--faces", type=int, default=0)
-    words.add_argument("--jobs", type=int, default=2)
+    words = argparse.ArgumentParser(description=__doc__, formatter_class=argparse.RawDescriptionHelpFormatter)
+    words.add_argument("--no-build", action="store_true", help="take what is built")
+    words.add_argument("--faces", type=int, default=0, metavar="N", help="so many faces, spread over all")
+    words.add_argument("--jobs", type=int, default=2, metavar="J", help="so many at a time")
     given = words.parse_args()
-    import run
-
     fonts.install(fonts.TOOLS + [it[0] for it in fonts.TRUETYPE_FONTS + fonts.CFF_FONTS])
     if not given.no_build:
-        run.build_all(False, False)
-    drivers = {"original": run.ORIGINAL, "port": run.PORT}
-    found = faces()
+        bench.build_all(False, False)
+    drivers = {"original": bench.ORIGINAL, "port": bench.PORT}
+    found = fonts.faces()
     if given.faces and len(found) > given.faces:
         found = [found[k * len(found) // given.faces] for k in range(given.faces)]
     rows, unexplained = collections.Counter(), []

@@ -6,7 +6,7 @@
                                         takes what such a run of a commit printed, and its minutes
 
 Only a gate that passed is recorded: the last line of what it printed is `N passed, 0 failed`, and no part failed or was left
-out. What was skipped has to be named, and the record names it.
+out. What was skipped has to be named, and the record names it. The status is 1 where none is recorded.
 """
 import argparse
 import datetime
@@ -17,14 +17,14 @@ import sys
 import tempfile
 import time
 
-sys.path.insert(0, os.path.dirname(os.path.realpath(__file__)))
+sys.path.insert(0, os.path.join(os.path.dirname(os.path.realpath(__file__)), "lib"))
 
 import comparisons  # noqa: E402
 import figures  # noqa: E402
 import repository  # noqa: E402
 import results_of  # noqa: E402
 
-CODE = ("crates", "crates.txt", "bindings", "dist", ".ci", "compare/*.py", "Makefile")
+CODE = ("crates", "crates.txt", "bindings", "dist", ".ci", "compare", ":!compare/results", ":!compare/README.md", "Makefile")
 
 
 def run(words):
@@ -83,9 +83,9 @@ def record(lines, minutes, commit, date, command):
 def main():
     parser = argparse.ArgumentParser(description=__doc__, formatter_class=argparse.RawDescriptionHelpFormatter)
     parser.add_argument("words", nargs="*", metavar="SKIP=NAME,..")
-    parser.add_argument("--from", dest="log")
-    parser.add_argument("--minutes", type=int)
-    parser.add_argument("--commit")
+    parser.add_argument("--from", dest="log", metavar="LOG", help="what a gate printed")
+    parser.add_argument("--minutes", type=int, metavar="N", help="how long it took")
+    parser.add_argument("--commit", metavar="HASH", help="its commit")
     given = parser.parse_args()
     if len({bool(given.log), given.minutes is not None, bool(given.commit)}) != 1:
         parser.error("--from, --minutes and --commit go together")

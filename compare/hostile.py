@@ -13,7 +13,7 @@ among them (counted by peak.c). The fonts:
 
 --instructions counts the instructions of a call, too (valgrind).
 
---families takes more fonts (families.py) and the program subset_font, without a bound on the bytes of the new font and with
+--families takes more fonts (lib/families.py) and the program subset_font, without a bound on the bytes of the new font and with
 each of --bytes (1,000,000 and 64,000,000), and prints the time of the whole process on the processor and what it has held at most. The status
 is 1 where that is more than the source, three times the bound and 256 bytes for each asked glyph; the program's own words
 are some 20,000 bytes of that. The last column is the time divided by the bytes of the source, those of the bound (or of the
@@ -27,10 +27,12 @@ import subprocess
 import sys
 import tempfile
 
-import build
-import families
-from build import BENCH, BUILD
-from families import TOKENS, calls_font, crowd_font, masks_font, numbers_font
+sys.path.insert(0, os.path.join(os.path.dirname(os.path.realpath(__file__)), "lib"))
+
+import build  # noqa: E402
+import families  # noqa: E402
+from build import BENCH, BUILD  # noqa: E402
+from families import TOKENS, calls_font, crowd_font, masks_font, numbers_font  # noqa: E402
 
 COUNTER = os.path.join(BUILD, "peak.so")
 BOUNDS = (1000000, 64000000)
@@ -135,12 +137,12 @@ def all_families(bounds, only):
 
 
 def main():
-    words = argparse.ArgumentParser(usage=__doc__)
-    words.add_argument("--no-build", action="store_true")
-    words.add_argument("--instructions", action="store_true")
-    words.add_argument("--families", action="store_true")
-    words.add_argument("--bytes", type=int, nargs="*", default=BOUNDS)
-    words.add_argument("--only", default="")
+    words = argparse.ArgumentParser(description=__doc__, formatter_class=argparse.RawDescriptionHelpFormatter)
+    words.add_argument("--no-build", action="store_true", help="take what is built")
+    words.add_argument("--instructions", action="store_true", help="count instructions, too")
+    words.add_argument("--families", action="store_true", help="more fonts, under bounds on the new font")
+    words.add_argument("--bytes", type=int, nargs="*", default=BOUNDS, metavar="N", help="bounds, with --families")
+    words.add_argument("--only", default="", metavar="WORD", help="take those whose names have this word")
     given = words.parse_args()
     if not given.no_build:
         build.preload("peak.c", to="peak.so")

@@ -28,25 +28,20 @@ table with the commit, which --to writes to a file and --results as instance.csv
 difference isn't within these bounds, or nothing was compared.
 """
 import collections
-import ctypes
-import glob
 import math
 import os
 import random
-import struct
 import subprocess
+import sys
 
-import build
-import by_font
-import fonts
+sys.path.insert(0, os.path.join(os.path.dirname(os.path.realpath(__file__)), "lib"))
 
-PACKAGES = ["fonts-inter-variable", "libharfbuzz0b", "python3-freetype", "python3-fonttools"]
-INTER = f"{fonts.TRUETYPE}/inter-vf"
+import build  # noqa: E402
+import by_font  # noqa: E402
+import fonts  # noqa: E402
+from font_at import FREETYPE_BOUND, HARFBUZZ_BOUND, PACKAGES, PHANTOMS, HarfBuzz, Source, commit, font_paths, half_up, outline_path, path_distance, random_place, versions  # noqa: E402
+
 UNIT = 2 ** 30
-HARFBUZZ_BOUND = 0.01
-FREETYPE_BOUND = 1
-# The four points behind an outline that carry its metrics.
-PHANTOMS = 4
 
 
 # ---- the port
@@ -79,215 +74,7 @@ def port_lines(program, path, glyphs, place):
     return at, answers
 
 
-# ---- fontTools
-
-class Source:
-    """A font, as fontTools reads it."""
-
-    def __init__(self, path):
-        from fontTools.ttLib import TTFont
-
-        self.path = path
-        self.font = TTFont(path, lazy=True)
-        self.glyf, self.gvar = self.font["glyf"], self.font["gvar"].variations
-        self.axes = [(axis.axisTag, axis.minValue, axis.defaultValue, axis.maxValue) for axis in self.font["fvar"].axes]
-        self.tags = [axis[0] for axis in self.axes]
-        self.names = self.font.getGlyphOrder()
-        # The tuples of fontTools are by tag, so of axes of one tag it knows the last alone.
-        self.has_twins = len(set(self.tags)) < len(self.tags)
-
-    def simple_glyphs(self):
-        return [g for g, name in enumerate(self.names) if self.glyf[name].numberOfContours > 0]
-
-    def shift(self, g):
-        """The left phantom point of the default."""
-        name = self.names[g]
-        return self.glyf[name].xMin - self.font["hmtx"][name][1]
-
-    def is_half(self, tag, value):
-        """Whether a user coordinate is below the default and lies halfway between two 16.16 numbers."""
-        low, default = [[round(end * 65536) for end in ends[:2]] for name, *ends in self.axes if name == tag][0]
-        return low <= value < default and 2 * (default - value) * 65536 % (2 * (default - low)) == default - low
-
-    def steps(self, tag):
-        """How many steps of F2Dot14 a step before `avar` may be behind it."""
-        pairs = sorted(self.font["avar"].segments[tag].items()) if "avar" in self.font else []
-        slopes = [abs(t2 - t1) / (f2 - f1) for (f1, t1), (f2, t2) in zip(pairs, pairs[1:]) if f2 > f1]
-        return math.ceil(max(slopes + [1]))
-
-    def normalized(self, place):
-        """F2Dot14 coordinates of a place, in fontTools' order of rounding."""
-        from fontTools.varLib.models import normalizeLocation, piecewiseLinearMap
-        from fontTools.misc.fixedTools import floatToFixed
-
-        user = {tag: value / 65536 for tag, value in place}
-        location = normalizeLocation(user, {tag: ends for tag, *ends in self.axes})
-        if "avar" in self.font:
-            maps = self.font["avar"].segments
-            location = {tag: piecewiseLinearMap(value, maps[tag]) for tag, value in location.items()}
-        return [floatToFixed(location[tag], 14) for tag in self.tags]
-
-    def varied(self, g, at):
-        """The scalar of each tuple, and the points with the phantoms, in floats."""
-        from fontTools.varLib.iup import iup_delta
-        from fontTools.varLib.models import supportScalar
-
-        name = self.names[g]
-        coordinates, ends, _ = self.glyf[name].getCoordinates(self.glyf)
-        points = list(coordinates) + [(0, 0)] * PHANTOMS
-        moved = [[float(x), float(y)] for x, y in points]
-        location = {tag: value / 16384 for tag, value in zip(self.tags, at)}
-        scalars = []
-        for tuple_ in self.gvar.get(name, []):
-            scalar = supportScalar(location, tuple_.axes)
-            scalars.append(scalar)
-            deltas = tuple_.coordinates
-            if scalar and None in deltas:
-                deltas = iup_delta(deltas, points, list(ends))
-            if scalar:
-                for point, delta in zip(moved, deltas):
-                    point[0] += scalar * delta[0]
-                    point[1] += scalar * delta[1]
-        return scalars, moved
-
-    def ends_and_flags(self, g):
-        _, ends, flags = self.glyf[self.names[g]].getCoordinates(self.glyf)
-        return list(ends), [flag & 1 for flag in flags]
-
-
-# ---- HarfBuzz
-
-class Variation(ctypes.Structure):
-    _fields_ = [("tag", ctypes.c_uint32), ("value", ctypes.c_float)]
-
-
-class HarfBuzz:
-    """A font of HarfBuzz's library, drawn without rounding."""
-
-    def __init__(self, path):
-        lib = self.lib = ctypes.CDLL("libharfbuzz.so.0")
-        pointer, number = ctypes.c_void_p, ctypes.c_uint
-        for name in ["blob_create_from_file", "face_create", "font_create", "draw_funcs_create", "font_get_var_coords_normalized"]:
-            getattr(lib, "hb_" + name).restype = pointer
-        lib.hb_version_string.restype = ctypes.c_char_p
-        lib.hb_face_create.argtypes = [pointer, number]
-        lib.hb_font_create.argtypes = [pointer]
-        lib.hb_font_set_variations.argtypes = [pointer, ctypes.POINTER(Variation), number]
-        lib.hb_font_set_var_coords_normalized.argtypes = [pointer, ctypes.POINTER(ctypes.c_int), number]
-        lib.hb_font_get_var_coords_normalized.argtypes = [pointer, ctypes.POINTER(number)]
-        # The older name; since 7.0 it is hb_font_draw_glyph.
-        lib.hb_font_get_glyph_shape.argtypes = [pointer, ctypes.c_uint32, pointer, pointer]
-        blob = lib.hb_blob_create_from_file(path.encode())
-        self.font = lib.hb_font_create(lib.hb_face_create(blob, 0))
-        self.path = []
-        self.functions = lib.hb_draw_funcs_create()
-        self.kept = [self.callback("move_to", 2), self.callback("line_to", 2), self.callback("quadratic_to", 4)]
-
-    def callback(self, name, count):
-        """Makes a function of the library add its numbers to the path."""
-        floats = [ctypes.c_float] * count
-        kind = ctypes.CFUNCTYPE(None, *[ctypes.c_void_p] * 3, *floats, ctypes.c_void_p)
-        add = self.path
-
-        def called(_functions, _data, _state, *numbers):
-            add.append((name, *numbers[:count]))
-
-        made = kind(called)
-        setter = getattr(self.lib, f"hb_draw_funcs_set_{name}_func")
-        setter.argtypes = [ctypes.c_void_p, kind, ctypes.c_void_p, ctypes.c_void_p]
-        setter(self.functions, made, None, None)
-        return made
-
-    def normalized(self, place):
-        settings = (Variation * len(place))(*[(int.from_bytes(tag.encode("latin-1"), "big"), value / 65536) for tag, value in place])
-        self.lib.hb_font_set_variations(self.font, settings, len(place))
-        count = ctypes.c_uint()
-        coordinates = self.lib.hb_font_get_var_coords_normalized(self.font, ctypes.byref(count))
-        return list((ctypes.c_int * count.value).from_address(coordinates)) if count.value else []
-
-    def place(self, at):
-        self.lib.hb_font_set_var_coords_normalized(self.font, (ctypes.c_int * len(at))(*at), len(at))
-
-    def drawn(self, g):
-        del self.path[:]
-        self.lib.hb_font_get_glyph_shape(self.font, g, self.functions, None)
-        return list(self.path)
-
-
-def middle(a, b):
-    return ((a[0] + b[0]) / 2, (a[1] + b[1]) / 2)
-
-
-def contour_path(points, flags):
-    """A contour as HarfBuzz draws it: from its first point on the curve, or from the middle of the first two, and closed."""
-    path, on, first, last = [], None, None, None
-    for p, is_on in zip(points, flags):
-        if on is None:
-            if is_on:
-                on = p
-                path.append(("move_to", *p))
-            elif first is None:
-                first = p
-            else:
-                on, last = middle(first, p), p
-                path.append(("move_to", *on))
-        elif last is not None:
-            end = p if is_on else middle(last, p)
-            path.append(("quadratic_to", *last, *end))
-            last = None if is_on else p
-        elif is_on:
-            path.append(("line_to", *p))
-        else:
-            last = p
-    if first is not None and last is not None:
-        path.append(("quadratic_to", *last, *middle(last, first)))
-        last = None
-    if on is not None and first is not None:
-        path.append(("quadratic_to", *first, *on))
-    elif on is not None and last is not None:
-        path.append(("quadratic_to", *last, *on))
-    elif on is not None:
-        path.append(("line_to", *on))
-    elif first is not None:
-        path += [("move_to", *first), ("quadratic_to", *first, *first)]
-    return path
-
-
-def outline_path(points, ends, flags):
-    path, start = [], 0
-    for end in ends:
-        path += contour_path(points[start:end + 1], flags[start:end + 1])
-        start = end + 1
-    return path
-
-
-def path_distance(ours, theirs):
-    """The greatest distance of two coordinates, none where the paths have other parts. A line back to where a contour
-    began, with no length, may be left out."""
-    if [part[0] for part in ours] != [part[0] for part in theirs]:
-        return None
-    pairs = ((a, b) for one, other in zip(ours, theirs) for a, b in zip(one[1:], other[1:]))
-    return max((abs(a - b) for a, b in pairs), default=0)
-
-
 # ---- what is compared
-
-def half_up(v):
-    return math.floor(v + 0.5)
-
-
-def random_place(axes, rng):
-    """A user coordinate in 65536ths for each tag."""
-    place = {}
-    for tag, *ends in axes:
-        low, default, high = [round(end * 65536) for end in ends]
-        kind = rng.random()
-        inside = rng.randint(low, high)
-        beyond = rng.choice([low - rng.randint(1, 65536), high + rng.randint(1, 65536)])
-        value = inside if kind < 0.7 else low if kind < 0.77 else high if kind < 0.84 else default if kind < 0.94 else beyond
-        place.setdefault(tag, value)
-    return list(place.items())
-
 
 class Counts:
     """How many were compared, and how far apart they were."""
@@ -429,41 +216,6 @@ def compare_font(words, path):
 
 # ---- the report
 
-def is_variable(path):
-    """Whether a font has TrueType outlines that vary."""
-    with open(path, "rb") as file:
-        data = file.read()
-    if data[:4] not in (b"\0\1\0\0", b"true"):
-        return False
-    return {"fvar", "gvar", "glyf"} <= set(fonts.directory(data))
-
-
-def font_paths(folders, only):
-    found = sorted(glob.glob(f"{INTER}/*.ttf"))
-    for folder in folders:
-        found += sorted(path for path in glob.glob(os.path.join(folder, "*")) if path.endswith((".ttf", ".otf")))
-    return [path for path in found if only in os.path.basename(path) and is_variable(path)]
-
-
-def harfbuzz_version():
-    harfbuzz = ctypes.CDLL("libharfbuzz.so.0")
-    harfbuzz.hb_version_string.restype = ctypes.c_char_p
-    return f"HarfBuzz {harfbuzz.hb_version_string().decode()}"
-
-
-def versions():
-    from fontTools import version
-    import freetype
-
-    return f"{harfbuzz_version()}, FreeType {'.'.join(map(str, freetype.version()))}, fontTools {version}"
-
-
-def commit():
-    """The commit of this folder, and whether the crates hold more than that."""
-    name, changed = build.commit()
-    return (name or "no commit") + (" with changes" if changed else "")
-
-
 def summary(words, reports):
     """The table, as text."""
     total = {name: Counts() for name in ROWS}
@@ -502,10 +254,10 @@ def write_results(folder, words, reports):
 
 def main():
     parser = by_font.parser(__doc__, glyphs=100)
-    parser.add_argument("--program", default=build.PARTS)
-    parser.add_argument("--to")
-    parser.add_argument("--results", metavar="FOLDER")
-    parser.add_argument("--no-install", action="store_true")
+    parser.add_argument("--program", default=build.PARTS, metavar="FILE", help="in place of what is built")
+    parser.add_argument("--to", metavar="FILE", help="write the report there, too")
+    parser.add_argument("--results", metavar="FOLDER", help="write the figures there as CSV")
+    parser.add_argument("--no-install", action="store_true", help="install no packages")
     words = parser.parse_args()
     if not words.no_install:
         fonts.install(PACKAGES)

@@ -21,11 +21,13 @@ import sys
 import tempfile
 import time
 
-import build
-import fonts
-import instance
-import instances
-import variable
+sys.path.insert(0, os.path.join(os.path.dirname(os.path.realpath(__file__)), "lib"))
+
+import build  # noqa: E402
+import font_at  # noqa: E402
+import fonts  # noqa: E402
+import instance_read  # noqa: E402
+import variable_font  # noqa: E402
 
 NAMES = ["Inter.var.ttf", "RobotoFlex-Variable.ttf", "SourceSerifVariable-Roman.ttf"]
 COUNTS = [3, 80, 2000]
@@ -70,16 +72,16 @@ def place_inside(axes, rng):
 
 def tasks_of(path, words, room):
     """For each number of glyphs the words that start the port and HarfBuzz, and what fontTools takes for the whole font."""
-    source, rng = instance.Source(path), random.Random(os.path.basename(path))
+    source, rng = font_at.Source(path), random.Random(os.path.basename(path))
     place = place_inside(source.axes, rng)
     with open(path, "rb") as file:
         data = file.read()
-    at = variable.Font(data, instances.place_in(place)).at
+    at = variable_font.Font(data, instance_read.place_in(place)).at
     whole = None if words.no_instancer else instancer(path, place)
     for count in COUNTS:
         count = min(count, len(source.names))
         glyphs = fonts.spread(len(source.names), count)
-        port = [build.BENCH, *instances.words_of(path, glyphs.split(","), os.path.join(room, "out"), place)]
+        port = [build.BENCH, *instance_read.words_of(path, glyphs.split(","), os.path.join(room, "out"), place)]
         draw = [os.path.join(build.BUILD, "harfbuzz_draw"), path, glyphs, "1", *map(str, at)]
         yield count, port, draw, whole
 
@@ -100,23 +102,23 @@ def rows_of(paths, words, room):
 def main():
     parser = argparse.ArgumentParser(description=__doc__, formatter_class=argparse.RawDescriptionHelpFormatter)
     parser.add_argument("folders", nargs="*", metavar="FOLDER")
-    parser.add_argument("--turns", type=int, default=12)
-    parser.add_argument("--no-build", action="store_true")
-    parser.add_argument("--no-instancer", action="store_true")
-    parser.add_argument("--results", metavar="FOLDER")
+    parser.add_argument("--turns", type=int, default=12, metavar="N", help="rounds that take turns")
+    parser.add_argument("--no-build", action="store_true", help="take what is built")
+    parser.add_argument("--no-instancer", action="store_true", help="without fontTools' instancer")
+    parser.add_argument("--results", metavar="FOLDER", help="write the figures there as CSV")
     words = parser.parse_args()
     if not words.no_build:
-        fonts.install([*instance.PACKAGES, "libharfbuzz-dev"])
+        fonts.install([*font_at.PACKAGES, "libharfbuzz-dev"])
         build.gcc("harfbuzz_draw.c", "-I/usr/include/harfbuzz", "-lharfbuzz", to="harfbuzz_draw")
         build.preload("peak.c", to="peak.so")
     build.program(build.BENCH)
-    print(f"Commit {instance.commit()}; {instance.versions()}; {words.turns} turns, {os.cpu_count()} cores under a load of {os.getloadavg()[0]:.1f}.\n")
+    print(f"Commit {font_at.commit()}; {font_at.versions()}; {words.turns} turns, {os.cpu_count()} cores under a load of {os.getloadavg()[0]:.1f}.\n")
     head = ["Font", "Glyphs", "Port (µs)", "HarfBuzz (µs)", "Ratio to HarfBuzz", "fontTools (ms)", "Ratio to fontTools", "Memory (bytes)",
             "Source + 2 × answer + 8 MB"]
     print("|", " | ".join(head), "|\n|" + "---|" * len(head))
     lines, missed = [], 0
     with tempfile.TemporaryDirectory(prefix="times-") as room:
-        paths = [it for it in instance.font_paths(words.folders, "") if os.path.basename(it) in NAMES]
+        paths = [it for it in font_at.font_paths(words.folders, "") if os.path.basename(it) in NAMES]
         for name, count, ours, theirs, ratio, whole, held, length, size in rows_of(paths, words, room):
             most = size + 2 * length + MORE
             slow = (count >= 80 and ratio > BESIDE_HARFBUZZ) or (whole and ours > BESIDE_FONTTOOLS * whole)
@@ -127,7 +129,7 @@ def main():
     print(f"\n{len(lines)} rows, {missed} past their bound.")
     if words.results:
         with open(os.path.join(words.results, "instance_times.csv"), "w") as file:
-            file.write(f"# compare/instance_times.py, commit {instance.commit()}\n" + ",".join(head) + "\n")
+            file.write(f"# compare/instance_times.py, commit {font_at.commit()}\n" + ",".join(head) + "\n")
             file.write("".join(",".join(map(str, line)) + "\n" for line in lines))
     sys.exit(1 if missed or not lines else 0)
 

@@ -29,193 +29,28 @@ much, each of which has to be refused within a tenth of a second. The status is 
 import collections
 import os
 import random
-import subprocess
 import sys
 import tempfile
 import time
 
-import build
-import by_font
-import fonts
-import instance
-import made
-import variable
-from variable import UNIT
+sys.path.insert(0, os.path.join(os.path.dirname(os.path.realpath(__file__)), "lib"))
+
+import build  # noqa: E402
+import by_font  # noqa: E402
+import font_at  # noqa: E402
+import fonts  # noqa: E402
+import variable  # noqa: E402
+import variable_font  # noqa: E402
+from instance_others import Floats, advance_by, extremes_of, freetype_points, metrics_of  # noqa: E402
+from instance_read import is_as_read, place_in, port, words_of  # noqa: E402
+from variable import UNIT  # noqa: E402
+from variable_hostile import hostile_fonts  # noqa: E402
 
 STEPS = 1000000
 DAMAGED = ["fvar", "avar", "gvar", "HVAR", "MVAR", "glyf"]
 TEXTS = {"UnknownKind": "unknown font kind", "MalformedFont": "malformed font", "Unimplemented": "unsupported feature in font",
          "OverflowError": "overflow occurred"}
 KINDS = ["reading", "HarfBuzz", "HarfBuzz advance", "fontTools", "extremes", "MVAR", "FreeType advance", "FreeType"]
-
-
-# ---- the port
-
-def words_of(path, glyphs, out, place):
-    """A task of dev_bench: an instance at a place, or without one a subset."""
-    return [path, "0", ",".join(map(str, glyphs)) or "0", "1", out, *(f"{tag}={value % 2 ** 32}" for tag, value in place)]
-
-
-def lines_of(words, tasks):
-    run = subprocess.run([build.BENCH, *words], stdout=subprocess.PIPE, stderr=subprocess.PIPE)
-    lines = run.stdout.decode().splitlines()
-    if run.returncode or len(lines) != len(tasks):
-        raise RuntimeError(f"dev_bench: status {run.returncode}, {len(lines)} lines of {len(tasks)}, {run.stderr.decode()}: {tasks[0]}")
-    return lines
-
-
-def port(tasks, room):
-    """The line that dev_bench prints for each task. (In a list blanks divide words, and a tag may have one.)"""
-    if any(" " in word for task in tasks for word in task):
-        return [lines_of(task, [task])[0] for task in tasks]
-    path = os.path.join(room, "tasks")
-    with open(path, "w", encoding="latin-1") as file:
-        file.write("".join(" ".join(task) + "\n" for task in tasks))
-    return lines_of(["--list", path], tasks)
-
-
-def place_in(place):
-    return [(tag.encode("latin-1"), value) for tag, value in place]
-
-
-def flags_of(description):
-    """The flags of a simple glyph as they are stored."""
-    ends = variable.number(description, 0) * 2 + 8
-    size = variable.number(description, ends + 2)
-    return description[ends + 4 + size:][:variable.number(description, ends) + 1]
-
-
-def headers_of(lines, drawn, count):
-    """`hhea` and `post` of an instance, for those at the place: with the extremes of what is drawn, and the count of metrics."""
-    hhea, post = bytearray(lines[0]), lines[1]
-    box, sides = variable.extremes(drawn.values())
-    hhea[10:18], hhea[34:36] = u16(*sides), u16(count)
-    return u16(*box), bytes(hhea), post
-
-
-def is_as_read(data, drawn, lines):
-    """What is wrong with an instance's file for what was computed of each glyph, and of `hhea` and `post`, if anything is."""
-    font = variable.Font(data, [])
-    tables = set(font.tables) - {b"name", b"post"}
-    if tables != {b"glyf", b"head", b"hhea", b"hmtx", b"loca", b"maxp"}:
-        return f"tables {sorted(tables)}"
-    for glyph in range(font.count):
-        ends, points, advance, bearing = drawn.get(glyph, ([], [], 0, 0))
-        if variable.simple(font.description(glyph)) != (ends, points):
-            return f"glyph {glyph} has other points"
-        if font.metric(glyph) != (advance, bearing):
-            return f"glyph {glyph}: {font.metric(glyph)}, and not {(advance, bearing)}"
-        if not ends and font.description(glyph) and glyph not in drawn:
-            return f"glyph {glyph} isn't empty"
-        if ends and [flag & 0x40 for flag in flags_of(font.description(glyph))] != [0x40] + [0] * (len(points) - 1):
-            return f"glyph {glyph} has other flags of overlaps"
-    headers = font.tables[b"head"][36:44], font.tables[b"hhea"], font.tables.get(b"post")
-    if headers != headers_of(lines, drawn, font.count):
-        return f"`head`, `hhea` or `post`: {headers}, and not {headers_of(lines, drawn, font.count)}"
-    return None
-
-
-# ---- others
-
-class Floats:
-    """fontTools' reading in floats, unfolded."""
-
-    def __init__(self, source):
-        self.source = source
-
-    def moved(self, glyph, points, ends, at):
-        from fontTools.varLib.iup import iup_delta
-        from fontTools.varLib.models import supportScalar
-
-        location = {tag: value / 16384 for tag, value in zip(self.source.tags, at)}
-        points = points + [(0, 0)] * 4
-        moved = [list(map(float, p)) for p in points]
-        for it in self.source.gvar.get(self.source.names[glyph], []):
-            s = supportScalar(location, it.axes)
-            if s:
-                deltas = iup_delta(it.coordinates, points, ends) if None in it.coordinates else it.coordinates
-                for point, delta in zip(moved, deltas):
-                    point[0] += s * delta[0]
-                    point[1] += s * delta[1]
-        return moved
-
-    def unfolded(self, glyph, at):
-        """The points, and where the left side lies."""
-        source = self.source
-        it, bearing = source.glyf[source.names[glyph]], source.font["hmtx"][source.names[glyph]][1]
-        if not it.isComposite():
-            points = list(it.getCoordinates(source.glyf)[0]) if it.numberOfContours > 0 else []
-            ends = list(it.endPtsOfContours) if points else []
-            moved = self.moved(glyph, points, ends, at)
-            return moved[:len(points)], getattr(it, "xMin", 0) - bearing + moved[len(points)][0]
-        parts = it.components
-        moved = self.moved(glyph, [(getattr(c, "x", 0), getattr(c, "y", 0)) for c in parts], list(range(len(parts))), at)
-        points, left = [], it.xMin - bearing + moved[len(parts)][0]
-        for part, (dx, dy) in zip(parts, moved):
-            inner, inner_left = self.unfolded(source.font.getGlyphID(part.glyphName), at)
-            left = inner_left if part.flags & 0x0200 else left
-            (a, b), (c, d) = getattr(part, "transform", ((1, 0), (0, 1)))
-            inner = [(a * x + c * y, b * x + d * y) for x, y in inner]
-            if hasattr(part, "firstPt"):
-                dx, dy = (points[part.firstPt][k] - inner[part.secondPt][k] for k in (0, 1))
-            points += [(x + dx, y + dy) for x, y in inner]
-        return points, left
-
-
-def extremes_of(path):
-    """Of a font the box of `head` and the extremes of `hhea`, and the same as fontTools computes them."""
-    from fontTools.ttLib import TTFont
-
-    with TTFont(path, recalcBBoxes=False) as font:
-        def now():
-            head, hhea = font["head"], font["hhea"]
-            return [head.xMin, head.yMin, head.xMax, head.yMax, hhea.advanceWidthMax, hhea.minLeftSideBearing, hhea.minRightSideBearing, hhea.xMaxExtent]
-        # (glyphs that weren't asked for are 0 0 in `hmtx`, which widens nothing)
-        stored = now()
-        font.recalcBBoxes = True
-        font["maxp"].recalc(font)
-        font["hhea"].recalc(font)
-        return stored, now()
-
-
-# Where fontTools has the metrics that MVAR varies in `hhea` and `post`.
-METRICS = {"hasc": ("hhea", "ascent"), "hdsc": ("hhea", "descent"), "hlgp": ("hhea", "lineGap"), "hcrs": ("hhea", "caretSlopeRise"), "hcrn": ("hhea", "caretSlopeRun"),
-           "hcof": ("hhea", "caretOffset"), "undo": ("post", "underlinePosition"), "unds": ("post", "underlineThickness")}
-
-
-def metrics_of(source, path, at):
-    """The metrics of an instance, and those of the source with what fontTools' reader of MVAR adds."""
-    from fontTools.ttLib import TTFont
-    from fontTools.varLib.varStore import VarStoreInstancer
-
-    mvar, deltas = source.font["MVAR"].table if "MVAR" in source.font else None, {}
-    if mvar and mvar.VarStore:
-        store = VarStoreInstancer(mvar.VarStore, source.font["fvar"].axes, {tag: value / 16384 for tag, value in zip(source.tags, at)})
-        deltas = {record.ValueTag: store[record.VarIdx] for record in mvar.ValueRecord}
-    with TTFont(path, lazy=True) as font:
-        there = {name: places for name, places in METRICS.items() if places[0] in font}
-        ours = [getattr(font[tag], field) for tag, field in there.values()]
-    return ours, [getattr(source.font[tag], field) + instance.half_up(deltas.get(name, 0)) for name, (tag, field) in there.items()]
-
-
-def advance_by(harfbuzz, glyph):
-    from ctypes import c_int, c_uint32, c_void_p
-
-    call = harfbuzz.lib.hb_font_get_glyph_h_advance
-    call.argtypes, call.restype = [c_void_p, c_uint32], c_int
-    return call(harfbuzz.font, glyph)
-
-
-def freetype_points(path, glyph):
-    import freetype
-
-    face = freetype.Face(path)
-
-    def points(g):
-        face.load_glyph(g, freetype.FT_LOAD_NO_SCALE)
-        outline = face.glyph.outline
-        return outline.points, outline.contours, [tag & 1 for tag in outline.tags], face.glyph.metrics.horiAdvance
-    return points(glyph) if isinstance(glyph, int) else [points(g) for g in glyph]
 
 
 # ---- a font
@@ -244,7 +79,7 @@ def beside_freetype(report, path, font, drawn):
         face.load_glyph(glyph, freetype.FT_LOAD_NO_SCALE)
         report.counts["FreeType advance"] += 1
         theirs = max(face.glyph.metrics.horiAdvance, 0)
-        if abs(advance - theirs) > instance.FREETYPE_BOUND:
+        if abs(advance - theirs) > font_at.FREETYPE_BOUND:
             report.say("FreeType advance", f"glyph {glyph} at {font.at}: {advance}, and not {theirs}")
 
 
@@ -266,10 +101,10 @@ def beside_others(report, font, drawn, floats, harfbuzz):
     for glyph, (_, points, advance, _, it) in drawn.items():
         fine = [((x - it.left) / UNIT, y / UNIT) for x, y, _ in it.points]
         flags = [p[2] for p in it.points]
-        distance = instance.path_distance(instance.outline_path(fine, it.ends, flags), harfbuzz.drawn(glyph))
+        distance = font_at.path_distance(font_at.outline_path(fine, it.ends, flags), harfbuzz.drawn(glyph))
         report.counts["HarfBuzz"] += 1
         report.worst = max(report.worst, distance or 0)
-        if distance is None or distance > instance.HARFBUZZ_BOUND:
+        if distance is None or distance > font_at.HARFBUZZ_BOUND:
             report.say("HarfBuzz", f"glyph {glyph} at {font.at}: {distance} off")
         report.counts["HarfBuzz advance"] += 1
         # (no advance in a file is under 0)
@@ -279,13 +114,13 @@ def beside_others(report, font, drawn, floats, harfbuzz):
         if floats:
             theirs, left = floats.unfolded(glyph, font.at)
             report.counts["fontTools"] += 1
-            if [(instance.half_up(x - left), instance.half_up(y)) for x, y in theirs] != [p[:2] for p in points]:
+            if [(font_at.half_up(x - left), font_at.half_up(y)) for x, y in theirs] != [p[:2] for p in points]:
                 report.say("fontTools", f"glyph {glyph} at {font.at}: other points")
 
 
 def compare_place(report, path, data, place, glyphs, others, room):
     """One instance."""
-    font = variable.Font(data, place_in(place))
+    font = variable_font.Font(data, place_in(place))
     drawn, refused = {}, []
     for glyph in sorted({0, *glyphs}):
         try:
@@ -325,14 +160,14 @@ def compare_place(report, path, data, place, glyphs, others, room):
 
 def compare_font(words, path):
     report = Report(path)
-    source, harfbuzz = instance.Source(path), instance.HarfBuzz(path)
+    source, harfbuzz = font_at.Source(path), font_at.HarfBuzz(path)
     others = source, None if source.has_twins else Floats(source), harfbuzz
     rng = random.Random(f"{words.seed} {report.label}")
     with open(path, "rb") as file:
         data = file.read()
     with tempfile.TemporaryDirectory(prefix="instances-") as room:
         for _ in range(words.places):
-            place = instance.random_place(source.axes, rng)
+            place = font_at.random_place(source.axes, rng)
             glyphs = rng.sample(range(len(source.names)), min(words.glyphs, len(source.names)))
             compare_place(report, path, data, place, glyphs, others, room)
     return report
@@ -365,7 +200,7 @@ def damaged(rng, data, source):
 def answer_of(data, place, glyphs):
     """What variable.py reads: the glyphs as drawn, and `hhea` and `post`, or the name of a fault."""
     try:
-        font = variable.Font(data, place_in(place))
+        font = variable_font.Font(data, place_in(place))
         return {glyph: font.drawn(glyph, STEPS)[:4] for glyph in sorted({0, *glyphs})}, font.lines()
     except variable.Fault as it:
         return it.args[0]
@@ -374,7 +209,7 @@ def answer_of(data, place, glyphs):
 def damage_piece(words, path, number, copies):
     """So many damaged copies of a font."""
     report = Report(path)
-    source = instance.Source(path)
+    source = font_at.Source(path)
     rng = random.Random(f"{words.seed} {report.label} {number}")
     with open(path, "rb") as file:
         data = file.read()
@@ -382,7 +217,7 @@ def damage_piece(words, path, number, copies):
         tasks, kept = [], []
         for k in range(copies):
             tag, copy = damaged(rng, data, source)
-            place = instance.random_place(source.axes, rng)
+            place = font_at.random_place(source.axes, rng)
             glyphs = rng.sample(range(1, len(source.names)), min(12, len(source.names) - 1))
             name = os.path.join(room, f"{k}")
             with open(name, "wb") as file:
@@ -412,49 +247,6 @@ def judge_copy(report, out, line, tag, wanted, label):
 
 
 # ---- hostile fonts
-
-def u16(*numbers):
-    return b"".join((n % 65536).to_bytes(2, "big") for n in numbers)
-
-
-def variable_font(outlines, variations):
-    """A font with the axis wght from 100 by 400 to 900, and of each glyph its description and its variations."""
-    n = len(outlines)
-    fvar = u16(1, 0, 16, 2, 1, 20, 0, 4) + b"wght" + b"".join((v << 16).to_bytes(4, "big") for v in (100, 400, 900)) + u16(0, 256)
-
-    def offsets(parts):
-        return b"".join(sum(map(len, parts[:k])).to_bytes(4, "big") for k in range(n + 1))
-    gvar = u16(1, 0, 1, 0) + (20 + 4 * (n + 1)).to_bytes(4, "big") + u16(n, 1) + (20 + 4 * (n + 1)).to_bytes(4, "big") + offsets(variations)
-    tables = {"fvar": fvar, "glyf": b"".join(outlines), "gvar": gvar + b"".join(variations), "head": bytes(50) + u16(1, 0),
-              "hhea": bytes(34) + u16(n), "hmtx": u16(500, 0) * n, "loca": offsets(outlines), "maxp": u16(1, 0, n) + bytes(26)}
-    return made.font(sorted(tables.items()))
-
-
-def simple_bytes(points):
-    """One contour of so many points, all at one place."""
-    flags = b"".join(bytes([0x39, min(255, points - 1 - k)]) for k in range(0, points, 256))
-    return u16(1, 0, 0, 0, 0, points - 1, 0) + flags
-
-
-def tuples_bytes(count, packed):
-    """So many tuples with private numbers, each with its peak at the axis's end, and the same packed bytes."""
-    return u16(count, 4 + 6 * count) + u16(len(packed), 0xA000, 16384) * count + packed * count
-
-
-def composite_bytes(glyphs):
-    more = [0x0020] * (len(glyphs) - 1) + [0]
-    return u16(-1, 0, 0, 0, 0) + b"".join(u16(flags | 0x0002, glyph, 0) for flags, glyph in zip(more, glyphs))
-
-
-def hostile_fonts():
-    """Each with its name and the glyph to ask for."""
-    zeros = b"\xbf" * 250 + b"\x83"
-    yield "a long outline with 4,095 tuples", variable_font([b"", simple_bytes(16000)], [b"", tuples_bytes(4095, b"\0" + zeros * 2)]), 1
-    two = b"\2\1\0\1" + b"\1\1\1" * 2
-    yield "4,095 tuples of two points each", variable_font([b"", simple_bytes(65000)], [b"", tuples_bytes(4095, two)]), 1
-    doubles = [b""] + [composite_bytes([k + 2, k + 2]) for k in range(40)] + [simple_bytes(3)]
-    yield "composites that double at each of 40 levels", variable_font(doubles, [b""] * len(doubles)), 1
-    yield "a composite of itself", variable_font([b"", composite_bytes([1])], [b"", b""]), 1
 
 
 def hostile():
@@ -496,7 +288,7 @@ def say_damage(reports):
 
 def say_fonts(words, reports):
     counts = joined(reports)
-    head = f"Commit {instance.commit()}; {instance.versions()}; seed {words.seed}, {words.places} places, at most {words.glyphs} glyphs at each"
+    head = f"Commit {font_at.commit()}; {font_at.versions()}; seed {words.seed}, {words.places} places, at most {words.glyphs} glyphs at each"
     refused = sum(len(report.refused) for report in reports)
     print(f"{head}.\n\n| Beside | Glyphs at places |\n|---|---|")
     for kind in KINDS:
@@ -515,14 +307,14 @@ def say_fonts(words, reports):
 def main():
     parser = by_font.parser(__doc__, glyphs=100)
     parser.add_argument("--damage", type=int)
-    parser.add_argument("--results", metavar="FOLDER")
+    parser.add_argument("--results", metavar="FOLDER", help="write the figures there as CSV")
     parser.add_argument("--hostile", action="store_true")
     words = parser.parse_args()
     build.program(build.BENCH)
     if words.hostile:
         sys.exit(0 if hostile() else 1)
-    fonts.install(instance.PACKAGES)
-    paths = instance.font_paths(words.folders, words.only)
+    fonts.install(font_at.PACKAGES)
+    paths = font_at.font_paths(words.folders, words.only)
     if words.damage:
         pieces = [(path, number) for number in range(-(-words.damage // (50 * len(paths)))) for path in paths]
         reports = by_font.reports(words, damage_piece, *zip(*pieces), [50] * len(pieces))

@@ -11,7 +11,7 @@ a further folder of fonts.
 
 Of N faces (200; three of four TrueType, the others CFF), some glyphs each, by `subset_font` with and without its words:
     tables    a word leaves out what it says and nothing else: every other table is byte for byte that of the subset with
-              all (of `head` all but the adjustment, and without hinting the format of loca)
+              all (of `head` all but the adjustment, and without hinting the format of loca and what `maxp` says of instructions)
     outlines  those without hinting are those of `hb-subset --no-hinting --name-IDs=`, but for zeros at the end and the
               numbers of components, which name the same glyphs; there is no program and no `name`, and `post` is the same
     drawing   fontTools draws each glyph as its source; FreeType without hinting has the same points, and the same pixels
@@ -32,10 +32,13 @@ import subprocess
 import sys
 import tempfile
 
-import build
-import fonts
-from again import drawing, kind, table
-from fonts import directory, label, u16, u32, spread
+sys.path.insert(0, os.path.join(os.path.dirname(os.path.realpath(__file__)), "lib"))
+
+import build  # noqa: E402
+import fonts  # noqa: E402
+from fonts import directory, label, u16, u32, spread  # noqa: E402
+from options_outlines import drawn_otherwise, other_outlines  # noqa: E402
+from outlines import kind, table  # noqa: E402
 
 FOLDERS = ["/usr/share/fonts", "/usr/share/texmf/fonts"]
 WORDS = {"hinting": "--no-hinting", "names": "--no-names", "glyph_names": "--no-glyph-names"}
@@ -43,7 +46,6 @@ WORDS = {"hinting": "--no-hinting", "names": "--no-names", "glyph_names": "--no-
 BITS = {"hinting": 1, "names": 2, "glyph_names": 4}
 PROGRAMS = "cvt ", "fpgm", "prep"
 GLYPHS_A_FACE = 60
-INSTRUCTIONS = 0x0100
 TEXT = "ABCDEFGHIJKLMNOPQRSTUVWXYZabcdefghijklmnopqrstuvwxyz0123456789.,;:!?-()"
 TEXT_FACES = [
     ("DejaVu Sans", f"{fonts.TRUETYPE}/dejavu/DejaVuSans.ttf"),
@@ -117,6 +119,11 @@ def plain_head(head, with_format):
     return head if with_format else head[:50] + bytes(2) + head[52:]
 
 
+def plain_maxp(maxp):
+    """`maxp` 1.0 with one zone, and 0 for the six numbers that bound instructions; another version has none of them."""
+    return maxp[:14] + b"\0\1" + bytes(12) + maxp[28:] if maxp[:4] == b"\0\1\0\0" else maxp
+
+
 def other_tables(whole, less, left_out):
     """What a subset without an extra has otherwise than it should."""
     before, after = tables(whole), tables(less)
@@ -129,124 +136,13 @@ def other_tables(whole, less, left_out):
         one, other = before[tag], after[tag]
         if tag == "head":
             one, other = (plain_head(it, left_out != "hinting") for it in (one, other))
+        if tag == "maxp" and left_out == "hinting":
+            one = plain_maxp(one)
         if one != other:
             wrong.append(f"without {left_out} {tag} differs")
     if left_out == "glyph_names" and "post" in before and after["post"] != b"\0\3\0\0" + before["post"][4:32]:
         wrong.append("without glyph_names post isn't its header")
     return wrong
-
-
-# ---- outlines
-
-def outlines(data):
-    """The bytes of each glyph."""
-    loca, glyf, long = table(data, "loca"), table(data, "glyf"), u16(table(data, "head"), 50)
-    places = [u32(loca, 4 * k) for k in range(len(loca) // 4)] if long else [2 * u16(loca, 2 * k) for k in range(len(loca) // 2)]
-    return [glyf[a:b] for a, b in zip(places, places[1:])]
-
-
-def components(outline):
-    """Where the number of each component of a composite stands, and its flags."""
-    found, at = [], 10
-    while len(outline) >= 10 and outline[0] & 0x80:
-        flags = u16(outline, at)
-        found.append((at + 2, flags))
-        at += 4 + (4 if flags & 1 else 2) + (2 if flags & 8 else 4 if flags & 0x40 else 8 if flags & 0x80 else 0)
-        if not flags & 0x20:
-            break
-    return found
-
-
-def old_numbers(source, copy, glyphs):
-    """The source's number of each glyph of a subset: the given ones, and behind them those that composites name."""
-    known = dict(enumerate(glyphs))
-    waiting = list(known)
-    while waiting:
-        new = waiting.pop()
-        for (at, _), (place, _) in zip(components(source[known[new]]), components(copy[new])):
-            part = u16(copy[new], place)
-            if part not in known:
-                known[part] = u16(source[known[new]], at)
-                waiting.append(part)
-    return [known.get(k) for k in range(len(copy))]
-
-
-def by_old_numbers(outline, order):
-    """An outline whose components have their source's numbers, without zeros at its end."""
-    bytes_of = bytearray(outline)
-    for at, _ in components(outline):
-        bytes_of[at:at + 2] = order[u16(outline, at)].to_bytes(2, "big")
-    return bytes(bytes_of).rstrip(b"\0")
-
-
-def has_instructions(outline):
-    """Whether an outline has instructions."""
-    if len(outline) < 10:
-        return False
-    if outline[0] & 0x80:
-        found = components(outline)
-        return any(flags & INSTRUCTIONS for _, flags in found)
-    at = 10 + 2 * u16(outline, 0)
-    return len(outline) >= at + 2 and u16(outline, at) > 0
-
-
-def other_outlines(path, index, glyphs, bare, beside, counts):
-    """Where the outlines without hinting are others than HarfBuzz's."""
-    with open(path, "rb") as file:
-        data = file.read()
-    source = outlines(alone(data, index))
-    mine, theirs = outlines(bare), outlines(beside)
-    order = old_numbers(source, mine, glyphs)
-    if None in order:
-        return ["a glyph that nothing names"]
-    places = sorted(order)
-    if len(theirs) != len(places):
-        return [f"HarfBuzz keeps {len(theirs)} glyphs, not {len(places)}"]
-    wrong = []
-    for new, old in enumerate(order):
-        one, other = by_old_numbers(mine[new], order), by_old_numbers(theirs[places.index(old)], places)
-        if one != other:
-            wrong.append(f"glyph {old} isn't HarfBuzz's")
-        if has_instructions(mine[new]):
-            wrong.append(f"glyph {old} has instructions")
-        counts["outlines"] += 1
-        counts["hinted"] += has_instructions(source[old])
-    return wrong
-
-
-def alone(data, index):
-    """A face as a file of its own."""
-    from pdf_file import Face
-    return Face(data, index).alone
-
-
-# ---- drawing
-
-def drawn_otherwise(path, index, out, glyphs):
-    """The glyphs that fontTools draws otherwise than their sources, or whose points or pixels FreeType has otherwise."""
-    import freetype
-    from fontTools.ttLib import TTFont
-
-    old, new = TTFont(path, fontNumber=index, lazy=True), TTFont(out, lazy=True)
-    before, after = old.getGlyphSet(), new.getGlyphSet()
-    names = old.getGlyphOrder(), new.getGlyphOrder()
-    wrong = [f"fontTools draws glyph {g} otherwise" for k, g in enumerate(glyphs) if drawing(after, names[1][k]) != drawing(before, names[0][g])]
-    source, copy = freetype.Face(path, index), freetype.Face(out)
-    for face in (source, copy):
-        face.set_pixel_sizes(0, 40)
-    for k, g in enumerate(glyphs):
-        if pixels(freetype, source, g) != pixels(freetype, copy, k):
-            wrong.append(f"FreeType draws glyph {g} otherwise")
-    return wrong
-
-
-def pixels(freetype, face, glyph):
-    """A glyph's points and its picture, without hinting."""
-    face.load_glyph(glyph, freetype.FT_LOAD_NO_HINTING | freetype.FT_LOAD_NO_BITMAP)
-    slot = face.glyph
-    points = list(slot.outline.points), list(slot.outline.tags), list(slot.outline.contours), slot.linearHoriAdvance
-    slot.render(freetype.FT_RENDER_MODE_NORMAL)
-    return points, slot.bitmap.width, slot.bitmap.rows, bytes(slot.bitmap.buffer)
 
 
 # ---- faces
@@ -398,12 +294,12 @@ def main():
     # (fontTools says of each outline with zeros behind it that it has too many bytes)
     logging.getLogger("fontTools").setLevel(logging.ERROR)
     parser = argparse.ArgumentParser(description=__doc__, formatter_class=argparse.RawDescriptionHelpFormatter)
-    parser.add_argument("--faces", type=int)
-    parser.add_argument("--fonts", action="append", default=[])
-    parser.add_argument("--program", default=build.FONT)
-    parser.add_argument("--bench", default=build.BENCH)
-    parser.add_argument("--sizes", action="store_true")
-    parser.add_argument("--same")
+    parser.add_argument("--faces", type=int, metavar="N", help="so many faces, spread over all")
+    parser.add_argument("--fonts", action="append", default=[], metavar="FOLDER", help="a further folder of fonts")
+    parser.add_argument("--program", default=build.FONT, metavar="FILE", help="in place of what is built")
+    parser.add_argument("--bench", default=build.BENCH, metavar="FILE", help="in place of the dev_bench that is built")
+    parser.add_argument("--sizes", action="store_true", help="a table of sizes")
+    parser.add_argument("--same", metavar="OLD", help="another dev_bench, whose outputs have to be the same")
     given = parser.parse_args()
     folders = FOLDERS + given.fonts
     build.program(given.bench if given.same else given.program)

@@ -28,7 +28,7 @@ MuPDF, Poppler and Ghostscript draw both. Of each reader
 of each, and prints a line a face and the sum. A font that is refused is named, and the next is taken.
 --bare takes subsets without hinting, names and glyph names. MuPDF and Poppler hint nothing, Ghostscript 10 always does: the
 TrueType source without `cmap` and `post`, which it draws where pictures differ, is then without instructions too.
---variable takes places of variable fonts, and compares with FreeType's pictures of these: pdf_variable.py says how.
+--variable takes places of variable fonts, and compares with FreeType's pictures of these: lib/pdf_variable.py says how.
 --specimen draws four scripts from subsets of three fonts into a picture, --weights one line at five weights of a variable font
 by each of the three readers.
 --keep FOLDER leaves the files there. Status 0 where nothing differs, else 1.
@@ -40,59 +40,20 @@ import argparse
 import io
 import os
 import random
-import re
-import struct
 import subprocess
 import sys
 import tempfile
 
-import build
-from cff import cids
-from pdf_file import Face, Pdf, embedded, pages
+sys.path.insert(0, os.path.join(os.path.dirname(os.path.realpath(__file__)), "lib"))
 
-PROGRAM = os.environ.get("SUBSET_FONT", build.FONT)
-PAGE = (480, 560)
+import build  # noqa: E402
+from cff import cids  # noqa: E402
+from pdf_drawn import LINE, PAGE, PROGRAM, READERS, UNREADABLE, Refused, drawn, grid, line_by_widths, line_of, places_by_trace, subset  # noqa: E402
+from pdf_file import Face, Pdf, embedded, pages  # noqa: E402
+
 GLYPHS_A_FACE = 40
 # The tables by which a reader finds letters in a font.
 NAMES = "cmap", "post"
-# Points: the grid's distance and letters, and the letters of the line.
-CELL, GRID, LINE = 56, 32, 10
-
-
-# With --bare: the words of the program.
-BARE = ["--no-hinting", "--no-names", "--no-glyph-names"]
-
-
-class Refused(Exception):
-    """The program refused the font; what it said."""
-
-
-# What reading a source that is cut or is no font comes to.
-UNREADABLE = (OSError, KeyError, IndexError, struct.error)
-
-
-def subset(font, index, glyphs, out, bare=False, more=()):
-    """The new number of each glyph, and the widths of the new glyphs as the text of `/W`."""
-    words = [PROGRAM, *more, *(BARE if bare else []), "--widths", font, out, str(index), ",".join(map(str, glyphs))]
-    answer = subprocess.run(words, capture_output=True, text=True)
-    if answer.returncode:
-        raise Refused(answer.stderr.strip())
-    *lines, widths = answer.stdout.splitlines()
-    return {int(old): int(new) for old, new in (line.split(" -> ") for line in lines)}, widths
-
-
-def cells(count, page=PAGE):
-    """Where so many glyphs of the grid stand, in points from the page's left lower corner."""
-    across = page[0] // CELL
-    return [(12 + CELL * (place % across), page[1] - CELL * (place // across + 1)) for place in range(count)]
-
-
-def grid(codes, page=PAGE, lean=0):
-    """The first page: each code in a cell of its own."""
-    text = ["BT"]
-    for code, (x, y) in zip(codes, cells(len(codes), page)):
-        text.append(f"/F0 {GRID} Tf 1 {lean} 0 1 {x} {y} Tm <{code:04X}> Tj")
-    return "\n".join(text + ["ET"])
 
 
 def line_by_places(codes, places):
@@ -100,24 +61,6 @@ def line_by_places(codes, places):
     text = [f"BT /F0 {LINE} Tf"]
     text += [f"1 0 0 1 {20 + x:.6f} 500 Tm <{code:04X}> Tj" for code, x in zip(codes, places)]
     return "\n".join(text + ["ET"])
-
-
-def line_by_widths(codes, y=500, lean=0):
-    """The second page of the subset: one string, moved on by `/W`."""
-    return f"BT /F0 {LINE} Tf 1 {lean} 0 1 20 {y} Tm <{''.join(f'{code:04X}' for code in codes)}> Tj ET"
-
-
-def line_of(face, glyphs):
-    """As many of the glyphs as a line holds, and where each begins behind its start, in points."""
-    held, places, x = [], [], 0.0
-    for glyph in glyphs:
-        advance = face.advance(glyph) * LINE / face.units
-        if x + advance > PAGE[0] - 60:
-            break
-        held.append(glyph)
-        places.append(x)
-        x += advance
-    return held, places
 
 
 def without_instructions(data):
@@ -156,47 +99,12 @@ def write(source, copy, glyphs, numbers, widths, program, folder, bare):
     return len(line)
 
 
-# What each reader is called with, where it draws DPI pixels an inch.
-READERS = {
-    "MuPDF": ["mutool", "draw", "-r", "DPI", "-c", "gray", "-F", "pgm", "-o", "mupdf-%d.pgm", "page.pdf"],
-    "Poppler": ["pdftoppm", "-r", "DPI", "-gray", "page.pdf", "poppler"],
-    "Ghostscript": ["gs", "-q", "-dSAFER", "-dBATCH", "-dNOPAUSE", "-sDEVICE=pgmraw", "-rDPI", "-dTextAlphaBits=4",
-                    "-dGraphicsAlphaBits=4", "-sOutputFile=ghostscript-%d.pgm", "page.pdf"],
-}
-
-
-def drawn(reader, folder, dpi=96):
-    """A reader's pictures of the two pages, each as (width, height, bytes), and the lines that it says."""
-    words = [word.replace("DPI", str(dpi)) for word in READERS[reader]]
-    said = subprocess.run(words, cwd=folder, capture_output=True, text=True, errors="replace")
-    lines = {line for line in (said.stdout + said.stderr).splitlines() if line and not line.startswith("page page.pdf")}
-    if said.returncode:
-        lines.add(f"status {said.returncode}")
-    found = []
-    for page in (1, 2):
-        name = os.path.join(folder, f"{reader.lower()}-{page}.pgm")
-        if not os.path.exists(name):
-            return None, lines
-        with open(name, "rb") as file:
-            data = file.read()
-        head = re.match(rb"P5\s+(?:#[^\n]*\n\s*)*(\d+)\s+(\d+)\s+255\s", data)
-        found.append((int(head[1]), int(head[2]), data[head.end():]))
-    return found, lines
-
-
 def end_of_ink(picture):
     """The last column that has ink, or None."""
     width, _, data = picture
     rows = [data[k:k + width] for k in range(0, len(data), width)]
     columns = [x for x in range(width) if any(row[x] < 250 for row in rows)]
     return columns[-1] if columns else None
-
-
-def places_by_trace(folder):
-    """Where MuPDF puts each glyph of the second page, in points."""
-    said = subprocess.run(["mutool", "draw", "-F", "trace", "page.pdf", "2"], cwd=folder, capture_output=True, text=True,
-                          errors="replace").stdout
-    return [float(x) for x in re.findall(r'<g [^>]*\bx="([-0-9.e]+)"', said)]
 
 
 def differences(folder, count):
@@ -319,18 +227,18 @@ def all_faces(count, keep, bare):
 
 
 def main():
-    words = argparse.ArgumentParser(description="shows by three PDF readers that a subset is drawn as its source")
+    words = argparse.ArgumentParser(description=__doc__, formatter_class=argparse.RawDescriptionHelpFormatter)
     words.add_argument("font", nargs="?")
     words.add_argument("index", nargs="?", type=int)
     words.add_argument("glyphs", nargs="?")
-    words.add_argument("--faces", type=int)
+    words.add_argument("--faces", type=int, metavar="N", help="so many faces, spread over all")
     words.add_argument("--variable", nargs="*", metavar="FOLDER")
-    words.add_argument("--places", type=int, default=20)
-    words.add_argument("--only", default="")
-    words.add_argument("--plant", choices=["place", "axes", "widths"])
+    words.add_argument("--places", type=int, default=20, metavar="N", help="random coordinates for each font")
+    words.add_argument("--only", default="", metavar="WORD", help="take those whose names have this word")
+    words.add_argument("--plant", choices=["place", "axes", "widths"], help="a planted bug, which has to be seen")
     words.add_argument("--specimen")
     words.add_argument("--weights")
-    words.add_argument("--keep")
+    words.add_argument("--keep", metavar="FOLDER", help="leave the files there")
     words.add_argument("--bare", action="store_true")
     given = words.parse_args()
     build.program(PROGRAM)

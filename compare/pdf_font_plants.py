@@ -14,8 +14,10 @@ import subprocess
 import sys
 import tempfile
 
-import build
-import pdf_harness
+sys.path.insert(0, os.path.join(os.path.dirname(os.path.realpath(__file__)), "lib"))
+
+import build  # noqa: E402
+import pdf_harness  # noqa: E402
 
 CRATE, HARNESS, SCRIPT, ANSWERS, WORDS = "crate", "harness", "script", "answers", "words"
 # Words for pdf_font.py: by values alone, or with readers and fewer fonts.
@@ -39,7 +41,7 @@ PLANTS = [
     ("an offset of the file is one off", CRATE, "proved/pdf_sheet/file.rs", "offsets.push(start + *offset)?;", "offsets.push(start + *offset + 1)?;", READ),
     ("cells of the grid are 5 points wider", CRATE, "proved/pdf_sheet/frame.rs", "34 + 44 * (place % 12)", "34 + 49 * (place % 12)", READ),
     ("each text with the next glyph", HARNESS, "request.rs", "Shown::new(*glyph, text)", "Shown::new(*glyph ^ 1, text)", VALUES),
-    ("FontBBox is rounded inward", SCRIPT, "pdf_rules.py", "low = [1000 * it // source.units for it in box[:2]]", "low = [-(-1000 * it // source.units) for it in box[:2]]", VALUES),
+    ("FontBBox is rounded inward", SCRIPT, "lib/pdf_rules.py", "low = [1000 * it // source.units for it in box[:2]]", "low = [-(-1000 * it // source.units) for it in box[:2]]", VALUES),
     ("StemV is one more", ANSWERS, "values", r"^stem_v (\d+)", lambda it: b"stem_v %d" % (int(it[1]) + 1), FEW),
     ("Ascent and Descent in the wrong order", ANSWERS, "values", r"^ascent (.*)\ndescent (.*)", rb"ascent \2\ndescent \1", FEW),
     ("ToUnicode lacks its last line", ANSWERS, "values", r"^(to_unicode .*)656e640a$", rb"\1", FEW),
@@ -142,8 +144,8 @@ def is_seen(plant, folders, room):
 
 
 def main():
-    words = argparse.ArgumentParser(usage=__doc__)
-    words.add_argument("--only", default="")
+    words = argparse.ArgumentParser(description=__doc__, formatter_class=argparse.RawDescriptionHelpFormatter)
+    words.add_argument("--only", default="", metavar="WORD", help="take those whose names have this word")
     words.add_argument("--answers", action="store_true")
     given = words.parse_args()
     wanted = [it for it in PLANTS if given.only in it[0] and (not given.answers or it[1] in (ANSWERS, WORDS))]

@@ -16,12 +16,15 @@ import subprocess
 import sys
 import tempfile
 
-import fonts
-import pdf_font
-import pdf_harness
-import pdf_readers as readers
-import pdf_rules as rules
-from pdf_file import Face
+sys.path.insert(0, os.path.join(os.path.dirname(os.path.realpath(__file__)), "lib"))
+
+import fonts  # noqa: E402
+import pdf_cases  # noqa: E402
+import pdf_faults  # noqa: E402
+import pdf_harness  # noqa: E402
+import pdf_readers as readers  # noqa: E402
+import pdf_rules as rules  # noqa: E402
+from pdf_file import Face  # noqa: E402
 
 DEJAVU, LIBERTINE = f"{fonts.TRUETYPE}/dejavu/DejaVuSans.ttf", f"{fonts.OPENTYPE}/linux-libertine/LinLibertine_R.otf"
 INTER, MPLUS = f"{fonts.TRUETYPE}/inter-vf/Inter.var.ttf", f"{fonts.OPENTYPE}/mplus/Mplus1-Regular.otf"
@@ -51,7 +54,7 @@ TEXTS = {"Poppler": readers.text_by_poppler, "MuPDF": readers.text_by_mupdf, "Gh
 PICTURES = {"Poppler": readers.by_poppler, "MuPDF": readers.by_mupdf, "Ghostscript": readers.by_ghostscript}
 
 
-class Row(pdf_font.Case):
+class Row(pdf_cases.Case):
     """A row's font, as a case of pdf_font.py."""
 
     def __init__(self, row, folder):
@@ -113,12 +116,12 @@ def write(case, pages):
     values = pdf_harness.values(case.folder)
     if "error" in values:
         sys.exit(f"pdf_font_readers: {case.name}: {values['error']}")
-    font = pdf_font.Font(case, values)
-    face = Face(pdf_font.instance_of(case.source, [glyph for glyph, _ in case.shown]) if case.source.is_moved else case.data)
+    font = pdf_faults.Font(case, values)
+    face = Face(pdf_faults.instance_of(case.source, [glyph for glyph, _ in case.shown]) if case.source.is_moved else case.data)
     with open(case.file("whole.pdf"), "wb") as file:
-        file.write(pdf_font.whole_page(case, font, face, False, (595, 842)))
+        file.write(pdf_faults.whole_page(case, font, face, False, (595, 842)))
     page = os.path.join(pages, os.path.basename(case.folder) + ".pdf")
-    pdf_font.archival_page(case, values, page)
+    pdf_faults.archival_page(case, values, page)
     return [f"{case.name}: {it}" for path in (case.file("grid.pdf"), page) for it in readers.faults_by_qpdf(path)]
 
 
@@ -151,10 +154,10 @@ def versions():
 
 
 def main():
-    words = argparse.ArgumentParser(usage=__doc__)
-    words.add_argument("--only", default="")
-    words.add_argument("--crate", default=pdf_harness.CRATE)
-    words.add_argument("--keep")
+    words = argparse.ArgumentParser(description=__doc__, formatter_class=argparse.RawDescriptionHelpFormatter)
+    words.add_argument("--only", default="", metavar="WORD", help="take those whose names have this word")
+    words.add_argument("--crate", default=pdf_harness.CRATE, metavar="FOLDER", help="in place of bindings/rust")
+    words.add_argument("--keep", metavar="FOLDER", help="leave the files there")
     given = words.parse_args()
     fonts.install(PACKAGES + readers.PACKAGES + readers.PDFBOX)
     if not readers.has_pdfbox():

@@ -20,8 +20,10 @@ import resource
 import subprocess
 import sys
 
-import fonts
-import pdf_harness
+sys.path.insert(0, os.path.join(os.path.dirname(os.path.realpath(__file__)), "lib"))
+
+import fonts  # noqa: E402
+import pdf_harness  # noqa: E402
 
 FONTS = [
     ("fonts-dejavu-core", f"{fonts.TRUETYPE}/dejavu/DejaVuSans.ttf", 0),
@@ -85,12 +87,12 @@ def printed(row):
 
 
 def main():
-    words = argparse.ArgumentParser(usage=__doc__)
-    words.add_argument("--rounds", type=int, default=20)
-    words.add_argument("--milliseconds", type=int, default=20)
-    words.add_argument("--only", default="")
+    words = argparse.ArgumentParser(description=__doc__, formatter_class=argparse.RawDescriptionHelpFormatter)
+    words.add_argument("--rounds", type=int, default=20, metavar="N", help="rounds that take turns")
+    words.add_argument("--milliseconds", type=int, default=20, metavar="M", help="milliseconds for each row and round")
+    words.add_argument("--only", default="", metavar="WORD", help="take those whose names have this word")
     words.add_argument("--any-machine", action="store_true")
-    words.add_argument("--crate", default=pdf_harness.CRATE)
+    words.add_argument("--crate", default=pdf_harness.CRATE, metavar="FOLDER", help="in place of bindings/rust")
     given = words.parse_args()
     fonts.install([it[0] for it in (*FONTS, LARGEST)])
     program, wrong, count = pdf_harness.built(given.crate), [], 0

@@ -83,9 +83,9 @@ def kept_of(folder, total, listed, tools, name):
 
 def main():
     words = argparse.ArgumentParser(description=__doc__, formatter_class=argparse.RawDescriptionHelpFormatter)
-    words.add_argument("--count", type=int, default=COUNT)
-    words.add_argument("--tools", type=Path, default=ROOT / "out/targets")
-    words.add_argument("--jobs", type=int, default=os.cpu_count())
+    words.add_argument("--count", type=int, default=COUNT, metavar="N", help="so many numbers on each")
+    words.add_argument("--tools", type=Path, default=ROOT / "out/targets", metavar="FOLDER", help="where the tools are unpacked")
+    words.add_argument("--jobs", type=int, default=os.cpu_count(), metavar="J", help="so many at a time")
     words.add_argument("--kept", type=Path)
     words.add_argument("names", nargs="*", metavar="PLATFORM")
     given = words.parse_args()

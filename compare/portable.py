@@ -6,7 +6,7 @@
 
     faces    each face of the machine's fonts (spread over all, with --faces N so many), with lists of 0 to 2,000 glyphs, options,
              CIDs and widths, coordinates, and faces that aren't there
-    memory   of 60 of these faces and of fonts of all kinds (kinds.py) each request for memory is refused in turn: a call answers
+    memory   of 60 of these faces and of fonts of all kinds (lib/kinds.py) each request for memory is refused in turn: a call answers
              `OutOfMemory`, or as without
     damage   N damaged copies (20,000) of fonts of all kinds and of those under 900 KB, each by one call, and of a variable one by
              one at coordinates
@@ -25,8 +25,10 @@ import sys
 import tempfile
 import time
 
-import build
-import portable_build
+sys.path.insert(0, os.path.join(os.path.dirname(os.path.realpath(__file__)), "lib"))
+
+import build  # noqa: E402
+import portable_build  # noqa: E402
 
 PIECE = 20000
 # How many of the machine's faces have their requests refused, and of how large a file at most.
@@ -104,12 +106,11 @@ class Results:
 
 
 def compare(given, program, room):
-    import faces as machine
     import fonts
     import kinds
 
     fonts.install(kinds.PACKAGES + [it[0] for it in fonts.TRUETYPE_FONTS + fonts.CFF_FONTS])
-    all_faces, known = machine.faces(), known_faces()
+    all_faces, known = fonts.faces(), known_faces()
     some = spread(all_faces, given.faces)
     results = Results(given)
     if given.only in ("", "faces"):
@@ -129,13 +130,13 @@ def compare(given, program, room):
 
 
 def main():
-    words = argparse.ArgumentParser(usage=__doc__)
-    words.add_argument("--copies", type=int, default=20000)
-    words.add_argument("--faces", type=int, default=0)
-    words.add_argument("--jobs", type=int, default=2)
-    words.add_argument("--only", default="", choices=("", "faces", "memory", "damage"))
-    words.add_argument("--results", metavar="FILE")
-    words.add_argument("--name", metavar="COMMIT")
+    words = argparse.ArgumentParser(description=__doc__, formatter_class=argparse.RawDescriptionHelpFormatter)
+    words.add_argument("--copies", type=int, default=20000, metavar="N", help="so many damaged copies")
+    words.add_argument("--faces", type=int, default=0, metavar="N", help="so many faces, spread over all")
+    words.add_argument("--jobs", type=int, default=2, metavar="J", help="so many at a time")
+    words.add_argument("--only", default="", choices=("", "faces", "memory", "damage"), help="one part alone")
+    words.add_argument("--results", metavar="FILE", help="keep each part as a line of FILE")
+    words.add_argument("--name", metavar="COMMIT", help="the commit that lines of FILE name")
     portable_build.words(words)
     given = words.parse_args()
     program = portable_build.built(given, "checked")

@@ -12,7 +12,9 @@ import subprocess
 import sys
 import tempfile
 
-import build
+sys.path.insert(0, os.path.join(os.path.dirname(os.path.realpath(__file__)), "lib"))
+
+import build  # noqa: E402
 
 CRATE = os.path.join(build.ROOT, "bindings", "rust")
 
@@ -60,8 +62,8 @@ def is_seen(plant, crate, other, room):
 
 
 def main():
-    words = argparse.ArgumentParser(usage=__doc__)
-    words.add_argument("--only", default="")
+    words = argparse.ArgumentParser(description=__doc__, formatter_class=argparse.RawDescriptionHelpFormatter)
+    words.add_argument("--only", default="", metavar="WORD", help="take those whose names have this word")
     given = words.parse_args()
     wanted = [plant for plant in PLANTS if given.only in plant[0]]
     with tempfile.TemporaryDirectory(prefix="portable-plants-") as room:

@@ -23,9 +23,11 @@ import subprocess
 import sys
 import tempfile
 
-import build
-import fonts
-import portable_build
+sys.path.insert(0, os.path.join(os.path.dirname(os.path.realpath(__file__)), "lib"))
+
+import build  # noqa: E402
+import fonts  # noqa: E402
+import portable_build  # noqa: E402
 
 FONTS = [
     ("fonts-dejavu-core", f"{fonts.TRUETYPE}/dejavu/DejaVuSans.ttf", 0),
@@ -127,12 +129,12 @@ def written(rows, path, given):
 
 
 def main():
-    words = argparse.ArgumentParser(usage=__doc__)
-    words.add_argument("--rounds", type=int, default=20)
-    words.add_argument("--milliseconds", type=int, default=20)
-    words.add_argument("--only", default="")
+    words = argparse.ArgumentParser(description=__doc__, formatter_class=argparse.RawDescriptionHelpFormatter)
+    words.add_argument("--rounds", type=int, default=20, metavar="N", help="rounds that take turns")
+    words.add_argument("--milliseconds", type=int, default=20, metavar="M", help="milliseconds for each row and round")
+    words.add_argument("--only", default="", metavar="WORD", help="take those whose names have this word")
     words.add_argument("--instructions", action="store_true")
-    words.add_argument("--results", metavar="FILE")
+    words.add_argument("--results", metavar="FILE", help="write the figures there as CSV")
     portable_build.words(words)
     given = words.parse_args()
     original = bool(os.environ.get("ORIGINAL"))

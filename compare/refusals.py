@@ -17,105 +17,29 @@ At the first disagreement it tells it, and ends with status 1. What is demanded:
                   leaves OUT as it was, and is whole where OUT can't be written
     given back    no block of memory is held at the end that isn't held at the end of a run without a refusal
 
-The fonts are small ones of made.py; with --more also some of Debian's (fonts.py). With --program only what is said of
+The fonts are small ones of lib/made.py; with --more also some of Debian's (lib/fonts.py). With --program only what is said of
 subset_font and files is looked at.
 """
 import argparse
 import itertools
 import os
 import struct
-import subprocess
 import sys
 import tempfile
-from dataclasses import dataclass
 
-import build
-import fonts
-import made
+sys.path.insert(0, os.path.join(os.path.dirname(os.path.realpath(__file__)), "lib"))
 
-REFUSE = os.path.join(build.BUILD, "refuse.so")
-CALLS = ("open", "size", "read", "write", "write1", "write2", "rename", "sync")
+import build  # noqa: E402
+import fonts  # noqa: E402
+import made  # noqa: E402
+from refused import CALLS, REFUSE, demand, each_refusal, gives_back, put, run, take  # noqa: E402
+
 NO_MEMORY = b"error out of memory\n"
 
 
 # Simple glyphs and a composite, which vary by one axis.
 VARIABLE = os.path.join(build.ROOT, "crates", "dev_parts", "data", "variable.ttf")
 BENCH, FONT, TESTS = build.BENCH, build.FONT, build.built("dev_subset_tests", "dev_subset_tests_tests")
-
-
-@dataclass
-class Ended:
-    """How a run ended: its status, what it printed, and what refuse.c counted."""
-    status: int
-    out: bytes
-    err: bytes
-    requests: int
-    refused: int
-    blocks: int
-    held: int
-    stage: str
-    is_less: bool
-    calls: dict
-
-
-def run(words, room, **wishes):
-    """Runs a program in a folder with these wishes."""
-    told = os.path.join(room, "told")
-    env = {"PATH": os.environ["PATH"], "LD_PRELOAD": REFUSE, "TOLD": told}
-    env |= {name: str(value) for name, value in wishes.items()}
-    ran = subprocess.run(words, cwd=room, env=env, capture_output=True, timeout=100)
-    if ran.returncode < 0:
-        stop(f"{words} with {wishes} died by signal {-ran.returncode}")
-    with open(told) as file:
-        said = file.read().split()
-    os.unlink(told)
-    counts = list(map(int, said[:4]))
-    calls = dict(zip(CALLS, map(int, said[6:])))
-    return Ended(ran.returncode, ran.stdout, ran.stderr, *counts, said[4], said[5] == "less", calls)
-
-
-def stop(why):
-    print(f"refusals.py: {why}")
-    sys.exit(1)
-
-
-def demand(holds, what, got):
-    if not holds:
-        stop(f"{what}: {str(got)[:400]}")
-
-
-def gives_back(base, got, what):
-    demand((got.blocks, got.held) == (base.blocks, base.held), f"{what}: memory is lost, {base.blocks} blocks were held", got)
-
-
-def each_refusal(words, room, **wishes):
-    """A run for each request that can be refused, with its number. There is no `out` before."""
-    for number in itertools.count(1):
-        remove(room, "out")
-        got = run(words, room, REFUSE=number, **wishes)
-        if got.refused == 0:
-            return
-        yield number, got
-
-
-def put(room, name, data):
-    path = os.path.join(room, name)
-    with open(path, "wb") as file:
-        file.write(data)
-    return path
-
-
-def take(room, name):
-    path = os.path.join(room, name)
-    if not os.path.exists(path):
-        return None
-    with open(path, "rb") as file:
-        return file.read()
-
-
-def remove(room, name):
-    if os.path.exists(os.path.join(room, name)):
-        os.unlink(os.path.join(room, name))
 
 
 # ---- the library
@@ -390,10 +314,10 @@ def debian_fonts():
 
 
 def main():
-    words = argparse.ArgumentParser(usage=__doc__)
-    words.add_argument("--no-build", action="store_true")
-    words.add_argument("--more", action="store_true")
-    words.add_argument("--program", action="store_true")
+    words = argparse.ArgumentParser(description=__doc__, formatter_class=argparse.RawDescriptionHelpFormatter)
+    words.add_argument("--no-build", action="store_true", help="take what is built")
+    words.add_argument("--more", action="store_true", help="some of Debian's fonts, too")
+    words.add_argument("--program", action="store_true", help="the program alone")
     given = words.parse_args()
     build.preload("refuse.c", to="refuse.so")
     if not given.no_build:

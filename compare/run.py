@@ -4,7 +4,7 @@
     ORIGINAL=FOLDER compare/run.py [--cff | --all] [--original-only] [--only WORD] [--copies N] [--seconds S]
                                    [--no-install] [--no-build] [--to FILE] [--growth FILE] [--binding]
 
-FOLDER holds the original crate (README.md says how to get it). Needs Debian (fonts.py names the packages), Cargo, gcc
+FOLDER holds the original crate (README.md says how to get it). Needs Debian (lib/fonts.py names the packages), Cargo, gcc
 and `rt`.
 
 It builds both drivers, which have the same words, print the same lines and time the same call:
@@ -31,63 +31,24 @@ It prints four tables and writes them to compare/build/report.md:
 The fonts have TrueType outlines; with --cff they have CFF outlines, and with --all both kinds stand in one run.
 --original-only leaves the port out; --only WORD takes the fonts whose file names have this word; --copies N takes N
 damaged copies (2000; 0 for none); --seconds S gives each driver about S seconds a case and round (0.05). --growth FILE
-does none of this: it times growing numbers of glyphs of four fonts (growth.py), and draws them into FILE, an SVG.
+does none of this: it times growing numbers of glyphs of four fonts (lib/growth.py), and draws them into FILE, an SVG.
+The status is 0 where all ran, whatever it found, and 1 where the crate, a program or a font is missing.
 """
 import argparse
 import os
-import subprocess
 import sys
 import tempfile
 
-import assemble
-import binding
-import build
-import fonts
-import growth
-from build import BUILD
-from damage import refusals, summed
-from fonts import GLYPHS_AT_MOST, directory, glyph_count, glyph_sets, label, spread
+sys.path.insert(0, os.path.join(os.path.dirname(os.path.realpath(__file__)), "lib"))
 
-ORIGINAL = build.cargo_driver("original")
-COUNTER = os.path.join(BUILD, "peak.so")
-BINDING = build.cargo_driver("binding")
-PORT = build.BENCH
-HARFBUZZ = os.path.join(BUILD, "harfbuzz_bench")
-FLOOR = os.path.join(BUILD, "floor_bench")
-ROUNDS = 8
-CALLS_AT_MOST = 100_000
-
-
-def run(program, task, room, counted=False):
-    """A driver's line for a task, and its peak memory: of the process in KiB, or of what it asked in bytes."""
-    # (a list of all glyphs is too long for a word of a command)
-    name, peak = os.path.join(room, "list"), os.path.join(room, "peak")
-    with open(name, "w") as file:
-        file.write(" ".join(map(str, task)) + "\n")
-    words, env = [program, "--list", name], dict(os.environ)
-    if counted:
-        env |= {"LD_PRELOAD": COUNTER, "PEAK": peak}
-    else:
-        # (a process that Python itself starts would count Python's own memory, so GNU time starts it)
-        words = ["/usr/bin/time", "-q", "-f", "%M", "-o", peak, *words]
-    ran = subprocess.run(words, stdout=subprocess.PIPE, stderr=subprocess.DEVNULL, env=env)
-    line = ran.stdout.decode().strip() or f"died with {ran.returncode}"
-    with open(peak) as file:
-        return line, int(file.read().split()[-1])
-
-
-def above_no_font(program, task, room, counted):
-    """The peak memory of a run above that of a run with a font of no bytes, whose name is as long."""
-    empty = os.path.join(room, "x" * max(1, len(task[0]) - len(room) - 1))
-    with open(empty, "wb"):
-        pass
-    return run(program, task, room, counted)[1] - run(program, [empty, *task[1:]], room, counted)[1]
-
-
-def answer(line):
-    """('ok', median, least) or (text,)."""
-    words = line.split(" ")
-    return ("ok", int(words[1]), int(words[2])) if words[0] == "ok" else (line,)
+import bench  # noqa: E402
+import build  # noqa: E402
+import fonts  # noqa: E402
+import growth  # noqa: E402
+import original_crate  # noqa: E402
+from build import BUILD  # noqa: E402
+from damaged import refusals, summed  # noqa: E402
+from fonts import GLYPHS_AT_MOST, directory, glyph_count, glyph_sets, label, spread  # noqa: E402
 
 
 def first_difference(one, two):
@@ -106,33 +67,18 @@ def case(drivers, beside, task, seconds, room):
     found, timed = {}, {name: (program, task) for name, program in drivers.items()}
     for name, program in drivers.items():
         out = os.path.join(room, name)
-        got = answer(run(program, [*task, 1, out], room)[0])
+        got = bench.answer(bench.run(program, [*task, 1, out], room)[0])
         it = found[name] = {"answer": got, "bytes": b"", "least": None, "median": None}
         if got[0] == "ok":
             with open(out, "rb") as file:
                 it["bytes"] = file.read()
-            timed["floor"] = (FLOOR, [out])
-        it["asked"] = above_no_font(program, [*task, 1], room, counted=True)
-        it["peak"] = above_no_font(program, [*task, 1], room, counted=False)
+            timed["floor"] = (bench.FLOOR, [out])
+        it["asked"] = bench.above_no_font(program, [*task, 1], room, counted=True)
+        it["peak"] = bench.above_no_font(program, [*task, 1], room, counted=False)
     timed |= {name: (program, task) for name, program in beside.items()}
-    for name, (least, median) in least_times(timed, seconds, room).items():
+    for name, (least, median) in bench.least_times(timed, seconds, room).items():
         found.setdefault(name, {}).update(least=least, median=median)
     return found
-
-
-def least_times(timed, seconds, room):
-    """The least time and the least median of each program at its task, in rounds that take turns. All programs have turns
-    of one length: so many seconds, or a call of the slowest of them."""
-    first = {name: answer(run(program, [*task, 1], room)[0])[1:] for name, (program, task) in timed.items()}
-    least = {name: (took[1], took[0]) for name, took in first.items() if took}
-    turn = max([seconds * 1e9, *(fastest for fastest, _ in least.values())])
-    for _ in range(ROUNDS):
-        for name, (fastest, median) in least.items():
-            program, task = timed[name]
-            calls = max(1, min(CALLS_AT_MOST, round(turn / max(1, fastest))))
-            _, middle, now = answer(run(program, [*task, calls], room)[0])
-            least[name] = min(now, fastest), min(middle, median)
-    return least
 
 
 def measure(drivers, beside, taken, seconds):
@@ -185,18 +131,6 @@ def kibibytes(count):
     return f"{count / 1024:.1f}"
 
 
-def build_all(original_only, with_binding):
-    assemble.main()
-    build.preload("peak.c", to="peak.so")
-    build.gcc("floor.c", to="floor_bench")
-    build.gcc("harfbuzz.c", "-I/usr/include/harfbuzz", "-lharfbuzz-subset", "-lharfbuzz", to="harfbuzz_bench")
-    build.cargo("original")
-    if with_binding:
-        binding.build_binding()
-    if not original_only:
-        build.rt("dev_bench")
-
-
 def table(head, rows):
     lines = [head, ["---"] * len(head), *rows]
     return "".join(f"| {' | '.join(map(str, row))} |\n" for row in lines)
@@ -225,14 +159,14 @@ def report(rows, refusal_rows, both, beside):
 
 
 def read_words():
-    words = argparse.ArgumentParser(usage=__doc__)
+    words = argparse.ArgumentParser(description=__doc__, formatter_class=argparse.RawDescriptionHelpFormatter)
     for flag in ("--original-only", "--no-install", "--no-build", "--cff", "--all", "--binding"):
         words.add_argument(flag, action="store_true")
-    words.add_argument("--only", default="")
+    words.add_argument("--only", default="", metavar="WORD", help="take those whose names have this word")
     words.add_argument("--growth")
-    words.add_argument("--copies", type=int, default=2000)
-    words.add_argument("--seconds", type=float, default=0.05)
-    words.add_argument("--to", default=os.path.join(BUILD, "report.md"))
+    words.add_argument("--copies", type=int, default=2000, metavar="N", help="so many damaged copies")
+    words.add_argument("--seconds", type=float, default=0.05, metavar="S", help="seconds for each case and round")
+    words.add_argument("--to", default=os.path.join(BUILD, "report.md"), metavar="FILE", help="where the report goes")
     words.add_argument("--results", metavar="FOLDER", help="write the times as CSV files there, as compare/results has them")
     return words.parse_args()
 
@@ -244,9 +178,9 @@ def grown(drivers, path, index, seconds):
         for size in growth.sizes(kept):
             task = [path, index, spread(kept, size)]
             out = os.path.join(room, "out")
-            run(drivers["original"], [*task, 1, out], room)
-            timed = {name: (program, task) for name, program in {**drivers, "harfbuzz": HARFBUZZ}.items()}
-            for name, (least, _) in least_times({**timed, "floor": (FLOOR, [out])}, seconds, room).items():
+            bench.run(drivers["original"], [*task, 1, out], room)
+            timed = {name: (program, task) for name, program in {**drivers, "harfbuzz": bench.HARFBUZZ}.items()}
+            for name, (least, _) in bench.least_times({**timed, "floor": (bench.FLOOR, [out])}, seconds, room).items():
                 curves.setdefault(name, []).append((size, least))
             print(label(path, index), size, {name: points[-1][1] for name, points in curves.items()}, file=sys.stderr, flush=True)
     return curves
@@ -278,7 +212,7 @@ def write_results(folder, rows, drivers):
 def main():
     given = read_words()
     if not given.no_build:
-        assemble.original_folder()
+        original_crate.original_folder()
     both_kinds = given.all or bool(given.growth)
     taken = ([] if given.cff else fonts.TRUETYPE_FONTS) + (fonts.CFF_FONTS if given.cff or both_kinds else [])
     taken = [it for it in taken if given.only in it[1]]
@@ -286,10 +220,10 @@ def main():
     if not given.no_install:
         fonts.install(fonts.TOOLS + [it[0] for it in taken + damaged])
     if not given.no_build:
-        build_all(given.original_only, given.binding)
-    drivers = {"original": ORIGINAL} if given.original_only else {"original": ORIGINAL, "port": PORT}
-    beside = {"HarfBuzz": HARFBUZZ} | ({"Binding": BINDING} if given.binding else {})
-    for needed in [*drivers.values(), *beside.values(), FLOOR, *(it[1] for it in taken + damaged)]:
+        bench.build_all(given.original_only, given.binding)
+    drivers = {"original": bench.ORIGINAL} if given.original_only else {"original": bench.ORIGINAL, "port": bench.PORT}
+    beside = {"HarfBuzz": bench.HARFBUZZ} | ({"Binding": bench.BINDING} if given.binding else {})
+    for needed in [*drivers.values(), *beside.values(), bench.FLOOR, *(it[1] for it in taken + damaged)]:
         if not os.path.exists(needed):
             sys.exit(f"run.py: no {needed}")
     if given.growth:

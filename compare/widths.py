@@ -9,6 +9,7 @@ be the advance in the source's `hmtx` times 1000 over unitsPerEm in its `head`, 
 have to number the glyphs from 1 on through the list, without 0 and repeats; and the new font has to have the advances of
 the source's glyphs under the new numbers. Ends with status 1 where anything differs.
 """
+import argparse
 import os
 import random
 import re
@@ -16,10 +17,10 @@ import subprocess
 import sys
 import tempfile
 
-from fontTools.ttLib import TTFont
+sys.path.insert(0, os.path.join(os.path.dirname(os.path.realpath(__file__)), "lib"))
 
-import build
-import fonts
+import build  # noqa: E402
+import fonts  # noqa: E402
 
 FONTS = [
     (f"{fonts.TRUETYPE}/dejavu/DejaVuSans.ttf", 0),
@@ -40,6 +41,8 @@ def advance(font, glyph):
 
 def compared(program, path, index, folder):
     """What differs between the program's answer and fontTools, as a list of lines."""
+    from fontTools.ttLib import TTFont
+
     source = TTFont(path, fontNumber=index, lazy=True)
     units = source["head"].unitsPerEm
     random.seed(path)
@@ -67,7 +70,9 @@ def compared(program, path, index, folder):
 
 def main():
     """Compares each font."""
-    program = build.program(sys.argv[1] if len(sys.argv) > 1 else PROGRAM)
+    words = argparse.ArgumentParser(description=__doc__, formatter_class=argparse.RawDescriptionHelpFormatter)
+    words.add_argument("program", nargs="?", default=PROGRAM, metavar="PROGRAM")
+    program = build.program(words.parse_args().program)
     wrong = []
     with tempfile.TemporaryDirectory() as folder:
         for path, index in FONTS:

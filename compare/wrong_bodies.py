@@ -1,5 +1,5 @@
 #!/usr/bin/env python3
-"""Tries the wrong bodies that the gate doesn't: wrong_bodies.py [--anew] [CRATE[/NAME] ..]
+"""Tries the wrong bodies that the gate doesn't: compare/wrong_bodies.py [--anew] [CRATE[/NAME] ..]
 
 Each file of compare/wrong_bodies/CRATE is a must-fail edit: a wrong body, which a contract of the crate refuses. As an edit costs
 a check of its crate, the gate has only a few (crates/CRATE/must-fail). This copies these crates, and those that they stand on, with
@@ -14,6 +14,7 @@ The last line has counts. An edit that is refused only because a proof file name
 is counted as refused, and beside: it shows little of a contract. One that can't be applied, compiled or tried isn't refused. The
 status is 1 where one wasn't.
 """
+import argparse
 import hashlib
 import json
 import os
@@ -174,10 +175,13 @@ def try_all(room, edits, sums):
 
 
 def main():
-    words = [it for it in sys.argv[1:] if it != "--anew"]
-    edits = asked(words)
+    words = argparse.ArgumentParser(description=__doc__, formatter_class=argparse.RawDescriptionHelpFormatter)
+    words.add_argument("edits", nargs="*", metavar="CRATE[/NAME]", help="the edits of a crate, or one of them")
+    words.add_argument("--anew", action="store_true", help="take nothing from earlier runs")
+    given = words.parse_args()
+    edits = asked(given.edits)
     sums, count = sums_of(edits), sum(map(len, edits.values()))
-    earlier = kept() if "--anew" not in sys.argv[1:] else {}
+    earlier = {} if given.anew else kept()
     said = {edit: earlier[it] for edit, it in sums.items() if it in earlier}
     print(*said.values(), sep="\n", end="\n" * bool(said), flush=True)
     left = {crate: [it for it in names if (crate, it) not in said] for crate, names in edits.items()}

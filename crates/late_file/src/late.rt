@@ -33,6 +33,7 @@ impl<'a, R: Files> LateFile<'a, R> {
     pub fn new(rt: &'a R, alloc: Global, name: &'a str) -> Self
         ensures name { result.name.now ≡ name.now }
         ensures unmade { result.file ≡ None }
+        ensures unnamed { result.beside ≡ None }
     {
         LateFile {
             rt,

@@ -5,6 +5,8 @@ pub mod Told
 pub mod Carried
 pub mod FaceView
 pub mod Failure
+pub mod Files
+pub mod Streams
 pub mod Hint
 pub mod Axes
 pub mod Tables

@@ -1,7 +1,9 @@
 //! Why a run of the program ended without a subset.
 
-ghost use Rattle.std.specs.Prelude.{◌≡◌, ◌≤◌};
+ghost use Rattle.std.specs.Prelude.{◌≡◌, ◌≤◌, string_bytes};
+ghost use Rattle.std.specs.Option.{option_copied, option_map};
 ghost use Rattle.subset_font.specs.Failure.{status_of, status_of_end};
+ghost use Rattle.subset_font.specs.Files.{pdf_name, list_name, name_by, failed_name};
 
 use std::fmt;
 use subset_args::{Glyphs, Job};
@@ -72,7 +74,9 @@ pub struct Told<'a> {
 }
 
 /// A name that may be missing.
-pub fn given(name: &Option<String>) -> Option<&str> {
+pub fn given(name: &Option<String>) -> Option<&str>
+    ensures { option_copied result ≡ option_map (λ name. string_bytes name) name.now }
+{
     match name {
         Some(name) => Some(name.as_str()),
         None => None,
@@ -80,21 +84,45 @@ pub fn given(name: &Option<String>) -> Option<&str> {
 }
 
 /// The name of the file of the PDF that is requested, if one is.
-pub fn pdf_file(job: &Job) -> Option<&str> {
+pub fn pdf_file(job: &Job) -> Option<&str>
+    ensures { option_copied result ≡ pdf_name job.now }
+{
     match &job.pdf {
         Some(pdf) => Some(pdf.file.as_str()),
         None => None,
     }
 }
 
-/// The name of the file that failed, if one did.
-pub fn file_of<'a>(ended: &Result<(), Failure>, job: &'a Job) -> Option<&'a str> {
-    match (ended, &job.glyphs) {
-        (Err(Failure::Read), _) => Some(job.input.as_str()),
-        (Err(Failure::Write), _) => given(&job.output),
-        (Err(Failure::WritePdf), _) => pdf_file(job),
-        (Err(Failure::ReadList), Glyphs::InFile(_, name)) => Some(name.as_str()),
+/// The name of the file that lists the glyphs, if one does.
+fn list_file(glyphs: &Glyphs) -> Option<&str>
+    ensures { option_copied result ≡ list_name glyphs.now }
+{
+    match glyphs {
+        Glyphs::InFile(_, name) => Some(name.as_str()),
         _ => None,
+    }
+}
+
+/// The name of the file that a failure is of, if it is of one.
+fn file_by<'a>(failure: &Failure, job: &'a Job) -> Option<&'a str>
+    ensures { option_copied result ≡ name_by failure.now job.now }
+{
+    match failure {
+        Failure::Read => Some(job.input.as_str()),
+        Failure::ReadList => list_file(&job.glyphs),
+        Failure::Write => given(&job.output),
+        Failure::WritePdf => pdf_file(job),
+        _ => None,
+    }
+}
+
+/// The name of the file that failed, if one did.
+pub fn file_of<'a>(ended: &Result<(), Failure>, job: &'a Job) -> Option<&'a str>
+    ensures { option_copied result ≡ failed_name ended.now job.now }
+{
+    match ended {
+        Ok(()) => None,
+        Err(failure) => file_by(failure, job),
     }
 }
 

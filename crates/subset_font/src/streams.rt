@@ -1,5 +1,10 @@
 //! The files and the standard streams that a run reads and writes.
 
+ghost use Rattle.std.specs.Prelude.{◌≡◌, true, false, IfOk, IfSome, OnErr, None};
+ghost use Rattle.std.specs.Option.{option_copied};
+ghost use Rattle.subset_args.specs.Request.{is_stream};
+ghost use Rattle.subset_font.specs.Streams.{IsSource, IsTarget};
+
 use late_file::LateFile;
 use std::io::{ErrorKind, Read, Write};
 use std::os::unix::fs::MetadataExt;
@@ -17,6 +22,10 @@ pub enum Source<F: Read + Drop, S: Read + Drop> {
 }
 
 impl<F: Read + Drop, S: Read + Drop> Read for Source<F, S> {
+    ghost use Rattle.subset_font.specs.Streams.{source_left};
+
+    ghost remaining = { source_left F.remaining S.remaining };
+
     fn read(&mut self, buf: &mut [u8]) -> io::Result<usize> {
         match self {
             Source::File(file) => file.read(buf),
@@ -26,7 +35,10 @@ impl<F: Read + Drop, S: Read + Drop> Read for Source<F, S> {
 }
 
 /// Opens what is read.
-pub fn open_source<R: Files + Input>(rt: &R, name: &str) -> io::Result<Source<R::File, R::Reader>> {
+pub fn open_source<R: Files + Input>(rt: &R, name: &str) -> io::Result<Source<R::File, R::Reader>>
+    ensures ok { IfOk result (IsSource name.now) }
+    ensures err { OnErr result (is_stream name.now ≡ false) }
+{
     if is_stream(name) {
         return Ok(Source::Standard(rt.reader()));
     }
@@ -55,12 +67,16 @@ pub enum Target<'a, R: Files + Print> {
 
 impl<'a, R: Files + Print + AllocGlobal> Target<'a, R> {
     /// What an argument names, if it is given. No file is made yet.
-    pub fn new(rt: &'a R, name: Option<&'a str>) -> Self {
-        match name {
-            None => Target::Nowhere,
-            Some(name) if is_stream(name) => Target::Standard(rt),
-            Some(name) => Target::File(LateFile::new(rt, rt.alloc(), name)),
+    pub fn new(rt: &'a R, name: Option<&'a str>) -> Self
+        ensures { IsTarget rt.entry (option_copied name.entry) result }
+    {
+        let Some(name) = name else {
+            return Target::Nowhere;
+        };
+        if is_stream(name) {
+            return Target::Standard(rt);
         }
+        Target::File(LateFile::new(rt, rt.alloc(), name))
     }
 }
 
@@ -119,7 +135,10 @@ fn is_standard_output<R: Files>(rt: &R, name: &str) -> bool {
 }
 
 /// Whether the font or a PDF goes to standard output, if it is named.
-pub fn goes_to_output<R: Files>(rt: &R, name: Option<&str>) -> bool {
+pub fn goes_to_output<R: Files>(rt: &R, name: Option<&str>) -> bool
+    ensures unnamed { name.entry ≡ None → result ≡ false }
+    ensures stream { IfSome name.entry (λ name. is_stream name.now ≡ true → result ≡ true) }
+{
     match name {
         Some(name) => is_stream(name) || is_standard_output(rt, name),
         None => false,
@@ -127,7 +146,10 @@ pub fn goes_to_output<R: Files>(rt: &R, name: Option<&str>) -> bool {
 }
 
 /// What the lines go to: standard output, or if the font or a PDF goes there, standard error.
-pub fn lines_beside<'a, R: Print + Eprint>(rt: &'a R, is_font_there: bool) -> Lines<'a, R> {
+pub fn lines_beside<'a, R: Print + Eprint>(rt: &'a R, is_font_there: bool) -> Lines<'a, R>
+    ensures font_there { is_font_there ≡ true → result ≡ Lines.Error rt.entry }
+    ensures font_elsewhere { is_font_there ≡ false → result ≡ Lines.Output rt.entry }
+{
     if is_font_there {
         return Lines::Error(rt);
     }

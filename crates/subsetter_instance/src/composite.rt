@@ -8,9 +8,7 @@ ghost use Rattle.subsetter_instance.specs.Components.{offset_xs, offset_ys};
 ghost use Rattle.subsetter_instance.specs.Source.{HasAxes};
 ghost use Rattle.subsetter_instance.specs.Unfolded.{IsInReach, composite, moved, no_points, with_component, with_phantoms};
 
-use crate::components::{
-    Component, ends_with_phantoms, read_components, xs_with_phantoms, ys_with_phantoms,
-};
+use crate::components::{Component, ends_with_phantoms, offsets_with_phantoms, read_components};
 use crate::placing::{with_metrics, with_part};
 use crate::simple::{coordinate_at, left_point, moved, right_point};
 use crate::source::Source;
@@ -64,12 +62,11 @@ fn moved_offsets(
     ensures xs { IfOk result (λ r. All (λ x. unsigned_abs x ≤ 2 ^ 57) r.0.items) }
     ensures ys { IfOk result (λ r. All (λ y. unsigned_abs y ≤ 2 ^ 57) r.1.items) }
 {
-    let xs = xs_with_phantoms(alloc, components)?;
-    let ys = ys_with_phantoms(alloc, components)?;
+    let offsets = offsets_with_phantoms(alloc, components)?;
     let ends = ends_with_phantoms(alloc, components.len())?;
     let default = DefaultOutline {
-        xs: &xs,
-        ys: &ys,
+        xs: &offsets.xs,
+        ys: &offsets.ys,
         ends: &ends,
     };
     moved(alloc, gvar, glyph, &default, at, steps)

@@ -98,14 +98,30 @@ pub fn pdf_file(job: &Job) -> Option<&str> {
     }
 }
 
+/// The name of the file that lists the glyphs, if one does.
+fn list_file(glyphs: &Glyphs) -> Option<&str> {
+    match glyphs {
+        Glyphs::InFile(_, name) => Some(name.as_str()),
+        _ => None,
+    }
+}
+
+/// The name of the file that a failure is of, if it is of one.
+fn file_by<'a>(failure: &Failure, job: &'a Job) -> Option<&'a str> {
+    match failure {
+        Failure::Read => Some(job.input.as_str()),
+        Failure::ReadList => list_file(&job.glyphs),
+        Failure::Write => given(&job.output),
+        Failure::WritePdf => pdf_file(job),
+        _ => None,
+    }
+}
+
 /// The name of the file that failed, if one did.
 pub fn file_of<'a>(ended: &Result<(), Failure>, job: &'a Job) -> Option<&'a str> {
-    match (ended, &job.glyphs) {
-        (Err(Failure::Read), _) => Some(job.input.as_str()),
-        (Err(Failure::Write), _) => given(&job.output),
-        (Err(Failure::WritePdf), _) => pdf_file(job),
-        (Err(Failure::ReadList), Glyphs::InFile(_, name)) => Some(name.as_str()),
-        _ => None,
+    match ended {
+        Ok(()) => None,
+        Err(failure) => file_by(failure, job),
     }
 }
 

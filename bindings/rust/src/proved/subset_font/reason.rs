@@ -28,29 +28,35 @@ impl<T> Noted<T> {
 
 impl<T: Read> Read for Noted<T> {
     fn read(&mut self, buf: &mut [u8]) -> io::Result<usize> {
-        let ended = self.inner.read(buf);
-        if let Err(error) = &ended {
-            self.reason = Some(*error);
+        match self.inner.read(buf) {
+            Ok(count) => Ok(count),
+            Err(error) => {
+                self.reason = Some(error);
+                Err(error)
+            }
         }
-        ended
     }
 }
 
 impl<T: Write> Write for Noted<T> {
     fn write(&mut self, buf: &[u8]) -> io::Result<usize> {
-        let ended = self.inner.write(buf);
-        if let Err(error) = &ended {
-            self.reason = Some(*error);
+        match self.inner.write(buf) {
+            Ok(count) => Ok(count),
+            Err(error) => {
+                self.reason = Some(error);
+                Err(error)
+            }
         }
-        ended
     }
 
     fn flush(&mut self) -> io::Result<()> {
-        let ended = self.inner.flush();
-        if let Err(error) = &ended {
-            self.reason = Some(*error);
+        match self.inner.flush() {
+            Ok(()) => Ok(()),
+            Err(error) => {
+                self.reason = Some(error);
+                Err(error)
+            }
         }
-        ended
     }
 }
 
@@ -59,6 +65,23 @@ pub fn unread(kept: Option<io::Error>) -> Option<io::Error> {
     match kept {
         Some(error) => Some(error),
         None => Some(io::Error::from(ErrorKind::OutOfMemory)),
+    }
+}
+
+/// Why the system refused what a failure is of, by what each of the four kept.
+fn reason_by(
+    failure: &Failure,
+    input: Option<io::Error>,
+    page: Option<io::Error>,
+    output: Option<io::Error>,
+    lines: Option<io::Error>,
+) -> Option<io::Error> {
+    match failure {
+        Failure::Read => unread(input),
+        Failure::WritePdf => page,
+        Failure::Write => output,
+        Failure::Output => lines,
+        _ => None,
     }
 }
 
@@ -71,10 +94,7 @@ pub fn reason_of(
     lines: Option<io::Error>,
 ) -> Option<io::Error> {
     match ended {
-        Err(Failure::Read) => unread(input),
-        Err(Failure::WritePdf) => page,
-        Err(Failure::Write) => output,
-        Err(Failure::Output) => lines,
-        _ => None,
+        Ok(()) => None,
+        Err(failure) => reason_by(failure, input, page, output, lines),
     }
 }

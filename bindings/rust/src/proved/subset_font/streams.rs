@@ -57,11 +57,16 @@ pub enum Target<'a, R: Files + Print> {
 impl<'a, R: Files + Print + AllocGlobal> Target<'a, R> {
     /// What an argument names, if it is given. No file is made yet.
     pub fn new(rt: &'a R, name: Option<&'a str>) -> Self {
-        match name {
-            None => Target::Nowhere,
-            Some(name) if is_stream(name) => Target::Standard(rt),
-            Some(name) => Target::File(LateFile::new(rt, rt.alloc(), name)),
+        let name = match name {
+            Some(name) => name,
+            _ => {
+                return Target::Nowhere;
+            }
+        };
+        if is_stream(name) {
+            return Target::Standard(rt);
         }
+        Target::File(LateFile::new(rt, rt.alloc(), name))
     }
 }
 

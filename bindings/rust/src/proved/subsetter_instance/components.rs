@@ -222,24 +222,28 @@ fn offset_y(arguments: Arguments) -> i16 {
     }
 }
 
-/// The offset of each component from left to right, and the four phantom points, which are handed over at 0.
-pub fn xs_with_phantoms(alloc: Global, components: &[Component]) -> Result<Vec<i16>, AllocError> {
-    let mut xs = Vec::with_capacity(alloc, components.len().saturating_add(4))?;
-    for component in components {
-        xs.push(offset_x(component.arguments))?;
-    }
-    xs.extend_from_slice(&[0; 4])?;
-    Ok(xs)
+/// The offsets of components and of the four phantom points.
+pub struct Offsets {
+    /// From left to right.
+    pub xs: Vec<i16>,
+    /// From below to above.
+    pub ys: Vec<i16>,
 }
 
-/// The offset of each component from below to above, and the same.
-pub fn ys_with_phantoms(alloc: Global, components: &[Component]) -> Result<Vec<i16>, AllocError> {
+/// The offset of each component, and the four phantom points, which are handed over at 0.
+pub fn offsets_with_phantoms(
+    alloc: Global,
+    components: &[Component],
+) -> Result<Offsets, AllocError> {
+    let mut xs = Vec::with_capacity(alloc, components.len().saturating_add(4))?;
     let mut ys = Vec::with_capacity(alloc, components.len().saturating_add(4))?;
     for component in components {
+        xs.push(offset_x(component.arguments))?;
         ys.push(offset_y(component.arguments))?;
     }
+    xs.extend_from_slice(&[0; 4])?;
     ys.extend_from_slice(&[0; 4])?;
-    Ok(ys)
+    Ok(Offsets { xs, ys })
 }
 
 /// The number of each component, which is a contour of its own, and of the four phantom points.

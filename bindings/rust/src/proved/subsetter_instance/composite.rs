@@ -6,7 +6,7 @@ use crate::rattle::prelude::Vec;
 use crate::proved::subsetter_base::read::Reader;
 use crate::proved::subsetter_base::Error;
 use crate::proved::subsetter_instance::components::{
-    ends_with_phantoms, read_components, xs_with_phantoms, ys_with_phantoms, Component,
+    ends_with_phantoms, offsets_with_phantoms, read_components, Component,
 };
 use crate::proved::subsetter_instance::placing::{with_metrics, with_part};
 use crate::proved::subsetter_instance::simple::{coordinate_at, left_point, moved, right_point};
@@ -39,12 +39,11 @@ fn moved_offsets(
     at: &[i32],
     steps: u32,
 ) -> Result<(Vec<i64>, Vec<i64>, u32), Error> {
-    let xs = xs_with_phantoms(alloc, components)?;
-    let ys = ys_with_phantoms(alloc, components)?;
+    let offsets = offsets_with_phantoms(alloc, components)?;
     let ends = ends_with_phantoms(alloc, components.len())?;
     let default = DefaultOutline {
-        xs: &xs,
-        ys: &ys,
+        xs: &offsets.xs,
+        ys: &offsets.ys,
         ends: &ends,
     };
     moved(alloc, gvar, glyph, &default, at, steps)

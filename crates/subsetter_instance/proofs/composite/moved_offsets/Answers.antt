@@ -14,7 +14,7 @@ moved-requires-clause-outline c =
     let cs = c.args.components.now in
     let n : length cs ≡ length (offset_xs cs) = sym (length-map cs (λ d. offset_x d.arguments)) in
     same _ _ _ _ _ _
-    (c.deref.ensures.value ∙ c.in_ok-xs.ensures)
-    (c.deref-2.ensures.value ∙ c.in_ok-ys.ensures)
+    (c.deref.ensures.value ∙ c.in_ok-offsets.ensures.xs)
+    (c.deref-2.ensures.value ∙ c.in_ok-offsets.ensures.ys)
     (c.deref-3.ensures.value ∙ c.in_ok-ends.ensures ∙ ap (λ (k : ℕ). range_with_len 0 (length cs) ++ k ∷ (k + 1) ∷ (k + 2) ∷ (k + 3) ∷ []) n)
     (offsets_outline cs c.requires.few)

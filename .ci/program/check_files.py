@@ -1,0 +1,131 @@
+"""Files beside IN and OUT: rights, links, devices, and failed writes."""
+import os
+import shutil
+import subprocess
+
+from made_fonts import SIMPLE
+from running import OLD, few_bytes, lines, message, mode_of, put, remove, take
+
+
+def check_places(table, room):
+    """Rights, links and devices stay as they were, a failed write loses nothing, and no temporary file is left."""
+    wanted = table.same["simple 2"]
+    put(room, "in", SIMPLE)
+    out = put(room, "out", OLD, 0o640)
+    before = sorted(os.listdir(room))
+    got = table.start(["in", "out", "0", "2"], room)
+    table.demand(take(out) == wanted and mode_of(out) == 0o640, "the rights of OUT", got)
+    got = table.start(["in", "new", "0", "2"], room, preexec_fn=lambda: os.umask(0o027))
+    table.demand(mode_of(os.path.join(room, "new")) == 0o640, "the rights of a new OUT", got)
+    remove(os.path.join(room, "new"))
+    table.demand(sorted(os.listdir(room)) == before, "a run leaves", os.listdir(room))
+    check_failed_writes(table, room, out, before)
+    os.mkdir(os.path.join(room, "folder"))
+    got = table.start(["in", "folder/out", "0", "2"], room)
+    table.demand(take(os.path.join(room, "folder", "out")) == wanted and os.listdir(os.path.join(room, "folder")) == ["out"],
+                 "OUT in a folder", got)
+    check_taken_names(table, room, out)
+
+
+def check_failed_writes(table, room, out, before):
+    """The file grows past the limit on its size in mid-write: OUT stays, and nothing is left beside it."""
+    put(room, "out", OLD)
+    got = table.start(["in", "out", "0", "2"], room, preexec_fn=few_bytes)
+    table.demand((got.returncode, got.stdout, got.stderr) == (3, b"", message("cannot-write", "out", "EFBIG")), "a write that fails", got)
+    table.demand(take(out) == OLD and sorted(os.listdir(room)) == before, "a write that fails leaves", os.listdir(room))
+    got = table.start(["in", "new", "0", "2"], room, preexec_fn=few_bytes)
+    table.demand(got.returncode == 3 and sorted(os.listdir(room)) == before, "a write of a new OUT that fails", got)
+    got = table.start(["in", "in", "0", "2"], room, preexec_fn=few_bytes)
+    table.demand(got.returncode == 3 and take(os.path.join(room, "in")) == SIMPLE, "a write over IN that fails", got)
+
+
+def check_taken_names(table, room, out):
+    """All names beside OUT are taken: OUT is written in place. So it is where a name beside it would be too long."""
+    wanted = table.same["simple 2"]
+    for number in range(100):
+        put(room, f"out.part{number}", OLD)
+        if number in (0, 99):
+            put(room, "out", OLD)
+            before = sorted(os.listdir(room))
+            got = table.start(["in", "out", "0", "2"], room)
+            table.demand(got.returncode == 0 and take(out) == wanted and sorted(os.listdir(room)) == before
+                         and all(take(f"{out}.part{k}") == OLD for k in range(number + 1)), f"{number + 1} names are taken", got)
+    for _ in range(2):
+        got = table.start(["in", "n" * 255, "0", "2"], room)
+        table.demand(got.returncode == 0 and take(os.path.join(room, "n" * 255)) == wanted, "a long name", got)
+
+
+def said_by(reader):
+    """What a process prints, which is ended where nobody writes to it."""
+    try:
+        return reader.communicate(timeout=10)[0]
+    except subprocess.TimeoutExpired:
+        reader.kill()
+        return reader.communicate()[0]
+
+
+def check_links(table, room):
+    """Links and second names stay, and what they lead to is written; a pipe is written."""
+    wanted = table.same["simple 2"]
+    put(room, "in", SIMPLE)
+    # (longer than the font that takes its place)
+    put(room, "real", OLD * 1000)
+    os.symlink("real", os.path.join(room, "link"))
+    os.symlink("nowhere", os.path.join(room, "hanging"))
+    for name, real in (("link", "real"), ("hanging", "nowhere")):
+        got = table.start(["in", name, "0", "2"], room)
+        table.demand(os.path.islink(os.path.join(room, name)) and take(os.path.join(room, real)) == wanted, "OUT a link", got)
+    one = put(room, "one", OLD * 1000)
+    os.link(one, os.path.join(room, "other"))
+    got = table.start(["in", "one", "0", "2"], room)
+    table.demand(take(os.path.join(room, "other")) == wanted and os.stat(one).st_nlink == 2, "OUT has a second name", got)
+    os.mkfifo(os.path.join(room, "pipe"))
+    reader = subprocess.Popen(["cat", "pipe"], cwd=room, stdout=subprocess.PIPE)
+    got = table.start(["in", "pipe", "0", "2"], room)
+    table.demand(said_by(reader) == wanted and (got.returncode, got.stdout) == (0, lines((2, 1))), "OUT a pipe", got)
+    names = ["hanging", "in", "link", "nowhere", "one", "other", "pipe", "real"]
+    table.demand(sorted(os.listdir(room)) == names, "links leave", os.listdir(room))
+
+
+def check_device(table, room):
+    """A device takes a font, though it has no disk that the bytes could reach."""
+    put(room, "simple", SIMPLE)
+    name = "NUL" if table.system == "windows" else "/dev/null"
+    got = table.start(["simple", name, "0", "2"], room)
+    table.demand((got.returncode, got.stdout, got.stderr) == (0, lines((2, 1)), b""), f"OUT is the device {name}", got)
+    table.demand(os.listdir(room) == ["simple"], f"OUT is the device {name}: files", os.listdir(room))
+
+
+def check_rights(table, room):
+    """Where files of others or shut folders are in the way. The program is run as a user who isn't root."""
+    wanted, is_root = table.same["simple 2"], os.geteuid() == 0
+    who = {"user": 65534, "group": 65534, "extra_groups": []} if is_root else {}
+    program = os.path.join(room, "program")
+    shutil.copyfile(table.program, program)
+    os.chmod(program, 0o755)
+    os.chmod(room, 0o777)
+
+    def start(*words):
+        return subprocess.run([*table.command[:-1], program, *words], cwd=room, capture_output=True, timeout=60, **who)
+    put(room, "in", SIMPLE, 0o444)
+    shut = put(room, "shut", OLD, 0o444)
+    if is_root:
+        os.chown(shut, 65534, 65534)
+    got = start("in", "shut", "0", "2")
+    table.demand((got.returncode, got.stderr) == (3, message("cannot-write", "shut", "EACCES")) and take(shut) == OLD, "OUT can't be written", got)
+    table.demand(sorted(os.listdir(room)) == ["in", "program", "shut"], "and leaves", os.listdir(room))
+    put(room, "secret", SIMPLE, 0)
+    got = start("secret", "out", "0", "2")
+    table.demand((got.returncode, got.stderr) == (3, message("cannot-read", "secret", "EACCES")), "IN can't be read", got)
+    # No file can be made beside OUT, which may be written.
+    os.mkdir(os.path.join(room, "folder"))
+    out = put(os.path.join(room, "folder"), "out", OLD, 0o666)
+    os.chmod(os.path.join(room, "folder"), 0o555)
+    got = start("in", "folder/out", "0", "2")
+    table.demand(got.returncode == 0 and take(out) == wanted, "OUT in a shut folder", got)
+    os.chmod(os.path.join(room, "folder"), 0o755)
+    if is_root:
+        other = put(room, "of another", OLD, 0o666)
+        got = start("in", "of another", "0", "2")
+        table.demand(got.returncode == 0 and take(other) == wanted and os.stat(other).st_uid == 0, "OUT of another user", got)
+        table.demand(sorted(os.listdir(room)) == ["folder", "in", "of another", "program", "secret", "shut"], "and leaves", os.listdir(room))

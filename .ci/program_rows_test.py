@@ -1,0 +1,159 @@
+#!/usr/bin/env python3
+"""Plants faults in the files of the program's rows, each in a copy of these: program.py has to end with status 1, and to say in which
+line. Then it plants faults in what a program does, of which the rows have to see each; no build is needed."""
+import contextlib
+import io
+import os
+import shutil
+import stat
+import sys
+import tempfile
+
+sys.dont_write_bytecode = True
+sys.path.insert(0, os.path.join(os.path.dirname(os.path.realpath(__file__)), "program"))
+
+import made_fonts  # noqa: E402
+import planted  # noqa: E402
+import row_files  # noqa: E402
+import running  # noqa: E402
+
+ROWS, MESSAGES, PDFS, CLOSED = (f".ci/program/{it}" for it in ("rows/10-plain-form.txt", "messages.txt", "pdfs.txt", "closed.txt"))
+FIRST = "subset_font simple out 0 2\n    status 0\n    stdout 2 -> 1\n    after out simple 2\n"
+LINE = rf"^program\.py: {ROWS.replace('.', '[.]')}:"
+# Name, file, the text in whose place the plant is (None: the end), the plant (None: the file goes), and what is printed.
+PLANTS = [
+    ("a row without a status", ROWS, FIRST, FIRST.replace("    status 0\n", ""), LINE + r"2: the row has no status"),
+    ("a status that is there twice", ROWS, FIRST, FIRST.replace("    status 0\n", "    status 0\n    status 0\n"), LINE + r"4: the status is there twice"),
+    ("an unknown status", ROWS, FIRST, FIRST.replace("status 0", "status 4"), LINE + r"3: a status is 0, 1, 2 or 3"),
+    ("an unknown part", ROWS, FIRST, FIRST.replace("stdout", "output"), LINE + r"4: there is no part output, but these: stdin file status"),
+    ("a part without a value", ROWS, FIRST, FIRST.replace("status 0", "status"), LINE + r"3: the part status has no value"),
+    ("a file without its content", ROWS, FIRST, FIRST.replace("    status", "    file list\n    status"), LINE + r"3: file wants a name, and what is in it"),
+    ("a file afterwards without a font", ROWS, FIRST, FIRST.replace("after out simple 2", "after out"), LINE + r"5: after wants a name"),
+    ("a file that is there twice", ROWS, FIRST, FIRST.replace("    status", '    file list "1"\n    file list "1"\n    status'), LINE + r"4: the file list is there twice"),
+    ("a content without quotes", ROWS, FIRST, FIRST.replace("    status", "    stdin 12\n    status"), LINE + r"3: a content is `font NAME`, a text"),
+    ("an unknown font", ROWS, FIRST, FIRST.replace("    status", "    stdin font simpler\n    status"), LINE + r"3: there is no font simpler"),
+    ("the size of an unknown font", ROWS, FIRST, FIRST.replace("2 -> 1", "@simpler@ -> 1"), LINE + r"4: there is no font simpler"),
+    ("standard input twice", ROWS, FIRST, FIRST.replace("    status", '    stdin "1"\n    stdin "1"\n    status'), LINE + r"4: the part stdin is there twice"),
+    ("two kinds of standard output", ROWS, FIRST, FIRST + "    stdout-font simple 2\n", LINE + r"2: the row has both stdout and stdout-font"),
+    ("an unknown message", ROWS, "message gid +2", "message gids +2", LINE + r"\d+: there is no message gids"),
+    ("an argument too many", ROWS, "message gid +2", "message gid +2 1", LINE + r"\d+: the message gid has 1 arguments, not 2: PART"),
+    ("no such reason of the system", ROWS, "message cannot-read none ENOENT", "message cannot-read none ENOTHING", LINE + r"\d+: ENOTHING is no name of errno"),
+    ("a row that is there twice", ROWS, FIRST, FIRST + FIRST, LINE + r"6: this row is \.ci/program/rows/10-plain-form\.txt:2, too"),
+    ("a row of another file, too", ".ci/program/rows/60-streams.txt", None, FIRST, r"60-streams\.txt:\d+: this row is \.ci/program/rows/10-plain-form\.txt:2, too"),
+    ("another program", ROWS, FIRST, FIRST.replace("subset_font", "subset"), LINE + r"2: a row begins with subset_font, not subset"),
+    ("a part in front of the rows", ROWS, "# The four words, as ever\n", "    status 0\n", LINE + r"1: a part stands before the first row"),
+    ("another indentation", ROWS, FIRST, FIRST.replace("    status", "   status"), LINE + r"3: a part is indented by 4 blanks"),
+    ("blanks at the end", ROWS, FIRST, FIRST.replace("status 0", "status 0 "), LINE + r"3: a character isn't printable ASCII, or there are blanks at the end"),
+    ("a character that isn't ASCII", ROWS, FIRST, FIRST.replace("->", "\u2192"), LINE + r"4: a character isn't printable ASCII"),
+    ("a word that isn't closed", ROWS, FIRST, FIRST.replace("simple out", '"simple out'), LINE + r"2: a word isn't closed, or there are two blanks"),
+    ("two blanks", ROWS, FIRST, FIRST.replace("simple out", "simple  out"), LINE + r"2: a word isn't closed, or there are two blanks"),
+    ("an unknown escape", ROWS, FIRST, FIRST.replace("simple out", r'"sim\ple" out'), LINE + r"2: \\p is no escape"),
+    ("more behind the quotes", ROWS, FIRST, FIRST.replace("2 -> 1", '"2" -> 1'), LINE + r"4: there is more behind the quotes"),
+    ("a line that goes on with nothing", ROWS, FIRST, FIRST.replace("    status", "    .. 1\n    status"), LINE + r"3: there is no part in front"),
+    ("an empty file", ".ci/program/rows/42-lists.txt", 0, "# nothing\n", r"^program\.py: \.ci/program/rows/42-lists\.txt:1: the file is empty"),
+    ("an empty folder", ".ci/program/rows", None, None, r"^program\.py: \.ci/program/rows: the folder has no file of rows"),
+    ("no messages", MESSAGES, None, None, r"^program\.py: \.ci/program/messages\.txt: No such file"),
+    ("a message that is there twice", MESSAGES, None, "late OPTION\n    {OPTION}\n", r"messages\.txt:\d+: the message late is there twice"),
+    ("a message without a text", MESSAGES, None, "empty\n", r"messages\.txt:\d+: the message empty has no text"),
+    ("a parameter that isn't named", MESSAGES, "{OPTION} is after IN", "it is after IN", r"messages\.txt:\d+: the message late has the parameters \['OPTION'\], and its text names \[\]"),
+    ("a PDF without codes", PDFS, "    codes 1,2\n", "", r"pdfs\.txt:2: the row has no codes"),
+    ("a PDF with another layout", PDFS, "layout line", "layout lines", r"pdfs\.txt:3: layout is one of grid line, not lines"),
+    ("a PDF that is there twice", PDFS, None, "subset_font small --text AB --pdf page\n    layout line\n    codes 1,2\n    encoding own\n    program small\n", r"pdfs\.txt:\d+: this row is \.ci/program/pdfs\.txt:2, too"),
+    ("a stream that isn't one", CLOSED, "closed stdin", "closed input", r"closed\.txt:4: closed is one of stdin stdout stderr, not input"),
+    ("a stream without a status", CLOSED, "    closed stdin\n    status 3\n", "    closed stdin\n", r"closed\.txt:3: the row has no status"),
+]
+# A row, and a program (of sh) that does what it wants; name, what is done instead, and a part of what is printed.
+ROW = 'subset_font at_650 out\n    stdin "in"\n    file list "1"\n    status 1\n    stdout @six@ @new@\n    stderr said\n    after out a font\n'
+RUN = 'cat > /dev/null; cp "$1" "$2"; echo %d %d; echo said >&2; exit 1' % (len(made_fonts.FONTS["six"]), len(made_fonts.FONTS["at_650"]))
+RUNS = [
+    ("as it is wanted", "", "", None),
+    ("another status", "exit 1", "exit 0", "status 0, wanted 1"),
+    ("another line", "echo said", "echo unsaid", "standard error b'unsaid"),
+    ("a line more", "; exit 1", "; echo more >&2; exit 1", "standard error b'said\\nmore"),
+    ("another size", "; echo ", "; echo 1", "standard output b'1"),
+    ("nothing on standard output", "; echo ", "; : ", "standard output b'', wanted"),
+    ("no new font", 'cp "$1" "$2"', ":", "a font: it isn't a whole font: None"),
+    ("no new font in a further row", "AGAIN", ":", "the file out has b'' (or isn't there)"),
+    ("a file that is no font", 'cp "$1" "$2"', 'echo > "$2"', "a font: it isn't a whole font"),
+    ("a font that is cut", 'cp "$1" "$2"', 'head -c 200 "$1" > "$2"', "a font: it isn't a whole font"),
+    ("another font than the row before", "AGAIN", 'cp six "$2"', "the file out has"),
+    ("a file beside it", "exit 1", "echo > further; exit 1", "the file further has"),
+    ("a file that changes", "exit 1", "echo > list; exit 1", "the file list has"),
+    ("a font that goes", "exit 1", "rm simple; exit 1", "the file simple has b'' (or isn't there)"),
+    ("another standard input", "cat > /dev/null", '[ "$(cat)" = in ] || exit 1; exit 2', "status 2, wanted 1"),
+]
+
+
+def room_of(top):
+    """A copy of the script and of what it reads."""
+    for path in (".ci/program.py", ".ci/program", "compare/lib/made.py"):
+        source, target = os.path.join(planted.ROOT, path), os.path.join(top, path)
+        os.makedirs(os.path.dirname(target), exist_ok=True)
+        shutil.copytree(source, target, ignore=shutil.ignore_patterns("__pycache__")) if os.path.isdir(source) else shutil.copy(source, target)
+
+
+def planted_in_files(name, path, old, new, wanted):
+    """What is wrong with one plant."""
+    with tempfile.TemporaryDirectory(prefix="rows-") as top:
+        room_of(top)
+        if os.path.isdir(os.path.join(top, path)):
+            shutil.rmtree(os.path.join(top, path))
+        elif old == 0:
+            with open(os.path.join(top, path), "w", encoding="utf-8") as file:
+                file.write(new)
+        else:
+            planted.edit(top, name, path, old, new)
+        if path in (PDFS, CLOSED):
+            return faults_of_kind(name, top, path, wanted)
+        return planted.faults_of_run(name, planted.run(top, ".ci/program.py", words=["--program", "/bin/true"]), wanted)
+
+
+def faults_of_kind(name, top, path, wanted):
+    """The same of a file that is read once the rows were run."""
+    call = "pdf_rows()" if path == PDFS else "closed_rows(made_fonts.FONTS, running.messages())"
+    text = f"import sys\nsys.path.insert(0, '.ci/program')\nimport made_fonts, row_files, row_kinds, running\ntry:\n    row_kinds.{call}\nexcept row_files.Trouble as trouble:\n    sys.exit(f'program.py: {{trouble}}')\n"
+    with open(os.path.join(top, "reads.py"), "w", encoding="utf-8") as file:
+        file.write(text)
+    here = os.getcwd()
+    os.chdir(top)
+    try:
+        return planted.faults_of_run(name, planted.run(top, "reads.py"), wanted)
+    finally:
+        os.chdir(here)
+
+
+def printed_of_run(text, again):
+    """What is printed of a row where the program does this, and this in a second run of the row."""
+    shown = io.StringIO()
+    with tempfile.TemporaryDirectory(prefix="rows-") as top, contextlib.redirect_stdout(shown):
+        path, listed = os.path.join(top, "program"), os.path.join(top, "rows")
+        os.mkdir(listed)
+        with open(os.path.join(listed, "row.txt"), "w", encoding="ascii") as file:
+            file.write(ROW)
+        table = running.Table(path)
+        for run in (text, again):
+            with open(path, "w", encoding="utf-8") as file:
+                file.write(f"#!/bin/sh\n{run}\n")
+            os.chmod(path, stat.S_IRWXU)
+            with tempfile.TemporaryDirectory(prefix="rows-") as room:
+                table.run_row(row_files.rows(made_fonts.FONTS, running.messages(), listed, "rows")[0], room)
+    return shown.getvalue(), table.wrong
+
+
+def planted_in_run(name, old, new, wanted):
+    """What is wrong where a program does otherwise; with AGAIN it does so in the second run alone."""
+    text = RUN.replace('cp "$1" "$2"', new) if old == "AGAIN" else RUN.replace(old, new) if old else RUN
+    shown, wrong = printed_of_run(RUN if old == "AGAIN" else text, text)
+    if wanted is None:
+        return [f"{name}: {wrong} wrong: {shown}"] if wrong or shown else []
+    return [] if wrong and wanted in shown else [f"{name}: {'GOT THROUGH' if not wrong else f'not {wanted!r}'}: {shown}"]
+
+
+def main():
+    faults = [fault for it in PLANTS for fault in planted_in_files(*it)]
+    faults += [fault for it in RUNS for fault in planted_in_run(*it)]
+    return planted.tell(faults, len(PLANTS) + len(RUNS))
+
+
+if __name__ == "__main__":
+    sys.exit(main())

@@ -1,0 +1,144 @@
+"""The fonts of the comparison, and the glyphs that are kept of each."""
+import os
+import random
+import struct
+import subprocess
+import sys
+
+from build import BUILD
+
+TRUETYPE = "/usr/share/fonts/truetype"
+OPENTYPE = "/usr/share/fonts/opentype"
+TEXMF = "/usr/share/texmf/fonts/opentype/public"
+
+# Debian's package, the file, and the font of a collection.
+TRUETYPE_FONTS = [
+    ("fonts-dejavu-core", f"{TRUETYPE}/dejavu/DejaVuSans.ttf", 0),
+    ("fonts-dejavu-core", f"{TRUETYPE}/dejavu/DejaVuSansMono-Bold.ttf", 0),
+    ("fonts-dejavu-extra", f"{TRUETYPE}/dejavu/DejaVuSerifCondensed.ttf", 0),
+    ("fonts-liberation", f"{TRUETYPE}/liberation/LiberationSans-Regular.ttf", 0),
+    ("fonts-noto-core", f"{TRUETYPE}/noto/NotoSans-Regular.ttf", 0),
+    ("fonts-noto-core", f"{TRUETYPE}/noto/NotoNastaliqUrdu-Regular.ttf", 0),
+    ("fonts-wqy-zenhei", f"{TRUETYPE}/wqy/wqy-zenhei.ttc", 1),
+    ("fonts-wqy-microhei", f"{TRUETYPE}/wqy/wqy-microhei.ttc", 0),
+    ("fonts-droid-fallback", f"{TRUETYPE}/droid/DroidSansFallbackFull.ttf", 0),
+    ("fonts-babelstone-han", f"{TRUETYPE}/babelstone/BabelStoneHan.ttf", 0),
+]
+# CFF outlines, SID-keyed; the last two are CID-keyed.
+CFF_FONTS = [
+    ("fonts-freefont-otf", f"{OPENTYPE}/freefont/FreeSerif.otf", 0),
+    ("fonts-linuxlibertine", f"{OPENTYPE}/linux-libertine/LinLibertine_R.otf", 0),
+    ("fonts-texgyre", f"{TEXMF}/tex-gyre/texgyretermes-regular.otf", 0),
+    ("fonts-lmodern", f"{TEXMF}/lm/lmroman10-regular.otf", 0),
+    ("fonts-cantarell", f"{OPENTYPE}/cantarell/Cantarell-Regular.otf", 0),
+    ("fonts-urw-base35", f"{OPENTYPE}/urw-base35/C059-Roman.otf", 0),
+    ("fonts-mplus", f"{OPENTYPE}/mplus/Mplus1-Regular.otf", 0),
+    ("fonts-noto-cjk", f"{OPENTYPE}/noto/NotoSansCJK-Regular.ttc", 0),
+    ("fonts-noto-cjk", f"{OPENTYPE}/noto/NotoSerifCJK-Regular.ttc", 0),
+]
+# The fonts whose copies are damaged; those with CFF outlines are SID-keyed.
+DAMAGED = [
+    ("fonts-noto-mono", f"{TRUETYPE}/noto/NotoSansMono-Regular.ttf"),
+    ("fonts-noto-core", f"{TRUETYPE}/noto/NotoSansOgham-Regular.ttf"),
+    ("fonts-noto-core", f"{TRUETYPE}/noto/NotoSansHebrew-Regular.ttf"),
+    ("fonts-noto-core", f"{TRUETYPE}/noto/NotoSansRunic-Regular.ttf"),
+    ("fonts-noto-core", f"{TRUETYPE}/noto/NotoSerifGrantha-Regular.ttf"),
+    ("fonts-liberation", f"{TRUETYPE}/liberation/LiberationMono-Regular.ttf"),
+]
+DAMAGED_CFF = [
+    ("fonts-texgyre", f"{TEXMF}/tex-gyre/texgyretermes-regular.otf"),
+    ("fonts-cantarell", f"{OPENTYPE}/cantarell/Cantarell-Regular.otf"),
+    ("fonts-urw-base35", f"{OPENTYPE}/urw-base35/C059-Roman.otf"),
+]
+# CID-keyed fonts that are cut down to some glyphs before their copies are damaged: the package, the file, and how many.
+KEYED = [
+    ("fonts-noto-cjk", f"{OPENTYPE}/noto/NotoSansCJK-Regular.ttc", 200),
+    ("fonts-noto-cjk", f"{OPENTYPE}/noto/NotoSerifCJK-Regular.ttc", 200),
+]
+TOOLS = ["time", "librust-rustc-hash-dev", "libharfbuzz-dev", "python3-fonttools"]
+
+# The mapper holds so many glyphs.
+GLYPHS_AT_MOST = 65535
+
+
+def install(packages):
+    """Installs those of Debian's packages that are missing."""
+    missing = [it for it in sorted(set(packages)) if subprocess.run(["dpkg", "-s", it], capture_output=True).returncode]
+    if missing:
+        print(f"installing {' '.join(missing)}", file=sys.stderr, flush=True)
+        subprocess.run(["apt-get", "install", "-y", "-qq", *missing], check=True, stdout=subprocess.DEVNULL)
+
+
+def keyed_font(_, path, count):
+    """A CID-keyed font of some glyphs of a collection's first one, with its subroutines and font dicts, by fontTools."""
+    from fontTools import subset
+
+    made = os.path.join(BUILD, os.path.basename(path).rsplit(".", 1)[0] + f"-{count}.otf")
+    if not os.path.exists(made):
+        os.makedirs(BUILD, exist_ok=True)
+        dropped = "GSUB GPOS GDEF BASE VORG vhea vmtx DSIG cmap OS/2".split()
+        options = subset.Options(layout_features=[], notdef_outline=True, glyph_names=False, font_number=0, drop_tables=dropped)
+        font = subset.load_font(path, options)
+        total = font["maxp"].numGlyphs
+        subsetter = subset.Subsetter(options)
+        subsetter.populate(gids=[total * k // count for k in range(count)])
+        subsetter.subset(font)
+        subset.save_font(font, made, options)
+    return made
+
+
+def u16(data, at):
+    return struct.unpack_from(">H", data, at)[0]
+
+
+def u32(data, at):
+    return struct.unpack_from(">I", data, at)[0]
+
+
+def directory(data, index=0):
+    """The tables of a font by tag, as (offset, length)."""
+    at = u32(data, 12 + 4 * index) if data[:4] == b"ttcf" else 0
+    records = [at + 12 + 16 * k for k in range(u16(data, at + 4))]
+    return {data[r:r + 4].decode("latin-1"): (u32(data, r + 8), u32(data, r + 12)) for r in records}
+
+
+def glyph_count(path, index):
+    with open(path, "rb") as file:
+        data = file.read()
+    return u16(data, directory(data, index)["maxp"][0] + 4)
+
+
+def label(path, index):
+    return os.path.basename(path) + (f" #{index}" if path.endswith(".ttc") else "")
+
+
+def spread(count, size):
+    """So many glyphs at equal distances over the whole face, in an order that is jumbled (the same in each run)."""
+    glyphs = [count * k // size for k in range(size)]
+    random.Random(size).shuffle(glyphs)
+    return ",".join(map(str, glyphs))
+
+
+def glyph_sets(count):
+    """Names and lists of the glyph sets that a font is large enough for: low numbers in order, and spread ones."""
+    kept = min(count, GLYPHS_AT_MOST)
+    sets = [("3 low", "68-70" if count > 70 else "1-3"), ("3 spread", spread(kept, 3))]
+    sets += [("80 low", "36-115" if count > 115 else f"0-{min(count, 80) - 1}"), ("80 spread", spread(kept, 80))]
+    if count >= 2000:
+        sets += [("2000 low", "0-1999"), ("2000 spread", spread(kept, 2000))]
+    return sets + [("all in order", f"0-{kept - 1}"), ("all jumbled", spread(kept, kept))]
+
+
+def faces():
+    """Each face of the machine, as a path and an index."""
+    found = []
+    for folder, _, names in sorted(os.walk("/usr/share")):
+        for name in sorted(names):
+            path = os.path.join(folder, name)
+            if not name.lower().endswith((".ttf", ".otf", ".ttc")) or os.path.islink(path):
+                continue
+            with open(path, "rb") as file:
+                head = file.read(12)
+            count = u32(head, 8) if head[:4] == b"ttcf" else 1
+            found += [(path, index) for index in range(count)]
+    return found

@@ -1,0 +1,285 @@
+"""What differs between the values and the file of a case and the rules, and what readers see of it: for pdf_font.py."""
+import base64
+from fractions import Fraction
+
+import fonts
+import pdf_readers as readers
+import pdf_rules as rules
+import pdf_rules_codes as codes_by
+from cff import cids as cids_of_cff
+from pdf_file import Face, Pdf, embedded
+
+FIRST = 7
+
+
+def outcome(case, values):
+    """The error that the rules want, or None; and the one that came."""
+    came = values.get("error")
+    if values["embed"] != "ok" and came == values["embed"]:
+        return came, came
+    if not case.has("Held") and not rules.is_permitted(case.source):
+        return "NotPermitted " + " ".join(map(str, rules.permission(case.source))), came
+    if values["embed"] != "ok":
+        return values["embed"], came
+    return None, came
+
+
+def numbers(text):
+    return [int(it) for it in text.split()]
+
+
+def wanted_widths(case, program, count):
+    """The widths of the glyphs in use by the source's `hmtx`, and of the components by the new font's. At coordinates all are the new
+    font's, which other comparisons judge."""
+    source, order = case.source, list(dict.fromkeys([0, *(glyph for glyph, _ in case.shown)]))
+    if source.is_moved:
+        return [rules.thousandths(advance(program, cid), source.units) for cid in range(count)]
+    own = [rules.thousandths(source.advance(glyph), source.units) for glyph in order]
+    return own + [rules.thousandths(advance(program, cid), source.units) for cid in range(len(own), count)]
+
+
+def advance(tables, glyph):
+    pairs = rules.field(tables["hhea"], 34, "H")
+    return rules.field(tables["hmtx"], 4 * min(glyph, pairs - 1), "H")
+
+
+def moved_heights(case):
+    """What `VVAR` adds to the advance of each glyph in use, by fontTools."""
+    source = case.source
+    table = source.font["VVAR"].table
+    store, mapping = source.deltas(table.VarStore), table.AdvHeightMap
+    index = (lambda g: mapping.mapping.get(source.font.getGlyphName(g), 0)) if mapping else (lambda g: g)
+    return lambda g: int(rules.half_up(store[index(g)]))
+
+
+def wanted_columns(case, widths):
+    order = list(dict.fromkeys([0, *(glyph for glyph, _ in case.shown)]))
+    found = [codes_by.column(case.source, glyph, width) for glyph, width in zip(order, widths)]
+    if case.source.is_moved and "VVAR" in case.source.tables:
+        shift = moved_heights(case)
+        for k, glyph in enumerate(order):
+            height, _ = codes_by.vertical(case.source, glyph)
+            if height is not None:
+                found[k] = (-rules.thousandths(max(height + shift(glyph), 0), case.source.units), *found[k][1:])
+    return found
+
+
+def compared(wrong, what, has, wants):
+    if has != wants:
+        wrong.append(f"{what} is {str(has)[:120]}, not {str(wants)[:120]}")
+
+
+class Font:
+    """What the rules say of a case whose font program is there."""
+
+    def __init__(self, case, values):
+        with open(case.file("program"), "rb") as file:
+            self.program = file.read()
+        source = case.source
+        self.kind = "TrueType" if not source.is_cff else "OpenType" if case.has("OpenType") else "BareCff"
+        self.tables = {} if self.kind == "BareCff" else {tag: self.program[o:o + n] for tag, (o, n) in fonts.directory(self.program).items()}
+        self.cids, self.codes = codes_by.cids(case.shown), case.codes
+        self.count = self.glyph_count(case)
+        self.widths = wanted_widths(case, self.tables, self.count)
+        self.default = codes_by.most_frequent(self.widths)
+        self.values = rules.descriptor(source, self.tables, case.has("Kept"))
+        self.name = rules.font_name(source, self.program, "QWERTY" if case.has("QWERTY") else None)
+        self.to_unicode = codes_by.to_unicode(case.shown, self.codes)
+        self.cmap = codes_by.encoding(self.cids, self.codes, case.is_vertical)
+        self.columns = wanted_columns(case, self.widths) if case.is_vertical else None
+        self.dw2 = None
+        if self.columns:
+            y, down = codes_by.most_frequent([(y, down) for down, _, y in self.columns])
+            self.dw2 = [y, down]
+
+    def glyph_count(self, case):
+        if self.kind == "TrueType":
+            return len(self.tables["loca"]) // (4 if rules.field(self.tables["head"], 50, "H") else 2) - 1
+        return max(self.cids, default=0) + 1
+
+
+def faults_of_values(case, values, font):
+    """What the crate's values have otherwise than the rules."""
+    wrong = []
+    words = {"kind": font.kind, "glyph_count": str(font.count), "name": font.name, "default_width": str(font.default), "to_unicode": font.to_unicode.encode().hex(),
+             "permission": " ".join(map(str, rules.permission(case.source))), "encoding": font.cmap and f"{font.cmap[0]} {font.cmap[1].encode().hex()}",
+             "cid_set": codes_by.cid_set(font.count).hex() if case.has("CIDSet") else None}
+    lists = {"cids": font.cids, "codes": font.codes, "is_said": codes_by.is_said(case.shown, font.codes), "widths": font.widths, "dw2": font.dw2}
+    words.update({name: wanted if wanted is None else " ".join(map(str, wanted)) for name, wanted in lists.items()})
+    words["columns"] = font.columns and " ".join(",".join(map(str, it)) for it in font.columns)
+    for name, wanted in font.values.items():
+        words[name] = " ".join(map(str, wanted)) if isinstance(wanted, list) else "-" if wanted is None else str(wanted)
+    for name, wanted in words.items():
+        compared(wrong, name, values.get(name), wanted)
+    if font.kind != "BareCff":
+        compared(wrong, "the program as `embed` makes it", values["is_embedded"], "1")
+    return wrong
+
+
+def faults_of_calls(case, values):
+    """What `glyphs_of` and `codes_of` answer otherwise."""
+    wrong = []
+    text = "".join(text for _, text in case.shown)
+    if case.characters:
+        compared(wrong, "glyphs_of", values["glyphs_of"], " ".join(str(case.characters.get(ord(it), 0)) for it in text))
+    for choice in ("Consecutive", "Source", "EachText"):
+        compared(wrong, f"codes_of {choice}", values[f"codes_of_{choice}"], " ".join(map(str, codes_by.codes(case.shown, choice))))
+    return wrong
+
+
+# ---- the objects of a file
+
+def stream(objects, reference):
+    return base64.b64decode(objects[reference]["stream"]["data"]), objects[reference]["stream"]["dict"]
+
+
+def faults_of_file(case, font, path):
+    """What qpdf finds in a file otherwise than the rules."""
+    wrong, objects = [], readers.objects_of(path)
+    top = [it["value"] for it in objects.values() if isinstance(it.get("value"), dict) and it["value"].get("/Subtype") == "/Type0"]
+    if len(top) != 1:
+        return [f"{len(top)} Type 0 fonts"]
+    top, way = top[0], "V" if case.is_vertical else "H"
+    below = objects[top["/DescendantFonts"][0]]["value"]
+    values, is_cff = objects[below["/FontDescriptor"]]["value"], font.kind != "TrueType"
+    identity = {"/Registry": "u:Adobe", "/Ordering": "u:Identity", "/Supplement": 0}
+    name, cmap_name = "/" + font.name, font.cmap[0] if font.cmap else f"Identity-{way}"
+    compared(wrong, "Type 0", {it: top[it] for it in top if it not in ("/ToUnicode", "/DescendantFonts", "/Encoding")},
+             {"/Type": "/Font", "/Subtype": "/Type0", "/BaseFont": f"{name}-{cmap_name}" if is_cff else name})
+    compared(wrong, "CIDFont", {it: below[it] for it in below if it not in ("/W", "/W2", "/DW", "/DW2", "/FontDescriptor")},
+             {"/Type": "/Font", "/Subtype": "/CIDFontType0" if is_cff else "/CIDFontType2", "/BaseFont": name, "/CIDSystemInfo": identity,
+              **({} if is_cff else {"/CIDToGIDMap": "/Identity"})})
+    compared(wrong, "W", (below["/DW"], codes_by.widths_in(below.get("/W", []), below["/DW"], font.count)), (font.default, font.widths))
+    wrong += faults_of_columns(font, below)
+    program_key = "/FontFile3" if is_cff else "/FontFile2"
+    compared(wrong, "descriptor", {it: values[it] for it in values if it not in ("/CIDSet", program_key)}, entries_of_descriptor(font))
+    wrong += faults_of_streams(case, font, objects, (top, below, values[program_key], values.get("/CIDSet")))
+    if not font.cmap:
+        compared(wrong, "Encoding", top["/Encoding"], f"/Identity-{way}")
+    return wrong
+
+
+def entries_of_descriptor(font):
+    it = font.values
+    found = {"/Type": "/FontDescriptor", "/FontName": "/" + font.name, "/Flags": it["flags"], "/FontBBox": it["bounds"], "/ItalicAngle": Fraction(it["italic_angle"], 1000),
+             "/Ascent": it["ascent"], "/Descent": it["descent"], "/CapHeight": it["cap_height"], "/XHeight": it["x_height"], "/StemV": it["stem_v"],
+             "/FontWeight": it["font_weight"]}
+    return {name: value for name, value in found.items() if value is not None}
+
+
+def faults_of_columns(font, below):
+    wrong = []
+    if font.columns is None:
+        return ["W2 in horizontal writing"] if "/W2" in below or "/DW2" in below else []
+    found = codes_by.columns_in(below.get("/W2", []), below.get("/DW2", [880, -1000]), font.widths, len(font.columns))
+    compared(wrong, "DW2", below.get("/DW2", [880, -1000]), font.dw2)
+    for cid, (has, wants) in enumerate(zip(found, font.columns)):
+        if (has[0], has[2]) != (wants[0], wants[2]) or abs(has[1] - wants[1]) > Fraction(1, 2):
+            compared(wrong, f"W2 of {cid}", has, wants)
+    return wrong
+
+
+def faults_of_streams(case, font, objects, values):
+    wrong, (top, _, program, cid_set) = [], values
+    data, entries = stream(objects, program)
+    compared(wrong, "font program", data == font.program, True)
+    kept = {it: value for it, value in entries.items() if it != "/Length"}
+    more = {"TrueType": {"/Length1": len(font.program)}, "BareCff": {"/Subtype": "/CIDFontType0C"}, "OpenType": {"/Subtype": "/OpenType"}}
+    compared(wrong, "its dictionary", kept, more[font.kind])
+    compared(wrong, "ToUnicode", stream(objects, top["/ToUnicode"])[0].decode(), font.to_unicode)
+    compared(wrong, "CIDSet", cid_set and stream(objects, cid_set)[0], codes_by.cid_set(font.count) if case.has("CIDSet") else None)
+    if font.cmap:
+        data, entries = stream(objects, top["/Encoding"])
+        compared(wrong, "CMap", data.decode(), font.cmap[1])
+        compared(wrong, "its name", (entries["/Type"], entries["/CMapName"], entries.get("/WMode", 0)), ("/CMap", "/" + font.cmap[0], int(case.is_vertical)))
+    return wrong
+
+
+# ---- the readers
+
+def faults_of_text(case, font):
+    """The grid's text by Poppler and MuPDF; and whether MuPDF was asked."""
+    wrong, wants = [], readers.letters("".join(text for _, text in case.shown))
+    is_simple = all(codes_by.is_said(case.shown, font.codes)) and len(set(case.shown)) == len({glyph for glyph, _ in case.shown})
+    is_simple = is_simple and all(len(text) == 1 or max(text) < "\U00010000" for _, text in case.shown)
+    for reader, read in (("Poppler", readers.text_by_poppler), ("MuPDF", readers.text_by_mupdf))[:1 + is_simple]:
+        has = readers.letters(read(case.file("grid.pdf")))
+        if has != wants and not (codes_by.is_right_to_left(wants) and sorted(has) == sorted(wants)):
+            compared(wrong, f"the text by {reader}", has, wants)
+    return wrong, is_simple
+
+
+def instance_of(source, glyphs):
+    """A variable font's static font at its coordinates, with the outlines of these glyphs under their numbers, by fontTools."""
+    import io
+
+    from fontTools import subset
+    from fontTools.ttLib import TTFont
+    from fontTools.varLib import instancer
+
+    font, out = TTFont(io.BytesIO(source.data), fontNumber=source.index), io.BytesIO()
+    for tag in ("GSUB", "GPOS", "GDEF", "BASE", "STAT", "MVAR", "DSIG"):
+        if tag in font:
+            del font[tag]
+    cut = subset.Subsetter(subset.Options(retain_gids=True, notdef_outline=True, layout_features=[]))
+    cut.populate(gids=glyphs)
+    cut.subset(font)
+    instancer.instantiateVariableFont(font, {tag: value / 65536 for tag, value in source.at.items()}, inplace=True).save(out)
+    return out.getvalue()
+
+
+def points(case, font, is_line, extent):
+    """Where each entry's origin lies, exactly; of columns that of horizontal writing."""
+    pen, found = 0, []
+    for k, ((glyph, _), cid) in enumerate(zip(case.shown, font.cids)):
+        units = advance(font.tables, cid) if case.source.is_moved else case.source.advance(glyph)
+        x, y = (36 + pen, 54) if is_line else (34 + 44 * (k % 12), 50 + 48 * (15 - k // 12 % 16))
+        if case.is_vertical:
+            down, _, top = font.columns[cid]
+            x, y = (72, extent - 36 - pen) if is_line else (x + 18, y + 32)
+            x, y = x - 18 * units / case.source.units, y - 36 * top / 1000
+            pen -= 36 * down / 1000
+        else:
+            pen += 36 * units / case.source.units
+        found.append((x, y))
+    return found
+
+
+def whole_page(case, font, face, is_line, box):
+    """A page with the whole font, whose glyphs are where the source's own numbers put them."""
+    numbers = cids_of_cff(face.tables["CFF "], max(glyph for glyph, _ in case.shown) + 1) if face.is_cff else range(65536)
+    text = ["BT /F0 36 Tf"]
+    for (glyph, _), (x, y) in zip(case.shown, points(case, font, is_line, box[1])):
+        text.append(f"1 0 0 1 {float(x):.4f} {float(y):.4f} Tm <{numbers[glyph]:04X}> Tj")
+    pdf = Pdf()
+    used = embedded(pdf, face, "OpenType" if face.is_cff else "TrueType", "AAAAAA+Whole", "[]")
+    tree, contents = pdf.room(), pdf.stream("", "\n".join([*text, "ET"]).encode())
+    page = pdf.put(f"<< /Type /Page /Parent {tree} 0 R /MediaBox [0 0 {box[0]} {box[1]}] /Contents {contents} 0 R /Resources << /Font << /F0 {used} 0 R >> >> >>")
+    pdf.fill(tree, f"<< /Type /Pages /Count 1 /Kids [{page} 0 R] >>")
+    return pdf.file(pdf.put(f"<< /Type /Catalog /Pages {tree} 0 R >>"))
+
+
+def faults_of_ink(case, font):
+    """What MuPDF and Poppler draw otherwise than with the whole font; and how many pictures were compared."""
+    wrong, count = [], 0
+    face = Face(instance_of(case.source, [glyph for glyph, _ in case.shown]) if case.source.is_moved else case.data, 0 if case.source.is_moved else case.index)
+    for name, reader, draw in (("line", "MuPDF", readers.by_mupdf), ("grid", "Poppler", readers.by_poppler)):
+        box = next(it["value"]["/MediaBox"] for it in readers.objects_of(case.file(f"{name}.pdf")).values() if "/MediaBox" in (it.get("value") or ()))
+        path = case.file(f"whole-{name}.pdf")
+        with open(path, "wb") as file:
+            file.write(whole_page(case, font, face, name == "line", box[2:]))
+        has, wants = draw(case.file(f"{name}.pdf")), draw(path)
+        far = readers.ink_apart(has, wants)
+        count += 1
+        if far or readers.is_blank(has) != readers.is_blank(wants):
+            wrong.append(f"{reader} draws the {name} with {far} pixels of ink elsewhere" + " (blank)" * readers.is_blank(has))
+    return wrong, count
+
+
+def archival_page(case, values, path):
+    """A PDF/A-1b page of the font's objects, which shows its codes."""
+    with open(case.file("objects"), "rb") as file:
+        objects = file.read()
+    codes = "".join(f"<{code:04X}> Tj\n" for code in case.codes)
+    with open(path, "wb") as file:
+        file.write(readers.archival(objects, numbers(values["offsets"]), FIRST, f"BT /F0 12 Tf 20 50 Td\n{codes}ET", (800, 100)))

@@ -1,0 +1,333 @@
+"""A second reading of variable fonts with TrueType outlines, in whole numbers, written from OpenType's chapters: what
+instances.py compares the instances of the port with. A glyph's points are in parts of 2^30 until they are rounded, once."""
+
+UNIT = 1 << 30
+
+
+class Fault(Exception):
+    """What stands against an instance, by the name of its error."""
+
+
+def need(it, name="MalformedFont"):
+    if not it:
+        raise Fault(name)
+
+
+def cut(data, at, size):
+    need(0 <= at and at + size <= len(data))
+    return data[at:at + size]
+
+
+def number(data, at, size=2, signed=False):
+    return int.from_bytes(cut(data, at, size), "big", signed=signed)
+
+
+def need_version_1(table):
+    """Another major version isn't read."""
+    need(table is None or len(table) < 2 or number(table, 0) == 1, "Unimplemented")
+
+
+def nearest(a, b):
+    """a / b to the nearest whole number, halves up."""
+    return (2 * a + b) // (2 * b)
+
+
+class Bytes:
+    """Bytes that are read from the front."""
+
+    def __init__(self, data):
+        self.data, self.at = data, 0
+
+    def take(self, size):
+        self.at += size
+        return cut(self.data, self.at - size, size)
+
+    def number(self, size=2, signed=False):
+        return int.from_bytes(self.take(size), "big", signed=signed)
+
+
+# ---- coordinates
+
+def axes_of(fvar):
+    first, count, size = number(fvar, 4), number(fvar, 8), number(fvar, 10)
+    need(size >= 20)
+    rows = [cut(fvar, first + i * size, size) for i in range(count)]
+    return [(row[:4], *(number(row, at, 4, True) for at in (4, 8, 12))) for row in rows]
+
+
+def normalized(axis, value):
+    _, low, default, high = axis
+    if value < default:
+        return 0 if default <= low else -65536 if value <= low else nearest((value - default) * 65536, default - low)
+    if value > default:
+        return 0 if high <= default else 65536 if high <= value else nearest((value - default) * 65536, high - default)
+    return 0
+
+
+def is_map(pairs):
+    """Whether a segment map keeps -1, 0 and 1, its fromCoordinates ascend and its toCoordinates don't descend."""
+    ascends = all(a < c and b <= d for (a, b), (c, d) in zip(pairs, pairs[1:]))
+    return ascends and all((v, v) in pairs for v in (-16384, 0, 16384))
+
+
+def bent(pairs, n):
+    if not is_map(pairs):
+        return n
+    for (a, b), (c, d) in zip(pairs, pairs[1:]):
+        if 4 * a <= n < 4 * c:
+            return 4 * b + nearest((n - 4 * a) * (4 * d - 4 * b), 4 * c - 4 * a)
+    return n
+
+
+def place_of(font, settings):
+    """The normalized coordinates, in F2Dot14."""
+    fvar, avar = font.get(b"fvar"), font.get(b"avar")
+    if fvar is None:
+        return []
+    need_version_1(fvar)
+    need_version_1(avar)
+    axes = axes_of(fvar)
+    user = [[value for tag, value in settings if tag == axis[0]][-1:] for axis in axes]
+    along = [normalized(axis, values[0] if values else axis[2]) for axis, values in zip(axes, user)]
+    if avar is not None:
+        need(number(avar, 6) == len(axes))
+        rest = Bytes(avar)
+        rest.take(8)
+        maps = []
+        for _ in axes:
+            count = rest.number()
+            maps.append([(rest.number(2, True), rest.number(2, True)) for _ in range(count)])
+        along = [bent(pairs, n) for pairs, n in zip(maps, along)]
+    return [nearest(n, 4) for n in along]
+
+
+# ---- scalars
+
+def scalar(region, at):
+    whole = UNIT
+    for (start, peak, end), c in zip(region, at):
+        if peak == 0 or start > peak or peak > end or start < 0 < end or c == peak:
+            continue
+        if c <= start or end <= c:
+            return 0
+        near = start if c < peak else end
+        whole = nearest(whole * abs(c - near), abs(peak - near))
+    return whole
+
+
+# ---- gvar
+
+def words(data):
+    return [number(data, at, 2, True) for at in range(0, len(data), 2)]
+
+
+class Gvar:
+    def __init__(self, data):
+        self.axes, shared, where, self.count, flags, first = (number(data, at, size) for at, size in ((4, 2), (6, 2), (8, 4), (12, 2), (14, 2), (16, 4)))
+        size = self.axes * 2
+        shared = cut(data, where, shared * size)
+        self.shared = [words(shared[at:at + size]) for at in range(0, len(shared), size)] if size else [[]] * 4096
+        each = 4 if flags & 1 else 2
+        offsets = cut(data, 20, (self.count + 1) * each)
+        self.offsets = [number(offsets, at, each) * (1 if each == 4 else 2) for at in range(0, len(offsets), each)]
+        need(first <= len(data))
+        self.data = data[first:]
+
+    def of(self, glyph):
+        need(glyph < self.count and self.offsets[glyph] <= self.offsets[glyph + 1])
+        return cut(self.data, self.offsets[glyph], self.offsets[glyph + 1] - self.offsets[glyph])
+
+
+def runs(rest, count, of_control):
+    """Packed runs up to a count, with which a run has to end."""
+    made = []
+    while len(made) < count:
+        control = rest.number(1)
+        length, one = of_control(control)
+        for _ in range(length):
+            need(len(made) < count)
+            made.append(one(rest))
+    return made
+
+
+def packed_deltas(rest, count):
+    def of_control(control):
+        length = (control & 63) + 1
+        if control & 128:
+            return length, lambda rest: 0
+        return length, lambda rest: rest.number(2 if control & 64 else 1, True)
+    return runs(rest, count, of_control)
+
+
+def packed_points(rest, count):
+    """The numbers of points, which ascend, or None for all."""
+    first = rest.number(1)
+    many = first if first < 128 else (first - 128) * 256 + rest.number(1)
+    if many == 0:
+        return None
+    steps = runs(rest, many, lambda control: ((control & 127) + 1, lambda rest: rest.number(2 if control & 128 else 1)))
+    points, last = [], 0
+    for step in steps:
+        last += step
+        need(last < count and (not points or last > points[-1]))
+        points.append(last)
+    return points
+
+
+def inferred(x, one, other, s):
+    (x1, d1), (x2, d2) = sorted([one, other], key=lambda it: it[0])
+    if x1 == x2:
+        return s * d1 if d1 == d2 else 0
+    if x <= x1:
+        return s * d1
+    if x2 <= x:
+        return s * d2
+    return nearest(s * (d1 * (x2 - x) + d2 * (x - x1)), x2 - x1)
+
+
+def moves(values, ends, deltas, s):
+    """By how much a tuple moves each point along one axis."""
+    moved, start = [], 0
+    for end in ends:
+        held = [k for k in range(start, end + 1) if k in deltas]
+        for k in range(start, end + 1):
+            if k in deltas:
+                moved.append(s * deltas[k])
+            elif not held:
+                moved.append(0)
+            else:
+                before = max((h for h in held if h < k), default=held[-1])
+                after = min((h for h in held if h > k), default=held[0])
+                moved.append(inferred(values[k], (values[before], deltas[before]), (values[after], deltas[after]), s))
+        start = end + 1
+    return moved
+
+
+class Steps:
+    def __init__(self, left):
+        self.left = left
+
+    def take(self, n):
+        need(n <= self.left, "OverflowError")
+        self.left -= n
+
+
+def varied(gvar, glyph, xs, ys, ends, at, steps):
+    """The points of a glyph at a place, in parts of 2^30; the last four are its phantom points."""
+    to_x, to_y = [UNIT * x for x in xs], [UNIT * y for y in ys]
+    data = gvar.of(glyph) if gvar else b""
+    if not data:
+        return to_x, to_y
+    heads, count = Bytes(data), len(xs)
+    tuples, first = heads.number(), heads.number()
+    need(first <= len(data))
+    rest = Bytes(data[first:])
+    shared = packed_points(rest, count) if tuples & 0x8000 else None
+    for _ in range(tuples & 0x0FFF):
+        steps.take(1)
+        size, flags = heads.number(), heads.number()
+        if flags & 0x8000:
+            peaks = words(heads.take(gvar.axes * 2))
+        else:
+            need(flags & 0x0FFF < len(gvar.shared))
+            peaks = gvar.shared[flags & 0x0FFF]
+        if flags & 0x4000:
+            starts, stops = words(heads.take(gvar.axes * 2)), words(heads.take(gvar.axes * 2))
+        else:
+            starts, stops = [min(p, 0) for p in peaks], [max(p, 0) for p in peaks]
+        own = Bytes(rest.take(size))
+        s = scalar(list(zip(starts, peaks, stops)), at)
+        if s == 0:
+            continue
+        steps.take(count)
+        numbers = packed_points(own, count) if flags & 0x2000 else shared
+        numbers = list(range(count)) if numbers is None else numbers
+        dx = dict(zip(numbers, packed_deltas(own, len(numbers))))
+        dy = dict(zip(numbers, packed_deltas(own, len(numbers))))
+        to_x = [a + b for a, b in zip(to_x, moves(xs, ends, dx, s))]
+        to_y = [a + b for a, b in zip(to_y, moves(ys, ends, dy, s))]
+    return to_x, to_y
+
+
+# ---- HVAR
+
+def item_delta(store, at, outer, inner):
+    if outer == inner == 0xFFFF:
+        return 0
+    need(number(store, 0) == 1)
+    where = number(store, 2, 4)
+    axes, count = number(store, where), number(store, where + 2)
+    need(where and axes == len(at))
+    regions = cut(store, where + 4, count * axes * 6)
+    need(outer < number(store, 6))
+    data = number(store, 8 + 4 * outer, 4)
+    items, longs, many = number(store, data), number(store, data + 2), number(store, data + 4)
+    words_, size = longs & 0x7FFF, 4 if longs & 0x8000 else 2
+    need(data and inner < items and words_ <= many)
+    row = Bytes(cut(store, data + 6 + 2 * many + inner * (many + words_) * size // 2, (many + words_) * size // 2))
+    total = 0
+    for k in range(many):
+        delta = row.number(size if k < words_ else size // 2, True)
+        index = number(store, data + 6 + 2 * k)
+        need(index < count)
+        region = words(regions[index * axes * 6:(index + 1) * axes * 6])
+        total += delta * scalar([tuple(region[i:i + 3]) for i in range(0, 3 * axes, 3)], at)
+    return total
+
+
+def advance_index(hvar, glyph):
+    where = number(hvar, 8, 4)
+    if where == 0:
+        return 0, glyph
+    kind, form = number(hvar, where, 1), number(hvar, where + 1, 1)
+    need(kind < 2)
+    count = number(hvar, where + 2, 4 if kind else 2)
+    need(count)
+    size, bits = (form >> 4 & 3) + 1, (form & 15) + 1
+    entry = number(hvar, where + (6 if kind else 4) + min(glyph, count - 1) * size, size)
+    return entry >> bits, entry & ((1 << bits) - 1)
+
+
+def store_at(table, where, at):
+    """The item variation store there: it has the font's axes, before an item is looked for."""
+    need(where and where <= len(table))
+    store = table[where:]
+    regions = number(store, 2, 4)
+    need(number(store, 0) == 1 and regions and number(store, regions) == len(at))
+    cut(store, regions + 4, number(store, regions + 2) * len(at) * 6)
+    return store
+
+
+def advance_delta(hvar, at, glyph):
+    store = store_at(hvar, number(hvar, 4, 4), at)
+    return item_delta(store, at, *advance_index(hvar, glyph))
+
+
+# ---- MVAR
+
+# Where a metric stands in its table.
+LINES = {b"hhea": {4: b"hasc", 6: b"hdsc", 8: b"hlgp", 18: b"hcrs", 20: b"hcrn", 22: b"hcof"}, b"post": {8: b"undo", 10: b"unds"}}
+
+
+def metric_delta(mvar, at, tag):
+    size, count = number(mvar, 6), number(mvar, 8)
+    need(size >= 8)
+    for k in range(count):
+        record = cut(mvar, 12 + k * size, 8)
+        if record[:4] == tag:
+            return item_delta(store_at(mvar, number(mvar, 10), at), at, number(record, 4), number(record, 6))
+    return 0
+
+
+def varied_lines(mvar, at, tag, table):
+    """`hhea` or `post`, of which some metrics vary."""
+    if mvar is None or table is None or len(table) < max(LINES[tag]) + 2:
+        return table
+    table = bytearray(table)
+    for where, metric in LINES[tag].items():
+        delta = metric_delta(mvar, at, metric)
+        need(abs(delta) < 1 << 62, "OverflowError")
+        value = number(table, where, 2, True) + nearest(delta, UNIT)
+        need(-32768 <= value <= 32767, "OverflowError")
+        table[where:where + 2] = (value % 65536).to_bytes(2, "big")
+    return bytes(table)

@@ -1,0 +1,11 @@
+pub mod Bytes
+pub mod Glyf
+pub mod Metrics
+pub mod Names
+pub mod Numbers
+pub mod Options
+pub mod Rounding
+pub mod Source
+pub mod Tables
+pub mod Texts
+pub mod Written

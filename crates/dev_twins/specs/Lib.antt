@@ -1,0 +1,5 @@
+pub mod Boxes
+pub mod Glyf
+pub mod Metrics
+pub mod Names
+pub mod Written
