@@ -147,6 +147,9 @@ class Tree:
             found = ("mod", module)
         elif first == "super":
             found = ("mod", module.parent or module)
+        elif first in self.crates and module.uses.get(first, [])[:1] == [first]:
+            # (a crate, of which an item of the same name is brought in)
+            found = ("mod", self.crates[first])
         else:
             found = self.look(module, first, set())
             if found is None and first in self.crates:
