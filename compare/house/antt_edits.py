@@ -137,13 +137,15 @@ def is_member(parts, k, braces, in_family):
 
 def word_edits(changes, parts, scope, hidden=(), goals=None):
     """Edits of words that aren't imports: `hidden` are variables of code, `goals` knows what the check's own names are made of."""
-    edits, braces, family = [], Braces(), False
+    edits, braces, family, own = [], Braces(), False, set()
     for k, part in enumerate(parts):
         if part.first and part.column == 0:
-            family = False
+            family, own = False, set()
         if part.text in ("record", "data") and not braces.levels and (part.first or parts[k - 1].text in ("pub", "abbrev", "unfoldable")):
             family = True
-        new = word_edit(changes, parts, k, scope, hidden, goals, braces, family)
+        new = changes.field(part.text) if part.text in own else word_edit(changes, parts, k, scope, hidden, goals, braces, family)
+        if new != part.text and is_member(parts, k, braces, family) and parts[k + 1].text == ":":
+            own.add(part.text)
         if new is not None and new != part.text.lstrip("."):
             edits.append((part.at, part.end, new))
         braces.see(part.text)

@@ -16,7 +16,7 @@ class Changes:
         self.tree, self.modules, self.items, self.fields, self.crates = tree, {}, {}, {}, {}
         self.clashes, self.notes = [], []
         self.lemmas = set(lemma_modules(tree))
-        self.methods = self.params = None
+        self.methods = self.params = self.names = None
 
     @property
     def is_empty(self):
@@ -143,6 +143,14 @@ class Changes:
                 if it.kind == "fn":
                     self.params.setdefault(it.name, set()).update(it.params)
         return self.params
+
+    def namesakes(self):
+        """All new names of what has a name now."""
+        if self.names is None:
+            self.names = {}
+            for id in [*self.tree.items, *self.tree.definitions]:
+                self.names.setdefault(id.rsplit(".", 1)[-1], set()).add(self.leaf(id))
+        return self.names
 
     def field(self, name):
         return self.fields.get(name, name)

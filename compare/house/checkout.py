@@ -6,6 +6,7 @@ import rattle_tree
 from antt_edits import antt_file_edits
 from changes import applied, moved_span
 from code_edits import CodeEdits
+from comments import comment_edits
 from goal_names import Goals
 from rattle_text import Trouble
 
@@ -55,7 +56,7 @@ class Checkout:
 
     def code_edits(self, text, module):
         edits, clashes = CodeEdits(self.changes, text, module).run()
-        edits = sorted(set(edits)) + self.mod_edits(text, module)
+        edits = sorted(set(edits)) + self.mod_edits(text, module) + comment_edits(self.changes, text, module)
         return edits, clashes
 
     def mod_edits(self, text, module):
@@ -103,6 +104,7 @@ class Checkout:
             self.move(path, "crates/" + self.changes.module(module).replace(".", "/") + ".antt")
         edits, clashes = antt_file_edits(self.changes, text, module, goals)
         edits = sorted(set(edits)) + self.index_edits(text, ".".join([crate, part, *([] if below == ["Lib"] else below)]))
+        edits += comment_edits(self.changes, text, None)
         self.put(path, text, applied(text, edits))
         self.wrong += [f"{path}: {it}" for it in clashes]
 

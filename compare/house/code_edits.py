@@ -112,7 +112,11 @@ class CodeEdits:
         self.changes, self.module, self.prefix, self.tree = changes, module, list(prefix), changes.tree
         self.code, self.edits, self.clashes = Code(text), [], []
         self.text, self.inside = text, set()
-        self.locals = [(k, end, bound_names(self.code.words[k:end + 1])) for k, _, end in self.code.functions()]
+        self.locals, self.heads = [], []
+        for k, opened, end in self.code.functions():
+            self.locals.append((k, end, bound_names(self.code.words[k:end + 1])))
+            body = next((a for a, b in self.code.ends.items() if b == end), end)
+            self.heads.append((k, body, bound_names(self.code.words[opened:self.code.ends.get(opened, opened) + 1])))
 
     def run(self):
         scope = Scope(self.changes)
@@ -142,7 +146,8 @@ class CodeEdits:
             self.put(j, self.changes.field(code.at(j)))
         while code.at(j) != "{":
             j += 1
-        hidden = self.locals_at(a)
+        heads = [names for k, body, names in self.heads if k <= a < body]
+        hidden = heads[-1] if heads else self.locals_at(a)
         parts = parts_of(self.text, code.starts[j] + 1, self.end(b) - 1)
         own = Scope(self.changes)
         own.words, own.brought, own.aliases = dict(scope.words), dict(scope.brought), scope.aliases
@@ -197,6 +202,8 @@ class CodeEdits:
 
     def single(self, k):
         code, name = self.code, self.code.words[k]
+        if name in ("crate", "self", "super", "Self"):
+            return
         if code.at(k - 1) == "fn" or code.at(k - 1) in ("struct", "enum", "trait", "const", "type", "static"):
             self.declared(k)
         elif self.is_field(k):
