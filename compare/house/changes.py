@@ -16,7 +16,7 @@ class Changes:
         self.tree, self.modules, self.items, self.fields, self.crates = tree, {}, {}, {}, {}
         self.clashes, self.notes = [], []
         self.lemmas = set(lemma_modules(tree))
-        self.methods = self.params = self.names = None
+        self.methods = self.params = self.names = self.lines = None
 
     @property
     def is_empty(self):
@@ -143,6 +143,12 @@ class Changes:
                 if it.kind == "fn":
                     self.params.setdefault(it.name, set()).update(it.params)
         return self.params
+
+    def declared(self, path, line, name):
+        """The full name of the item that is declared in a line of a file."""
+        if self.lines is None:
+            self.lines = {(it.path, it.line, it.name): id for id, it in self.tree.items.items()}
+        return self.lines.get((path, line, name))
 
     def namesakes(self):
         """All new names of what has a name now."""

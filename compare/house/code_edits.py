@@ -214,27 +214,13 @@ class CodeEdits:
             self.put(k, self.changes.code_word(self.module, name))
 
     def declared(self, k):
-        """The name where an item is declared."""
-        name = self.code.words[k]
-        owner = self.owner_at(k)
-        ids = [f"{owner}.{name}"] if owner else [f"{self.module.id}.{name}"] + [f"{it.id}.{name}" for it in self.module.modules.values()]
-        new = next((self.changes.items[it] for it in ids if it in self.changes.items), None)
-        self.put(k, new if new else self.changes.method(name) if owner and f"{owner}.{name}" not in self.tree.items else name)
-
-    def owner_at(self, k):
-        """The type around a method that is declared here."""
-        code, j = self.code, k
-        blocks = [a for a, b in code.ends.items() if a < k <= b and code.words[a] == "{"]
-        for a in sorted(blocks, reverse=True):
-            j = a
-            while j and code.words[j - 1] not in ("}", ";", "{"):
-                j -= 1
-            head = code.words[j:a]
-            if "impl" in head or "trait" in head:
-                names = [it for it in head[max(head.index("for"), 0) + 1 if "for" in head else 1:] if NAME.match(it) and it not in KEYWORDS]
-                found = self.tree.path(self.module, names[-1:] if "trait" in head else names[:1]) if names else None
-                return found[1] if found and found[0] == "def" else None
-        return None
+        """The name where an item is declared, which the tree has by its line; a method of a trait by its name."""
+        name, line = self.code.words[k], self.text.count("\n", 0, self.code.starts[k]) + 1
+        id = self.changes.declared(self.module.path, line, name)
+        if id in self.changes.items:
+            self.put(k, self.changes.items[id])
+        elif id and id.rsplit(".", 1)[0] not in self.tree.items and ".impl " in id:
+            self.put(k, self.changes.method(name))
 
     def is_field(self, k):
         """Whether a name is a field's: in the body of a struct, in a struct's literal or pattern."""
