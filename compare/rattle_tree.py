@@ -182,6 +182,8 @@ class Tree:
                 return self.of_crate(path)
             return self.used(module, path, seen)
         for path in module.globs:
+            if path[0] not in ("crate", "self", "super") and not (path[0] in module.modules or path[0] in module.uses or path[0] in self.crates):
+                continue
             found = self.path(module, path)
             found = self.look(found[1], name, seen) if found and found[0] == "mod" else None
             if found:

@@ -120,6 +120,27 @@ class Changes:
             found = next((it for owner in owners for it in owner.items if it.name == rest[1]), None)
         return module, found if found is not None and found.kind == "fn" else None
 
+    def rebased(self, module, segments, modules, is_full=False):
+        """The words of a path of code that name modules, as they are once these have moved; `modules` are what the words mean."""
+        base, last, first = modules[0], modules[-1], segments[0]
+        new, root = self.module(last.id).split("."), self.module(base.id).split(".")
+        home = self.module(module.id).split(".")
+        if is_full:
+            return new
+        if first == "super" and home[:-1] == root:
+            return [first, *new[len(root):]]
+        if first == "self" and home == root:
+            return [first, *new[len(root):]]
+        if first in ("crate", "self", "super"):
+            return ["crate", *new[1:]]
+        if first in module.modules:
+            if root[:-1] == home:
+                return [root[-1], *new[len(root):]]
+            return new[1:] if module.parent is None and home == new[:1] else ["crate", *new[1:]]
+        if first in module.uses:
+            return [root[-1] if base.id.split(".")[-1] == first else first, *new[len(root):]]
+        return new if first in self.tree.crates else ["crate", *new[1:]]
+
     # ---- methods and fields by their names
 
     def method(self, name):

@@ -8,8 +8,10 @@ from changes import applied, moved_span
 from code_edits import CodeEdits
 from comments import comment_edits
 from goal_names import Goals
+from rattle_code import CodeModule, CodeParser
 from rattle_text import Trouble
 
+TESTS = re.compile(r"^#\[cfg\(test\)\]\nmod (\w+);", re.M)
 EDITED = re.compile(r"^(file|old|new): ?(.*)$")
 
 
@@ -24,9 +26,29 @@ class Checkout:
             self.modules_below(crate)
 
     def modules_below(self, module):
-        self.sources.setdefault(module.path, module)
+        if module.path not in self.sources:
+            self.sources[module.path] = module
+            for name in TESTS.findall(self.read(module.path)):
+                self.tests(module, name)
         for inner in module.modules.values():
             self.modules_below(inner)
+
+    def tests(self, module, name):
+        """A module of tests that has a file: the tree leaves it out."""
+        top = re.sub(r"(?:/(?:lib|main))?\.rt$", "", module.path)
+        path = f"{top}/{name}.rt"
+        if os.path.isfile(os.path.join(self.root, path)):
+            inner = CodeModule(f"{module.id}.{name}", path)
+            CodeParser(inner, path, self.read(path)).parse()
+            inner.parent, inner.named = module, {it.name: it for it in inner.items if it.kind != "impl"}
+            for item in inner.items:
+                item.id = f"{inner.id}.{item.name}"
+            self.sources[path] = inner
+            for below in inner.waiting:
+                self.tests(inner, below)
+                child = self.sources.get(f"{top}/{name}/{below}.rt")
+                if child:
+                    inner.modules[below] = child
 
     def run(self):
         for path, module in self.sources.items():

@@ -1,7 +1,7 @@
 """Edits of code (.rt, and the .rs that is written by hand): imports, paths, methods, fields, clauses."""
 import re
 
-from antt_edits import Scope, clashes_of, import_edits, parts_of, word_edits
+from antt_edits import Scope, clashes_of, import_edits, meaning, parts_of, word_edits
 from rattle_text import CODE
 
 NAME = re.compile(r"[A-Za-z_]\w*$")
@@ -196,9 +196,24 @@ class CodeEdits:
         segments, places = code.words[k:last + 1:2], list(range(k, last + 1, 2))
         if len(segments) == 1:
             self.single(k)
+        elif len(segments) > 2 and segments[1] in ("specs", "proofs"):
+            self.lemma(segments, places)
         elif segments[:len(self.prefix)] == self.prefix:
             self.long_path(segments[len(self.prefix):], places[len(self.prefix):])
         return last + 1
+
+    def lemma(self, segments, places):
+        """`crate::proofs::X::y` in an attribute."""
+        crate = self.module.id.split(".")[0] if segments[0] == "crate" else segments[0]
+        path = ".".join(["Rattle", crate, *segments[1:-1]])
+        made = self.changes.antt_path(path).split(".")[1:]
+        leaf = segments[-1]
+        if self.code.at(places[-1] + 1) != "-" and crate in self.tree.names:
+            leaf = self.changes.target(meaning(self.changes, path, leaf), leaf)
+        text = "::".join([segments[0] if segments[0] == "crate" else made[0], *made[1:], leaf])
+        start, end = self.code.starts[places[0]], self.end(places[-1])
+        if text != self.text[start:end]:
+            self.edits.append((start, end, text))
 
     def single(self, k):
         code, name = self.code, self.code.words[k]
@@ -243,9 +258,14 @@ class CodeEdits:
     def long_path(self, segments, places):
         """`a::b::c`: the part that is a module by the module's new path, then new names."""
         found, modules = self.resolved(segments)
-        if modules and self.is_rebased(segments, found, modules):
-            self.rebase(found, segments, places, modules)
-        for k in range(modules if modules else 0, len(segments)):
+        if segments[0] == "super" and self.is_inside_module(places[0]):
+            return
+        if modules:
+            made = self.rebased(segments, found, modules)
+            start, end = self.code.starts[places[0]], self.end(places[modules - 1])
+            if made != segments[:modules]:
+                self.edits.append((start, end, "::".join(made)))
+        for k in range(modules, len(segments)):
             if k < len(found) and found[k] and found[k][0] in ("def", "con"):
                 self.put(places[k], self.changes.target(found[k], segments[k]))
             elif k and found and found[min(k, len(found)) - 1] and found[min(k, len(found)) - 1][0] == "def":
@@ -253,9 +273,10 @@ class CodeEdits:
 
     def resolved(self, segments):
         """What each start of a path means, and how many of its words are modules."""
-        found = [self.tree.path(self.module, segments[:k + 1]) if not self.prefix else self.outside(segments[:k + 1]) for k in range(len(segments))]
-        if not self.prefix and found and segments[0] in self.tree.crates and (found[0] is None or found[0][0] == "lib"):
-            found[0] = ("mod", self.tree.crates[segments[0]])
+        if self.prefix:
+            found = [self.outside(segments[:k + 1]) for k in range(len(segments))]
+        else:
+            found = [self.tree.path(self.module, segments[:k + 1]) for k in range(len(segments))]
         modules = 0
         while modules < len(segments) and found[modules] and found[modules][0] == "mod":
             modules += 1
@@ -269,25 +290,12 @@ class CodeEdits:
             found = self.tree.step(found, segment) if found else None
         return found
 
-    def is_rebased(self, segments, found, modules):
-        """Whether the path to a module has to be written anew."""
-        return any(self.changes.module(it[1].id) != it[1].id for it in found[:modules])
+    def rebased(self, segments, found, modules):
+        return self.changes.rebased(self.module, segments, [it[1] for it in found[:modules]], bool(self.prefix))
 
-    def rebase(self, found, segments, places, modules):
-        base, last, first = found[0][1], found[modules - 1][1], segments[0]
-        new, root = self.changes.module(last.id).split("."), self.changes.module(base.id).split(".")
-        is_child = first in self.module.modules
-        if first in ("crate", "self", "super"):
-            made = ["crate", *new[1:]]
-        elif first in self.tree.crates and not is_child:
-            made = new
-        elif is_child and root[:-1] != self.changes.module(self.module.id).split("."):
-            made = ["crate", *new[1:]]
-        else:
-            made = [root[-1] if base.id.split(".")[-1] == first else first, *new[len(root):]]
-        start, end = self.code.starts[places[0]], self.end(places[modules - 1])
-        if self.text[start:end] != "::".join(made):
-            self.edits.append((start, end, "::".join(made)))
+    def is_inside_module(self, k):
+        """Whether a word is inside a `mod x {..}` of its file."""
+        return any(self.code.at(a - 2) == "mod" and a < k < b for a, b in self.code.ends.items())
 
     # ---- imports of code
 
@@ -297,7 +305,7 @@ class CodeEdits:
         while code.at(end) != ";":
             end += 1
         leaves = list(self.leaves(k + 1, end, []))
-        news = [self.new_leaf(path) for path, _ in leaves]
+        news = [self.new_leaf(path, k) for path, _ in leaves]
         if any(new != path for new, (path, _) in zip(news, leaves)):
             at = k - (code.at(k - 1) == "pub")
             lines = self.use_lines([(new, own) for new, (_, own) in zip(news, leaves)], "pub " if at < k else "")
@@ -328,31 +336,19 @@ class CodeEdits:
             k += 1
         yield path, None
 
-    def new_leaf(self, path):
+    def new_leaf(self, path, k):
         """The new path of a name that is brought."""
-        plain = [it for it in path if it not in ("self", "*")] if path[-1] in ("self", "*") else path
-        if plain[:len(self.prefix)] != self.prefix:
+        plain = path[:-1] if path[-1] in ("self", "*") else path
+        if plain[:len(self.prefix)] != self.prefix or plain[0] == "super" and self.is_inside_module(k):
             return path
         segments = plain[len(self.prefix):]
         found, modules = self.resolved(segments) if segments else ([], 0)
         if not modules:
             return path
-        made = self.new_base(found[modules - 1][1], segments, modules)
-        for k in range(modules, len(segments)):
-            made.append(self.changes.target(found[k], segments[k]) if k < len(found) else segments[k])
+        made = self.rebased(segments, found, modules)
+        for n in range(modules, len(segments)):
+            made.append(self.changes.target(found[n], segments[n]))
         return self.prefix + made + path[len(plain):]
-
-    def new_base(self, last, segments, modules):
-        new = self.changes.module(last.id)
-        if new == last.id:
-            return segments[:modules]
-        parts = new.split(".")
-        first = segments[0]
-        if first in self.tree.crates and first not in self.module.modules or self.prefix:
-            return parts
-        if first == "crate" or self.module.parent is not None:
-            return ["crate", *parts[1:]]
-        return parts[1:]
 
     @staticmethod
     def use_lines(leaves, pub):

@@ -12,11 +12,20 @@ def comment_edits(changes, text, module, regions=()):
         for hit in TICKED.finditer(comment[0]):
             start = comment.start() + hit.start(1)
             segments = hit[1].split("::")
-            new = renamed(changes, module, segments)
-            if new != segments[-1]:
-                end = start + len(hit[1])
-                edits.append((end - len(segments[-1]), end, new))
+            new = "::".join([*rebased(changes, module, segments), renamed(changes, module, segments)])
+            if new != hit[1]:
+                edits.append((start, start + len(hit[1]), new))
     return edits
+
+
+def rebased(changes, module, segments):
+    """The words of a path in a comment in front of its last one."""
+    found = [changes.tree.path(module, segments[:k + 1]) for k in range(len(segments) - 1)] if module is not None else []
+    modules = [it[1] for it in found if it and it[0] == "mod"]
+    if not modules or len(modules) < len(found) and found[len(modules)] and found[len(modules)][0] == "mod":
+        return segments[:-1]
+    made = [renamed(changes, module, segments[:k + 1]) for k in range(len(modules), len(segments) - 1)]
+    return [*changes.rebased(module, segments, modules), *made]
 
 
 def renamed(changes, module, segments):
