@@ -89,7 +89,8 @@ class Documents:
 
     def ids_in(self, text):
         """Full names, also where one is behind `=`."""
-        return FULL.sub(lambda found: self.changes.id(found[0]) if found[0].split(".")[0] in self.changes.tree.names else found[0], text)
+        text = FULL.sub(lambda found: self.changes.id(found[0]) if found[0].split(".")[0] in self.changes.tree.names else found[0], text)
+        return re.sub(r"^(definition|function) (.* = .*)$", lambda found: f"{found[1]} {' = '.join(sorted(self.crates_in(found[2]).split(' = ')))}", text, flags=re.M)
 
     def path_words(self):
         """Old paths of files that move, as texts name them, with their new ones; longest first."""
