@@ -126,7 +126,7 @@ class Checkout:
             self.move(path, "crates/" + self.changes.module(module).replace(".", "/") + ".antt")
         edits, clashes = antt_file_edits(self.changes, text, module, goals)
         edits = sorted(set(edits)) + self.index_edits(text, ".".join([crate, part, *([] if below == ["Lib"] else below)]))
-        edits += comment_edits(self.changes, text, None)
+        edits += comment_edits(self.changes, text, None, module)
         self.put(path, text, applied(text, edits))
         self.wrong += [f"{path}: {it}" for it in clashes]
 

@@ -5,14 +5,15 @@ TICKED = re.compile(r"`([A-Za-z_][\w:]*)(\(\))?`")
 COMMENT = re.compile(r"//[^\n]*|(?<![^\s])--(?=\s)[^\n]*")
 
 
-def comment_edits(changes, text, module, regions=()):
-    """Edits of the comments of a source: names that the module knows, or that one thing alone has."""
+def comment_edits(changes, text, module, file=""):
+    """Edits of the comments of a source: names that the module or the file of definitions knows, or that one thing alone has."""
     edits = []
     for comment in COMMENT.finditer(text):
         for hit in TICKED.finditer(comment[0]):
             start = comment.start() + hit.start(1)
             segments = hit[1].split("::")
-            new = "::".join([*rebased(changes, module, segments), renamed(changes, module, segments)])
+            own = changes.items.get(f"{file}.{segments[-1]}")
+            new = "::".join([*rebased(changes, module, segments), own or renamed(changes, module, segments)])
             if new != hit[1]:
                 edits.append((start, start + len(hit[1]), new))
     return edits
