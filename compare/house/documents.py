@@ -7,6 +7,7 @@ from changes import applied
 from code_edits import CodeEdits
 from rattle_code import CodeModule
 from rattle_text import Trouble
+from snippets import Snippets
 
 # Records and what other programs write: they keep their words.
 KEPT = re.compile(r"(CHANGELOG\.md|docs/EVIDENCE\.md|compare/results/|compare/house/|bindings/rust/src/proved/|wip/|out/|crates/[^/]+/(src|specs|proofs|must-fail|out)/|compare/wrong_bodies/|compare/contracts_test\.py|\.ci/conventions_test\.py)")
@@ -23,7 +24,7 @@ class Documents:
         self.changes, self.files, self.root, self.left = changes, files, files.root, []
         self.crate_words = re.compile(r"(?<![\w-])(" + "|".join(map(re.escape, changes.crates)) + r")(?![\w-])") if changes.crates else None
         self.paths = self.path_words()
-        self.leaves = self.renamed_leaves()
+        self.leaves, self.snippets = self.renamed_leaves(), Snippets(changes, files)
 
     def run(self):
         self.other_files()
@@ -77,12 +78,25 @@ class Documents:
             text = self.plain_code(path, text)
         if path.endswith("generator/reviewed.txt"):
             text = "\n".join(self.reviewed(line) for line in text.split("\n"))
+        if path.endswith(".ci/width.txt") or "proved/" in text:
+            text = "\n".join(self.snippets.line(line, path.endswith("width.txt")) for line in text.split("\n"))
         text = self.paths_in(text)
         if path.startswith(".ci/conventions/"):
             text = self.ids_in(text)
         if path.endswith(".md"):
-            text = TICKED.sub(lambda found: self.ticked(path, found), text)
+            text = self.document(path, text)
         return self.crates_in(text)
+
+    def document(self, path, text):
+        """A document: names between backticks are those of the crate that was named last."""
+        last = [None]
+
+        def new(found):
+            crate = re.match(r"(?:crates/)?(\w+)(?:/|$)", found[1])
+            if crate and (crate[1] in self.changes.tree.names or crate[1] in self.changes.crates.values()):
+                last[0] = next((old for old, it in self.changes.crates.items() if it == crate[1]), crate[1])
+            return self.ticked(path, found, last[0])
+        return TICKED.sub(new, text)
 
     def crates_in(self, text):
         return self.crate_words.sub(lambda found: self.changes.crates[found[1]], text) if self.crate_words else text
@@ -111,25 +125,32 @@ class Documents:
         return re.sub(r"(?:crates/)?\b[a-z]\w*/(?:src|specs|proofs)/[\w/+]+(?:\.(?:rt|antt))?", new, text) if self.paths else text
 
     def renamed_leaves(self):
-        """Names of items, each with all new names that it has."""
-        found, all_of = {}, {}
-        for id in [*self.changes.tree.items, *self.changes.tree.definitions]:
-            all_of.setdefault(id.rsplit(".", 1)[-1], set()).add(self.changes.leaf(id))
-        for id in self.changes.items:
-            leaf = id.rsplit(".", 1)[-1]
-            found[leaf] = all_of.get(leaf, set()) | {self.changes.items[id]}
+        """Names of items and modules that change, each with the new names that it has, by crates."""
+        found = {}
+        for id, new in self.changes.items.items():
+            found.setdefault(id.rsplit(".", 1)[-1], set()).add((id.split(".")[0], new))
+        for id, new in self.changes.modules.items():
+            if id.rsplit(".", 1)[-1] != new.rsplit(".", 1)[-1]:
+                found.setdefault(id.rsplit(".", 1)[-1], set()).add((id.split(".")[0], new.rsplit(".", 1)[-1]))
         return found
 
-    def ticked(self, path, found):
-        """A name between backticks in a document."""
+    def ticked(self, path, found, crate):
+        """A name or a path between backticks in a document."""
         name = found[1]
-        news = self.leaves.get(name.rsplit("::", 1)[-1])
-        if not news or not re.match(r"[\w:]+$", name):
+        below = re.match(r"(src|specs|proofs)/[\w/+]+(\.\w+)?$", name)
+        if below and crate:
+            new = self.paths.get(f"crates/{crate}/{name}")
+            return f"`{new.split('/', 2)[2]}`" if new else found[0]
+        leaf = name.rsplit("::", 1)[-1]
+        if leaf not in self.leaves or not re.match(r"[\w:]+$", name):
             return found[0]
-        if len(news) > 1:
-            self.left.append(f"{path}: `{name}` could be {' or '.join(sorted(news))}")
+        own = {new for home, new in self.leaves[leaf] if home == crate}
+        news = own or {new for _, new in self.leaves[leaf]}
+        kept = [] if own else [it for it in self.changes.namesakes().get(leaf, ()) if it == leaf]
+        if len(news) > 1 or kept:
+            self.left.append(f"{path}: `{name}` could be {' or '.join(sorted(news))}" + " or stay" * bool(kept))
             return found[0]
-        return f"`{name[:len(name) - len(name.rsplit('::', 1)[-1])]}{next(iter(news))}`"
+        return f"`{name[:len(name) - len(leaf)]}{next(iter(news))}`"
 
     # ---- the crate for Cargo
 
