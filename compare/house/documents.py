@@ -8,12 +8,15 @@ from code_edits import CodeEdits
 from rattle_code import CodeModule
 from rattle_text import Trouble
 from snippets import Snippets
+from tables import Tables
 
 # Records and what other programs write: they keep their words.
 KEPT = re.compile(r"(CHANGELOG\.md|docs/EVIDENCE\.md|compare/results/|compare/house/|bindings/rust/src/proved/|wip/|out/|crates/[^/]+/(src|specs|proofs|must-fail|out)/|compare/wrong_bodies/|compare/contracts_test\.py|\.ci/conventions_test\.py)")
 FULL = re.compile(r"(?<![\w./])[a-z]\w*(?:\.[\w◌<>=+]+)+(?![\w/])")
 # Comments and texts of code.
 SAID = re.compile(r'//[^\n]*|b?"(?:[^"\\]|\\.)*"', re.S)
+# A row of CONTRIBUTING's table of words.
+WORDS = re.compile(r"\| `[\w ]+` \| (?!.*`)")
 TICKED = re.compile(r"`([^`\n]+)`")
 
 
@@ -90,13 +93,14 @@ class Documents:
     def document(self, path, text):
         """A document: names between backticks are those of the crate that was named last."""
         last = [None]
+        text = Tables(self.paths, self.changes.crates).edited(text)
 
         def new(found):
             crate = re.match(r"(?:crates/)?(\w+)(?:/|$)", found[1])
             if crate and (crate[1] in self.changes.tree.names or crate[1] in self.changes.crates.values()):
                 last[0] = next((old for old, it in self.changes.crates.items() if it == crate[1]), crate[1])
             return self.ticked(path, found, last[0])
-        return TICKED.sub(new, text)
+        return "\n".join(line if WORDS.match(line) else TICKED.sub(new, line) for line in text.split("\n"))
 
     def crates_in(self, text):
         return self.crate_words.sub(lambda found: self.changes.crates[found[1]], text) if self.crate_words else text
@@ -142,9 +146,11 @@ class Documents:
             new = self.paths.get(f"crates/{crate}/{name}")
             return f"`{new.split('/', 2)[2]}`" if new else found[0]
         leaf = name.rsplit("::", 1)[-1]
-        if leaf not in self.leaves or not re.match(r"[\w:]+$", name):
+        if leaf not in self.leaves or not re.match(r"[\w:]+$", name) or "/" in name:
             return found[0]
         own = {new for home, new in self.leaves[leaf] if home == crate}
+        if not own and any(it.startswith(f"{crate}.") and it.endswith(f".{leaf}") for it in [*self.changes.lemmas, *self.changes.tree.antt]):
+            return found[0]
         news = own or {new for _, new in self.leaves[leaf]}
         kept = [] if own else [it for it in self.changes.namesakes().get(leaf, ()) if it == leaf]
         if len(news) > 1 or kept:
