@@ -14,7 +14,7 @@ class Changes:
 
     def __init__(self, tree):
         self.tree, self.modules, self.items, self.fields, self.crates = tree, {}, {}, {}, {}
-        self.clashes, self.notes = [], []
+        self.clashes, self.notes, self.own_fields, self.home = [], [], [], ""
         self.lemmas = set(lemma_modules(tree))
         self.methods = self.params = self.names = self.lines = None
 
@@ -180,6 +180,10 @@ class Changes:
         return self.names
 
     def field(self, name):
+        """The new name of a field, by the file that is edited."""
+        for place, old, new in self.own_fields:
+            if old == name and self.home.startswith(place):
+                return new
         return self.fields.get(name, name)
 
 
@@ -187,6 +191,8 @@ def impl_name(item, renamed):
     """What a proof calls an instance: the words of its type, then its trait, without parameters and lifetimes."""
     words = ["Ref" if it == "&" else it for it in item.type_words if it[0] != "'" and it not in item.generics]
     trait = [it for it in item.trait or [] if re.match(r"[A-Za-z_]\w*$", it) and it not in item.generics]
+    trait = [it for k, it in enumerate(item.trait or []) if it in trait and item.trait[k + 1:k + 2] != ["::"]]
+    words = [it for k, it in enumerate(words) if words[k + 1:k + 2] != ["::"]]
     names = [renamed(it) for it in words if re.match(r"[A-Za-z_]\w*$", it)] + [renamed(it) for it in trait]
     return "".join(it[:1].upper() + it[1:] for it in names)
 

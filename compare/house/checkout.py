@@ -77,6 +77,7 @@ class Checkout:
         self.move(path, self.source_path(path, module))
 
     def code_edits(self, text, module):
+        self.changes.home = module.path
         edits, clashes = CodeEdits(self.changes, text, module).run()
         edits = sorted(set(edits)) + self.mod_edits(text, module) + comment_edits(self.changes, text, module)
         return edits, clashes
@@ -112,7 +113,7 @@ class Checkout:
                     self.antt_file(crate, part, os.path.relpath(os.path.join(place, file), self.root).replace(os.sep, "/"))
 
     def antt_file(self, crate, part, path):
-        text = self.read(path)
+        text, self.changes.home = self.read(path), path
         below = path.split("/", 3)[3][:-len(".antt")].split("/")
         module = ".".join([crate, part, *below])
         goals = None

@@ -61,6 +61,8 @@ class Goals:
             return self.word(name)
         if chain[0] in self.heads and k == 2 and chain[1] in ("args", "fn", "initial", "row"):
             return name
+        if chain[0] in self.heads and k == 2 and name in self.locals and "-" in chain[1]:
+            return name
         if chain[0] in self.heads and k == 3 and chain[2] in ("new", "old", "args") and name in self.params.get(chain[1].split("-")[0], ()):
             return name
         return self.word(name) if "-" in name else self.changes.field(name)

@@ -9,6 +9,9 @@ It rewrites sources (.rt), definitions and proofs (.antt) with the folders of fu
 calls (`place-requires`), must-fail edits and wrong bodies (by their place in the source), names between backticks in comments,
 the lists of bindings/rust and its calls on top, and paths and names in documents, in .ci and in compare (documents.py).
 
+A line `#in PATH .a -> .b` gives a field another name in the files whose paths begin so; contracts.py takes it for a comment, so that
+`.a -> .b` has to stand beside it where definitions have the field.
+
 A new name that a file has already in another meaning is refused, and nothing is written then (status 2). A second run changes
 nothing. --list prints what it would write. What it leaves to a person is printed at the end (left.py prints words that stay)."""
 import argparse
@@ -29,8 +32,11 @@ from written import write  # noqa: E402
 
 ROOT = os.path.dirname(os.path.dirname(os.path.dirname(os.path.realpath(__file__))))
 
+# A field's new name in the files below a path: a comment to contracts.py.
+IN = re.compile(r"^#in (\S+) \.(\w+) -> \.(\w+)$", re.M)
 
-def changes_of(tree, names):
+
+def changes_of(tree, names, own_fields=()):
     """The changes that a FILE asks for and that aren't made yet."""
     made = Changes(tree)
     known = modules_of(tree) | made.lemmas
@@ -44,10 +50,12 @@ def changes_of(tree, names):
         item(made, old, new)
     declared = fields_of(tree)
     for old, news in names.fields.items():
-        if len(news) > 1:
-            raise Trouble(f".{old} has {len(news)} new names: give the records one each")
+        general = news - {new for _, name, new in own_fields if name == old}
+        if len(general) > 1:
+            raise Trouble(f".{old} has {len(news)} new names: say in which files (#in PATH .OLD -> .NEW)")
         if old in declared:
-            made.fields[old] = next(iter(news))
+            made.fields.update({old: it for it in general})
+            made.own_fields += [it for it in own_fields if it[1] == old]
     collisions(made)
     return made
 
@@ -116,7 +124,8 @@ def collisions(made):
 
 def rename(root, names, is_listed=False):
     """Renames in a checkout; answers the paths that are written and what is left to a person."""
-    made = changes_of(rattle_tree.Tree(root), contracts.Names(names))
+    own_fields = [(found[1], found[2], found[3]) for found in IN.finditer(rattle_tree.read(names))]
+    made = changes_of(rattle_tree.Tree(root), contracts.Names(names), own_fields)
     if made.is_empty:
         return [], []
     files = checked(Checkout(made).run())

@@ -22,6 +22,8 @@ low.places.Source.place -> low.places.Source.offset_of
 low.proofs.Lemmas.lemma_name -> low.proofs.Lemmas.lemma_told
 crate high_tests -> dev_high
 .place -> .offset
+.place -> .index
+#in crates/low/proofs/Lemmas .place -> .index
 """
 MOVES = """crate low
 sources: Where bytes come from.
@@ -66,10 +68,10 @@ FILES = {
     "crates/low/proofs/Lib.antt": [("pub mod Lemmas",)],
     "crates/low/proofs/Lemmas.antt": [
         ("use Rattle.std.specs.Prelude.{◌≡◌, ℕ, List}",), ("use Rattle.low.specs.Places.{place as at, IsPlace}", "use Rattle.low.specs.Indexes.{index_of as at, IsIndex}"),
-        ("pub lemma_name : (x : ℕ) → at [] x ≡ x", "pub lemma_told : (x : ℕ) → at [] x ≡ x"), ("lemma_name x = _", "lemma_told x = _")],
+        ("pub record Found : Type 0 where",), ("  pub place : ℕ", "  pub index : ℕ"), ("",), ("pub lemma_name : (x : ℕ) → at [] x ≡ x", "pub lemma_told : (x : ℕ) → at [] x ≡ x"), ("lemma_name x = _", "lemma_told x = _")],
     "crates/low/proofs/places/find/Answers.antt": [
         ("use Rattle.low.specs.Places.{place}", "use Rattle.low.specs.Indexes.{index_of}"), ("use Rattle.low.proofs.places.find.Goals as goal",), ("",),
-        ("pub place_of-place : goal.place_of-place", "pub index_at-place : goal.index_at-place"), ("place_of-place g c = place c.args.list.now c.place (c.source.now.place)", "index_at-place g c = index_of c.args.list.now c.place (c.source.now.offset)")],
+        ("pub place_of-place : goal.place_of-place", "pub index_at-place : goal.index_at-place"), ("place_of-place g c = place c.args.list.now c.place (c.source.now.place) c.loop-a.place", "index_at-place g c = index_of c.args.list.now c.place (c.source.now.offset) c.loop-a.place")],
     "crates/low/proofs/places/Source/place/Answers.antt": [("use Rattle.low.proofs.places.Source.place.Goals as goal", "use Rattle.low.proofs.places.Source.offset_of.Goals as goal")],
     "crates/low/proofs/told/place_of/Answers.antt": [("use Rattle.low.proofs.told.place_of.Given as goal", "use Rattle.low.proofs.report.index_at.Given as goal")],
     "crates/low/must-fail/wrong.edit": [
@@ -115,7 +117,7 @@ REFUSED = [
     ("low.places.find -> low.places.Source", "are both low.places.Source"),
     ("low.specs.Places.made -> low.specs.Indexes.zero", "the file has `zero`"),
     ("low.told.other -> low.places.other2", "is in another module"),
-    (".place -> .same", "has 2 new names"),
+    (".place -> .same", "has 3 new names"),
     ("module low.nothing -> low.something", "there is none"),
     ("gibberish", "can't read"),
 ]
@@ -130,6 +132,8 @@ PLANTS = [
     ("antt_edits.py", "clashes = scope.clashes + clashes_of(scope, parts)", "clashes = []"),
     ("goal_names.py", "if name in self.callees and not (name in self.locals and (k or len(parts) == 1)):", "if False:"),
     ("goal_names.py", "if chain[0] in self.heads and k == 1:", "if False:"),
+    ("goal_names.py", "k == 2 and name in self.locals and", "False and"),
+    ("changes.py", "self.home.startswith(place)", "False"),
     ("goal_names.py", "        if name in self.locals or self.function is None:\n            return name\n", ""),
     ("changes.py", "made.append(sign + self.method_part(module, rest[0], name))", "made.append(sign + name)"),
     ("changes.py", "        return new if first in self.tree.crates else [\"crate\", *new[1:]]", "        return segments[:len(modules)]"),
