@@ -16,7 +16,7 @@ class Changes:
         self.tree, self.modules, self.items, self.fields, self.crates = tree, {}, {}, {}, {}
         self.clashes, self.notes, self.own_fields, self.home = [], [], [], ""
         self.lemmas = set(lemma_modules(tree))
-        self.methods = self.params = self.names = self.lines = None
+        self.methods = self.params = self.names = self.lines = self.members = None
 
     @property
     def is_empty(self):
@@ -170,6 +170,14 @@ class Changes:
         if self.lines is None:
             self.lines = {(it.path, it.line, it.name): id for id, it in self.tree.items.items()}
         return self.lines.get((path, line, name))
+
+    def is_field_name(self, name):
+        """Whether a struct or a record has a field of a name."""
+        if self.members is None:
+            records = {it for made in self.tree.definitions.values() if made.kind == "record" for it, _ in made.members}
+            structs = {a for it in self.tree.items.values() if it.kind in ("struct", "enum") for a, b in zip(it.words, it.words[1:]) if b == ":"}
+            self.members = records | structs
+        return name in self.members
 
     def namesakes(self):
         """All new names of what has a name now."""

@@ -20,7 +20,7 @@ class Checkout:
 
     def __init__(self, changes):
         self.changes, self.tree, self.root = changes, changes.tree, changes.tree.root
-        self.texts, self.paths, self.wrong, self.edits = {}, {}, [], {}
+        self.texts, self.paths, self.wrong, self.edits, self.memo = {}, {}, [], {}, {}
         self.sources = {}
         for crate in self.tree.crates.values():
             self.modules_below(crate)
@@ -78,9 +78,10 @@ class Checkout:
 
     def code_edits(self, text, module):
         self.changes.home = module.path
-        edits, clashes = CodeEdits(self.changes, text, module).run()
-        edits = sorted(set(edits)) + self.mod_edits(text, module) + comment_edits(self.changes, text, module)
-        return edits, clashes
+        if (module.path, text) not in self.memo:
+            edits, clashes = CodeEdits(self.changes, text, module).run()
+            self.memo[module.path, text] = sorted(set(edits)) + self.mod_edits(text, module) + comment_edits(self.changes, text, module), clashes
+        return self.memo[module.path, text]
 
     def mod_edits(self, text, module):
         """New names in `mod x;` where the module stays below its parent."""

@@ -38,5 +38,5 @@ def renamed(changes, module, segments):
             return changes.target(found, name)
         if found and found[0] == "mod":
             return changes.module(found[1].id).rsplit(".", 1)[-1]
-    news = changes.namesakes().get(name, {name})
+    news = {name} if changes.is_field_name(name) else changes.namesakes().get(name, {name})
     return next(iter(news)) if len(news) == 1 else name

@@ -153,6 +153,7 @@ class Documents:
             return found[0]
         news = own or {new for _, new in self.leaves[leaf]}
         kept = [] if own else [it for it in self.changes.namesakes().get(leaf, ()) if it == leaf]
+        kept = kept or self.changes.is_field_name(leaf)
         if len(news) > 1 or kept:
             self.left.append(f"{path}: `{name}` could be {' or '.join(sorted(news))}" + " or stay" * bool(kept))
             return found[0]
