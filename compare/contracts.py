@@ -227,7 +227,7 @@ class Comparison:
 
     def compare(self, a, b):
         olds, news = self.old.parts(a), self.new.parts(b)
-        renamed = {self.label(it): it for it in olds}
+        renamed = {self.label(it, news): it for it in olds}
         for label, own in renamed.items():
             if label not in news:
                 self.differ(f"{self.title(a, b)}: `{own}` is gone", olds[own][1])
@@ -244,10 +244,13 @@ class Comparison:
         elif any(models):
             self.differ(f"{self.title(a, b)}: only one of the checkouts has a model of it")
 
-    def label(self, label):
-        """A part's label, with the new name of its clause or member."""
-        return re.sub(r"(\S+)$", lambda found: next(iter(sorted(self.names.field(found[1]) - {found[1]})), self.names.word(found[1])), label) \
-            if " " in label and not label.endswith("attributes") else label
+    def label(self, label, news):
+        """A part's label, with the new name of its clause or member: of several that one which is there."""
+        if " " not in label or label.endswith("attributes"):
+            return label
+        front, name = re.match(r"(.*?)(\S+)$", label, re.S).groups()
+        found = [front + it for it in sorted(self.names.field(name) - {name})] or [front + self.names.word(name)]
+        return next((it for it in found if it in news), found[0])
 
     def title(self, a, b):
         why, seen = self.pairs.get((a, b), ""), {a}

@@ -9,7 +9,7 @@ OPEN, CLOSE = {"(": ")", "[": "]", "{": "}"}, {")", "]", "}"}
 CLAUSES = ("requires", "ensures", "ghost")
 KEYWORDS = set("as break const continue dyn else enum extern fn for if impl in let loop match mod move mut pub ref return static struct trait type unsafe use where while".split())
 # What stands before a `{` of a body, not of a struct's fields.
-NO_LITERAL = {"->", "for", "impl", ":", "+", "struct", "enum", "trait", "union", "dyn", "=="}
+NO_LITERAL = {"->", "for", "impl", "+", "struct", "enum", "trait", "union", "dyn", "=="}
 
 
 class Code:
@@ -174,7 +174,7 @@ class CodeEdits:
                 k += 1
             elif code.words[k] == "use" and code.at(k - 1) != "ghost":
                 k = self.use(k)
-            elif code.at(k - 1) == ".":
+            elif code.at(k - 1) == "." and code.at(k - 2) != ".":
                 self.member(k)
                 k += 1
             elif code.at(k - 1) == "mod" or code.words[k] in KEYWORDS:
@@ -253,7 +253,10 @@ class CodeEdits:
             first -= 2
         if code.at(first - 1) == "struct":
             return code.at(k + 1) == ":"
-        return code.at(before)[:1].isupper() and NAME.match(code.at(before)) is not None and code.at(first - 1) not in NO_LITERAL
+        if not code.at(before)[:1].isupper() or not NAME.match(code.at(before)):
+            return False
+        inside = code.at(around + 2) in (":", ",") or code.at(around + 1) == "."
+        return inside if code.at(first - 1) == ":" else code.at(first - 1) not in NO_LITERAL
 
     def long_path(self, segments, places):
         """`a::b::c`: the part that is a module by the module's new path, then new names."""

@@ -22,6 +22,7 @@ class Goals:
         k = 0
         while k < len(words):
             before, behind = words[k - 1] if k else "", words[k + 1] if k + 1 < len(words) else ""
+            before = "" if words[k - 2:k] == [".", "."] else before
             if not NAME.match(words[k]):
                 k += 1
                 continue

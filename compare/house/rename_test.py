@@ -57,6 +57,7 @@ FILES = {
         ("    if source.place() > place { return told::other(place); }", "    if source.offset_of() > place { return report::other(place); }"),
         ("    // `place_of` stays a name, place is a word, \"place\" a text", "    // `index_at` stays a name, place is a word, \"place\" a text"),
         ("    let text = \"place of Told\";",), ("    source.place + place", "    source.offset + place"), ("}",), ("",),
+        ("pub fn ends(place: usize) -> Pair { Pair { first: Source { place: place }, last: 0..place, more: 0..place_of(&a) } }", "pub fn ends(place: usize) -> Pair { Pair { first: Source { offset: place }, last: 0..place, more: 0..index_at(&a) } }"), ("",),
         ("pub fn same(place: usize) -> usize",), ("    ensures { result ≡ place }",), ("{",), ("    let place_of = place;",), ("    place_of + place_of(&a)", "    place_of + index_at(&a)"), ("}",)],
     "crates/low/specs/Lib.antt": [("pub mod Places", "pub mod Indexes")],
     "crates/low/specs/Places.antt": [
@@ -124,6 +125,8 @@ REFUSED = [
 PLANTS = [
     ("code_edits.py", "hidden = heads[-1] if heads else self.locals_at(a)", "hidden = ()"),
     ("code_edits.py", "elif not (name in self.locals_at(k) and code.at(k + 1) != \"(\"):", "else:"),
+    ("code_edits.py", " and code.at(k - 2) != \".\"", ""),
+    ("code_edits.py", "inside if code.at(first - 1) == \":\" else ", ""),
     ("code_edits.py", "called = behind == \"(\" or behind == \"::\"", "called = False"),
     ("code_edits.py", "self.put(k, f\"{new}: {name}\" if shorthand and new != name else new)", "self.put(k, new)"),
     ("code_edits.py", "elif len(segments) > 2 and segments[1] in (\"specs\", \"proofs\"):", "elif False:"),
