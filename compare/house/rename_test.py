@@ -58,6 +58,7 @@ FILES = {
         ("    // `place_of` stays a name, place is a word, \"place\" a text", "    // `index_at` stays a name, place is a word, \"place\" a text"),
         ("    let text = \"place of Told\";",), ("    source.place + place", "    source.offset + place"), ("}",), ("",),
         ("pub fn ends(place: usize) -> Pair { Pair { first: Source { place: place }, last: 0..place, more: 0..place_of(&a) } }", "pub fn ends(place: usize) -> Pair { Pair { first: Source { offset: place }, last: 0..place, more: 0..index_at(&a) } }"), ("",),
+        ("pub fn bound<T>(place: usize) -> usize where T: Clone { place }",), ("",),
         ("pub fn same(place: usize) -> usize",), ("    ensures { result ≡ place }",), ("{",), ("    let place_of = place;",), ("    place_of + place_of(&a)", "    place_of + index_at(&a)"), ("}",)],
     "crates/low/specs/Lib.antt": [("pub mod Places", "pub mod Indexes")],
     "crates/low/specs/Places.antt": [
