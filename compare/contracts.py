@@ -231,7 +231,7 @@ class Comparison:
 
     def compare(self, a, b):
         olds, news = self.old.parts(a), self.new.parts(b)
-        renamed = {self.label(it): it for it in olds}
+        renamed = {self.label(it, news): it for it in olds}
         for label, own in renamed.items():
             if label not in news:
                 self.differ(f"{self.title(a, b)}: `{own}` is gone", olds[own][1])
@@ -256,14 +256,16 @@ class Comparison:
             return old, old
         return [[it for it in words if it != "pub"] for words in (old, new)] if own == "struct" else (old, new)
 
-    def label(self, label):
-        """A part's label, with the new name of its clause or member."""
-        def renamed(found):
-            # (a line `.NAME -> .NAME` beside others keeps the name of a clause)
-            stays = found[1] in self.names.fields.get(found[1], ())
-            return found[1] if stays else next(iter(sorted(self.names.field(found[1]) - {found[1]})), self.names.word(found[1]))
-
-        return re.sub(r"(\S+)$", renamed, label) if " " in label and not label.endswith("attributes") else label
+    def label(self, label, news):
+        """A part's label, with the new name of its clause or member: of several that one which is there."""
+        if " " not in label or label.endswith("attributes"):
+            return label
+        front, name = re.match(r"(.*?)(\S+)$", label, re.S).groups()
+        fields = self.names.fields.get(name, ())
+        # (a line `.NAME -> .NAME` beside others keeps the name of a clause)
+        stays = [front + name] if name in fields else []
+        found = [front + it for it in sorted(set(fields) - {name})] + stays or [front + self.names.word(name)]
+        return next((it for it in found if it in news), (stays or found)[0])
 
     def title(self, a, b):
         why, seen = self.pairs.get((a, b), ""), {a}

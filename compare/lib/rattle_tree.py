@@ -181,15 +181,24 @@ class Tree:
             return ("mod", module.modules[name])
         if name in module.uses:
             path = module.uses[name]
-            if path[0] == name and len(path) == 1:
-                return ("mod", self.crates[name]) if name in self.crates else ("lib", name)
+            if path[0] == name:
+                return self.of_crate(path)
             return self.used(module, path, seen)
         for path in module.globs:
+            if path[0] not in ("crate", "self", "super") and not (path[0] in module.modules or path[0] in module.uses or path[0] in self.crates):
+                continue
             found = self.path(module, path)
             found = self.look(found[1], name, seen) if found and found[0] == "mod" else None
             if found:
                 return found
         return None
+
+    def of_crate(self, path):
+        """What a path means that begins with a crate's name, also where an item has that name."""
+        found = ("mod", self.crates[path[0]]) if path[0] in self.crates else None
+        for segment in path[1:]:
+            found = self.step(found, segment) if found else None
+        return found or ("lib", "::".join(path))
 
     def used(self, module, path, seen):
         if path[0] in ("crate", "self", "super") or path[0] in self.crates or path[0] in module.modules or path[0] in module.uses:
